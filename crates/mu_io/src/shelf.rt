@@ -1,0 +1,100 @@
+// A shelf of files, by what they hold and which of them is selected.
+ghost use Rattle.std.specs.Prelude.{◌≡◌, ◌≢◌, ◌≤◌, ◌<◌, ℕ, List, length, Option, Some, None, IsSome, IfSome, IsSomeAnd, IfOk, OnOk, OnErr, MatchResult};
+ghost use Rattle.std.specs.Io.{ReadsAtMost};
+ghost use Rattle.std.specs.Io.KnownBytes.{ReadConsumes};
+ghost use Rattle.mu_io.specs.Faults.{Rose, OnlyCounts};
+ghost use Rattle.mu_io.specs.Files.{Files, Place, file_of, advanced, bytes_left};
+
+use std::alloc::Global;
+
+/// A read or a write failed, and the count of such faults rose.
+#[derive(Clone, Copy, Debug, PartialEq, Eq)]
+pub struct Fault;
+
+/// Why a file was not selected.
+#[derive(Clone, Copy, Debug, PartialEq, Eq)]
+pub enum SelectErr {
+    Fault,
+    Memory,
+}
+
+/// Why a file was not read.
+#[derive(Clone, Copy, Debug, PartialEq, Eq)]
+pub enum ReadErr {
+    Fault,
+    TooLong,
+    Memory,
+}
+
+/// Named files that are read, one at a time.
+pub trait Shelf {
+    /// The files, where the shelf tells them.
+    ghost files: { Self → Option Files };
+
+    /// The selected name, and the place in its file.
+    ghost selected: { Self → Option Place };
+
+    /// How often a select or a read of each name has failed.
+    ghost faults: { Self → List ℕ → ℕ };
+
+    /// Selects a file at its beginning. After an error nothing is selected.
+    fn select(&mut self, name: &str) -> Result<(), SelectErr>
+        ensures there { OnOk result (IfSome (files self.old) (λ files. IsSome (file_of files name.now))) }
+        ensures begins { OnOk result (selected self.new ≡ Some (name.now, 0)) }
+        ensures nothing { OnErr result (selected self.new ≡ None) }
+        ensures files { files self.new ≡ files self.old }
+        ensures counts { OnlyCounts name.now (faults self.old) (faults self.new) }
+        ensures calm { result ≢ Err SelectErr.Fault → faults self.new name.now ≡ faults self.old name.now }
+        ensures cause { result ≡ Err SelectErr.Fault → Rose (faults self.old name.now) (faults self.new name.now) };
+
+    /// Reads the next bytes of the selected file, none only at its end or with no room.
+    fn read(&mut self, buf: &mut [u8]) -> Result<usize, Fault>
+        requires { IsSome (selected self.old) }
+        ensures bound { ReadsAtMost result buf.new }
+        ensures bytes { ReadConsumes (bytes_left (files self.old) (selected self.old)) (bytes_left (files self.new) (selected self.new)) result buf.new }
+        ensures moved { MatchResult result (λ n. selected self.new ≡ advanced (selected self.old) n) (λ _. selected self.new ≡ selected self.old) }
+        ensures files { files self.new ≡ files self.old }
+        ensures counts { IfSome (selected self.old) (λ place. OnlyCounts place.0 (faults self.old) (faults self.new)) }
+        ensures calm { OnOk result (IfSome (selected self.old) (λ place. faults self.new place.0 ≡ faults self.old place.0)) }
+        ensures cause { OnErr result (IfSome (selected self.old) (λ place. Rose (faults self.old place.0) (faults self.new place.0))) };
+}
+
+// The most bytes that one read asks for.
+const CHUNK: usize = 1 << 14;
+
+/// The bytes of a file that has at most `limit` of them.
+pub fn read_all<S: Shelf>(
+    alloc: Global,
+    shelf: &mut S,
+    name: &str,
+    limit: usize,
+) -> Result<Vec<u8>, ReadErr>
+    ensures bytes { IfOk result (λ bytes. IfSome (S.files shelf.old) (λ files. file_of files name.now ≡ Some bytes.items)) }
+    ensures within { IfOk result (λ bytes. length bytes.items ≤ limit) }
+    ensures too_long { result ≡ Err ReadErr.TooLong → IfSome (S.files shelf.old) (λ files. IsSomeAnd (file_of files name.now) (λ bytes. limit < length bytes)) }
+    ensures files { S.files shelf.new ≡ S.files shelf.old }
+    ensures counts { OnlyCounts name.now (S.faults shelf.old) (S.faults shelf.new) }
+    ensures calm { result ≢ Err ReadErr.Fault → S.faults shelf.new name.now ≡ S.faults shelf.old name.now }
+    ensures cause { result ≡ Err ReadErr.Fault → Rose (S.faults shelf.old name.now) (S.faults shelf.new name.now) }
+{
+    match shelf.select(name) {
+        Ok(()) => {}
+        Err(SelectErr::Fault) => return Err(ReadErr::Fault),
+        Err(SelectErr::Memory) => return Err(ReadErr::Memory),
+    }
+    let mut bytes = Vec::new(alloc);
+    let mut chunk = [0u8; CHUNK];
+    while bytes.len() <= limit {
+        let room = (limit - bytes.len()).min(CHUNK - 1) + 1;
+        match shelf.read(&mut chunk[..room]) {
+            Ok(0) => return Ok(bytes),
+            Ok(n) => {
+                if bytes.extend_from_slice(&chunk[..n]).is_err() {
+                    return Err(ReadErr::Memory);
+                }
+            }
+            Err(Fault) => return Err(ReadErr::Fault),
+        }
+    }
+    Err(ReadErr::TooLong)
+}

@@ -1,0 +1,14 @@
+pub mod Integers
+pub mod Tests
+pub mod Quotients
+pub mod NearestCases
+pub mod TickLaws
+pub mod FirstTicks
+pub mod NearLevels
+pub mod Divisors
+pub mod Kept
+pub mod Lowest
+pub mod Powers
+pub mod Reading
+pub mod Tokens
+pub mod Decimals

@@ -1,0 +1,15 @@
+-- The inequalities allow one number.
+use Rattle.std.proofs.lemmas.Int.{to_z-of_z}
+use Rattle.std.specs.Int.RustNames.{FitsSigned}
+use Rattle.mu_num.specs.Rounding.{IsCeiling, ceiling_of}
+use Rattle.mu_num.proofs.Quotients.{ceiling_meets, ceiling_only}
+use Rattle.mu_num.proofs.division.ceil_div.Goals as goal
+use mir.Syntax.{w128}
+
+pub returns : goal.returns
+returns c =
+    let of_n = c.ranges.n in
+    let of_d = c.ranges.d in
+    let fits : FitsSigned w128 c.rounded_up.result = record { sfits = c.rounded_up.type_inv } in
+    let is : IsCeiling c.args.n c.args.d c.rounded_up.result = rw (to_z-of_z w128 c.args.n of_n, to_z-of_z w128 c.args.d of_d) at c.rounded_up.ensures in
+    rw (to_z-of_z w128 c.rounded_up.result fits) (record { ceiling = is; value = ceiling_only c.args.n c.args.d c.rounded_up.result (ceiling_of c.args.n c.args.d) c.requires is (ceiling_meets c.args.n c.args.d c.requires) })

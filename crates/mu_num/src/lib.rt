@@ -1,0 +1,29 @@
+//! Exact numbers without memory: fractions, quotients of whole numbers with a stated rounding, first
+//! ticks, and roots.
+#![tactic(auto)]
+
+mod division;
+mod laws;
+mod literal;
+mod ratio;
+mod root;
+mod ticks;
+
+pub use division::{ceil_div, floor_div, near_div};
+pub use laws::{decimals_are_right, levels_are_near, lowest_terms_are_right, quotients_are_right};
+pub use literal::decimal;
+pub use ratio::{Ratio, nearest};
+pub use root::root_up;
+pub use ticks::{first_past, first_tick, tick_later};
+
+/// Why a number is refused.
+#[derive(Clone, Copy, PartialEq, Eq, Debug, Drop)]
+pub enum NumErr {
+    /// A term of the value in lowest terms passes 2^62, or a literal is out of range.
+    Range,
+    /// A division by 0.
+    ZeroDivisor,
+}
+
+#[cfg(test)]
+mod examples;

@@ -1,0 +1,218 @@
+// Fractions in lowest terms.
+
+ghost use Rattle.std.specs.Prelude.{◌≡◌, ◌<◌, ◌≤◌, ◌^◌, ℤ, ℕ, pos, unsigned_abs, int_div, ◌*ℤ◌};
+ghost use Rattle.std.specs.Int.{IsGcd};
+ghost use Rattle.mu_num.specs.Rounding.{IsNearest, nearest_of};
+ghost use Rattle.mu_num.specs.Fraction.{lowest, checked, sum, difference, product, quotient, power, sign, checked_quotient, whole, IsReduced};
+
+use crate::NumErr;
+use crate::division::near_div;
+use std::marker::Model;
+
+/// A fraction in lowest terms, over a positive denominator, both terms at most 2^62 in size.
+#[derive(Clone, Copy, PartialEq, Eq, Debug, Drop)]
+pub struct Ratio {
+    num: i128,
+    den: u128,
+}
+
+impl Model for Ratio {
+    ghost use Rattle.mu_num.specs.Fraction.{Fraction, IsReduced};
+
+    ghost Value = { Fraction };
+
+    ghost view = { λ r. record { num = r.num; den = r.den } };
+
+    ghost invariant = { λ r. IsReduced (record { num = r.num; den = r.den }) };
+
+    ghost inverse = { λ f. record { num = f.num; den = f.den } };
+}
+
+/// The greatest size of a term.
+const LIMIT: u128 = 1 << 62;
+
+// The greatest common divisor of a number and a positive one.
+fn greatest_common(a: u128, b: u128) -> u128
+    requires { 0 < b }
+    ensures divisor { IsGcd a b result }
+    ensures positive { 0 < result }
+    ensures at_most { result ≤ b }
+{
+    let mut x = a;
+    let mut y = b;
+    while y != 0 {
+        let rest = x % y;
+        x = y;
+        y = rest;
+    }
+    x
+}
+
+// A number divided by a positive one, rounded toward 0.
+fn quotient(num: i128, divisor: u128) -> i128
+    requires positive { 0 < divisor }
+    requires fits { divisor < 2 ^ 127 }
+    ensures { result ≡ int_div num (pos divisor) }
+{
+    num / divisor as i128
+}
+
+// The fraction with these terms.
+fn with_terms(num: i128, den: u128) -> Ratio
+    requires { IsReduced (record { num = num; den = den }) }
+    ensures { result ≡ record { num = num; den = den } }
+{
+    Ratio { num, den }
+}
+
+// The value of a numerator over a denominator, where its lowest terms are small.
+pub(crate) fn reduced(num: i128, den: u128) -> Result<Ratio, NumErr>
+    requires positive { 0 < den }
+    requires fits { den < 2 ^ 127 }
+    ensures { result ≡ checked (record { num = num; den = den }) }
+{
+    let divisor = greatest_common(num.unsigned_abs(), den);
+    let num = quotient(num, divisor);
+    let den = den / divisor;
+    if num.unsigned_abs() <= LIMIT && den <= LIMIT {
+        Ok(with_terms(num, den))
+    } else {
+        Err(NumErr::Range)
+    }
+}
+
+// A small number times a small natural.
+fn scaled(num: i128, by: u128) -> i128
+    requires num { unsigned_abs num ≤ 2 ^ 62 }
+    requires by { by ≤ 2 ^ 62 }
+    ensures value { result ≡ num *ℤ pos by }
+    ensures size { unsigned_abs result ≤ 2 ^ 124 }
+{
+    num * by as i128
+}
+
+// A number with the sign of another turned into it.
+fn signed_by(num: i128, by: i128) -> i128
+    requires { unsigned_abs num ≤ 2 ^ 124 }
+    ensures value { result ≡ num *ℤ sign by }
+    ensures size { unsigned_abs result ≤ 2 ^ 124 }
+{
+    if by < 0 { -num } else { num }
+}
+
+// The product of two small numbers.
+fn multiplied(a: i128, b: i128) -> i128
+    requires a { unsigned_abs a ≤ 2 ^ 62 }
+    requires b { unsigned_abs b ≤ 2 ^ 62 }
+    ensures value { result ≡ a *ℤ b }
+    ensures size { unsigned_abs result ≤ 2 ^ 124 }
+{
+    a * b
+}
+
+// A power of 2.
+fn power_of_two(bits: u8) -> u128
+    requires { bits ≤ 64 }
+    ensures value { result ≡ 2 ^ bits }
+    ensures size { result ≤ 2 ^ 64 }
+{
+    1u128 << bits
+}
+
+// A small number times a power of 2.
+fn shifted(num: i128, bits: u8) -> i128
+    requires num { unsigned_abs num ≤ 2 ^ 62 }
+    requires bits { bits ≤ 64 }
+    ensures value { result ≡ num *ℤ pos (2 ^ bits) }
+    ensures size { unsigned_abs result ≤ 2 ^ 126 }
+{
+    let by = power_of_two(bits);
+    num * by as i128
+}
+
+impl Ratio {
+    /// A whole number of at most 2^62 in size.
+    pub fn whole(num: i128) -> Ratio
+        requires { unsigned_abs num ≤ 2 ^ 62 }
+        ensures { result ≡ whole num }
+    {
+        with_terms(num, 1)
+    }
+
+    /// The numerator.
+    pub fn num(self) -> i128
+        ensures value { result ≡ self.num }
+        ensures size { unsigned_abs result ≤ 2 ^ 62 }
+    {
+        self.num
+    }
+
+    /// The denominator, above 0.
+    pub fn den(self) -> i128
+        ensures value { result ≡ pos self.den }
+        ensures positive { 0 < self.den }
+        ensures size { self.den ≤ 2 ^ 62 }
+    {
+        self.den as i128
+    }
+
+    /// The sum; `Range` where its lowest terms pass 2^62.
+    pub fn add(self, other: Ratio) -> Result<Ratio, NumErr>
+        ensures { result ≡ checked (sum self other) }
+    {
+        let left = scaled(self.num, other.den);
+        let right = scaled(other.num, self.den);
+        reduced(left + right, self.den * other.den)
+    }
+
+    /// The difference; `Range` where its lowest terms pass 2^62.
+    pub fn sub(self, other: Ratio) -> Result<Ratio, NumErr>
+        ensures { result ≡ checked (difference self other) }
+    {
+        let left = scaled(self.num, other.den);
+        let right = scaled(other.num, self.den);
+        reduced(left - right, self.den * other.den)
+    }
+
+    /// The product; `Range` where its lowest terms pass 2^62.
+    pub fn mul(self, other: Ratio) -> Result<Ratio, NumErr>
+        ensures { result ≡ checked (product self other) }
+    {
+        reduced(multiplied(self.num, other.num), self.den * other.den)
+    }
+
+    /// The quotient; `ZeroDivisor` where the divisor is 0, `Range` where the lowest terms pass 2^62.
+    pub fn div(self, other: Ratio) -> Result<Ratio, NumErr>
+        ensures { result ≡ checked_quotient self other }
+    {
+        if other.num == 0 {
+            return Err(NumErr::ZeroDivisor);
+        }
+        let num = signed_by(scaled(self.num, other.den), other.num);
+        reduced(num, self.den * other.num.unsigned_abs())
+    }
+
+    /// A power, 1 for the exponent 0; `Range` where its lowest terms pass 2^62.
+    pub fn pow(self, exp: u8) -> Result<Ratio, NumErr>
+        ensures { result ≡ checked (power self exp) }
+    {
+        let _ = &self.num;
+        let mut value = Ratio::whole(1);
+        for _ in 0..exp {
+            value = match value.mul(self) {
+                Ok(next) => next,
+                Err(error) => return Err(error),
+            };
+        }
+        Ok(value)
+    }
+}
+
+/// The value times 2^bits, rounded to the nearest whole number, ties to even.
+pub fn nearest(r: Ratio, bits: u8) -> i128
+    requires { bits ≤ 64 }
+    ensures nearest { IsNearest (r.num *ℤ pos (2 ^ bits)) (pos r.den) result }
+    ensures value { result ≡ nearest_of (r.num *ℤ pos (2 ^ bits)) (pos r.den) }
+{
+    near_div(shifted(r.num, bits), r.den())
+}

@@ -1,0 +1,33 @@
+// Square roots, rounded up.
+
+ghost use Rattle.std.specs.Prelude.{◌≤◌, ◌^◌, pos, ◌≤ℤ◌, unsigned_abs};
+ghost use Rattle.mu_num.specs.Roots.{IsRootUp};
+
+// The least number whose square is at least v.
+fn root_of(v: u128) -> u128
+    requires { v ≤ 2 ^ 126 }
+    ensures root { IsRootUp v result }
+    ensures size { result ≤ 2 ^ 63 }
+{
+    let mut low: u128 = 0;
+    let mut high: u128 = 1 << 63;
+    while low < high {
+        let middle = low + (high - low) / 2;
+        if middle * middle >= v {
+            high = middle;
+        } else {
+            low = middle + 1;
+        }
+    }
+    high
+}
+
+/// The least number from 0 on whose square is at least v, for v from 0 to 2^126.
+pub fn root_up(v: i128) -> i128
+    requires from_zero { pos 0 ≤ℤ v }
+    requires at_most { v ≤ℤ pos (2 ^ 126) }
+    ensures from_zero { pos 0 ≤ℤ result }
+    ensures root { IsRootUp (unsigned_abs v) (unsigned_abs result) }
+{
+    root_of(v as u128) as i128
+}

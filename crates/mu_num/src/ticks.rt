@@ -1,0 +1,50 @@
+// First ticks at which a distance is covered.
+
+ghost use Rattle.std.specs.Prelude.{◌≡◌, ℕ, pos, ◌+◌, ◌*◌, ◌/◌, ◌^◌, ◌<◌, ◌≤◌, ◌*ℤ◌, ◌<ℤ◌, ◌≤ℤ◌};
+ghost use Rattle.mu_num.specs.Ticks.{FirstAfter, later_tick};
+
+// The first tick at which a distance is passed, at a speed above 0.
+fn ticks_past(dist: u128, speed: u128) -> Option<u64>
+    requires { 0 < speed }
+    ensures { FirstAfter (λ n. dist < n * speed) 0 result }
+{
+    if dist / (1 << 32) >= speed {
+        return None;
+    }
+    Some((dist / speed) as u64 + 1)
+}
+
+/// The first tick n from 1 to 2^32 with `dist < n * speed`; `None` where there is none. It divides only
+/// where the answer is above 1.
+pub fn first_past(dist: i128, speed: i128) -> Option<u64>
+    ensures { FirstAfter (λ n. dist <ℤ (pos n *ℤ speed)) 0 result }
+{
+    if dist < speed {
+        return Some(1);
+    }
+    if speed <= 0 {
+        return None;
+    }
+    ticks_past(dist as u128, speed as u128)
+}
+
+/// The first tick n from 1 to 2^32 with `dist <= n * speed`; `None` where there is none.
+pub fn first_tick(dist: i128, speed: i128) -> Option<u64>
+    ensures { FirstAfter (λ n. dist ≤ℤ (pos n *ℤ speed)) 0 result }
+{
+    if dist <= speed {
+        return Some(1);
+    }
+    first_past(dist - 1, speed)
+}
+
+/// So many ticks later, where that is at most 2^32.
+pub fn tick_later(from: u64, ticks: Option<u64>) -> Option<u64>
+    requires { from ≤ 2 ^ 32 }
+    ensures { result ≡ later_tick from ticks }
+{
+    match ticks {
+        Some(ticks) if ticks <= (1 << 32) - from => Some(from + ticks),
+        _ => None,
+    }
+}

@@ -1,0 +1,106 @@
+-- The states and the levels of runs keep their limits.
+use Rattle.std.proofs.Common.{◌≡◌, ℕ, zero, suc, ◌+◌, Bool, true, false, cond, List, [], ◌∷◌, map, set, fold, ℤ, pos, refl, sym, ◌∙◌, arith}
+use Rattle.std.proofs.lemmas.Bool.Decides.{nat_tests}
+use Rattle.std.proofs.lemmas.Iterator.Adapters.{position_from-zero}
+use Rattle.std.specs.List.{position_from}
+use Rattle.std.specs.Prelude.{Option, Some, None, Ok, is_some, All}
+use Rattle.mu_num.proofs.Tests.{if_cases}
+use Rattle.qss_machine.specs.declared.parts.StateInfo.{StateInfo}
+use Rattle.qss_machine.specs.declared.parts.Action.{Action}
+use Rattle.qss_machine.specs.declared.parts.Action.TheVariants.{Set, Reinit}
+use Rattle.qss_machine.specs.declared.parts.BranchInfo.{BranchInfo}
+use Rattle.qss_machine.specs.declared.parts.ClauseInfo.{ClauseInfo}
+use Rattle.qss_machine.specs.declared.system.Machine.{Machine}
+use Rattle.mu_num.specs.Sizes.{IsWithin, passes}
+use Rattle.qss_machine.specs.Numbers.{int_at, first_past}
+use Rattle.qss_machine.specs.Limits.{level_below, IsState}
+use Rattle.qss_machine.specs.Machines.{level_unit}
+use Rattle.qss_machine.specs.Handlers.{Handling, due_flags, truths, assigned_value, assign, run_action, run_first_due, run_clauses}
+use Rattle.qss_machine.specs.Ticks.{World, start_world, moved_states, handling_at, StepBy}
+use Rattle.qss_machine.specs.Runs.{LeadsBy, last_world}
+use Rattle.qss_machine.specs.Laws.{HasSmallLevels}
+use Rattle.qss_machine.proofs.Near.{step_facts}
+
+-- ---- lists in which no number passes a limit
+
+zero_within : (bits : ℕ) → IsWithin bits (pos 0)
+zero_within bits = omega arith
+
+passes_no : (bits : ℕ) (z : ℤ) → passes bits z ≡ false → IsWithin bits z
+passes_no bits z e = grind (arith, nat_tests)
+
+cond_none : (b : Bool) (i : ℕ) (o : Option ℕ) → cond b (Some i) o ≡ None → (b ≡ false) × (o ≡ None)
+cond_none true i o e = absurd (cc)
+cond_none false i o e = (refl, e)
+
+none_from : (bits i : ℕ) (zs : List ℤ) → position_from (passes bits) i zs ≡ None → (j : ℕ) → IsWithin bits (int_at zs j)
+none_from bits i [] e j = zero_within bits
+none_from bits i (z ∷ zs) e zero = passes_no bits z (cond_none (passes bits z) i (position_from (passes bits) (i + 1) zs) e).0
+none_from bits i (z ∷ zs) e (suc j) = none_from bits (i + 1) zs (cond_none (passes bits z) i (position_from (passes bits) (i + 1) zs) e).1 j
+
+pub none_past : (bits : ℕ) (zs : List ℤ) → first_past bits zs ≡ None → (j : ℕ) → IsWithin bits (int_at zs j)
+none_past bits zs e = none_from bits 0 zs (sym (position_from-zero (passes bits) zs) ∙ e)
+
+set_small : (xs : List ℤ) (v : ℕ) (z : ℤ) → IsWithin 88 z → ((j : ℕ) → IsWithin 88 (int_at xs j)) → (j : ℕ) → IsWithin 88 (int_at (set xs v z) j)
+set_small [] v z small all j = all j
+set_small (x ∷ xs) zero z small all zero = small
+set_small (x ∷ xs) zero z small all (suc j) = all (suc j)
+set_small (x ∷ xs) (suc v) z small all zero = all zero
+set_small (x ∷ xs) (suc v) z small all (suc j) = set_small xs v z small (λ k. all (suc k)) j
+
+-- ---- states, while handlers run without an overflow
+
+abbrev HasSmallStates : Handling → Type 0
+HasSmallStates h = h.overflow ≡ None → (j : ℕ) → IsWithin 88 (int_at h.states j)
+
+module _ (m : Machine) (tick : ℕ) (before : List ℤ) where
+  assign_small : (h : Handling) (action : Action) (z : ℤ) → HasSmallStates h → HasSmallStates (assign m tick h action z)
+  assign_small h (Set var form) z small = if_cases HasSmallStates (passes 43 z) _ _ (λ e calm. absurd (cc)) (λ e. small)
+  assign_small h (Reinit var form) z small =
+      if_cases HasSmallStates (passes 88 z) _ _ (λ e calm. absurd (cc)) (λ e calm. set_small h.states var z (passes_no 88 z e) (small calm))
+
+  action_small : (h : Handling) (action : Action) → HasSmallStates h → HasSmallStates (run_action m tick before h action)
+  action_small h action small =
+      if_cases HasSmallStates (is_some h.overflow) h (assign m tick h action (assigned_value m tick before h action))
+      (λ e. small) (λ e. assign_small h action (assigned_value m tick before h action) small)
+
+  actions_small : (h : Handling) (actions : List Action) → HasSmallStates h → HasSmallStates (fold (run_action m tick before) h actions)
+  actions_small h [] small = small
+  actions_small h (action ∷ actions) small = actions_small (run_action m tick before h action) actions (action_small h action small)
+
+  first_small : (clause number : ℕ) (h : Handling) (branches : List BranchInfo) (due : List Bool) → HasSmallStates h →
+      HasSmallStates (run_first_due m tick before clause number h branches due)
+  first_small clause number h [] due small = small
+  first_small clause number h (branch ∷ branches) [] small = small
+  first_small clause number h (branch ∷ branches) (true ∷ due) small = actions_small _ branch.actions small
+  first_small clause number h (branch ∷ branches) (false ∷ due) small = first_small clause (number + 1) h branches due small
+
+  clauses_small : (number : ℕ) (h : Handling) (clauses : List ClauseInfo) (due : List Bool) → HasSmallStates h →
+      HasSmallStates (run_clauses m tick before number h clauses due)
+  clauses_small number h [] due small = small
+  clauses_small number h (clause ∷ clauses) due small =
+      clauses_small (number + 1) _ clauses _
+      (if_cases HasSmallStates (is_some h.overflow) h _ (λ e. small) (λ e. first_small number 0 h clause.branches _ small))
+
+pub states_small : (m : Machine) (tick : ℕ) (w : World) → (handling_at m tick w).overflow ≡ None → (j : ℕ) → IsWithin 88 (int_at (handling_at m tick w).states j)
+states_small m tick w =
+    clauses_small m tick w.discretes 0 _ m.clauses (due_flags (truths m (moved_states m w) w.discretes tick) w.arrived w.settled)
+    (none_past 88 (moved_states m w))
+
+-- ---- levels
+
+all_small : (unit : ℤ) (states : List StateInfo) → All (IsState unit) states → (j : ℕ) → IsWithin 43 (int_at (map (level_below unit) (map (λ (s : StateInfo). s.x0) states)) j)
+all_small unit [] all j = zero_within 43
+all_small unit (s ∷ states) all zero = (all 0 s (omega arith)).level
+all_small unit (s ∷ states) all (suc j) = all_small unit states (λ k d h. all (suc k) d (omega arith)) j
+
+pub start_small : (m : Machine) → HasSmallLevels (start_world m)
+start_small m = all_small (level_unit m) m.states m.has_variables.each_state
+
+pub step_small : (Allows : ℕ → ℤ → ℤ → ℤ → Type 0) (m : Machine) (tick : ℕ) (w next : World) → StepBy Allows m tick w (Ok next) → HasSmallLevels next
+step_small Allows m tick w next s = none_past 43 next.levels (step_facts Allows m tick w next s).small_levels
+
+pub leads_small : (Allows : ℕ → ℤ → ℤ → ℤ → Type 0) (m : Machine) (tick : ℕ) (w : World) (worlds : List World) → HasSmallLevels w →
+    LeadsBy Allows m tick w worlds → HasSmallLevels (last_world w worlds)
+leads_small Allows m tick w [] small leads = small
+leads_small Allows m tick w (next ∷ worlds) small leads = leads_small Allows m (tick + 1) next worlds (step_small Allows m (tick + 1) w next leads.0) leads.1

@@ -1,0 +1,134 @@
+-- A weight is what entries give, what products add, and the constant's size.
+use Rattle.std.proofs.Common.{◌≡◌, ℕ, zero, suc, ◌<◌, ◌≤ℤ◌, ◌+◌, ◌^◌, List, [], ◌∷◌, ◌++◌, length, map, ℤ, pos, ◌+ℤ◌, ◌-ℤ◌, ◌*ℤ◌, refl, sym, ◌∙◌, ap, arith, length-append}
+use Rattle.std.proofs.Math.IntN.{zero-*ℤ, pos-*ℤ-pos, +ℤ_idr}
+use Rattle.std.proofs.Math.ListN.{get_or-map}
+use Rattle.std.proofs.lemmas.Int.{ints, unsigned_abs-mul}
+use Rattle.std.proofs.lemmas.List.{get_or_append_left, get_or-append-add, length-map}
+use Rattle.std.specs.Int.RustNames.{unsigned_abs}
+use Rattle.std.specs.Prelude.{if◌then◌else◌, ◌==◌}
+use Rattle.std.specs.List.Sorted.{IsStrictlyIncreasing}
+use Rattle.mu_num.specs.Rounding.{nearest_of}
+use Rattle.mu_num.proofs.Integers.{add-mul}
+use Rattle.mu_num.proofs.Quotients.{nearest-zero}
+use Rattle.qss_machine.specs.declared.parts.Entry.{Entry}
+use Rattle.qss_machine.specs.declared.parts.Product.{Product}
+use Rattle.qss_machine.specs.declared.parts.SlopeRow.{SlopeRow}
+use Rattle.qss_machine.specs.Numbers.{int_at, size, sum_over, sum_below}
+use Rattle.qss_machine.specs.Slopes.{coefficient_of, products_of, mode_coefficient, slope_of, weight_of}
+use Rattle.qss_machine.proofs.Powers.{power_positive}
+use Rattle.qss_machine.proofs.SumLaws.{sum_below-add, sum_below-same, sum_below-zero, sum_below-split, weighted_sum-entries}
+use Rattle.qss_machine.proofs.Distinct.{plain, coefficient_size}
+
+size-mul : (a b : ℤ) → size a *ℤ size b ≡ size (a *ℤ b)
+size-mul a b = pos-*ℤ-pos (unsigned_abs a) (unsigned_abs b) ∙ ap pos (sym (unsigned_abs-mul a b))
+
+sum_over-map : {X Y : Type 0} (g : X → Y) (f : Y → ℤ) (xs : List X) → sum_over f (map g xs) ≡ sum_over (λ x. f (g x)) xs
+sum_over-map g f [] = refl
+sum_over-map g f (x ∷ xs) = ap (λ z. f (g x) +ℤ z) (sum_over-map g f xs)
+
+sum_over-alike : {X : Type 0} (f g : X → ℤ) (xs : List X) → ((x : X) → f x ≡ g x) → sum_over f xs ≡ sum_over g xs
+sum_over-alike f g [] h = refl
+sum_over-alike f g (x ∷ xs) h = ap (λ z. z +ℤ sum_over f xs) (h x) ∙ ap (λ z. g x +ℤ z) (sum_over-alike f g xs h)
+
+size_at : (values : List ℤ) (var : ℕ) → int_at (map size values) var ≡ size (int_at values var)
+size_at values var = get_or-map size values var (pos 0)
+
+-- the sizes of coefficients times the sizes of values
+pub sizes_sum : List Entry → List ℤ → ℤ
+sizes_sum entries values = sum_below (length values) (λ var. size (coefficient_of entries var) *ℤ size (int_at values var))
+
+pub sizes_sum-entries : (entries : List Entry) (values : List ℤ) → IsStrictlyIncreasing (map (λ (entry : Entry). entry.var) entries) →
+    sum_below (length values) (λ var. size (coefficient_of entries var) *ℤ size (int_at values var)) ≡ sum_over (λ (entry : Entry). size (entry.coef *ℤ int_at values entry.var)) entries
+sizes_sum-entries entries values rising =
+    let each = λ (var : ℕ).
+    sum_over-map plain (λ (entry : Entry). if entry.var == var then entry.coef else pos 0) entries ∙ coefficient_size entries var rising in
+    sym (sum_below-same (length values) (λ var. coefficient_of (map plain entries) var *ℤ int_at (map size values) var) (λ var. size (coefficient_of entries var) *ℤ size (int_at values var))
+    (λ var h. ap (λ z. z *ℤ int_at (map size values) var) (each var) ∙ ap (λ z. size (coefficient_of entries var) *ℤ z) (size_at values var)))
+    ∙ ap (λ n. sum_below n (λ var. coefficient_of (map plain entries) var *ℤ int_at (map size values) var)) (sym (length-map values size))
+    ∙ weighted_sum-entries (map plain entries) (map size values)
+    ∙ sum_over-map plain (λ (entry : Entry). entry.coef *ℤ int_at (map size values) entry.var) entries
+    ∙ sum_over-alike (λ (entry : Entry). size entry.coef *ℤ int_at (map size values) entry.var) (λ (entry : Entry). size (entry.coef *ℤ int_at values entry.var)) entries
+    (λ entry. ap (λ z. size entry.coef *ℤ z) (size_at values entry.var) ∙ size-mul entry.coef (int_at values entry.var))
+
+-- without products they add nothing
+pub no_excess : (row : SlopeRow) (bits n : ℕ) (discretes levels : List ℤ) → length row.products ≡ 0 →
+    sum_below n (λ i. (size (mode_coefficient bits n row discretes i) -ℤ size (coefficient_of row.entries i)) *ℤ size (int_at levels i)) ≡ pos 0
+no_excess row bits n discretes levels e =
+    sum_below-same n (λ i. (size (mode_coefficient bits n row discretes i) -ℤ size (coefficient_of row.entries i)) *ℤ size (int_at levels i)) (λ i. pos 0)
+    (λ i h. ap (λ z. (size z -ℤ size (coefficient_of row.entries i)) *ℤ size (int_at levels i)) (plain_mode i)
+    ∙ ap (λ z. z *ℤ size (int_at levels i)) (gone (size (coefficient_of row.entries i))) ∙ zero-*ℤ (size (int_at levels i)))
+    ∙ sum_below-zero n
+  where
+    gone : (z : ℤ) → z -ℤ z ≡ pos 0
+    gone z = omega (arith, ints)
+
+    none : (products : List Product) (i : ℕ) → length products ≡ 0 → products_of products n discretes i ≡ pos 0
+    none [] i f = refl
+    none (product ∷ products) i f = absurd (omega (arith, f))
+
+    plain_mode : (i : ℕ) → mode_coefficient bits n row discretes i ≡ coefficient_of row.entries i
+    plain_mode i =
+        ap (λ z. coefficient_of row.entries i +ℤ nearest_of z (pos (2 ^ bits))) (none row.products i e)
+        ∙ ap (λ z. coefficient_of row.entries i +ℤ z) (nearest-zero (pos (2 ^ bits)) (power_positive bits))
+        ∙ +ℤ_idr (coefficient_of row.entries i)
+
+-- the entries over levels and discrete values
+sizes_split : (row : SlopeRow) (levels discretes : List ℤ) →
+    sum_below (length (levels ++ discretes)) (λ v. size (coefficient_of row.entries v) *ℤ size (int_at (levels ++ discretes) v)) ≡
+    sum_below (length levels) (λ i. size (coefficient_of row.entries i) *ℤ size (int_at levels i))
+    +ℤ sum_below (length discretes) (λ g. size (coefficient_of row.entries (length levels + g)) *ℤ size (int_at discretes g))
+sizes_split row levels discretes =
+    let f = λ (v : ℕ). size (coefficient_of row.entries v) *ℤ size (int_at (levels ++ discretes) v) in
+    let low = sum_below-same (length levels) f (λ i. size (coefficient_of row.entries i) *ℤ size (int_at levels i))
+    (λ i h. ap (λ z. size (coefficient_of row.entries i) *ℤ size z) (get_or_append_left levels discretes (pos 0) i h)) in
+    let high = sum_below-same (length discretes) (λ g. f (length levels + g)) (λ g. size (coefficient_of row.entries (length levels + g)) *ℤ size (int_at discretes g))
+    (λ g h. ap (λ z. size (coefficient_of row.entries (length levels + g)) *ℤ size z) (get_or-append-add levels discretes g (pos 0))) in
+    ap (λ n. sum_below n f) (length-append levels discretes) ∙ sum_below-split (length levels) (length discretes) f
+    ∙ ap (λ z. z +ℤ sum_below (length discretes) (λ g. f (length levels + g))) low
+    ∙ ap (λ z. sum_below (length levels) (λ i. size (coefficient_of row.entries i) *ℤ size (int_at levels i)) +ℤ z) high
+
+pub weight_parts : (bits : ℕ) (row : SlopeRow) (levels discretes : List ℤ) →
+    sum_below (length (levels ++ discretes)) (λ v. size (coefficient_of row.entries v) *ℤ size (int_at (levels ++ discretes) v))
+    +ℤ sum_below (length levels) (λ i. (size (mode_coefficient bits (length levels) row discretes i) -ℤ size (coefficient_of row.entries i)) *ℤ size (int_at levels i))
+    +ℤ size row.beta
+    ≡ weight_of bits row levels discretes
+weight_parts bits row levels discretes =
+    let a = λ (i : ℕ). size (coefficient_of row.entries i) in
+    let full = λ (i : ℕ). size (mode_coefficient bits (length levels) row discretes i) in
+    let modes : sum_below (length levels) (λ i. full i *ℤ size (int_at levels i)) ≡
+    sum_below (length levels) (λ i. a i *ℤ size (int_at levels i)) +ℤ sum_below (length levels) (λ i. (full i -ℤ a i) *ℤ size (int_at levels i)) =
+    sum_below-same (length levels) (λ i. full i *ℤ size (int_at levels i)) (λ i. a i *ℤ size (int_at levels i) +ℤ (full i -ℤ a i) *ℤ size (int_at levels i))
+    (λ i h. ap (λ z. z *ℤ size (int_at levels i)) (back (full i) (a i)) ∙ add-mul (a i) (full i -ℤ a i) (size (int_at levels i)))
+    ∙ sum_below-add (length levels) (λ i. a i *ℤ size (int_at levels i)) (λ i. (full i -ℤ a i) *ℤ size (int_at levels i)) in
+    regroup (sum_below (length (levels ++ discretes)) (λ v. a v *ℤ size (int_at (levels ++ discretes) v))) (sum_below (length levels) (λ i. a i *ℤ size (int_at levels i)))
+    (sum_below (length discretes) (λ g. size (coefficient_of row.entries (length levels + g)) *ℤ size (int_at discretes g)))
+    (sum_below (length levels) (λ i. (full i -ℤ a i) *ℤ size (int_at levels i))) (sum_below (length levels) (λ i. full i *ℤ size (int_at levels i))) (size row.beta)
+    (sizes_split row levels discretes) modes
+  where
+    back : (z a : ℤ) → z ≡ a +ℤ (z -ℤ a)
+    back z a = omega (arith, ints)
+
+    regroup : (w a d r m b : ℤ) → w ≡ a +ℤ d → m ≡ a +ℤ r → w +ℤ r +ℤ b ≡ m +ℤ (d +ℤ b)
+    regroup w a d r m b e f = omega (arith, ints)
+
+-- the size of a sum is at most the sum of what its terms' sizes are at most
+sizes_below : (n : ℕ) (f g : ℕ → ℤ) → ((i : ℕ) → i < n → size (f i) ≤ℤ g i) → size (sum_below n f) ≤ℤ sum_below n g
+sizes_below zero f g h = omega (arith, ints)
+sizes_below (suc n) f g h =
+    let before = sizes_below n f g (λ i low. h i (omega arith)) in
+    let last = h n (omega arith) in
+    omega (arith, ints, before, last)
+
+-- a slope is at most its weight in size
+pub slope-within_weight : (bits : ℕ) (row : SlopeRow) (levels discretes : List ℤ) → size (slope_of bits row levels discretes) ≤ℤ weight_of bits row levels discretes
+slope-within_weight bits row levels discretes =
+    let product : (a b : ℤ) → size (a *ℤ b) ≤ℤ (size a *ℤ size b) = λ a b. let e = size-mul a b in omega (arith, ints, e) in
+    let mode = λ (i : ℕ). mode_coefficient bits (length levels) row discretes i in
+    let own = λ (g : ℕ). coefficient_of row.entries (length levels + g) in
+    let first = sizes_below (length levels) (λ i. mode i *ℤ int_at levels i) (λ i. size (mode i) *ℤ size (int_at levels i)) (λ i h. product (mode i) (int_at levels i)) in
+    let second = sizes_below (length discretes) (λ g. own g *ℤ int_at discretes g) (λ g. size (own g) *ℤ size (int_at discretes g)) (λ g h. product (own g) (int_at discretes g)) in
+    three (sum_below (length levels) (λ i. mode i *ℤ int_at levels i)) (sum_below (length discretes) (λ g. own g *ℤ int_at discretes g)) row.beta
+    (sum_below (length levels) (λ i. size (mode i) *ℤ size (int_at levels i))) (sum_below (length discretes) (λ g. size (own g) *ℤ size (int_at discretes g))) first second
+  where
+    three : (a b c x y : ℤ) → size a ≤ℤ x → size b ≤ℤ y → size (a +ℤ (b +ℤ c)) ≤ℤ (x +ℤ (y +ℤ size c))
+    three a b c x y h k = omega (arith, ints)

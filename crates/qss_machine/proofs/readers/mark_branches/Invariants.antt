@@ -1,0 +1,15 @@
+use Rattle.std.proofs.Common.{◌≡◌, List, length, take, ◌++◌}
+use Rattle.std.specs.Prelude.{map}
+use Rattle.qss_machine.specs.declared.parts.BranchInfo.{BranchInfo}
+use Rattle.qss_machine.specs.declared.parts.Condition.{Condition}
+use Rattle.qss_machine.specs.Uses.{condition_reads}
+use Rattle.qss_machine.specs.Marks.{Collects}
+use Rattle.qss_machine.proofs.readers.mark_branches.Given as goal
+
+-- the places so far, after any conditions before
+abbrev pub invariant-loop-place : goal.invariant-loop-place
+invariant-loop-place l = record {
+  as_many : length l.lists.items ≡ length l.initial.lists.items;
+  marks : (before : List Condition) → length before ≡ l.first → Collects condition_reads before (length l.initial.lists.items) (map (λ list. list.items) l.initial.lists.items) →
+      Collects condition_reads (before ++ map (λ (branch : BranchInfo). branch.condition) (take l.place l.branches)) (length l.initial.lists.items) (map (λ list. list.items) l.lists.items);
+}

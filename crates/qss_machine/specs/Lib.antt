@@ -1,0 +1,14 @@
+pub mod Numbers
+pub mod Slopes
+pub mod Limits
+pub mod Machines
+pub mod Handlers
+pub mod Ticks
+pub mod Runs
+pub mod Counts
+pub mod Legitimate
+pub mod Uses
+pub mod Laws
+pub mod Firing
+pub mod SameData
+pub mod Marks

@@ -1,0 +1,19 @@
+-- Machines with the same data.
+use Rattle.std.specs.Prelude.{◌≡◌}
+use Rattle.qss_machine.specs.declared.system.Machine.{Machine}
+
+-- all that two machines have in their fields is equal
+pub record HaveSameData (m n : Machine) : Type 0 where
+  pub coefficient_bits : m.p ≡ n.p
+  pub tick_bits : m.k ≡ n.k
+  pub level_bits : m.f ≡ n.f
+  pub last_tick : m.last ≡ n.last
+  pub same_states : m.states ≡ n.states
+  pub same_discretes : m.discretes ≡ n.discretes
+  pub same_rows : m.rows ≡ n.rows
+  pub same_clauses : m.clauses ≡ n.clauses
+  pub share : m.relative ≡ n.relative
+
+-- then they are equal, so their runs, rows, visits, touches and uses are
+abbrev pub SameDataIsEqual : Type 0
+SameDataIsEqual = (m n : Machine) → HaveSameData m n → m ≡ n

@@ -1,0 +1,48 @@
+-- Slopes of a machine's rows, from levels and discrete values.
+use Rattle.std.specs.Prelude.{ℕ, ◌+◌, ◌-◌, ◌^◌, Bool, not, List, length, ℤ, pos, ◌+ℤ◌, ◌*ℤ◌, ◌==◌, if◌then◌else◌}
+use Rattle.std.specs.List.{list_all}
+use Rattle.mu_num.specs.Rounding.{nearest_of}
+use Rattle.qss_machine.specs.declared.parts.Entry.{Entry}
+use Rattle.qss_machine.specs.declared.parts.Product.{Product}
+use Rattle.qss_machine.specs.declared.parts.SlopeRow.{SlopeRow}
+use Rattle.mu_num.specs.Sizes.{passes}
+use Rattle.qss_machine.specs.Numbers.{int_at, tabulate, sum_over, sum_below, size}
+
+-- the coefficients of a variable, added up
+abbrev pub coefficient_of : List Entry → ℕ → ℤ
+coefficient_of entries var = sum_over (λ entry. if entry.var == var then entry.coef else pos 0) entries
+
+-- each number of a list times its variable's coefficient, added up
+abbrev pub weighted_sum : List Entry → List ℤ → ℤ
+weighted_sum entries values = sum_below (length values) (λ var. coefficient_of entries var *ℤ int_at values var)
+
+-- the products of a state, each with the value of its discrete variable, added up; `first` is the number of the first discrete variable
+abbrev pub products_of : List Product → ℕ → List ℤ → ℕ → ℤ
+products_of products first discretes state =
+    sum_over (λ product. if product.state == state then product.coef *ℤ int_at discretes (product.discrete - first) else pos 0) products
+
+-- the coefficient of a state under these discrete values: its own, and the sum of its products divided by 2 ^ level_bits, to the nearest, ties to even
+abbrev pub mode_coefficient : ℕ → ℕ → SlopeRow → List ℤ → ℕ → ℤ
+mode_coefficient level_bits state_count row discretes state =
+    coefficient_of row.entries state +ℤ nearest_of (products_of row.products state_count discretes state) (pos (2 ^ level_bits))
+
+-- the mode coefficients are at most 2 ^ 44 in size
+abbrev pub mode_fits : ℕ → ℕ → SlopeRow → List ℤ → Bool
+mode_fits level_bits state_count row discretes =
+    list_all (λ coefficient. not (passes 44 coefficient)) (tabulate state_count (mode_coefficient level_bits state_count row discretes))
+
+-- the part of a slope that no level changes
+abbrev pub drive_of : ℕ → SlopeRow → List ℤ → ℤ
+drive_of state_count row discretes =
+    sum_below (length discretes) (λ g. coefficient_of row.entries (state_count + g) *ℤ int_at discretes g) +ℤ row.beta
+
+-- how much a state rises in a tick: each level by its mode coefficient, each discrete value by its coefficient, and the constant
+abbrev pub slope_of : ℕ → SlopeRow → List ℤ → List ℤ → ℤ
+slope_of level_bits row levels discretes =
+    sum_below (length levels) (λ i. mode_coefficient level_bits (length levels) row discretes i *ℤ int_at levels i) +ℤ drive_of (length levels) row discretes
+
+-- the same sum taken over sizes
+abbrev pub weight_of : ℕ → SlopeRow → List ℤ → List ℤ → ℤ
+weight_of level_bits row levels discretes =
+    sum_below (length levels) (λ i. size (mode_coefficient level_bits (length levels) row discretes i) *ℤ size (int_at levels i))
+    +ℤ (sum_below (length discretes) (λ g. size (coefficient_of row.entries (length levels + g)) *ℤ size (int_at discretes g)) +ℤ size row.beta)

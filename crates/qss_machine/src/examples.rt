@@ -1,0 +1,115 @@
+// Each public call on a small machine: a state that falls at twice its size.
+
+ghost use Rattle.std.specs.Prelude.{◌≡◌, [], ◌∷◌, pos, negsuc, IfOk, length};
+
+use crate::{ClauseInfo, DiscreteInfo, Entry, Form, Machine, Product, SlopeRow, StateInfo, Uses};
+use mu_io::{Items, Name};
+use std::alloc::{AllocError, Global};
+use std::test::Fail;
+
+// One item.
+fn one<T: Drop>(alloc: Global, item: T) -> Result<Items<T>, AllocError>
+    ensures { IfOk result (λ items. items ≡ item ∷ []) }
+{
+    let mut items = Vec::new(alloc);
+    items.push(item)?;
+    Ok(Items::new(items))
+}
+
+// No items.
+fn none<T>(alloc: Global) -> Items<T>
+    ensures { result ≡ [] }
+{
+    Items::new(Vec::new(alloc))
+}
+
+// A state that starts at 1 and has the quantum 1.
+fn states(alloc: Global) -> Result<Items<StateInfo>, AllocError>
+    ensures { IfOk result (λ states. states ≡ record { name = 120 ∷ []; x0 = pos 1; quantum = pos 1 } ∷ []) }
+{
+    let name = Name::new(alloc, b"x")?;
+    one(
+        alloc,
+        StateInfo {
+            name,
+            x0: 1,
+            quantum: 1,
+        },
+    )
+}
+
+// A right side of minus two times the state.
+fn rows(alloc: Global) -> Result<Items<SlopeRow>, AllocError>
+    ensures { IfOk result (λ rows. rows ≡ record { entries = record { var = 0; coef = negsuc 1 } ∷ []; products = []; beta = pos 0 } ∷ []) }
+{
+    let entries = one(alloc, Entry { var: 0, coef: -2 })?;
+    one(
+        alloc,
+        SlopeRow {
+            entries,
+            products: none(alloc),
+            beta: 0,
+        },
+    )
+}
+
+// The machine, for one tick of a second.
+fn falling(alloc: Global) -> Result<Machine, AllocError>
+    ensures { IfOk result (λ m. (m.states ≡ record { name = 120 ∷ []; x0 = pos 1; quantum = pos 1 } ∷ []) × (m.discretes ≡ []) × (m.rows ≡ record { entries = record { var = 0; coef = negsuc 1 } ∷ []; products = []; beta = pos 0 } ∷ []) × (m.f ≡ 0)) }
+{
+    let states = states(alloc)?;
+    let rows = rows(alloc)?;
+    Ok(Machine {
+        p: 0,
+        k: 0,
+        f: 0,
+        last: 1,
+        states,
+        discretes: none(alloc),
+        rows,
+        clauses: none(alloc),
+        relative: 0,
+    })
+}
+
+// The state less three times the tick.
+fn form(alloc: Global) -> Result<Form, AllocError>
+    ensures { IfOk result (λ form. form ≡ record { entries = record { var = 0; coef = pos 1 } ∷ []; time = negsuc 2; gamma = pos 0 }) }
+{
+    Ok(Form {
+        entries: one(alloc, Entry { var: 0, coef: 1 })?,
+        time: -3,
+        gamma: 0,
+    })
+}
+
+#[test]
+fn gives_rates_and_quanta(rt: HostRuntime) -> Result<(), Fail> {
+    let machine = falling(rt.alloc())?;
+    assert_eq!(rt; machine.slope(0, &[5], &[]), -10);
+    assert_eq!(rt; machine.weight(0, &[5], &[]), 10);
+    assert_eq!(rt; machine.mode_coef(0, 0, &[]), -2);
+    assert!(rt; machine.mode_fits(0, &[]));
+    assert_eq!(rt; machine.quantum_at(0, -9), 1);
+    let machine = machine.with_relative(2048);
+    assert_eq!(rt; machine.quantum_at(0, -9), 4);
+    Ok(())
+}
+
+#[test]
+fn gives_forms(rt: HostRuntime) -> Result<(), Fail> {
+    let machine = falling(rt.alloc())?;
+    let form = form(rt.alloc())?;
+    assert_eq!(rt; machine.form_value(&form, &[10], &[], &[], 2), 4);
+    assert_eq!(rt; machine.form_speed(&form, &[-20]), -23);
+    Ok(())
+}
+
+#[test]
+fn tells_readers(rt: HostRuntime) -> Result<(), Fail> {
+    let machine = falling(rt.alloc())?;
+    let uses = Uses::new(rt.alloc(), &machine)?;
+    assert_eq!(rt; uses.rows_of(0), [0].as_slice());
+    assert!(rt; uses.conditions_of(0).is_empty());
+    Ok(())
+}

@@ -1,0 +1,167 @@
+//! Values and speeds of forms.
+
+ghost use Rattle.std.specs.Prelude.{◌≡◌, ℕ, ◌+◌, ◌*◌, ◌^◌, ◌<◌, ◌≤◌, length, map, All, pos, ◌*ℤ◌, ◌+ℤ◌, ◌≤ℤ◌, ◌++◌, unsigned_abs, sum_by};
+ghost use Rattle.mu_num.specs.Sizes.{IsWithin};
+ghost use Rattle.qss_machine.specs.Numbers.{int_at};
+ghost use Rattle.qss_machine.specs.Slopes.{weighted_sum};
+
+use crate::modes::unit;
+use crate::parts::Entry;
+
+// A number of at most 2^43 times one of at most 2^44.
+fn times(value: i64, unit: i128) -> i128
+    requires value { IsWithin 43 value }
+    requires unit { IsWithin 44 unit }
+    ensures value { result ≡ value *ℤ unit }
+    ensures bound { IsWithin 88 result }
+{
+    i128::from(value) * unit
+}
+
+// How many units of a state a level has.
+fn unit_of(unit_bits: u8) -> i128
+    requires { unit_bits ≤ 44 }
+    ensures value { result ≡ pos (2 ^ unit_bits) }
+    ensures bound { IsWithin 44 result }
+{
+    unit(unit_bits)
+}
+
+// A discrete value in the unit of states.
+fn scaled(value: i64, unit_bits: u8) -> i128
+    requires value { IsWithin 43 value }
+    requires unit { unit_bits ≤ 44 }
+    ensures value { result ≡ value *ℤ pos (2 ^ unit_bits) }
+    ensures bound { IsWithin 88 result }
+{
+    times(value, unit_of(unit_bits))
+}
+
+// The value of a form's variable in the unit of states: a state, a discrete value, or one before the tick.
+fn input_at(states: &[i128], discretes: &[i64], before: &[i64], unit_bits: u8, var: usize) -> i128
+    requires unit { unit_bits ≤ 44 }
+    requires states { All (IsWithin 88) states.now }
+    requires discretes { All (IsWithin 43) discretes.now }
+    requires before { All (IsWithin 43) before.now }
+    requires few { length states.now + length discretes.now + length before.now < 2 ^ 32 }
+    ensures value { result ≡ int_at (states.now ++ (map (λ d. d *ℤ pos (2 ^ unit_bits)) discretes.now ++ map (λ d. d *ℤ pos (2 ^ unit_bits)) before.now)) var }
+    ensures bound { IsWithin 88 result }
+{
+    if var < states.len() {
+        return states[var];
+    }
+    let past_states = var - states.len();
+    if past_states < discretes.len() {
+        return scaled(discretes[past_states], unit_bits);
+    }
+    let past_discretes = past_states - discretes.len();
+    if past_discretes < before.len() {
+        return scaled(before[past_discretes], unit_bits);
+    }
+    0
+}
+
+// A coefficient times a value.
+fn weigh(coef: i64, value: i128) -> i128
+    requires coef { IsWithin 38 coef }
+    requires value { IsWithin 88 value }
+    ensures { result ≡ coef *ℤ value }
+{
+    i128::from(coef) * value
+}
+
+// An entry's coefficient times the value of its variable.
+fn entry_value(
+    entry: Entry,
+    states: &[i128],
+    discretes: &[i64],
+    before: &[i64],
+    unit_bits: u8,
+) -> i128
+    requires coef { IsWithin 38 entry.coef }
+    requires unit { unit_bits ≤ 44 }
+    requires states { All (IsWithin 88) states.now }
+    requires discretes { All (IsWithin 43) discretes.now }
+    requires before { All (IsWithin 43) before.now }
+    requires few { length states.now + length discretes.now + length before.now < 2 ^ 32 }
+    ensures value { result ≡ entry.coef *ℤ int_at (states.now ++ (map (λ d. d *ℤ pos (2 ^ unit_bits)) discretes.now ++ map (λ d. d *ℤ pos (2 ^ unit_bits)) before.now)) entry.var }
+    ensures bound { unsigned_abs result ≤ unsigned_abs entry.coef * 2 ^ 88 }
+{
+    weigh(
+        entry.coef,
+        input_at(states, discretes, before, unit_bits, entry.var as usize),
+    )
+}
+
+/// Each entry's coefficient times the value of its variable, added up.
+pub(crate) fn form_sum(
+    entries: &[Entry],
+    states: &[i128],
+    discretes: &[i64],
+    before: &[i64],
+    unit_bits: u8,
+) -> i128
+    requires coefficients { sum_by (λ entry. unsigned_abs entry.coef) entries.now ≤ 2 ^ 38 }
+    requires unit { unit_bits ≤ 44 }
+    requires states { All (IsWithin 88) states.now }
+    requires discretes { All (IsWithin 43) discretes.now }
+    requires before { All (IsWithin 43) before.now }
+    requires few { length states.now + length discretes.now + length before.now < 2 ^ 32 }
+    ensures value { result ≡ weighted_sum entries.now (states.now ++ (map (λ d. d *ℤ pos (2 ^ unit_bits)) discretes.now ++ map (λ d. d *ℤ pos (2 ^ unit_bits)) before.now)) }
+    ensures bound { unsigned_abs result ≤ sum_by (λ entry. unsigned_abs entry.coef) entries.now * 2 ^ 88 }
+{
+    let mut sum: i128 = 0;
+    for entry in entries {
+        sum += entry_value(*entry, states, discretes, before, unit_bits);
+    }
+    sum
+}
+
+/// A coefficient of time at a tick, in the unit of states.
+pub(crate) fn time_part(time: i64, tick: u64, bits: u8) -> i128
+    requires time { IsWithin 38 time }
+    requires tick { tick < 2 ^ 32 }
+    requires bits { bits ≤ 56 }
+    ensures value { result ≡ time *ℤ pos (tick * 2 ^ bits) }
+    ensures bound { unsigned_abs result ≤ unsigned_abs time * 2 ^ 88 }
+{
+    weigh(time, moment(tick, bits))
+}
+
+// A tick in the unit of states.
+fn moment(tick: u64, bits: u8) -> i128
+    requires tick { tick < 2 ^ 32 }
+    requires bits { bits ≤ 56 }
+    ensures value { result ≡ pos (tick * 2 ^ bits) }
+    ensures bound { IsWithin 88 result }
+{
+    i128::from(tick) * unit(bits)
+}
+
+/// A constant in the unit of forms.
+pub(crate) fn constant_part(gamma: i128, unit_bits: u8) -> i128
+    requires gamma { IsWithin 78 gamma }
+    requires unit { unit_bits ≤ 44 }
+    ensures value { result ≡ gamma *ℤ pos (2 ^ unit_bits) }
+    ensures bound { IsWithin 122 result }
+{
+    gamma_times(gamma, unit_of(unit_bits))
+}
+
+// A number of at most 2^78 times one of at most 2^44.
+fn gamma_times(gamma: i128, unit: i128) -> i128
+    requires gamma { IsWithin 78 gamma }
+    requires unit { IsWithin 44 unit }
+    ensures value { result ≡ gamma *ℤ unit }
+    ensures bound { IsWithin 122 result }
+{
+    gamma * unit
+}
+
+/// The sum of three numbers that fit together.
+pub(crate) fn add_three(a: i128, b: i128, c: i128) -> i128
+    requires { unsigned_abs a + unsigned_abs b + unsigned_abs c < 2 ^ 127 }
+    ensures { result ≡ a +ℤ b +ℤ c }
+{
+    a + b + c
+}

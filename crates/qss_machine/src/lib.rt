@@ -1,0 +1,30 @@
+//! Machines of whole numbers: the data of a compiled model, its slopes and its forms.
+#![tactic(auto)]
+
+mod forms;
+mod laws;
+mod modes;
+mod parts;
+mod quanta;
+mod readers;
+mod rows;
+mod slopes;
+mod sums;
+mod system;
+mod uses;
+mod weights;
+
+pub use laws::{
+    branches_fire_when_due, rules_are_free, runs_are_legitimate, runs_are_unique, runs_stay_near,
+    same_data_is_equal, slopes_are_within_weights,
+};
+pub use parts::{
+    Action, BranchInfo, ClauseInfo, Condition, DiscreteInfo, Entry, Form, Product, Rel, SlopeRow,
+    StateInfo,
+};
+pub use rows::{Row, RowKind};
+pub use system::Machine;
+pub use uses::Uses;
+
+#[cfg(test)]
+mod examples;

@@ -1,0 +1,78 @@
+//! Mode coefficients: the coefficients of states under given discrete values.
+
+ghost use Rattle.std.specs.Prelude.{◌≡◌, ℕ, ◌+◌, ◌*◌, ◌^◌, ◌<◌, ◌≤◌, length, All, pos, unsigned_abs};
+ghost use Rattle.mu_num.specs.Rounding.{nearest_of};
+ghost use Rattle.mu_num.specs.Sizes.{IsWithin, passes};
+ghost use Rattle.qss_machine.specs.Slopes.{mode_coefficient, mode_fits};
+ghost use Rattle.qss_machine.specs.Limits.{IsRow};
+
+use crate::parts::SlopeRow;
+use crate::sums::{coefficient, product_sum};
+use mu_num::near_div;
+
+/// Two to the power of a number of bits.
+pub(crate) fn unit(bits: u8) -> i128
+    requires { bits ≤ 100 }
+    ensures { result ≡ pos (2 ^ bits) }
+{
+    1i128 << bits
+}
+
+/// A sum of products in units of a coefficient.
+pub(crate) fn scaled_down(sum: i128, level_bits: u8) -> i128
+    requires sum { IsWithin 111 sum }
+    requires bits { level_bits ≤ 24 }
+    ensures value { result ≡ nearest_of sum (pos (2 ^ level_bits)) }
+    ensures bound { unsigned_abs result ≤ 2 ^ 111 + 2 ^ 24 }
+{
+    near_div(sum, unit(level_bits))
+}
+
+/// The coefficient of a state under these discrete values.
+pub(crate) fn mode_coefficient_of(
+    row: &SlopeRow,
+    level_bits: u8,
+    state_count: usize,
+    discretes: &[i64],
+    state: u32,
+) -> i128
+    requires bits { level_bits ≤ 24 }
+    requires few { state_count + length discretes.now ≤ 4096 }
+    requires row { IsRow state_count (length discretes.now) row.now }
+    requires small { All (IsWithin 43) discretes.now }
+    ensures value { result ≡ mode_coefficient level_bits state_count row.now discretes.now state }
+    ensures bound { IsWithin 112 result }
+{
+    let own = coefficient(row.entries.as_slice(), state);
+    let products = product_sum(row.products.as_slice(), state_count, discretes, state);
+    own + scaled_down(products, level_bits)
+}
+
+// Whether a number is more than 2^44 in size.
+fn is_large(z: i128) -> bool
+    ensures { result ≡ passes 44 z }
+{
+    z.unsigned_abs() > 1 << 44
+}
+
+/// Whether the mode coefficients of a row are at most 2^44 in size.
+pub(crate) fn modes_fit(
+    row: &SlopeRow,
+    level_bits: u8,
+    state_count: usize,
+    discretes: &[i64],
+) -> bool
+    requires bits { level_bits ≤ 24 }
+    requires few { state_count + length discretes.now ≤ 4096 }
+    requires row { IsRow state_count (length discretes.now) row.now }
+    requires small { All (IsWithin 43) discretes.now }
+    ensures { result ≡ mode_fits level_bits state_count row.now discretes.now }
+{
+    for state in 0..state_count {
+        let mode = mode_coefficient_of(row, level_bits, state_count, discretes, state as u32);
+        if is_large(mode) {
+            return false;
+        }
+    }
+    true
+}

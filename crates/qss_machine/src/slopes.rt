@@ -1,0 +1,116 @@
+//! Slopes of rows.
+
+ghost use Rattle.std.specs.Prelude.{◌≡◌, ℕ, ◌+◌, ◌*◌, ◌^◌, ◌<◌, ◌≤◌, length, All, IsTrue, pos, ◌*ℤ◌, ◌+ℤ◌, unsigned_abs};
+ghost use Rattle.mu_num.specs.Rounding.{nearest_of};
+ghost use Rattle.mu_num.specs.Sizes.{IsWithin};
+ghost use Rattle.qss_machine.specs.Numbers.{int_at, sum_below};
+ghost use Rattle.qss_machine.specs.Slopes.{products_of, mode_fits, slope_of};
+ghost use Rattle.qss_machine.specs.Limits.{IsRow};
+
+use crate::forms::add_three;
+use crate::modes::scaled_down;
+use crate::parts::SlopeRow;
+use crate::sums::{entry_sum, product_sum};
+
+// The rounded products of a state.
+fn rounded_products(
+    row: &SlopeRow,
+    level_bits: u8,
+    state_count: usize,
+    discretes: &[i64],
+    state: u32,
+) -> i128
+    requires bits { level_bits ≤ 24 }
+    requires few { state_count + length discretes.now ≤ 4096 }
+    requires row { IsRow state_count (length discretes.now) row.now }
+    requires small { All (IsWithin 43) discretes.now }
+    ensures { result ≡ nearest_of (products_of row.now.products state_count discretes.now state) (pos (2 ^ level_bits)) }
+{
+    scaled_down(
+        product_sum(row.products.as_slice(), state_count, discretes, state),
+        level_bits,
+    )
+}
+
+/// A number of at most 2^45 times a level.
+pub(crate) fn wide_term(coef: i128, level: i64) -> i128
+    requires coef { IsWithin 45 coef }
+    requires level { IsWithin 43 level }
+    ensures value { result ≡ coef *ℤ level }
+    ensures bound { IsWithin 88 result }
+{
+    coef * i128::from(level)
+}
+
+// A state's rounded products times its level.
+fn product_level(
+    row: &SlopeRow,
+    level_bits: u8,
+    levels: &[i64],
+    discretes: &[i64],
+    state: usize,
+) -> i128
+    requires bits { level_bits ≤ 24 }
+    requires few { length levels.now + length discretes.now ≤ 4096 }
+    requires row { IsRow (length levels.now) (length discretes.now) row.now }
+    requires levels { All (IsWithin 43) levels.now }
+    requires discretes { All (IsWithin 43) discretes.now }
+    requires modes { IsTrue (mode_fits level_bits (length levels.now) row.now discretes.now) }
+    requires state { state < length levels.now }
+    ensures value { result ≡ nearest_of (products_of row.now.products (length levels.now) discretes.now state) (pos (2 ^ level_bits)) *ℤ int_at levels.now state }
+    ensures bound { unsigned_abs result ≤ 2 ^ 88 }
+{
+    let rounded = rounded_products(row, level_bits, levels.len(), discretes, state as u32);
+    wide_term(rounded, levels[state])
+}
+
+// Each state's rounded products times its level, added up.
+fn product_slope(row: &SlopeRow, level_bits: u8, levels: &[i64], discretes: &[i64]) -> i128
+    requires bits { level_bits ≤ 24 }
+    requires few { length levels.now + length discretes.now ≤ 4096 }
+    requires row { IsRow (length levels.now) (length discretes.now) row.now }
+    requires levels { All (IsWithin 43) levels.now }
+    requires discretes { All (IsWithin 43) discretes.now }
+    requires modes { IsTrue (mode_fits level_bits (length levels.now) row.now discretes.now) }
+    ensures value { result ≡ sum_below (length levels.now) (λ i. nearest_of (products_of row.now.products (length levels.now) discretes.now i) (pos (2 ^ level_bits)) *ℤ int_at levels.now i) }
+    ensures bound { unsigned_abs result ≤ 2 ^ 100 }
+{
+    let mut sum: i128 = 0;
+    for state in 0..levels.len() {
+        sum += product_level(row, level_bits, levels, discretes, state);
+    }
+    sum
+}
+
+// The part of a slope that comes from products, which most rows lack.
+fn products_slope(row: &SlopeRow, level_bits: u8, levels: &[i64], discretes: &[i64]) -> i128
+    requires bits { level_bits ≤ 24 }
+    requires few { length levels.now + length discretes.now ≤ 4096 }
+    requires row { IsRow (length levels.now) (length discretes.now) row.now }
+    requires levels { All (IsWithin 43) levels.now }
+    requires discretes { All (IsWithin 43) discretes.now }
+    requires modes { IsTrue (mode_fits level_bits (length levels.now) row.now discretes.now) }
+    ensures value { result ≡ sum_below (length levels.now) (λ i. nearest_of (products_of row.now.products (length levels.now) discretes.now i) (pos (2 ^ level_bits)) *ℤ int_at levels.now i) }
+    ensures bound { unsigned_abs result ≤ 2 ^ 100 }
+{
+    if row.products.as_slice().is_empty() {
+        return 0;
+    }
+    product_slope(row, level_bits, levels, discretes)
+}
+
+/// The slope of a row at these levels and discrete values.
+pub(crate) fn row_slope(row: &SlopeRow, level_bits: u8, levels: &[i64], discretes: &[i64]) -> i128
+    requires bits { level_bits ≤ 24 }
+    requires few { length levels.now + length discretes.now ≤ 4096 }
+    requires row { IsRow (length levels.now) (length discretes.now) row.now }
+    requires levels { All (IsWithin 43) levels.now }
+    requires discretes { All (IsWithin 43) discretes.now }
+    requires modes { IsTrue (mode_fits level_bits (length levels.now) row.now discretes.now) }
+    ensures value { result ≡ slope_of level_bits row.now levels.now discretes.now }
+    ensures bound { IsWithin 101 result }
+{
+    let own = entry_sum(row.entries.as_slice(), levels, discretes);
+    let products = products_slope(row, level_bits, levels, discretes);
+    add_three(own, products, row.beta)
+}

@@ -1,0 +1,122 @@
+//! Sums of entries and products over levels and discrete values.
+
+ghost use Rattle.std.specs.Prelude.{◌≡◌, ℕ, ◌+◌, ◌*◌, ◌^◌, ◌<◌, ◌≤◌, length, All, pos, ◌-◌, ◌*ℤ◌, ◌++◌, unsigned_abs, ◌==◌, if◌then◌else◌};
+ghost use Rattle.mu_num.specs.Sizes.{IsWithin};
+ghost use Rattle.qss_machine.specs.Numbers.{int_at};
+ghost use Rattle.qss_machine.specs.Slopes.{weighted_sum, coefficient_of, products_of};
+
+use crate::parts::{Entry, Product};
+
+// A coefficient times a level or a discrete value.
+fn term(coef: i64, value: i64) -> i128
+    requires coef { IsWithin 44 coef }
+    requires value { IsWithin 43 value }
+    ensures value { result ≡ coef *ℤ value }
+    ensures bound { IsWithin 87 result }
+{
+    i128::from(coef) * i128::from(value)
+}
+
+// The value at a place of two lists, one after the other.
+fn value_at(first: &[i64], second: &[i64], place: usize) -> i64
+    requires place { place < length first.now + length second.now }
+    requires firsts { All (IsWithin 43) first.now }
+    requires seconds { All (IsWithin 43) second.now }
+    ensures value { result ≡ int_at (first.now ++ second.now) place }
+    ensures bound { IsWithin 43 result }
+{
+    if place < first.len() {
+        first[place]
+    } else {
+        second[place - first.len()]
+    }
+}
+
+// An entry's coefficient where it is of this variable, else 0.
+fn coefficient_in(entry: Entry, var: u32) -> i128
+    ensures value { result ≡ (if entry.var == var then entry.coef else pos 0) }
+    ensures bound { unsigned_abs result ≤ 2 ^ 63 }
+{
+    if entry.var == var {
+        i128::from(entry.coef)
+    } else {
+        0
+    }
+}
+
+/// The coefficient of a variable.
+pub(crate) fn coefficient(entries: &[Entry], var: u32) -> i128
+    requires few { length entries.now ≤ 2 ^ 32 }
+    ensures value { result ≡ coefficient_of entries.now var }
+    ensures bound { IsWithin 95 result }
+{
+    let mut sum: i128 = 0;
+    for entry in entries {
+        sum += coefficient_in(*entry, var);
+    }
+    sum
+}
+
+/// An entry's coefficient times the value of its variable.
+pub(crate) fn entry_term(entry: Entry, first: &[i64], second: &[i64]) -> i128
+    requires small { IsWithin 44 entry.coef }
+    requires known { entry.var < length first.now + length second.now }
+    requires firsts { All (IsWithin 43) first.now }
+    requires seconds { All (IsWithin 43) second.now }
+    ensures value { result ≡ entry.coef *ℤ int_at (first.now ++ second.now) entry.var }
+    ensures bound { IsWithin 87 result }
+{
+    term(entry.coef, value_at(first, second, entry.var as usize))
+}
+
+/// Each entry's coefficient times the value of its variable, added up.
+pub(crate) fn entry_sum(entries: &[Entry], first: &[i64], second: &[i64]) -> i128
+    requires few { length entries.now ≤ 4096 }
+    requires small { All (λ entry. IsWithin 44 entry.coef) entries.now }
+    requires known { All (λ entry. entry.var < length first.now + length second.now) entries.now }
+    requires firsts { All (IsWithin 43) first.now }
+    requires seconds { All (IsWithin 43) second.now }
+    ensures value { result ≡ weighted_sum entries.now (first.now ++ second.now) }
+    ensures bound { IsWithin 99 result }
+{
+    let mut sum: i128 = 0;
+    for entry in entries {
+        sum += entry_term(*entry, first, second);
+    }
+    sum
+}
+
+// A product's coefficient times the value of its discrete variable where it is of this state, else 0.
+fn product_term(product: Product, first: usize, discretes: &[i64], state: u32) -> i128
+    requires small { IsWithin 44 product.coef }
+    requires from { first ≤ product.discrete }
+    requires to { product.discrete < first + length discretes.now }
+    requires values { All (IsWithin 43) discretes.now }
+    ensures value { result ≡ (if product.state == state then product.coef *ℤ int_at discretes.now (product.discrete - first) else pos 0) }
+    ensures bound { unsigned_abs result ≤ 2 ^ 87 }
+{
+    if product.state == state {
+        term(
+            product.coef,
+            value_at(discretes, &[], product.discrete as usize - first),
+        )
+    } else {
+        0
+    }
+}
+
+/// The products of a state, each with the value of its discrete variable, added up.
+pub(crate) fn product_sum(products: &[Product], first: usize, discretes: &[i64], state: u32) -> i128
+    requires few { length products.now ≤ 2 ^ 24 }
+    requires small { All (λ product. IsWithin 44 product.coef) products.now }
+    requires known { All (λ product. (first ≤ product.discrete) × (product.discrete < first + length discretes.now)) products.now }
+    requires values { All (IsWithin 43) discretes.now }
+    ensures value { result ≡ products_of products.now first discretes.now state }
+    ensures bound { IsWithin 111 result }
+{
+    let mut sum: i128 = 0;
+    for product in products {
+        sum += product_term(*product, first, discretes, state);
+    }
+    sum
+}

@@ -1,0 +1,154 @@
+//! A machine, and what its rows and forms give.
+
+ghost use Rattle.std.specs.Prelude.{pos, ◌+◌, ◌^◌, length};
+ghost use Rattle.qss_machine.specs.Limits.{HasUnits, AreVariables, AreRows, AreClauses};
+
+use crate::forms::{add_three, constant_part, form_sum, time_part};
+use crate::modes::{mode_coefficient_of, modes_fit};
+use crate::parts::{ClauseInfo, DiscreteInfo, Form, SlopeRow, StateInfo};
+use crate::quanta::{greater_of, share_of};
+use crate::slopes::row_slope;
+use crate::weights::row_weight;
+use mu_io::Items;
+
+/// A compiled model of whole numbers, within all its limits.
+#[derive(Drop)]
+pub struct Machine {
+    /// The bits of coefficients: their unit is 2^-p.
+    pub p: u8,
+    /// The bits of ticks: a tick is 2^-k seconds.
+    pub k: u8,
+    /// The bits of levels: their unit, and that of discrete values and quanta, is 2^-f.
+    pub f: u8,
+    /// The last tick, below 2^32.
+    pub last: u64,
+    pub states: Items<StateInfo>,
+    pub discretes: Items<DiscreteInfo>,
+    /// A right side for each state.
+    pub rows: Items<SlopeRow>,
+    pub clauses: Items<ClauseInfo>,
+    /// The share of a level's size that its quantum is at least, in 4096ths, at most 2048.
+    pub relative: u16,
+    pub ghost has_units: { HasUnits p k f last relative },
+    pub ghost has_variables: { AreVariables (pos (2 ^ (p + k))) states discretes },
+    pub ghost has_rows: { AreRows f (pos (2 ^ (p + k))) states discretes rows },
+    pub ghost has_clauses: { AreClauses (length states) (length discretes) clauses },
+}
+
+impl Machine {
+    ghost use Rattle.std.specs.Prelude.{◌≡◌, ◌<◌, ◌≤◌, All, IsTrue, unsigned_abs};
+    ghost use Rattle.mu_num.specs.Sizes.{IsWithin};
+    ghost use Rattle.qss_machine.specs.Slopes.{mode_fits};
+    ghost use Rattle.qss_machine.specs.Limits.{IsBounded};
+    ghost use Rattle.qss_machine.specs.Machines.{state_count, discrete_count, row_at, mode_coefficient_at, slope_at, weight_at, quantum_of, value_of, speed_of};
+
+    /// The coefficient of a state in a row under these discrete values, in units of 2^-p: its own, and the sum of
+    /// its products divided by 2^f, to the nearest, ties to even.
+    pub fn mode_coef(&self, row: u32, state: u32, discretes: &[i64]) -> i128
+        requires row { row < state_count self.now }
+        requires state { state < state_count self.now }
+        requires as_many { length discretes.now ≡ discrete_count self.now }
+        requires small { All (IsWithin 43) discretes.now }
+        ensures { result ≡ mode_coefficient_at self.now row state discretes.now }
+    {
+        let states = self.states.as_slice().len();
+        let right_side = &self.rows.as_slice()[row as usize];
+        mode_coefficient_of(right_side, self.f, states, discretes, state)
+    }
+
+    /// Whether the mode coefficients of a row are at most 2^44 in size.
+    pub fn mode_fits(&self, row: u32, discretes: &[i64]) -> bool
+        requires row { row < state_count self.now }
+        requires as_many { length discretes.now ≡ discrete_count self.now }
+        requires small { All (IsWithin 43) discretes.now }
+        ensures { result ≡ mode_fits self.now.f (state_count self.now) (row_at self.now row) discretes.now }
+    {
+        let states = self.states.as_slice().len();
+        let right_side = &self.rows.as_slice()[row as usize];
+        modes_fit(right_side, self.f, states, discretes)
+    }
+
+    /// How much a state rises in a tick at these levels and discrete values, in units of 2^-(f+p+k).
+    pub fn slope(&self, row: u32, levels: &[i64], discretes: &[i64]) -> i128
+        requires row { row < state_count self.now }
+        requires levels { length levels.now ≡ state_count self.now }
+        requires discretes { length discretes.now ≡ discrete_count self.now }
+        requires small_levels { All (IsWithin 43) levels.now }
+        requires small_discretes { All (IsWithin 43) discretes.now }
+        requires modes { IsTrue (mode_fits self.now.f (state_count self.now) (row_at self.now row) discretes.now) }
+        ensures value { result ≡ slope_at self.now row levels.now discretes.now }
+        ensures bound { IsWithin 101 result }
+    {
+        let right_side = &self.rows.as_slice()[row as usize];
+        row_slope(right_side, self.f, levels, discretes)
+    }
+
+    /// The slope of a row taken over sizes.
+    pub fn weight(&self, row: u32, levels: &[i64], discretes: &[i64]) -> i128
+        requires row { row < state_count self.now }
+        requires levels { length levels.now ≡ state_count self.now }
+        requires discretes { length discretes.now ≡ discrete_count self.now }
+        requires small_levels { All (IsWithin 43) levels.now }
+        requires small_discretes { All (IsWithin 43) discretes.now }
+        requires modes { IsTrue (mode_fits self.now.f (state_count self.now) (row_at self.now row) discretes.now) }
+        ensures { result ≡ weight_at self.now row levels.now discretes.now }
+    {
+        let right_side = &self.rows.as_slice()[row as usize];
+        row_weight(right_side, self.f, levels, discretes)
+    }
+
+    /// The quantum of a state at a level: the greater of its own and of the machine's share of the level's size.
+    pub fn quantum_at(&self, state: u32, level: i64) -> i64
+        requires state { state < state_count self.now }
+        requires level { IsWithin 43 level }
+        ensures { result ≡ quantum_of self.now state level }
+    {
+        let own = self.states.as_slice()[state as usize].quantum;
+        greater_of(own, share_of(level, self.relative))
+    }
+
+    /// The value of a form at states, discrete values, discrete values before the tick, and a tick, in units of
+    /// 2^-(f+2p+k).
+    pub fn form_value(&self, form: &Form, x: &[i128], d: &[i64], pre: &[i64], tick: u64) -> i128
+        requires form { IsBounded form.now }
+        requires states { length x.now ≡ state_count self.now }
+        requires discretes { length d.now ≡ discrete_count self.now }
+        requires before { length pre.now ≡ discrete_count self.now }
+        requires small_states { All (IsWithin 88) x.now }
+        requires small_discretes { All (IsWithin 43) d.now }
+        requires small_before { All (IsWithin 43) pre.now }
+        requires tick { tick < 2 ^ 32 }
+        ensures value { result ≡ value_of self.now form.now x.now d.now pre.now tick }
+        ensures bound { unsigned_abs result < 2 ^ 127 }
+    {
+        let own = form_sum(form.entries.as_slice(), x, d, pre, self.p + self.k);
+        let time = time_part(form.time, tick, self.f + self.p);
+        let constant = constant_part(form.gamma, self.p + self.k);
+        add_three(own, time, constant)
+    }
+
+    /// How much a form's value changes in a tick at these slopes.
+    pub fn form_speed(&self, form: &Form, slopes: &[i128]) -> i128
+        requires form { IsBounded form.now }
+        requires as_many { length slopes.now ≡ state_count self.now }
+        requires small { All (IsWithin 88) slopes.now }
+        ensures value { result ≡ speed_of self.now form.now slopes.now }
+        ensures bound { unsigned_abs result < 2 ^ 127 }
+    {
+        let own = form_sum(form.entries.as_slice(), slopes, &[], &[], 0);
+        let time = time_part(form.time, 1, self.f + self.p);
+        add_three(own, time, 0)
+    }
+
+    /// The same machine with quanta of at least this share of their levels, in 4096ths.
+    pub fn with_relative(self, n: u16) -> Machine
+        requires { n ≤ 2048 }
+        ensures relative { result.relative ≡ n }
+        ensures units { (result.p ≡ self.p) × (result.k ≡ self.k) × (result.f ≡ self.f) × (result.last ≡ self.last) }
+        ensures lists { (result.states ≡ self.states) × (result.discretes ≡ self.discretes) × (result.rows ≡ self.rows) × (result.clauses ≡ self.clauses) }
+    {
+        let mut machine = self;
+        machine.relative = n;
+        machine
+    }
+}

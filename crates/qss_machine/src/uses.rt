@@ -1,0 +1,57 @@
+//! Which rows and which conditions read each variable of a machine.
+
+ghost use Rattle.std.specs.Prelude.{◌≡◌, ◌<◌, length, IfOk, slice_index_or, []};
+ghost use Rattle.qss_machine.specs.Uses.{uses_of};
+
+use crate::readers::{conditions_by_variable, rows_by_variable};
+use crate::system::Machine;
+use std::alloc::{AllocError, Global};
+use std::marker::Model;
+
+/// For each variable the rows and the conditions that read it, which contracts see as two lists of lists.
+#[derive(Drop)]
+pub struct Uses {
+    rows: Vec<Vec<u32>>,
+    conditions: Vec<Vec<u32>>,
+}
+
+impl Model for Uses {
+    ghost use Rattle.std.specs.Prelude.{ℕ, List, map};
+
+    ghost Value = { List (List ℕ) × List (List ℕ) };
+
+    ghost view = { λ u. (map (λ list. list.items) u.rows.items, map (λ list. list.items) u.conditions.items) };
+}
+
+impl Uses {
+    /// The uses of a machine's variables.
+    pub fn new(alloc: Global, m: &Machine) -> Result<Self, AllocError>
+        ensures { IfOk result (λ uses. uses ≡ uses_of m.now) }
+    {
+        let states = m.states.as_slice().len() as u32;
+        let discretes = m.discretes.as_slice().len() as u32;
+        let rows = rows_by_variable(alloc, m.rows.as_slice(), states + discretes)?;
+        let conditions = conditions_by_variable(
+            alloc,
+            m.clauses.as_slice(),
+            states + discretes + discretes,
+        )?;
+        Ok(Uses { rows, conditions })
+    }
+
+    /// The rows that read a state or a discrete variable, rising.
+    pub fn rows_of(&self, var: u32) -> &[u32]
+        requires { var < length self.now.0 }
+        ensures { result.now ≡ slice_index_or self.now.0 var [] }
+    {
+        self.rows[var as usize].as_slice()
+    }
+
+    /// The conditions that read a state, a discrete variable or its value before the tick, rising and by their places in source order.
+    pub fn conditions_of(&self, var: u32) -> &[u32]
+        requires { var < length self.now.1 }
+        ensures { result.now ≡ slice_index_or self.now.1 var [] }
+    {
+        self.conditions[var as usize].as_slice()
+    }
+}

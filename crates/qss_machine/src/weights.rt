@@ -1,0 +1,134 @@
+//! Weights of rows: their slopes taken over sizes.
+
+ghost use Rattle.std.specs.Prelude.{◌≡◌, ℕ, ◌+◌, ◌*◌, ◌^◌, ◌<◌, ◌≤◌, length, All, IsTrue, pos, ◌*ℤ◌, ◌-ℤ◌, ◌++◌, unsigned_abs};
+ghost use Rattle.mu_num.specs.Sizes.{IsWithin};
+ghost use Rattle.qss_machine.specs.Numbers.{int_at, size, sum_over, sum_below};
+ghost use Rattle.qss_machine.specs.Slopes.{coefficient_of, mode_coefficient, mode_fits, weight_of};
+ghost use Rattle.qss_machine.specs.Limits.{IsRow};
+
+use crate::forms::add_three;
+use crate::modes::mode_coefficient_of;
+use crate::parts::{Entry, SlopeRow};
+use crate::slopes::wide_term;
+use crate::sums::{coefficient, entry_term};
+
+// The size of an entry's coefficient times the value of its variable.
+fn entry_size(entry: Entry, first: &[i64], second: &[i64]) -> i128
+    requires small { IsWithin 44 entry.coef }
+    requires known { entry.var < length first.now + length second.now }
+    requires firsts { All (IsWithin 43) first.now }
+    requires seconds { All (IsWithin 43) second.now }
+    ensures value { result ≡ size (entry.coef *ℤ int_at (first.now ++ second.now) entry.var) }
+    ensures bound { unsigned_abs result ≤ 2 ^ 87 }
+{
+    entry_term(entry, first, second).abs()
+}
+
+// The sizes of all entries' coefficients times the values of their variables, added up.
+fn entry_weight(entries: &[Entry], first: &[i64], second: &[i64]) -> i128
+    requires few { length entries.now ≤ 4096 }
+    requires small { All (λ entry. IsWithin 44 entry.coef) entries.now }
+    requires known { All (λ entry. entry.var < length first.now + length second.now) entries.now }
+    requires firsts { All (IsWithin 43) first.now }
+    requires seconds { All (IsWithin 43) second.now }
+    ensures value { result ≡ sum_over (λ entry. size (entry.coef *ℤ int_at (first.now ++ second.now) entry.var)) entries.now }
+    ensures bound { unsigned_abs result ≤ 2 ^ 99 }
+{
+    let mut sum: i128 = 0;
+    for entry in entries {
+        sum += entry_size(*entry, first, second);
+    }
+    sum
+}
+
+// A level without its sign.
+fn level_size(level: i64) -> i64
+    requires { IsWithin 43 level }
+    ensures value { result ≡ size level }
+    ensures bound { IsWithin 43 result }
+{
+    level.abs()
+}
+
+// What a mode coefficient weighs more than the coefficient without products.
+fn excess(mode: i128, own: i128) -> i128
+    requires mode { IsWithin 44 mode }
+    requires own { IsWithin 44 own }
+    ensures value { result ≡ size mode -ℤ size own }
+    ensures bound { IsWithin 45 result }
+{
+    mode.abs() - own.abs()
+}
+
+// What a state's products add to a row's weight.
+fn state_excess(
+    row: &SlopeRow,
+    level_bits: u8,
+    levels: &[i64],
+    discretes: &[i64],
+    state: usize,
+) -> i128
+    requires bits { level_bits ≤ 24 }
+    requires few { length levels.now + length discretes.now ≤ 4096 }
+    requires row { IsRow (length levels.now) (length discretes.now) row.now }
+    requires levels { All (IsWithin 43) levels.now }
+    requires discretes { All (IsWithin 43) discretes.now }
+    requires modes { IsTrue (mode_fits level_bits (length levels.now) row.now discretes.now) }
+    requires state { state < length levels.now }
+    ensures value { result ≡ (size (mode_coefficient level_bits (length levels.now) row.now discretes.now state) -ℤ size (coefficient_of row.now.entries state)) *ℤ size (int_at levels.now state) }
+    ensures bound { unsigned_abs result ≤ 2 ^ 88 }
+{
+    let mode = mode_coefficient_of(row, level_bits, levels.len(), discretes, state as u32);
+    let own = coefficient(row.entries.as_slice(), state as u32);
+    wide_term(excess(mode, own), level_size(levels[state]))
+}
+
+// What products add to a row's weight.
+fn excess_sum(row: &SlopeRow, level_bits: u8, levels: &[i64], discretes: &[i64]) -> i128
+    requires bits { level_bits ≤ 24 }
+    requires few { length levels.now + length discretes.now ≤ 4096 }
+    requires row { IsRow (length levels.now) (length discretes.now) row.now }
+    requires levels { All (IsWithin 43) levels.now }
+    requires discretes { All (IsWithin 43) discretes.now }
+    requires modes { IsTrue (mode_fits level_bits (length levels.now) row.now discretes.now) }
+    ensures value { result ≡ sum_below (length levels.now) (λ i. (size (mode_coefficient level_bits (length levels.now) row.now discretes.now i) -ℤ size (coefficient_of row.now.entries i)) *ℤ size (int_at levels.now i)) }
+    ensures bound { unsigned_abs result ≤ 2 ^ 100 }
+{
+    let mut sum: i128 = 0;
+    for state in 0..levels.len() {
+        sum += state_excess(row, level_bits, levels, discretes, state);
+    }
+    sum
+}
+
+// The same; most rows have no products.
+fn products_weight(row: &SlopeRow, level_bits: u8, levels: &[i64], discretes: &[i64]) -> i128
+    requires bits { level_bits ≤ 24 }
+    requires few { length levels.now + length discretes.now ≤ 4096 }
+    requires row { IsRow (length levels.now) (length discretes.now) row.now }
+    requires levels { All (IsWithin 43) levels.now }
+    requires discretes { All (IsWithin 43) discretes.now }
+    requires modes { IsTrue (mode_fits level_bits (length levels.now) row.now discretes.now) }
+    ensures value { result ≡ sum_below (length levels.now) (λ i. (size (mode_coefficient level_bits (length levels.now) row.now discretes.now i) -ℤ size (coefficient_of row.now.entries i)) *ℤ size (int_at levels.now i)) }
+    ensures bound { unsigned_abs result ≤ 2 ^ 100 }
+{
+    if row.products.as_slice().is_empty() {
+        return 0;
+    }
+    excess_sum(row, level_bits, levels, discretes)
+}
+
+/// The weight of a row at these levels and discrete values.
+pub(crate) fn row_weight(row: &SlopeRow, level_bits: u8, levels: &[i64], discretes: &[i64]) -> i128
+    requires bits { level_bits ≤ 24 }
+    requires few { length levels.now + length discretes.now ≤ 4096 }
+    requires row { IsRow (length levels.now) (length discretes.now) row.now }
+    requires levels { All (IsWithin 43) levels.now }
+    requires discretes { All (IsWithin 43) discretes.now }
+    requires modes { IsTrue (mode_fits level_bits (length levels.now) row.now discretes.now) }
+    ensures { result ≡ weight_of level_bits row.now levels.now discretes.now }
+{
+    let own = entry_weight(row.entries.as_slice(), levels, discretes);
+    let products = products_weight(row, level_bits, levels, discretes);
+    add_three(own, products, row.beta.abs())
+}
