@@ -1,0 +1,9 @@
+use Rattle.std.proofs.Common.{◌≡◌, ◌+◌, ◌+ℤ◌, drop}
+use Rattle.cert_matrix.specs.Sums.{products, weights}
+use Rattle.cert_matrix.proofs.weighing.weigh.Given as goal
+
+abbrev pub invariant-loop-term : goal.invariant-loop-term
+invariant-loop-term l = record {
+  total : l.sum.total +ℤ products (drop l.term-index l.terms) ≡ products l.terms;
+  weight : l.sum.weight + weights (drop l.term-index l.terms) ≡ weights l.terms;
+}

@@ -1,0 +1,5 @@
+pub mod Sums
+pub mod Form
+pub mod Matrix
+pub mod Gram
+pub mod RangedSums

@@ -1,0 +1,106 @@
+//! The test by which a matrix is shown to have a form that is never negative.
+
+ghost use Rattle.std.specs.Prelude.{◌≡◌, ℕ, ℤ, ◌+◌, ◌*◌, ◌^◌, ◌<◌, ◌≤◌, ◌≤ℤ◌, ◌↔◌, pos, length, unsigned_abs, IsSome, IfSome};
+ghost use Rattle.cert_matrix.specs.Form.{beside, size_beside, less_gram, IsSymmetric, IsNeverNegative};
+ghost use Rattle.cert_matrix.specs.Matrix.{table};
+ghost use Rattle.cert_matrix.specs.Gram.{entry_weight, IsRowInRange, IsVerdict};
+
+use crate::matrix::Matrix;
+use crate::ranged::RangedSum;
+
+/// What the test of a matrix found; rows count from 1.
+#[derive(Clone, Copy, Debug, PartialEq, Eq)]
+pub enum Test {
+    Holds,
+    Fails { row: u32, left: i128, right: i128 },
+    Range { row: u32 },
+}
+
+/// The entry in row `i` and column `j` of `h` times `m` less the transpose of `g` times `g`.
+fn gram_entry(h: i128, m: &Matrix, g: &Matrix, i: u8, j: u8) -> Option<i128>
+    requires same { length g.now ≡ length m.now }
+    requires row { i < length m.now }
+    requires column { j < length m.now }
+    ensures in_range { IsSome result ↔ (entry_weight (length m.now) h (table m.now) (table g.now) i j ≤ 2 ^ 126) }
+    ensures value { IfSome result (λ entry. entry ≡ less_gram (length m.now) h (table m.now) (table g.now) i j) }
+    ensures bound { IfSome result (λ entry. unsigned_abs entry ≤ 2 ^ 126) }
+{
+    let mut sum = RangedSum::new().plus(h, m.get(i, j))?;
+    for k in 0..m.size() {
+        sum = sum.minus(g.get(k, i), g.get(k, j))?;
+    }
+    Some(sum.total)
+}
+
+/// What the entry in row `i` and column `j` adds to the sizes beside the diagonal, where it is in range.
+fn gram_size(h: &i128, m: &Matrix, g: &Matrix, i: u8, j: u8) -> Option<i128>
+    requires same { length g.now ≡ length m.now }
+    requires row { i < length m.now }
+    requires column { j < length m.now }
+    ensures in_range { IsSome result ↔ (entry_weight (length m.now) h.now (table m.now) (table g.now) i j ≤ 2 ^ 126) }
+    ensures value { IfSome result (λ value. value ≡ size_beside (less_gram (length m.now) h.now (table m.now) (table g.now)) i j) }
+{
+    let entry = gram_entry(*h, m, g, i, j)?;
+    Some(if i == j { 0 } else { entry.abs() })
+}
+
+/// The two sides of a row: the entry on the diagonal, and the sizes beside it.
+#[derive(Clone, Copy)]
+pub struct RowSides {
+    pub left: i128,
+    pub right: i128,
+}
+
+/// The two sides of row `i`, where its sums are in range.
+pub fn gram_row(h: &i128, m: &Matrix, g: &Matrix, i: u8) -> Option<RowSides>
+    requires same { length g.now ≡ length m.now }
+    requires row { i < length m.now }
+    ensures in_range { IsSome result ↔ IsRowInRange (length m.now) h.now (table m.now) (table g.now) i }
+    ensures left { IfSome result (λ sides. sides.left ≡ less_gram (length m.now) h.now (table m.now) (table g.now) i i) }
+    ensures right { IfSome result (λ sides. sides.right ≡ beside (length m.now) (less_gram (length m.now) h.now (table m.now) (table g.now)) i) }
+{
+    let left = gram_entry(*h, m, g, i, i)?;
+    let mut beside = RangedSum::new();
+    for j in 0..m.size() {
+        beside = beside.plus(gram_size(h, m, g, i, j)?, 1)?;
+    }
+    Some(RowSides {
+        left,
+        right: beside.total,
+    })
+}
+
+/// The verdict on all rows, from the first on.
+fn test_rows(h: &i128, m: &Matrix, g: &Matrix) -> Test
+    requires { length g.now ≡ length m.now }
+    ensures { IsVerdict (length m.now) h.now (table m.now) (table g.now) result }
+{
+    for i in 0..m.size() {
+        match gram_row(h, m, g, i) {
+            None => return Test::Range {
+                row: u32::from(i) + 1,
+            },
+            Some(sides) => {
+                if sides.left < sides.right {
+                    return Test::Fails {
+                        row: u32::from(i) + 1,
+                        left: sides.left,
+                        right: sides.right,
+                    };
+                }
+            }
+        }
+    }
+    Test::Holds
+}
+
+/// Tests, row by row, that `h` times `m` less the transpose of `g` times `g` has dominant diagonal entries.
+pub fn gram_test(h: i128, m: &Matrix, g: &Matrix) -> Test
+    requires { length g.now ≡ length m.now }
+    ensures verdict { IsVerdict (length m.now) h (table m.now) (table g.now) result }
+
+    // A symmetric matrix that passes has a form that is never negative.
+    ensures never_negative { result ≡ Test.Holds → pos 1 ≤ℤ h → IsSymmetric (length m.now) (table m.now) → IsNeverNegative (length m.now) (table m.now) }
+{
+    test_rows(&h, m, g)
+}

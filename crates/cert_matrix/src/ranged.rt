@@ -1,0 +1,84 @@
+//! Sums of products that are in range.
+
+ghost use Rattle.std.specs.Prelude.{◌^◌, ◌≤◌, unsigned_abs};
+
+/// A sum of products whose sizes together are at most 2^126.
+#[derive(Clone, Copy)]
+pub struct RangedSum {
+    pub(crate) total: i128,
+    pub(crate) weight: u128,
+    ghost within: { unsigned_abs total ≤ weight },
+    ghost in_range: { weight ≤ 2 ^ 126 },
+}
+
+impl RangedSum {
+    ghost use Rattle.std.specs.Prelude.{◌≡◌, ◌+◌, ◌*◌, ◌<◌, ◌↔◌, ◌+ℤ◌, ◌-ℤ◌, ◌*ℤ◌, IsNone, IfSome, pos};
+    ghost use Rattle.cert_matrix.specs.Sums.{size};
+    ghost use Rattle.cert_matrix.specs.RangedSums.{total_of, weight_of};
+
+    pub const LIMIT: u128 = 1 << 126;
+
+    /// The empty sum.
+    pub fn new() -> Self
+        ensures total { total_of result ≡ pos 0 }
+        ensures weight { weight_of result ≡ 0 }
+    {
+        RangedSum {
+            total: 0,
+            weight: 0,
+        }
+    }
+
+    /// The sum as one number.
+    pub fn total(self) -> i128
+        ensures value { result ≡ total_of self }
+        ensures bound { unsigned_abs result ≤ 2 ^ 126 }
+    {
+        self.total
+    }
+
+    /// The sum with the product of `a` and `b`, where it stays in range.
+    pub fn plus(self, a: i128, b: i128) -> Option<Self>
+        ensures out_of_range { IsNone result ↔ (2 ^ 126 < weight_of self + unsigned_abs a * unsigned_abs b) }
+        ensures total { IfSome result (λ sum. total_of sum ≡ total_of self +ℤ a *ℤ b) }
+        ensures weight { IfSome result (λ sum. weight_of sum ≡ weight_of self + unsigned_abs a * unsigned_abs b) }
+    {
+        let size = a.unsigned_abs().checked_mul(b.unsigned_abs())?;
+        if size > Self::LIMIT - self.weight {
+            return None;
+        }
+        Some(RangedSum {
+            total: self.total + a * b,
+            weight: self.weight + size,
+        })
+    }
+
+    /// The sum with the product of the size of `a` and `b`, where it stays in range.
+    pub fn plus_size(self, a: i128, b: i128) -> Option<Self>
+        ensures out_of_range { IsNone result ↔ (2 ^ 126 < weight_of self + unsigned_abs a * unsigned_abs b) }
+        ensures total { IfSome result (λ sum. total_of sum ≡ total_of self +ℤ size a *ℤ b) }
+        ensures weight { IfSome result (λ sum. weight_of sum ≡ weight_of self + unsigned_abs a * unsigned_abs b) }
+    {
+        if a < 0 {
+            self.minus(a, b)
+        } else {
+            self.plus(a, b)
+        }
+    }
+
+    /// The sum less the product of `a` and `b`, where it stays in range.
+    pub fn minus(self, a: i128, b: i128) -> Option<Self>
+        ensures out_of_range { IsNone result ↔ (2 ^ 126 < weight_of self + unsigned_abs a * unsigned_abs b) }
+        ensures total { IfSome result (λ sum. total_of sum ≡ total_of self -ℤ a *ℤ b) }
+        ensures weight { IfSome result (λ sum. weight_of sum ≡ weight_of self + unsigned_abs a * unsigned_abs b) }
+    {
+        let size = a.unsigned_abs().checked_mul(b.unsigned_abs())?;
+        if size > Self::LIMIT - self.weight {
+            return None;
+        }
+        Some(RangedSum {
+            total: self.total - a * b,
+            weight: self.weight + size,
+        })
+    }
+}

@@ -1,0 +1,18 @@
+//! The sum of a list of products.
+
+ghost use Rattle.std.specs.Prelude.{◌≡◌, ◌^◌, ◌<◌, ◌↔◌, IsNone, IfSome};
+ghost use Rattle.cert_matrix.specs.Sums.{products, weights};
+
+use crate::ranged::RangedSum;
+
+/// The sum of the products, where their sizes together are at most 2^126.
+pub fn weigh(terms: &[(i128, i128)]) -> Option<i128>
+    ensures out_of_range { IsNone result ↔ (2 ^ 126 < weights terms.now) }
+    ensures sum { IfSome result (λ sum. sum ≡ products terms.now) }
+{
+    let mut sum = RangedSum::new();
+    for term in terms {
+        sum = sum.plus(term.0, term.1)?;
+    }
+    Some(sum.total)
+}

@@ -1,0 +1,68 @@
+// The program: real files, standard output and standard error, and the words of its command line.
+#![tactic(auto)]
+
+ghost use Rattle.std.specs.Prelude.{◌≡◌, ◌⊎◌, []};
+ghost use Rattle.std.specs.Io.KnownBytes.{Appends};
+ghost use Rattle.mu_io.specs.Faults.{Rose};
+
+use mu_io::{FileShelf, StdSink, write_all};
+use qss_top::{Status, qss_main};
+use std::io::Write;
+use std::process::ExitCode;
+use std::{env, io};
+
+// What nothing else gives: the words of the command line were not had.
+const NO_WORDS: u8 = 9;
+
+// Passes on what out and err still hold. Where out fails and nothing else went wrong, `write fault`
+// takes the place of what err holds.
+fn finish<O: Write + Drop, E: Write + Drop>(
+    status: Status,
+    out: &mut StdSink<O>,
+    err: &mut StdSink<E>,
+) -> Status
+    ensures turned { (result ≡ status) ⊎ ((result ≡ Status.WriteFault) × ((status ≡ Status.Ok) ⊎ (status ≡ Status.Overflow)) × Rose out.old.faults out.new.faults) }
+
+    // A run that ends well has passed on all that out held, and a status that stays has its line
+    // passed on, unless err fails. Nothing is held afterwards.
+    ensures passed { (result ≡ Status.Ok) ⊎ (result ≡ Status.Overflow) → Appends (O.contents out.old.writer) (O.contents out.new.writer) out.old.held.items }
+    ensures told { result ≡ status → Appends (E.contents err.old.writer) (E.contents err.new.writer) err.old.held.items ⊎ Rose err.old.faults err.new.faults }
+    ensures emptied { (out.new.held.items ≡ []) × (err.new.held.items ≡ []) }
+{
+    let passed = out.pass_on();
+    let is_told = matches!(status, Status::Ok | Status::Overflow);
+    let status = if passed.is_err() && is_told {
+        err.forget();
+        let _ = write_all(err, b"write fault\n");
+        Status::WriteFault
+    } else {
+        status
+    };
+    let _ = err.pass_on();
+    status
+}
+
+fn run(rt: HostRuntime) -> io::Result<Status> {
+    let alloc = rt.alloc();
+    let mut words = Vec::new(alloc);
+    for word in env::args(&rt)?.skip(1) {
+        words.push(word)?;
+    }
+    let mut texts = Vec::new(alloc);
+    for word in &words {
+        texts.push(word.as_str())?;
+    }
+    let mut shelf = FileShelf::new(alloc, rt);
+    let mut out = StdSink::new(alloc, rt.stdout())?;
+    let mut err = StdSink::new(alloc, rt.stderr())?;
+    let status = qss_main(alloc, &texts, &mut shelf, &mut out, &mut err);
+    Ok(finish(status, &mut out, &mut err))
+}
+
+fn main(rt: HostRuntime) -> ExitCode {
+    match run(rt) {
+        Ok(status) => ExitCode::from(status.code()),
+        Err(e) if e.kind() == io::ErrorKind::OutOfMemory => ExitCode::from(Status::Memory.code()),
+        Err(_) => ExitCode::from(NO_WORDS),
+    }
+}

@@ -1,0 +1,35 @@
+//! The line of a row.
+
+ghost use Rattle.std.specs.Prelude.{◌≡◌, ◌+◌, ◌<◌, IfOk, true};
+ghost use Rattle.qss_machine.specs.Machines.{state_count, discrete_count};
+ghost use Rattle.qss_rows.specs.Lines as Spec;
+
+use crate::record::{add_row, new_writer};
+use qss_machine::{Machine, Row};
+use std::alloc::{AllocError, Global};
+
+/// The line before all rows.
+pub fn header() -> &'static [u8]
+    ensures { result.now ≡ Spec.header }
+{
+    b"tick,event,name,level,state\n"
+}
+
+/// The line of a row of a machine. A `LineWriter` serves many rows at less cost.
+pub fn row_bytes(alloc: Global, r: &Row, m: &Machine) -> Result<Vec<u8>, AllocError>
+    requires { Spec.prints_name r.now.kind ≡ true → r.now.var < state_count m.now + discrete_count m.now }
+    ensures { IfOk result (λ line. line.items ≡ Spec.line_of m.now r.now) }
+{
+    let mut writer = new_writer(alloc);
+    add_row(alloc, &mut writer, r, m)?;
+    match writer.into_inner() {
+        Ok(line) => Ok(line),
+        Err(_) => Err(AllocError),
+    }
+}
+
+/// Law: where the name needs no quotes, the line of a row is its fields joined by commas, and a line
+/// feed.
+pub fn lines_are_plain()
+    ensures { Spec.LinesArePlain }
+{}

@@ -1,0 +1,11 @@
+pub mod Pieces
+pub mod Sources
+pub mod Sameness
+pub mod MachineLimits
+pub mod SourceReading
+pub mod OneStep
+pub mod RunLines
+pub mod Existence
+pub mod OutcomeFacts
+pub mod Tellings
+pub mod TopFacts

@@ -1,0 +1,73 @@
+-- A source means one machine, and words and files define one answer.
+use Rattle.std.proofs.Common.{◌≡◌, ◌*◌, ◌^◌, ℕ, Bool, true, false, List, [], ◌∷◌, length, refl, sym, ap, ◌∙◌, subst, inl, inr, nat_lt, None, Some}
+use Rattle.std.specs.declared.option.Option.{Option}
+use Rattle.std.specs.Prelude.{MatchBool}
+use Rattle.mu_io.specs.Files.{Files, file_of}
+use Rattle.mu_num.specs.Levels.{floor_level}
+use Rattle.qss_machine.specs.SameData.{HaveSameData}
+use Rattle.qss_machine.specs.declared.system.Machine.{Machine}
+use Rattle.qss_machine.specs.Runs.{run_by}
+use Rattle.qss_machine.proofs.Fields.{same_machine}
+use Rattle.qss_top.specs.FirstForm.{FirstForm}
+use Rattle.qss_top.specs.Meanings.{number_of, IsMachineOf}
+use Rattle.qss_top.specs.Commands.{Command, run_model, command_of}
+use Rattle.qss_top.specs.Answers.{Answer, Told, printed, IsMeaningAnswer, IsRunAnswer, answered, Says, ReadsThen, LeadsTo, Defines}
+use Rattle.qss_top.specs.Laws.{MeaningsAreUnique, AnswersAreUnique}
+use Rattle.qss_top.proofs.Sources.{one_form}
+
+same_data : (s : FirstForm) (m n : Machine) → IsMachineOf s m → IsMachineOf s n → HaveSameData m n
+same_data s m n a b =
+    let p = a.coef_bits ∙ sym b.coef_bits in
+    let k = a.tick_bits ∙ sym b.tick_bits in
+    let f = a.level_bits ∙ sym b.level_bits in
+    record {
+      coefficient_bits = p;
+      tick_bits = k;
+      level_bits = f;
+      last_tick = a.last ∙ ap (λ (bits : ℕ). number_of s.stop * 2 ^ bits) k ∙ sym b.last;
+      same_states = a.states ∙ rw (p, k, f) refl ∙ sym b.states;
+      same_discretes = a.discretes ∙ sym b.discretes;
+      same_rows = a.rows ∙ rw p refl ∙ sym b.rows;
+      same_clauses = a.clauses ∙ sym b.clauses;
+      share = a.relative ∙ sym b.relative;
+    }
+
+pub same_meaning : MeaningsAreUnique
+same_meaning bytes m n first second =
+    same_machine m n
+    (same_data first.form m n first.machine
+    (subst (λ (s : FirstForm). IsMachineOf s n) (one_form bytes second.form first.form second.spelled first.spelled) second.machine))
+
+pub one_meaning : (bytes : List ℕ) (a b : Answer) → IsMeaningAnswer bytes a → IsMeaningAnswer bytes b → a ≡ b
+one_meaning bytes a b (inl p) (inl q) = p.1 ∙ sym q.1
+one_meaning bytes a b (inl p) (inr q) = absurd (p.0 q.0 q.1)
+one_meaning bytes a b (inr p) (inl q) = absurd (q.0 p.0 p.1)
+one_meaning bytes a b (inr p) (inr q) = p.2 ∙ ap (λ (m : Machine). printed m (run_by floor_level m)) (same_meaning bytes p.0 q.0 p.1 q.1) ∙ sym q.2
+
+one_choice : (r a b : Answer) (P : Answer → Type 0) → (P a → P b → a ≡ b) → (c : Bool) → MatchBool c (a ≡ r) (P a) → MatchBool c (b ≡ r) (P b) → a ≡ b
+one_choice r a b P one true p q = p ∙ sym q
+one_choice r a b P one false p q = one p q
+
+one_run : (bytes : List ℕ) (a b : Answer) → IsRunAnswer bytes a → IsRunAnswer bytes b → a ≡ b
+one_run bytes a b p q = one_choice _ a b (IsMeaningAnswer bytes) (one_meaning bytes a b) (nat_lt (2 ^ 20) (length bytes)) p q
+
+one_says : (P : Answer → Type 0) → ((a b : Answer) → P a → P b → a ≡ b) → (s t : Told) → Says P s → Says P t → s ≡ t
+one_says P one s t p q = p.2 ∙ ap (λ (answer : Answer). record { arrivals = []; reply = answered answer }) (one p.0 q.0 p.1 q.1) ∙ sym q.2
+
+one_read : (name : List ℕ) (Leads : List ℕ → Told → Type 0) → ((bytes : List ℕ) (s t : Told) → Leads bytes s → Leads bytes t → s ≡ t) → (found : Option (List ℕ)) (s t : Told)
+    → ReadsThen name Leads found s → ReadsThen name Leads found t → s ≡ t
+one_read name Leads one None s t p q = p ∙ sym q
+one_read name Leads one (Some bytes) s t p q =
+    p.2 ∙ ap (λ (later : Told). record { arrivals = name ∷ later.arrivals; reply = later.reply }) (one bytes p.0 q.0 p.1 q.1) ∙ sym q.2
+
+one_command : (command : Command) (files : Files) (s t : Told) → LeadsTo command files s → LeadsTo command files t → s ≡ t
+one_command (run_model model) files s t p q =
+    one_read model (λ bytes. Says (IsRunAnswer bytes)) (λ bytes. one_says (IsRunAnswer bytes) (one_run bytes)) (file_of files model) s t p q
+
+one_told : (command : Option Command) (files : Option Files) (s t : Told) → Defines command files s → Defines command files t → s ≡ t
+one_told None files s t p q = one_says _ (λ a b e f. e ∙ sym f) s t p q
+one_told (Some command) None s t p q = p ∙ sym q
+one_told (Some command) (Some files) s t p q = one_command command files s t p q
+
+pub answers_are_unique : AnswersAreUnique
+answers_are_unique words files s t p q = one_told (command_of words) files s t p q

@@ -1,0 +1,171 @@
+-- What became of a command meets what is told.
+use Rattle.std.proofs.Common.{◌≡◌, ◌≢◌, ◌⊎◌, ◌<◌, ◌≤◌, ◌^◌, true, false, zero, ℕ, List, [], ◌∷◌, length, pos, refl, sym, ap, ◌∙◌, subst, arith, inl, inr, None, Some, nat_lt}
+use Rattle.std.specs.declared.option.Option.{Option}
+use Rattle.std.specs.Prelude.{IfSome, IsSomeAnd, Contains}
+use Rattle.std.proofs.KnownBytes.{Appends-nil}
+use Rattle.std.specs.Io.KnownBytes.{Appends}
+use Rattle.mu_io.specs.Faults.{Rose, OnlyCounts}
+use Rattle.mu_io.specs.Files.{Files, file_of}
+use Rattle.qss_machine.specs.declared.system.Machine.{Machine}
+use Rattle.qss_top.specs.Answers.{Answer, Told, Line, refusal, printed, no_form, too_long, usage, answered, IsMeaningAnswer, IsRunAnswer, Says, ReadsThen, LeadsFrom}
+use Rattle.qss_top.specs.Commands.{run_model}
+use Rattle.qss_top.specs.Meanings.{Means, state_of, entries_of, coefficient_of}
+use Rattle.qss_top.specs.OneState.{IsSingle, floor_run}
+use Rattle.qss_top.specs.Outcomes.{IsOutcome, Meets, status_of, line_of}
+use Rattle.qss_top.specs.Statuses.{is_defined}
+use Rattle.qss_top.specs.TopCall.{SomeRose}
+use Rattle.qss_top.specs.declared.outcome.Outcome.{Outcome}
+use Rattle.qss_top.specs.declared.outcome.Outcome.TheVariants as outcome
+use Rattle.qss_top.specs.declared.status.Status.TheVariants as ends
+use Rattle.qss_top.proofs.Sameness.{one_meaning}
+use Rattle.qss_top.proofs.OutcomeFacts.{no_prefix}
+
+-- the answer to a source that means a machine is the print of its run
+pub answer_is : (bytes : List ℕ) (m : Machine) → Means bytes m → (a : Answer) → IsMeaningAnswer bytes a → printed m (floor_run m) ≡ a
+answer_is bytes m means a h = one_meaning bytes (printed m (floor_run m)) a (inr (m, means, refl)) h
+
+-- a refusal, where nothing was written
+refused : (line : Line) (what : Outcome) (old : Option (List ℕ)) (before : ℕ) → (status_of what ≡ ends.ModelRefused) → line_of what ≡ line → IsOutcome (refusal ends.ModelRefused line) what old old before before
+refused line what old before status said = record { defined = λ e. (status, said, Appends-nil old); prefix = no_prefix old []; quiet = λ e. refl }
+
+pub no_form_outcome : (bytes : List ℕ) (old : Option (List ℕ)) (before : ℕ) → ((m : Machine) → ¬ Means bytes m) → (a : Answer) → IsMeaningAnswer bytes a → IsOutcome a outcome.NoForm old old before before
+no_form_outcome bytes old before none a (inl p) = rw (p.1) (refused no_form outcome.NoForm old before refl refl)
+no_form_outcome bytes old before none a (inr p) = absurd (none p.0 p.1)
+
+-- nothing was written, and nothing is told of the answer
+pub nothing_outcome : (a : Answer) (what : Outcome) (old : Option (List ℕ)) (before : ℕ) → is_defined (status_of what) ≡ false → IsOutcome a what old old before before
+nothing_outcome a what old before e = record { defined = λ d. absurd (cc (e, d)); prefix = no_prefix old a.out; quiet = λ e. refl }
+
+-- what a command on one file has to meet
+pub record RunMeets (name : List ℕ) (files : Option Files) (what : Outcome) (old new : Option (List ℕ)) (out_before out_now : ℕ) (before now : List ℕ → ℕ) : Type 0 where
+  pub counts : OnlyCounts name before now
+  pub read : what ≡ outcome.ReadFault → Rose (before name) (now name)
+  pub gone : (fs : Files) → files ≡ Some fs → file_of fs name ≡ None → ((status_of what ≡ ends.ReadFault) ⊎ (status_of what ≡ ends.Memory)) × Appends old new [] × (out_now ≡ out_before)
+  pub found : (fs : Files) (bytes : List ℕ) → files ≡ Some fs → file_of fs name ≡ Some bytes → (a : Answer) → IsRunAnswer bytes a → IsOutcome a what old new out_before out_now
+
+first_of : (name : List ℕ) (names : List (List ℕ)) → Contains (name ∷ names) name
+first_of name names = (zero, omega arith, refl)
+
+some_rose : (name : List ℕ) (before now : List ℕ → ℕ) → Rose (before name) (now name) → SomeRose (name ∷ []) before now
+some_rose name before now rose = (name, first_of name [], rose)
+
+only_first : (name other : List ℕ) (before now : List ℕ → ℕ) → OnlyCounts name before now → ¬ Contains (name ∷ []) other → now other ≡ before other
+only_first name other before now counts apart = counts.others other (λ e. apart (subst (λ (n : List ℕ). Contains (name ∷ []) n) (sym e) (first_of name [])))
+
+some_text : (out : List ℕ) → Some out ≡ Some [] → out ≡ []
+some_text out e = cc
+
+pub run_meets : (name : List ℕ) (files : Option Files) (what : Outcome) (old new : Option (List ℕ)) (out_before out_now : ℕ) (before now : List ℕ → ℕ) → RunMeets name files what old new out_before out_now before now
+    → (told : Told) → LeadsFrom (run_model name) files told → Meets told what old new out_before out_now before now
+run_meets name None what old new out_before out_now before now h told leads =
+    subst (λ (t : Told). Meets t what old new out_before out_now before now) (sym leads) (record {
+      replied = tt;
+      line = λ e. tt;
+      prefix = tt;
+      quiet = λ e. absurd (cc e);
+      read_fault = λ e. some_rose name before now (h.read e);
+      others = λ other apart. only_first name other before now h.counts apart;
+    })
+run_meets name (Some fs) what old new out_before out_now before now h told leads = by_file (file_of fs name) refl leads
+  where
+    by_file : (found : Option (List ℕ)) → file_of fs name ≡ found → ReadsThen name (λ bytes. Says (IsRunAnswer bytes)) found told → Meets told what old new out_before out_now before now
+    by_file None e leads =
+        let p = h.gone fs refl e in
+        subst (λ (t : Told). Meets t what old new out_before out_now before now) (sym leads) (record {
+          replied = p.0;
+          line = λ e. tt;
+          prefix = record { front = []; rest = []; parts = refl; appended = p.1 };
+          quiet = λ e. p.2;
+          read_fault = λ e. some_rose name before now (h.read e);
+          others = λ other apart. only_first name other before now h.counts apart;
+        })
+    by_file (Some bytes) e leads =
+        let later = leads.1 in
+        let is = h.found fs bytes refl e later.0 later.1 in
+        let same : told ≡ record { arrivals = name ∷ []; reply = answered later.0 } = leads.2 ∙ ap (λ (t : Told). record { arrivals = name ∷ t.arrivals; reply = t.reply }) later.2 in
+        subst (λ (t : Told). Meets t what old new out_before out_now before now) (sym same) (record {
+          replied = λ e. let d = is.defined e in (d.0, d.2);
+          line = λ e. (is.defined e).1;
+          prefix = is.prefix;
+          quiet = λ e. is.quiet (some_text later.0.out e);
+          read_fault = λ e. some_rose name before now (h.read e);
+          others = λ other apart. only_first name other before now h.counts apart;
+        })
+
+if_some : {X : Type 0} (P : X → Type 0) (o : Option X) (x : X) → IfSome o P → o ≡ Some x → P x
+if_some P o x h e = rw e at h
+
+-- a source within the limit
+pub short_meets : (bytes : List ℕ) (a : Answer) → length bytes ≤ 2 ^ 20 → IsRunAnswer bytes a → IsMeaningAnswer bytes a
+short_meets bytes a h answer = let short : nat_lt (2 ^ 20) (length bytes) ≡ false = grind arith in rw short at answer
+
+-- a source past the limit
+pub long_outcome : (bytes : List ℕ) (a : Answer) (old : Option (List ℕ)) (before : ℕ) → 2 ^ 20 < length bytes → IsRunAnswer bytes a → IsOutcome a outcome.TooLong old old before before
+long_outcome bytes a old before h answer =
+    let long : nat_lt (2 ^ 20) (length bytes) ≡ true = grind arith in
+    let is : a ≡ refusal ends.ModelRefused too_long = rw long at answer in
+    rw is (refused too_long outcome.TooLong old before refl refl)
+
+pub source_meets : (name : List ℕ) (files : Option Files) (bytes : List ℕ) (what : Outcome) (old new : Option (List ℕ)) (out_before out_now : ℕ) (before now : List ℕ → ℕ)
+    → OnlyCounts name before now → IfSome files (λ fs. file_of fs name ≡ Some bytes) → length bytes ≤ 2 ^ 20 → what ≢ outcome.ReadFault
+    → ((a : Answer) → IsMeaningAnswer bytes a → IsOutcome a what old new out_before out_now) → RunMeets name files what old new out_before out_now before now
+source_meets name files bytes what old new out_before out_now before now counts told within not_read is = record {
+  counts = counts;
+  read = λ e. absurd (not_read e);
+  gone = λ fs e none. absurd (cc (none, if_some (λ fs. file_of fs name ≡ Some bytes) files fs told e));
+  found = λ fs b e some a h. is a (short_meets bytes a within (subst (λ (b : List ℕ). IsRunAnswer b a) (same b fs some (if_some (λ fs. file_of fs name ≡ Some bytes) files fs told e)) h));
+}
+  where
+    same : (b : List ℕ) (fs : Files) → file_of fs name ≡ Some b → file_of fs name ≡ Some bytes → b ≡ bytes
+    same b fs p q = cc (p, q)
+
+pub long_meets : (name : List ℕ) (files : Option Files) (old : Option (List ℕ)) (out_before : ℕ) (before now : List ℕ → ℕ)
+    → OnlyCounts name before now → IfSome files (λ fs. IsSomeAnd (file_of fs name) (λ bytes. 2 ^ 20 < length bytes)) → RunMeets name files outcome.TooLong old old out_before out_before before now
+long_meets name files old out_before before now counts told = record {
+  counts = counts;
+  read = λ e. absurd (cc e);
+  gone = λ fs e none. absurd (rw none at (if_some (λ fs. IsSomeAnd (file_of fs name) (λ bytes. 2 ^ 20 < length bytes)) files fs told e));
+  found = λ fs b e some a h. long_outcome b a old out_before (rw some at (if_some (λ fs. IsSomeAnd (file_of fs name) (λ bytes. 2 ^ 20 < length bytes)) files fs told e)) h;
+}
+
+pub fault_meets : (name : List ℕ) (files : Option Files) (old : Option (List ℕ)) (out_before : ℕ) (before now : List ℕ → ℕ)
+    → OnlyCounts name before now → Rose (before name) (now name) → RunMeets name files outcome.ReadFault old old out_before out_before before now
+fault_meets name files old out_before before now counts rose = record {
+  counts = counts;
+  read = λ e. rose;
+  gone = λ fs e none. (inl refl, Appends-nil old, refl);
+  found = λ fs b e some a h. nothing_outcome a outcome.ReadFault old out_before refl;
+}
+
+pub memory_meets : (name : List ℕ) (files : Option Files) (old : Option (List ℕ)) (out_before : ℕ) (before now : List ℕ → ℕ)
+    → OnlyCounts name before now → RunMeets name files outcome.Memory old old out_before out_before before now
+memory_meets name files old out_before before now counts = record {
+  counts = counts;
+  read = λ e. absurd (cc e);
+  gone = λ fs e none. (inr refl, Appends-nil old, refl);
+  found = λ fs b e some a h. nothing_outcome a outcome.Memory old out_before refl;
+}
+
+-- words that are no command
+pub usage_meets : (told : Told) (old : Option (List ℕ)) (out_before : ℕ) (before : List ℕ → ℕ) → Says (λ answer. answer ≡ refusal ends.Usage usage) told → Meets told outcome.Usage old old out_before out_before before before
+usage_meets told old out_before before says =
+    let same : told ≡ record { arrivals = []; reply = answered (refusal ends.Usage usage) } = says.2 ∙ ap (λ (a : Answer). record { arrivals = []; reply = answered a }) says.1 in
+    subst (λ (t : Told). Meets t outcome.Usage old old out_before out_before before before) (sym same) (record {
+      replied = λ e. (refl, Appends-nil old);
+      line = λ e. refl;
+      prefix = no_prefix old [];
+      quiet = λ e. refl;
+      read_fault = λ e. absurd (cc e);
+      others = λ other apart. refl;
+    })
+
+-- a source means a machine of one state
+pub single_by : (bytes : List ℕ) (m : Machine) → Means bytes m → IsSingle m
+single_by bytes m h = record {
+  state = state_of h.form m.p m.k m.f;
+  row = record { entries = entries_of (coefficient_of h.form m.p); products = []; beta = pos 0 };
+  states = h.machine.states;
+  rows = h.machine.rows;
+  discretes = h.machine.discretes;
+  clauses = h.machine.clauses;
+}

@@ -1,0 +1,114 @@
+-- The status and the line of an outcome, for what is told.
+use Rattle.std.proofs.Common.{◌≡◌, ◌≢◌, ◌⊎◌, true, ℕ, List, refl, sym, ap, ◌∙◌, subst, inl, inr}
+use Rattle.std.specs.declared.option.Option.{Option}
+use Rattle.qss_top.specs.Answers.{Reply, answered, absent, untold, Tells}
+use Rattle.qss_top.specs.Outcomes.{HasLine, status_of, line_of, IsReported}
+use Rattle.qss_top.specs.Statuses.{is_defined, leaves_out}
+use Rattle.qss_top.specs.TopCall.{IsReplied, IsReplyLine, IsLineOf}
+use Rattle.qss_top.specs.declared.outcome.Outcome.{Outcome}
+use Rattle.qss_top.specs.declared.outcome.Outcome.TheVariants as outcome
+use Rattle.qss_top.specs.declared.status.Status.{Status}
+use Rattle.qss_top.specs.declared.status.Status.TheVariants as ends
+
+-- the status is that of the outcome, but for an overflow whose line found no memory
+abbrev pub IsStatus : Status → Outcome → Type 0
+IsStatus status what = (status ≡ status_of what) ⊎ ((status ≡ ends.Memory) × (status_of what ≡ ends.Overflow))
+
+in_memory : (reply : Reply) (old new : Option (List ℕ)) → IsReplied reply ends.Overflow old new → IsReplied reply ends.Memory old new
+in_memory (answered answer) old new h = λ e. absurd (cc e)
+in_memory absent old new h = inr refl
+in_memory untold old new h = tt
+
+pub replied : (reply : Reply) (status : Status) (what : Outcome) (old new : Option (List ℕ)) → IsStatus status what → IsReplied reply (status_of what) old new → IsReplied reply status old new
+replied reply status what old new (inl e) h = subst (λ (s : Status). IsReplied reply s old new) (sym e) h
+replied reply status what old new (inr e) h =
+    subst (λ (s : Status). IsReplied reply s old new) (sym e.0) (in_memory reply old new (subst (λ (s : Status). IsReplied reply s old new) e.1 h))
+
+pub defined_of : (status : Status) (what : Outcome) → IsStatus status what → is_defined status ≡ true → is_defined (status_of what) ≡ true
+defined_of status what (inl e) d = sym (ap is_defined e) ∙ d
+defined_of status what (inr e) d = absurd (cc (ap is_defined e.0, d))
+
+pub leaves_of : (status : Status) (what : Outcome) → IsStatus status what → leaves_out status ≡ true → leaves_out (status_of what) ≡ true
+leaves_of status what (inl e) d = sym (ap leaves_out e) ∙ d
+leaves_of status what (inr e) d = absurd (cc (ap leaves_out e.0, d))
+
+-- a status other than want of memory is that of the outcome
+same_status : (status : Status) (what : Outcome) → IsStatus status what → status ≢ ends.Memory → status ≡ status_of what
+same_status status what (inl e) other = e
+same_status status what (inr e) other = absurd (other e.0)
+
+read_is : (what : Outcome) → ends.ReadFault ≡ status_of what → what ≡ outcome.ReadFault
+read_is outcome.Done e = absurd (cc e)
+read_is outcome.Usage e = absurd (cc e)
+read_is outcome.ReadFault e = refl
+read_is outcome.WriteFault e = absurd (cc e)
+read_is outcome.TooLong e = absurd (cc e)
+read_is outcome.NoForm e = absurd (cc e)
+read_is (outcome.Overflow name tick) e = absurd (cc e)
+read_is outcome.Memory e = absurd (cc e)
+
+write_is : (what : Outcome) → ends.WriteFault ≡ status_of what → what ≡ outcome.WriteFault
+write_is outcome.Done e = absurd (cc e)
+write_is outcome.Usage e = absurd (cc e)
+write_is outcome.ReadFault e = absurd (cc e)
+write_is outcome.WriteFault e = refl
+write_is outcome.TooLong e = absurd (cc e)
+write_is outcome.NoForm e = absurd (cc e)
+write_is (outcome.Overflow name tick) e = absurd (cc e)
+write_is outcome.Memory e = absurd (cc e)
+
+done_is : (what : Outcome) → ends.Ok ≡ status_of what → what ≡ outcome.Done
+done_is outcome.Done e = refl
+done_is outcome.Usage e = absurd (cc e)
+done_is outcome.ReadFault e = absurd (cc e)
+done_is outcome.WriteFault e = absurd (cc e)
+done_is outcome.TooLong e = absurd (cc e)
+done_is outcome.NoForm e = absurd (cc e)
+done_is (outcome.Overflow name tick) e = absurd (cc e)
+done_is outcome.Memory e = absurd (cc e)
+
+usage_is : (what : Outcome) → ends.Usage ≡ status_of what → what ≡ outcome.Usage
+usage_is outcome.Done e = absurd (cc e)
+usage_is outcome.Usage e = refl
+usage_is outcome.ReadFault e = absurd (cc e)
+usage_is outcome.WriteFault e = absurd (cc e)
+usage_is outcome.TooLong e = absurd (cc e)
+usage_is outcome.NoForm e = absurd (cc e)
+usage_is (outcome.Overflow name tick) e = absurd (cc e)
+usage_is outcome.Memory e = absurd (cc e)
+
+pub read_of : (status : Status) (what : Outcome) → IsStatus status what → status ≡ ends.ReadFault → what ≡ outcome.ReadFault
+read_of status what h e = read_is what (sym e ∙ same_status status what h (λ m. absurd (cc (e, m))))
+
+pub write_of : (status : Status) (what : Outcome) → IsStatus status what → status ≡ ends.WriteFault → what ≡ outcome.WriteFault
+write_of status what h e = write_is what (sym e ∙ same_status status what h (λ m. absurd (cc (e, m))))
+
+pub done_of : (status : Status) (what : Outcome) → IsStatus status what → status ≡ ends.Ok → what ≡ outcome.Done
+done_of status what h e = done_is what (sym e ∙ same_status status what h (λ m. absurd (cc (e, m))))
+
+pub usage_of : (status : Status) (what : Outcome) → IsStatus status what → status ≡ ends.Usage → what ≡ outcome.Usage
+usage_of status what h e = usage_is what (sym e ∙ same_status status what h (λ m. absurd (cc (e, m))))
+
+-- the other way round
+pub status_by : (status : Status) (what : Outcome) → IsStatus status what → status_of what ≢ ends.Overflow → status ≡ status_of what
+status_by status what (inl e) other = e
+status_by status what (inr e) other = absurd (other e.1)
+
+pub no_write : (status : Status) (what : Outcome) → IsStatus status what → status ≢ ends.WriteFault → what ≢ outcome.WriteFault
+no_write status what h other e = other (status_by status what h (λ o. absurd (cc (ap status_of e, o))) ∙ ap status_of e)
+
+tells_reply : (reply : Reply) (what : Outcome) (line : List ℕ) → HasLine reply (line_of what) → Tells (line_of what) line → IsReplyLine reply line
+tells_reply (answered answer) what line has tells = rw has at tells
+tells_reply absent what line has tells = tt
+tells_reply untold what line has tells = tt
+
+pub line_is : (status : Status) (reply : Reply) (what : Outcome) (line : List ℕ) → (is_defined status ≡ true → HasLine reply (line_of what)) → IsReported status what line → IsLineOf status reply line
+line_is ends.Ok reply what line has h = h
+line_is ends.Rejected reply what line has h = tells_reply reply what line (has refl) h
+line_is ends.Usage reply what line has h = tells_reply reply what line (has refl) h
+line_is ends.ReadFault reply what line has h = h
+line_is ends.WriteFault reply what line has h = h
+line_is ends.ModelRefused reply what line has h = tells_reply reply what line (has refl) h
+line_is ends.Overflow reply what line has h = tells_reply reply what line (has refl) h
+line_is ends.CertRefused reply what line has h = tells_reply reply what line (has refl) h
+line_is ends.Memory reply what line has h = h

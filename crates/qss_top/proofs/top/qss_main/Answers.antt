@@ -1,0 +1,48 @@
+use Rattle.std.proofs.Common.{ap, ◌∙◌}
+use Rattle.qss_top.specs.Outcomes.{status_of}
+use Rattle.qss_top.proofs.TopFacts.{replied, defined_of, leaves_of, read_of, write_of, done_of, usage_of, status_by, no_write, line_is}
+use Rattle.qss_top.proofs.top.qss_main.Goals as goal
+
+pub returns-clause-replied : goal.returns-clause-replied
+returns-clause-replied g c told h =
+    replied told.reply c.report.result c.answer-outcome.result (g.O.Sink.written c.args.out.now) (g.O.Sink.written c.answer-outcome.new.out) c.report.ensures.status (c.answer-outcome.ensures.meets told h).replied
+
+pub returns-clause-prefix : goal.returns-clause-prefix
+returns-clause-prefix g c told h = (c.answer-outcome.ensures.meets told h).prefix
+
+pub returns-clause-quiet : goal.returns-clause-quiet
+returns-clause-quiet g c told h = (c.answer-outcome.ensures.meets told h).quiet
+
+pub returns-clause-usage : goal.returns-clause-usage
+returns-clause-usage g c = (
+  λ e. c.answer-outcome.ensures.usage.0 (usage_of c.report.result c.answer-outcome.result c.report.ensures.status e),
+  λ none. let is = c.answer-outcome.ensures.usage.1 none in
+      status_by c.report.result c.answer-outcome.result c.report.ensures.status (λ o. absurd (cc (ap status_of is, o))) ∙ ap status_of is,
+)
+
+pub returns-clause-read_fault : goal.returns-clause-read_fault
+returns-clause-read_fault g c told h e = (c.answer-outcome.ensures.meets told h).read_fault (read_of c.report.result c.answer-outcome.result c.report.ensures.status e)
+
+pub returns-clause-others : goal.returns-clause-others
+returns-clause-others g c told h = (c.answer-outcome.ensures.meets told h).others
+
+pub returns-clause-last : goal.returns-clause-last
+returns-clause-last g c e = c.answer-outcome.ensures.last (write_of c.report.result c.answer-outcome.result c.report.ensures.status e)
+
+pub returns-clause-calm : goal.returns-clause-calm
+returns-clause-calm g c e = c.answer-outcome.ensures.calm (no_write c.report.result c.answer-outcome.result c.report.ensures.status e)
+
+pub returns-clause-untouched : goal.returns-clause-untouched
+returns-clause-untouched g c e = c.answer-outcome.ensures.untouched (leaves_of c.report.result c.answer-outcome.result c.report.ensures.status e)
+
+pub returns-clause-line : goal.returns-clause-line
+returns-clause-line g c told h =
+    let own = c.report.ensures.line in (
+      own.0,
+      line_is c.report.result told.reply c.answer-outcome.result own.0
+          (λ d. (c.answer-outcome.ensures.meets told h).line (defined_of c.report.result c.answer-outcome.result c.report.ensures.status d)) own.1,
+      own.2,
+    )
+
+pub returns-clause-silent : goal.returns-clause-silent
+returns-clause-silent g c e = c.report.ensures.silent (done_of c.report.result c.answer-outcome.result c.report.ensures.status e)

@@ -1,0 +1,107 @@
+-- What the words, with the files they name, define as the answer.
+use Rattle.std.specs.Prelude.{◌≡◌, ◌⊎◌, ℕ, ◌+◌, ◌^◌, List, [], ◌∷◌, ◌++◌, length, nat_lt, codes, decimal, Option, Some, None, MatchBool}
+use Rattle.mu_io.specs.Files.{Files, file_of}
+use Rattle.mu_num.specs.Levels.{floor_level}
+use Rattle.qss_machine.specs.Runs.{Run, run_by, run_rows}
+use Rattle.qss_machine.specs.declared.system.Machine.{Machine}
+use Rattle.qss_rows.specs.Lines.{header, name_of, lines_of}
+use Rattle.qss_top.specs.Commands.{Command, run_model, command_of, files_of}
+use Rattle.qss_top.specs.Meanings.{Means}
+use Rattle.qss_top.specs.declared.status.Status.{Status}
+use Rattle.qss_top.specs.declared.status.Status.TheVariants as ends
+
+-- what the line on err says of an answer
+pub data Line : Type 0 where
+  quiet : Line
+  usage : Line
+  too_long : Line
+  no_form : Line
+  over : (name : List ℕ) → (tick : ℕ) → Line
+
+-- the text says that
+abbrev pub Tells : Line → List ℕ → Type 0
+Tells quiet text = text ≡ []
+Tells usage text = text ≡ codes "usage: qss VERB [WORD] [WORD] [--rule RULE] [--only NAME]\n"
+Tells too_long text = text ≡ codes "refused: top 1\n"
+Tells no_form text = text ≡ codes "refused: top 2\n"
+Tells (over name tick) text = text ≡ codes "overflow: " ++ name ++ codes " at tick " ++ decimal tick ++ codes "\n"
+
+-- an answer: how the program ends, what out gains, and what the line on err says
+pub record Answer : Type 0 where
+  pub status : Status
+  pub out : List ℕ
+  pub line : Line
+
+-- an answer that leaves out as it is
+abbrev pub refusal : Status → Line → Answer
+refusal status line = record { status = status; out = []; line = line }
+
+-- how the program ends on a run, and what the line then says
+abbrev pub status_of_run : Run → Status
+status_of_run run = status_by run.overflow
+  where
+    status_by : Option ℕ → Status
+    status_by None = ends.Ok
+    status_by (Some var) = ends.Overflow
+
+abbrev pub line_of_run : Machine → Run → Line
+line_of_run m run = line_by run.overflow
+  where
+    line_by : Option ℕ → Line
+    line_by None = quiet
+    line_by (Some var) = over (name_of m var) (length run.worlds + 1)
+
+-- the answer that prints a run: the header and the line of each row
+abbrev pub printed : Machine → Run → Answer
+printed m run = record { status = status_of_run run; out = header ++ lines_of m (run_rows m run); line = line_of_run m run }
+
+-- the answer to `run` on a source of at most 2^20 bytes: refused where it means no machine, else the run of its machine by the rule `floor`
+abbrev pub IsMeaningAnswer : List ℕ → Answer → Type 0
+IsMeaningAnswer bytes answer =
+    (((m : Machine) → ¬ Means bytes m) × (answer ≡ refusal ends.ModelRefused no_form))
+    ⊎ ((m : Machine) × Means bytes m × (answer ≡ printed m (run_by floor_level m)))
+
+-- the answer to `run` on a source
+abbrev pub IsRunAnswer : List ℕ → Answer → Type 0
+IsRunAnswer bytes answer =
+    MatchBool (nat_lt (2 ^ 20) (length bytes)) (answer ≡ refusal ends.ModelRefused too_long) (IsMeaningAnswer bytes answer)
+
+-- what is replied: an answer; none, since a file is not on the shelf; or nothing that can be known, since the shelf does not tell its files
+pub data Reply : Type 0 where
+  answered : Answer → Reply
+  absent : Reply
+  untold : Reply
+
+-- what is told: the files at which it arrives, in order, and the reply
+pub record Told : Type 0 where
+  pub arrivals : List (List ℕ)
+  pub reply : Reply
+
+-- such an answer is told, and no further file is read
+abbrev pub Says : (Answer → Type 0) → Told → Type 0
+Says IsAnswer told = (answer : Answer) × IsAnswer answer × (told ≡ record { arrivals = []; reply = answered answer })
+
+-- the file of this name is read, and its bytes lead to what is told
+abbrev pub ReadsThen : List ℕ → (List ℕ → Told → Type 0) → Option (List ℕ) → Told → Type 0
+ReadsThen name Leads None told = told ≡ record { arrivals = name ∷ []; reply = absent }
+ReadsThen name Leads (Some bytes) told = (later : Told) × Leads bytes later × (told ≡ record { arrivals = name ∷ later.arrivals; reply = later.reply })
+
+abbrev pub Reads : Files → List ℕ → (List ℕ → Told → Type 0) → Told → Type 0
+Reads files name Leads told = ReadsThen name Leads (file_of files name) told
+
+-- a command on these files leads to what is told
+abbrev pub LeadsTo : Command → Files → Told → Type 0
+LeadsTo (run_model model) files told = Reads files model (λ bytes. Says (IsRunAnswer bytes)) told
+
+-- the same where the shelf may not tell its files
+abbrev pub LeadsFrom : Command → Option Files → Told → Type 0
+LeadsFrom command None told = told ≡ record { arrivals = files_of command; reply = untold }
+LeadsFrom command (Some files) told = LeadsTo command files told
+
+-- what words and files define: words that are no command are answered so, whatever the files are
+abbrev pub Defines : Option Command → Option Files → Told → Type 0
+Defines None files told = Says (λ answer. answer ≡ refusal ends.Usage usage) told
+Defines (Some command) files told = LeadsFrom command files told
+
+abbrev pub IsTold : List (List ℕ) → Option Files → Told → Type 0
+IsTold words files told = Defines (command_of words) files told

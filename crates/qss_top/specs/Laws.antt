@@ -1,0 +1,18 @@
+-- The laws on what sources mean and on what is told.
+use Rattle.std.specs.Prelude.{◌≡◌, ℕ, List, Option}
+use Rattle.mu_io.specs.Files.{Files}
+use Rattle.qss_machine.specs.declared.system.Machine.{Machine}
+use Rattle.qss_top.specs.Answers.{Told, IsTold}
+use Rattle.qss_top.specs.Meanings.{Means}
+
+-- a source means at most one machine
+abbrev pub MeaningsAreUnique : Type 0
+MeaningsAreUnique = (bytes : List ℕ) (m n : Machine) → Means bytes m → Means bytes n → m ≡ n
+
+-- words and files define at most one thing that is told
+abbrev pub AnswersAreUnique : Type 0
+AnswersAreUnique = (words : List (List ℕ)) (files : Option Files) (first second : Told) → IsTold words files first → IsTold words files second → first ≡ second
+
+-- words and files define something
+abbrev pub AnswersExist : Type 0
+AnswersExist = (words : List (List ℕ)) (files : Option Files) → (told : Told) × IsTold words files told

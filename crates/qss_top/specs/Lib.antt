@@ -1,0 +1,12 @@
+pub mod FirstForm
+pub mod Meanings
+pub mod Commands
+pub mod Words
+pub mod Answers
+pub mod Statuses
+pub mod TopCall
+pub mod Laws
+pub mod Reading
+pub mod Scaling
+pub mod OneState
+pub mod Outcomes

@@ -1,0 +1,62 @@
+-- What became of a command, and what it meets of what is told.
+use Rattle.std.specs.Prelude.{◌≡◌, ℕ, List, [], codes, Contains, true, Option, Some, IfSome}
+use Rattle.std.specs.Io.KnownBytes.{Appends}
+use Rattle.mu_io.specs.Sinks.{AppendsPrefix}
+use Rattle.qss_top.specs.Answers.{Answer, Line, quiet, usage, too_long, no_form, over, Reply, answered, absent, untold, Told, Tells}
+use Rattle.qss_top.specs.Statuses.{is_defined}
+use Rattle.qss_top.specs.TopCall.{IsReplied, text_of, SomeRose}
+use Rattle.qss_top.specs.declared.outcome.Outcome.{Outcome}
+use Rattle.qss_top.specs.declared.outcome.Outcome.TheVariants as outcome
+use Rattle.qss_top.specs.declared.status.Status.{Status}
+use Rattle.qss_top.specs.declared.status.Status.TheVariants as ends
+
+-- the status of an outcome
+abbrev pub status_of : Outcome → Status
+status_of outcome.Done = ends.Ok
+status_of outcome.Usage = ends.Usage
+status_of outcome.ReadFault = ends.ReadFault
+status_of outcome.WriteFault = ends.WriteFault
+status_of outcome.TooLong = ends.ModelRefused
+status_of outcome.NoForm = ends.ModelRefused
+status_of (outcome.Overflow name tick) = ends.Overflow
+status_of outcome.Memory = ends.Memory
+
+-- what its line says, where it comes of a defined answer
+abbrev pub line_of : Outcome → Line
+line_of outcome.Done = quiet
+line_of outcome.Usage = usage
+line_of outcome.ReadFault = quiet
+line_of outcome.WriteFault = quiet
+line_of outcome.TooLong = too_long
+line_of outcome.NoForm = no_form
+line_of (outcome.Overflow name tick) = over name tick
+line_of outcome.Memory = quiet
+
+-- the outcome is that of the answer, or a write fault or want of memory, and no more than the answer's text was written
+pub record IsOutcome (answer : Answer) (what : Outcome) (old new : Option (List ℕ)) (before now : ℕ) : Type 0 where
+  pub defined : is_defined (status_of what) ≡ true → (status_of what ≡ answer.status) × (line_of what ≡ answer.line) × Appends old new answer.out
+  pub prefix : AppendsPrefix old new answer.out
+  pub quiet : answer.out ≡ [] → now ≡ before
+
+-- the line that an outcome has in a reply
+abbrev pub HasLine : Reply → Line → Type 0
+HasLine (answered answer) line = line ≡ answer.line
+HasLine absent line = Unit {0}
+HasLine untold line = Unit {0}
+
+-- the outcome is one for what is told: its status, its line and what was written, and which counts rose
+pub record Meets (told : Told) (what : Outcome) (old new : Option (List ℕ)) (out_before out_now : ℕ) (before now : List ℕ → ℕ) : Type 0 where
+  pub replied : IsReplied told.reply (status_of what) old new
+  pub line : is_defined (status_of what) ≡ true → HasLine told.reply (line_of what)
+  pub prefix : IfSome (text_of told.reply) (λ text. AppendsPrefix old new text)
+  pub quiet : text_of told.reply ≡ Some [] → out_now ≡ out_before
+  pub read_fault : what ≡ outcome.ReadFault → SomeRose told.arrivals before now
+  pub others : (name : List ℕ) → ¬ Contains told.arrivals name → now name ≡ before name
+
+-- the line that is written of an outcome that ends with this status
+abbrev pub IsReported : Status → Outcome → List ℕ → Type 0
+IsReported ends.Ok what line = line ≡ []
+IsReported ends.ReadFault what line = line ≡ codes "read fault\n"
+IsReported ends.WriteFault what line = line ≡ codes "write fault\n"
+IsReported ends.Memory what line = line ≡ codes "out of memory\n"
+IsReported _ what line = Tells (line_of what) line

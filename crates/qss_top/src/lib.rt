@@ -1,0 +1,19 @@
+//! The top call of the simulator.
+#![tactic(auto)]
+
+mod command;
+mod laws;
+mod machine;
+mod numbers;
+mod outcome;
+mod run;
+mod source;
+mod status;
+mod top;
+
+pub use laws::{answers_are_unique, answers_exist, meanings_are_unique};
+pub use status::Status;
+pub use top::qss_main;
+
+#[cfg(test)]
+mod tests;

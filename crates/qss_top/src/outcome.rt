@@ -1,0 +1,70 @@
+// What became of a command, and the line that tells it.
+ghost use Rattle.std.specs.Prelude.{◌≡◌, ◌⊎◌, ◌≤◌, ℕ, List, codes, IfOk};
+ghost use Rattle.qss_top.specs.Answers.{Tells, over};
+ghost use Rattle.qss_top.specs.Outcomes as Spec;
+ghost use Rattle.qss_top.specs.TopCall.{WritesLine};
+
+use crate::Status;
+use mu_io::{Name, Sink, write_all};
+use std::alloc::{AllocError, Global};
+
+/// What became of a command.
+#[derive(Drop)]
+pub enum Outcome {
+    Done,
+    Usage,
+    ReadFault,
+    WriteFault,
+    TooLong,
+    NoForm,
+    Overflow { name: Name, tick: u64 },
+    Memory,
+}
+
+/// Writes the line of an outcome. Where the memory for it is not found, that is told in its place.
+pub(crate) fn report<E: Sink>(alloc: Global, outcome: &Outcome, err: &mut E) -> Status
+    ensures status { (result ≡ Spec.status_of outcome.now) ⊎ ((result ≡ Status.Memory) × (Spec.status_of outcome.now ≡ Status.Overflow)) }
+    ensures silent { outcome.now ≡ Outcome.Done → err.new ≡ err.old }
+    ensures line { (line : List ℕ) × Spec.IsReported result outcome.now line × WritesLine line (E.written err.old) (E.written err.new) (E.faults err.old) (E.faults err.new) }
+    ensures later { E.faults err.old ≤ E.faults err.new }
+{
+    match outcome {
+        Outcome::Done => Status::Ok,
+        Outcome::Usage => tell(
+            Status::Usage,
+            b"usage: qss VERB [WORD] [WORD] [--rule RULE] [--only NAME]\n",
+            err,
+        ),
+        Outcome::ReadFault => tell(Status::ReadFault, b"read fault\n", err),
+        Outcome::WriteFault => tell(Status::WriteFault, b"write fault\n", err),
+        Outcome::TooLong => tell(Status::ModelRefused, b"refused: top 1\n", err),
+        Outcome::NoForm => tell(Status::ModelRefused, b"refused: top 2\n", err),
+        Outcome::Overflow { name, tick } => match overflow_text(alloc, name.bytes(), *tick) {
+            Ok(line) => tell(Status::Overflow, &line, err),
+            Err(_) => tell(Status::Memory, b"out of memory\n", err),
+        },
+        Outcome::Memory => tell(Status::Memory, b"out of memory\n", err),
+    }
+}
+
+// Writes a line, as far as the sink takes it, and gives the status.
+fn tell<E: Sink>(status: Status, line: &[u8], err: &mut E) -> Status
+    ensures status { result ≡ status }
+    ensures line { WritesLine line.now (E.written err.old) (E.written err.new) (E.faults err.old) (E.faults err.new) }
+    ensures later { E.faults err.old ≤ E.faults err.new }
+{
+    let _ = write_all(err, line);
+    status
+}
+
+fn overflow_text(alloc: Global, name: &[u8], tick: u64) -> Result<Vec<u8>, AllocError>
+    ensures { IfOk result (λ line. Tells (over name.now tick) line.items) }
+{
+    let tick = tick.to_string(alloc)?;
+    let mut line = b"overflow: ".to_vec(alloc)?;
+    line.extend_from_slice(name)?;
+    line.extend_from_slice(b" at tick ")?;
+    line.extend_from_slice(tick.as_bytes())?;
+    line.extend_from_slice(b"\n")?;
+    Ok(line)
+}

@@ -1,0 +1,53 @@
+// The top call.
+ghost use Rattle.std.specs.Prelude.{◌≡◌, ◌≢◌, ◌≤◌, ◌↔◌, [], true, List, ℕ, map, Some, None, IfSome, Contains};
+ghost use Rattle.mu_io.specs.Faults.{Rose};
+ghost use Rattle.mu_io.specs.Sinks.{AppendsPrefix};
+ghost use Rattle.qss_top.specs.Answers.{Told, IsTold};
+ghost use Rattle.qss_top.specs.Commands.{command_of};
+ghost use Rattle.qss_top.specs.Statuses.{leaves_out};
+ghost use Rattle.qss_top.specs.TopCall.{IsReplied, text_of, SomeRose, EndsByFault, ReportsStatus};
+
+use crate::Status;
+use crate::command::answer;
+use crate::outcome::report;
+use mu_io::{Shelf, Sink};
+use std::alloc::Global;
+
+/// Does all that the program does: reads the words, does what they ask for, and writes on out and
+/// err. The words are those after the program's name.
+pub fn qss_main<S: Shelf, O: Sink, E: Sink>(
+    alloc: Global,
+    words: &[&str],
+    shelf: &mut S,
+    out: &mut O,
+    err: &mut E,
+) -> Status
+    // A status that is no fault and no want of memory is that of the answer which the words and the
+    // files define, and out gains exactly the answer's text. It never gains more than a prefix of it.
+    ensures replied { (told : Told) → IsTold (map (λ word. word.now) words.now) (S.files shelf.old) told → IsReplied told.reply result (O.written out.old) (O.written out.new) }
+    ensures prefix { (told : Told) → IsTold (map (λ word. word.now) words.now) (S.files shelf.old) told → IfSome (text_of told.reply) (λ text. AppendsPrefix (O.written out.old) (O.written out.new) text) }
+    ensures quiet { (told : Told) → IsTold (map (λ word. word.now) words.now) (S.files shelf.old) told → text_of told.reply ≡ Some [] → O.faults out.new ≡ O.faults out.old }
+
+    // Words that are no command are told as such, and nothing else is.
+    ensures usage { (result ≡ Status.Usage) ↔ (command_of (map (λ word. word.now) words.now) ≡ None) }
+
+    // A read fault comes only of a file at which the answer arrives, and no other file is asked for.
+    ensures read_fault { (told : Told) → IsTold (map (λ word. word.now) words.now) (S.files shelf.old) told → result ≡ Status.ReadFault → SomeRose told.arrivals (S.faults shelf.old) (S.faults shelf.new) }
+    ensures others { (told : Told) → IsTold (map (λ word. word.now) words.now) (S.files shelf.old) told → (name : List ℕ) → ¬ Contains told.arrivals name → S.faults shelf.new name ≡ S.faults shelf.old name }
+    ensures files { S.files shelf.new ≡ S.files shelf.old }
+    ensures later { (name : List ℕ) → S.faults shelf.old name ≤ S.faults shelf.new name }
+
+    // A write fault comes only of out, which is not written to afterwards, and no other status of one.
+    ensures last { result ≡ Status.WriteFault → EndsByFault O.written O.faults out.old out.new }
+    ensures calm { result ≢ Status.WriteFault → O.faults out.new ≡ O.faults out.old }
+    ensures untouched { leaves_out result ≡ true → out.new ≡ out.old }
+
+    // The line of the status goes to err, or a prefix of it where err fails; nothing goes there
+    // where all was read and written.
+    ensures line { (told : Told) → IsTold (map (λ word. word.now) words.now) (S.files shelf.old) told → ReportsStatus result told.reply (E.written err.old) (E.written err.new) (E.faults err.old) (E.faults err.new) }
+    ensures silent { result ≡ Status.Ok → err.new ≡ err.old }
+    ensures later_err { E.faults err.old ≤ E.faults err.new }
+{
+    let outcome = answer(alloc, words, shelf, out);
+    report(alloc, &outcome, err)
+}
