@@ -1,0 +1,4 @@
+pub mod Automaton
+pub mod Reading
+pub mod Spaced
+pub mod Spelling

@@ -1,0 +1,121 @@
+ghost use Rattle.std.specs.Prelude.{◌≡◌, ◌≢◌, ◌^◌, ◌≤◌, pos, ◌+ℤ◌, ◌*ℤ◌, ◌≤ℤ◌, int_le};
+ghost use Rattle.mu_num.specs.Ticks.{FirstAfter, tick_limit};
+ghost use Rattle.std.specs.Int.{w128, int_wrap};
+ghost use Rattle.qss_cross.specs.Crossing.{IsSmall, bound_of};
+
+use mu_num::{first_past, tick_later};
+use qss_machine::Rel;
+use std::marker::Model;
+
+/// A value at a tick, with its change in a tick, compared with 0.
+#[derive(Clone, Copy)]
+pub struct Detector {
+    pub rel: Rel,
+    pub tick: u64,
+    pub value: i128,
+    pub speed: i128,
+}
+
+impl Model for Detector {
+    ghost use Rattle.qss_cross.specs.Crossing.{Watch, IsWatch};
+
+    ghost Value = { Watch };
+
+    ghost view = { λ d. record { rel = d.rel; tick = d.tick; value = d.value; speed = d.speed } };
+
+    ghost invariant = { λ d. IsWatch (record { rel = d.rel; tick = d.tick; value = d.value; speed = d.speed }) };
+
+    ghost inverse = { λ w. record { rel = w.rel; tick = w.tick; value = w.value; speed = w.speed } };
+}
+
+// The bound that tells the values for which a comparison holds from the others.
+fn bound_of(rel: Rel) -> i128
+    ensures value { result ≡ bound_of rel }
+    ensures low { pos 0 ≤ℤ result }
+    ensures high { result ≤ℤ pos 1 }
+{
+    match rel {
+        Rel::Less | Rel::GreaterEq => 0,
+        Rel::LessEq | Rel::Greater => 1,
+    }
+}
+
+// The first tick from 1 on at which a value is not on its side of a bound.
+fn first_across(value: i128, bound: i128, speed: i128) -> Option<u64>
+    requires value { IsSmall value }
+    requires speed { IsSmall speed }
+    requires low { pos 0 ≤ℤ bound }
+    requires high { bound ≤ℤ pos 1 }
+    ensures { FirstAfter (λ n. int_le bound (value +ℤ pos n *ℤ speed) ≢ int_le bound value) 0 result }
+{
+    if value >= bound {
+        first_past(value - bound, -speed)
+    } else {
+        first_past(bound - 1 - value, speed)
+    }
+}
+
+// What a value gains in some ticks, wrapped.
+fn gain(ticks: i128, speed: i128) -> i128
+    ensures { result ≡ int_wrap w128 (ticks *ℤ speed) }
+{
+    ticks.wrapping_mul(speed)
+}
+
+// A value after some ticks. What it gains may be out of range where the sum is not.
+fn moved(value: i128, ticks: u64, speed: i128) -> i128
+    requires { IsSmall (value +ℤ pos ticks *ℤ speed) }
+    ensures { result ≡ value +ℤ pos ticks *ℤ speed }
+{
+    value.wrapping_add(gain(i128::from(ticks), speed))
+}
+
+impl Detector {
+    ghost use Rattle.std.specs.Prelude.{◌≡◌, ◌≢◌, ◌≤◌, ◌^◌};
+    ghost use Rattle.mu_num.specs.Ticks.{FirstAfter, tick_limit};
+    ghost use Rattle.qss_machine.specs.Machines.{compares};
+    ghost use Rattle.qss_cross.specs.Crossing.{IsSmall, value_at, holds_at};
+
+    /// Whether the value compares so with 0.
+    pub fn truth(&self) -> bool
+        ensures { result ≡ compares self.now.rel self.now.value }
+    {
+        match self.rel {
+            Rel::Less => self.value < 0,
+            Rel::LessEq => self.value <= 0,
+            Rel::Greater => self.value > 0,
+            Rel::GreaterEq => self.value >= 0,
+        }
+    }
+
+    /// The first later tick at which the truth differs, if the speed stays.
+    pub fn next_change(&self) -> Option<u64>
+        ensures { FirstAfter (λ tick. holds_at self.now tick ≢ compares self.now.rel self.now.value) self.now.tick result }
+    {
+        tick_later(
+            self.tick,
+            first_across(self.value, bound_of(self.rel), self.speed),
+        )
+    }
+
+    /// Moves the value along its line to a tick.
+    pub fn move_to(&mut self, tick: u64)
+        requires later { self.old.tick ≤ tick }
+        requires in_time { tick ≤ tick_limit }
+        requires small { IsSmall (value_at self.old tick) }
+        ensures { self.new ≡ record self.old { tick = tick; value = value_at self.old tick } }
+    {
+        self.value = moved(self.value, tick - self.tick, self.speed);
+        self.tick = tick;
+    }
+
+    /// The value and its speed are these from the tick on.
+    pub fn set(&mut self, value: i128, speed: i128)
+        requires value { IsSmall value }
+        requires speed { IsSmall speed }
+        ensures { self.new ≡ record self.old { value = value; speed = speed } }
+    {
+        self.value = value;
+        self.speed = speed;
+    }
+}

@@ -1,0 +1,39 @@
+-- There are no more rows than items, since each clause has a branch.
+use Rattle.std.proofs.Common.{◌≡◌, ℕ, zero, suc, ◌+◌, ◌≤◌, List, [], ◌∷◌, length, ℤ, ◌∙◌, ap, arith}
+use Rattle.std.proofs.lemmas.List.Sums.{sum_by-cons}
+use Rattle.std.specs.Prelude.{sum_by, All, vec_capacity}
+use Rattle.qss_machine.specs.declared.parts.BranchInfo.{BranchInfo}
+use Rattle.qss_machine.specs.declared.parts.ClauseInfo.{ClauseInfo}
+use Rattle.qss_machine.specs.declared.rows.Row.{Row}
+use Rattle.qss_machine.specs.Machines.{start_states, start_discretes}
+use Rattle.qss_machine.specs.Limits.{IsClause, item_count}
+use Rattle.qss_hand.specs.Works.{row_room}
+use Rattle.qss_hand.proofs.work.Work.new.Goals as goal
+
+one_more : {X : Type 0} (f : X → ℕ) (xs : List X) → sum_by (λ x. 1 + f x) xs ≡ length xs + sum_by f xs
+one_more f [] = omega arith
+one_more f (x ∷ xs) = omega (arith, sum_by-cons (λ y. 1 + f y) x xs, sum_by-cons f x xs, one_more f xs)
+
+few_rows : (n g : ℕ) (clauses : List ClauseInfo) → All (IsClause n g) clauses → row_room clauses ≤ item_count clauses
+few_rows n g [] all = omega arith
+few_rows n g (clause ∷ clauses) all =
+    let statements = λ (branch : BranchInfo). length branch.actions in
+    omega (
+      arith,
+      sum_by-cons (λ (c : ClauseInfo). 1 + sum_by statements c.branches) clause clauses,
+      sum_by-cons (λ (c : ClauseInfo). sum_by (λ (branch : BranchInfo). 1 + length branch.actions) c.branches) clause clauses,
+      one_more statements clause.branches,
+      (all 0 clause (omega arith)).some_branch,
+      few_rows n g clauses (λ k d h. all (suc k) d (omega arith)),
+    )
+
+pub row_room-requires : goal.row_room-requires
+row_room-requires c = rw c.as_slice.ensures (omega (arith, few_rows _ _ c.args.m.now.clauses c.args.m.now.has_clauses.each, c.args.m.now.has_clauses.few))
+
+pub returns : goal.returns
+returns c =
+    ap (λ (x : List ℤ). record { x = x; d = c.in_ok-d.d.items; pre = c.in_ok-pre.pre.items; tick = 0; log = c.in_ok-log.log.items; room = vec_capacity c.in_ok-log.log }) c.in_ok-x.ensures
+    ∙ ap (λ (d : List ℤ). record { x = start_states c.args.m.now; d = d; pre = c.in_ok-pre.pre.items; tick = 0; log = c.in_ok-log.log.items; room = vec_capacity c.in_ok-log.log }) c.in_ok-d.ensures
+    ∙ ap (λ (d : List ℤ). record { x = start_states c.args.m.now; d = start_discretes c.args.m.now; pre = d; tick = 0; log = c.in_ok-log.log.items; room = vec_capacity c.in_ok-log.log }) c.in_ok-pre.ensures
+    ∙ ap (λ (log : List Row). record { x = start_states c.args.m.now; d = start_discretes c.args.m.now; pre = start_discretes c.args.m.now; tick = 0; log = log; room = vec_capacity c.in_ok-log.log }) c.in_ok-log.ensures.items
+    ∙ ap (λ (room : ℕ). record { x = start_states c.args.m.now; d = start_discretes c.args.m.now; pre = start_discretes c.args.m.now; tick = 0; log = []; room = room }) (c.in_ok-log.ensures.exact ∙ c.row_room.ensures ∙ ap row_room c.as_slice.ensures)

@@ -1,0 +1,41 @@
+//! A branch fires.
+
+ghost use Rattle.std.specs.Prelude.{◌≡◌, ◌+◌, ◌<◌, ◌≤◌, ◌++◌, ◌∷◌, [], length};
+ghost use Rattle.qss_machine.specs.Handlers.{fire_row, run_branch};
+ghost use Rattle.qss_hand.specs.Works.{AreValuesOf, handling_of, values_after, overflow_of, clause_at, branch_at};
+
+use crate::statements::{Over, run_all};
+use crate::work::Work;
+use qss_machine::{Machine, Row, RowKind};
+
+// The row of a branch that fires.
+fn note(w: &mut Work, clause: u32, branch: u32)
+    requires { length w.old.log < w.old.room }
+    ensures { w.new ≡ record w.old { log = w.old.log ++ fire_row w.old.tick clause branch ∷ [] } }
+{
+    let row = Row {
+        tick: w.tick,
+        kind: RowKind::When { clause, branch },
+        var: 0,
+        level: 0,
+        state: 0,
+    };
+    w.log.push_reserved(row);
+}
+
+/// A branch of a clause fires: its row, and then its statements in order with a row each, up to the first whose value
+/// passes its limit, which is not assigned. Both numbers count from 0. It takes no memory.
+pub fn fire(m: &Machine, clause: u32, branch: u32, w: &mut Work) -> Result<(), Over>
+    requires clause { clause < length m.now.clauses }
+    requires branch { branch < length (clause_at m.now clause).branches }
+    requires fits { AreValuesOf m.now w.old }
+    requires room { length w.old.log + 1 + length (branch_at m.now clause branch).actions ≤ w.old.room }
+    ensures values { w.new ≡ values_after w.old (run_branch m.now w.old.tick w.old.pre clause branch (handling_of w.old) (branch_at m.now clause branch).actions) }
+    ensures over { overflow_of result ≡ (run_branch m.now w.old.tick w.old.pre clause branch (handling_of w.old) (branch_at m.now clause branch).actions).overflow }
+    ensures fits { AreValuesOf m.now w.new }
+{
+    let branches = m.clauses.as_slice()[clause as usize].branches.as_slice();
+    let actions = branches[branch as usize].actions.as_slice();
+    note(w, clause, branch);
+    run_all(m, actions, w)
+}

@@ -1,0 +1,29 @@
+//! How many rows one tick can have.
+
+ghost use Rattle.std.specs.Prelude.{◌≡◌, ◌+◌, ◌≤◌, length, sum_by};
+ghost use Rattle.qss_hand.specs.Works.{row_room};
+
+use qss_machine::{BranchInfo, ClauseInfo};
+
+// How many statements branches have.
+fn statement_count(branches: &[BranchInfo]) -> usize
+    requires { sum_by (λ branch. length branch.actions) branches.now ≤ 16384 }
+    ensures { result ≡ sum_by (λ branch. length branch.actions) branches.now }
+{
+    branches
+        .iter()
+        .map(|branch| branch.actions.as_slice().len())
+        .sum()
+}
+
+/// How many rows clauses add at most at one tick.
+pub(crate) fn row_room(clauses: &[ClauseInfo]) -> usize
+    requires { row_room clauses.now ≤ 16384 }
+    ensures { result ≡ row_room clauses.now }
+{
+    let mut room = 0;
+    for clause in clauses {
+        room += 1 + statement_count(clause.branches.as_slice());
+    }
+    room
+}

@@ -1,0 +1,134 @@
+//! Statements: assignments of discrete values and states.
+
+ghost use Rattle.std.specs.Prelude.{◌≡◌, ◌+◌, ◌<◌, ◌≤◌, ◌^◌, ◌++◌, ◌∷◌, [], length, pos, Some, None, All, fold, slice_set, if◌then◌else◌};
+ghost use Rattle.mu_num.specs.Rounding.{nearest_of};
+ghost use Rattle.mu_num.specs.Sizes.{passes};
+ghost use Rattle.qss_machine.specs.Limits.{IsBounded, IsAction};
+ghost use Rattle.qss_machine.specs.Machines.{state_count, discrete_count, value_of};
+ghost use Rattle.qss_machine.specs.Handlers.{run_action};
+ghost use Rattle.qss_machine.specs.declared.rows.RowKind.TheVariants as kind;
+ghost use Rattle.qss_hand.specs.Works.{AreValuesOf, handling_of, values_after, overflow_of};
+
+use crate::work::Work;
+use mu_num::near_div;
+use qss_machine::{Action, Form, Machine, Row, RowKind};
+
+/// The variable whose assigned value passed its limit: 2^43 in size for a discrete value, 2^88 for a state.
+#[derive(Clone, Copy, PartialEq, Eq, Debug, Drop)]
+pub struct Over {
+    pub var: u32,
+}
+
+// Whether a number is more than a power of two in size.
+fn is_past(z: i128, bits: u32) -> bool
+    requires { bits < 100 }
+    ensures { result ≡ passes bits z }
+{
+    z.unsigned_abs() > 1u128 << bits
+}
+
+// Two to the power of a number of bits.
+fn unit(bits: u8) -> i128
+    requires { bits ≤ 84 }
+    ensures { result ≡ pos (2 ^ bits) }
+{
+    1i128 << bits
+}
+
+// A form's value in a coarser unit, to the nearest, ties to even.
+fn assigned(m: &Machine, form: &Form, bits: u8, w: &Work) -> i128
+    requires form { IsBounded form.now }
+    requires fits { AreValuesOf m.now w.now }
+    requires bits { bits ≤ 84 }
+    ensures { result ≡ nearest_of (value_of m.now form.now w.now.x w.now.d w.now.pre w.now.tick) (pos (2 ^ bits)) }
+{
+    let value = m.form_value(
+        form,
+        w.x.as_slice(),
+        w.d.as_slice(),
+        w.pre.as_slice(),
+        w.tick,
+    );
+    near_div(value, unit(bits))
+}
+
+// A discrete variable, of which this is the place among the discrete values, takes a value.
+fn set_discrete(w: &mut Work, var: u32, place: usize, value: i128) -> Result<(), Over>
+    requires place { place < length w.old.d }
+    requires room { length w.old.log < w.old.room }
+    ensures values { w.new ≡ (if passes 43 value then w.old else record w.old { d = slice_set w.old.d place value; log = w.old.log ++ record { tick = w.old.tick; kind = kind.Set; var = var; level = value; state = pos 0 } ∷ [] }) }
+    ensures over { overflow_of result ≡ (if passes 43 value then Some var else None) }
+{
+    if is_past(value, 43) {
+        return Err(Over { var });
+    }
+    let level = value as i64;
+    w.d[place] = level;
+    let row = Row {
+        tick: w.tick,
+        kind: RowKind::Set,
+        var,
+        level,
+        state: 0,
+    };
+    w.log.push_reserved(row);
+    Ok(())
+}
+
+// A state takes a value.
+fn reinitialize(w: &mut Work, var: u32, value: i128) -> Result<(), Over>
+    requires var { var < length w.old.x }
+    requires room { length w.old.log < w.old.room }
+    ensures values { w.new ≡ (if passes 88 value then w.old else record w.old { x = slice_set w.old.x var value; log = w.old.log ++ record { tick = w.old.tick; kind = kind.Reinit; var = var; level = pos 0; state = value } ∷ [] }) }
+    ensures over { overflow_of result ≡ (if passes 88 value then Some var else None) }
+{
+    if is_past(value, 88) {
+        return Err(Over { var });
+    }
+    w.x[var as usize] = value;
+    let row = Row {
+        tick: w.tick,
+        kind: RowKind::Reinit,
+        var,
+        level: 0,
+        state: value,
+    };
+    w.log.push_reserved(row);
+    Ok(())
+}
+
+// A statement runs. Where its value passes the limit, it is not assigned.
+fn run(m: &Machine, action: &Action, w: &mut Work) -> Result<(), Over>
+    requires action { IsAction (state_count m.now) (discrete_count m.now) action.now }
+    requires fits { AreValuesOf m.now w.old }
+    requires room { length w.old.log < w.old.room }
+    ensures values { w.new ≡ values_after w.old (run_action m.now w.old.tick w.old.pre (handling_of w.old) action.now) }
+    ensures over { overflow_of result ≡ (run_action m.now w.old.tick w.old.pre (handling_of w.old) action.now).overflow }
+{
+    match action {
+        Action::Set { var, form } => {
+            let value = assigned(m, form, 2 * m.p + m.k, w);
+            let place = *var as usize - m.states.as_slice().len();
+            set_discrete(w, *var, place, value)
+        }
+        Action::Reinit { var, form } => {
+            let value = assigned(m, form, m.p, w);
+            reinitialize(w, *var, value)
+        }
+    }
+}
+
+/// Statements run in order, up to the first whose value passes its limit.
+pub(crate) fn run_all(m: &Machine, actions: &[Action], w: &mut Work) -> Result<(), Over>
+    requires each { All (IsAction (state_count m.now) (discrete_count m.now)) actions.now }
+    requires fits { AreValuesOf m.now w.old }
+    requires room { length w.old.log + length actions.now ≤ w.old.room }
+    ensures values { w.new ≡ values_after w.old (fold (run_action m.now w.old.tick w.old.pre) (handling_of w.old) actions.now) }
+    ensures over { overflow_of result ≡ (fold (run_action m.now w.old.tick w.old.pre) (handling_of w.old) actions.now).overflow }
+    ensures fits { AreValuesOf m.now w.new }
+{
+    for action in actions {
+        run(m, action, w)?;
+    }
+    Ok(())
+}
