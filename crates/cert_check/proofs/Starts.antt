@@ -1,0 +1,46 @@
+-- A machine's start values keep the limits that its sums ask for.
+use Rattle.std.proofs.Common.{◌≡◌, ℕ, zero, suc, ◌+◌, ◌<◌, List, [], length, map, take, replicate, get_or, ℤ, pos, ◌+ℤ◌, ◌*ℤ◌, refl, ap, ap₂, ◌∙◌, arith}
+use Rattle.std.proofs.lemmas.Int.{ints}
+use Rattle.std.proofs.lemmas.List.{get_or-map, length-map}
+use Rattle.std.specs.Prelude.{All, IsTrue}
+use Rattle.qss_machine.specs.declared.parts.DiscreteInfo.{DiscreteInfo}
+use Rattle.qss_machine.specs.declared.parts.SlopeRow.{SlopeRow}
+use Rattle.qss_machine.specs.declared.system.Machine.{Machine}
+use Rattle.mu_num.specs.Sizes.{IsWithin}
+use Rattle.qss_machine.specs.Numbers.{int_at, sum_below}
+use Rattle.qss_machine.specs.Slopes.{mode_coefficient, mode_fits, drive_of}
+use Rattle.qss_machine.specs.Machines.{state_count, discrete_count, start_discretes, row_at, slope_at}
+use Rattle.qss_machine.specs.Legitimate.{start_drive}
+
+pub starts-count : (m : Machine) → length (start_discretes m) ≡ discrete_count m
+starts-count m = length-map m.discretes (λ (d : DiscreteInfo). d.d0)
+
+pub starts-small : (m : Machine) → All (IsWithin 43) (start_discretes m)
+starts-small m k d h =
+    let l : k < length m.discretes = omega (arith, starts-count m) in
+    let none : DiscreteInfo = record { name = []; d0 = pos 0 } in
+    rw (get_or-map (λ (x : DiscreteInfo). x.d0) m.discretes k none d l) (m.has_variables.each_discrete k none l)
+
+pub starts-fit : (m : Machine) (j : ℕ) → j < state_count m → IsTrue (mode_fits m.f (state_count m) (row_at m j) (start_discretes m))
+starts-fit m j h =
+    let none : SlopeRow = record { entries = []; products = []; beta = pos 0 } in
+    m.has_rows.modes j none (omega (arith, m.has_rows.one_each))
+
+pub zeros-at : (n k i : ℕ) → get_or (take n (replicate k (pos 0))) i (pos 0) ≡ pos 0
+zeros-at zero k i = refl
+zeros-at (suc n) zero i = refl
+zeros-at (suc n) (suc k) zero = refl
+zeros-at (suc n) (suc k) (suc i) = zeros-at n k i
+
+sum-zeros : (n : ℕ) (f : ℕ → ℤ) (levels : List ℤ) → ((i : ℕ) → int_at levels i ≡ pos 0) → sum_below n (λ i. f i *ℤ int_at levels i) ≡ pos 0
+sum-zeros zero f levels h = refl
+sum-zeros (suc n) f levels h =
+    let a = sum-zeros n f levels h in
+    rw (a, h n) (omega (arith, ints))
+
+pub slope-rest : (m : Machine) (j : ℕ) (levels : List ℤ) → length levels ≡ state_count m → ((i : ℕ) → int_at levels i ≡ pos 0)
+    → slope_at m j levels (start_discretes m) ≡ start_drive m j
+slope-rest m j levels size zeros =
+    let d = start_discretes m in
+    let sums = sum-zeros (length levels) (mode_coefficient m.f (length levels) (row_at m j) d) levels zeros in
+    ap₂ (λ (x : ℤ) (n : ℕ). x +ℤ drive_of n (row_at m j) d) sums size ∙ omega (arith, ints)

@@ -1,0 +1,10 @@
+pub mod Certificate
+pub mod Reading
+pub mod Faults
+pub mod Pairs
+pub mod Ranges
+pub mod Inequality
+pub mod Limits
+pub mod Scope
+pub mod Systems
+pub mod Promises

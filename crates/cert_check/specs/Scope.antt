@@ -1,0 +1,17 @@
+-- The machines that a certificate can speak of.
+use Rattle.std.specs.Prelude.{◌≡◌, ℕ, ◌<◌, ◌≤◌, ◌⊎◌, [], length}
+use Rattle.qss_machine.specs.declared.system.Machine.{Machine}
+use Rattle.qss_machine.specs.Machines.{state_count}
+use Rattle.cert_check.specs.declared.outside.Outside.{Outside}
+use Rattle.cert_check.specs.declared.outside.Outside.TheVariants.{HasClauses, States}
+
+-- without clauses, and with 1 to 16 states
+pub record IsInScope (m : Machine) : Type 0 where
+  pub plain : m.clauses ≡ []
+  pub some : 1 ≤ state_count m
+  pub few : state_count m ≤ 16
+
+-- the machine has this many clauses; or it has none, and this many states, which are none or too many
+abbrev pub IsOutsideBy : Machine → Outside → Type 0
+IsOutsideBy m (HasClauses count) = (count ≡ length m.clauses) × (0 < count)
+IsOutsideBy m (States count) = (m.clauses ≡ []) × (count ≡ state_count m) × ((count ≡ 0) ⊎ (16 < count))

@@ -1,0 +1,27 @@
+-- The affine system of a machine.
+use Rattle.std.specs.Prelude.{ℕ, List, pos, ℤ}
+use Rattle.qss_machine.specs.declared.system.Machine.{Machine}
+use Rattle.qss_machine.specs.Numbers.{tabulate}
+use Rattle.qss_machine.specs.Machines.{state_count, level_unit, quanta}
+use Rattle.qss_machine.specs.Legitimate.{start_coefficient, start_drive}
+use Rattle.cert_matrix.specs.Matrix.{vector, table}
+use Rattle.cert_check.specs.Certificate.{System}
+
+-- the coefficients between states, under the discrete values of the start
+abbrev pub start_matrix : Machine → List (List ℤ)
+start_matrix m = tabulate (state_count m) (λ j. tabulate (state_count m) (start_coefficient m j))
+
+-- the part of each slope that no level changes, under these values
+abbrev pub start_drives : Machine → List ℤ
+start_drives m = tabulate (state_count m) (start_drive m)
+
+-- the affine system of a machine, under the discrete values of its start
+abbrev pub system_of : Machine → System
+system_of m = record {
+  n = state_count m;
+  coef = table (start_matrix m);
+  constant = vector (start_drives m);
+  quantum = vector (quanta m);
+  unit = level_unit m;
+  share = pos m.relative;
+}

@@ -1,0 +1,213 @@
+//! The check of a certificate.
+
+ghost use Rattle.std.specs.Prelude.{◌≡◌, ◌↔◌, ◌<◌, ◌≤◌, ℕ, pos};
+ghost use Rattle.cert_check.specs.Reading.{claim, system};
+ghost use Rattle.cert_check.specs.Inequality.{AreSumsInRange, IsFaultOf, IsFirstFaultOf, IsWellFormed, inequalities, fault_of, number_of, places_of, relation_of, start_of};
+ghost use Rattle.cert_check.specs.Certificate.{Holds};
+ghost use Rattle.cert_check.specs.Scope.{IsInScope};
+ghost use Rattle.cert_check.specs.Systems.{system_of};
+ghost use Rattle.cert_check.specs.Promises.{IsPromised, AdmitsRuns};
+ghost use Rattle.qss_machine.specs.Machines.{state_count};
+
+use crate::building::affine_system;
+use crate::certificate::Certificate;
+use crate::fault::{Fault, Relation, judge};
+use crate::inequalities::{Inequality, sides_of};
+use crate::stages::count_pairs;
+use crate::system::AffineSystem;
+use crate::verdict::Verdict;
+use qss_machine::Machine;
+
+/// All inequalities, in the order in which they are taken.
+const ALL: [Inequality; 30] = [
+    Inequality::SignP,
+    Inequality::SignMu,
+    Inequality::SignLambda,
+    Inequality::SignH1,
+    Inequality::SignH2,
+    Inequality::SignR,
+    Inequality::SignZ,
+    Inequality::SignS,
+    Inequality::SignSigmaR,
+    Inequality::SignC,
+    Inequality::SignSigmaC,
+    Inequality::SignE,
+    Inequality::Symmetric,
+    Inequality::BoundParts,
+    Inequality::Bound,
+    Inequality::DecayProducts,
+    Inequality::DecayParts,
+    Inequality::Decay,
+    Inequality::FirstStart,
+    Inequality::SecondStart,
+    Inequality::StartsApart,
+    Inequality::Reach,
+    Inequality::Slope,
+    Inequality::CentreGain,
+    Inequality::CentreSum,
+    Inequality::PairGain,
+    Inequality::PairSum,
+    Inequality::Distance,
+    Inequality::Quantum,
+    Inequality::Share,
+];
+
+/// The number of an inequality.
+fn number(inequality: Inequality) -> u32
+    ensures { result ≡ number_of inequality }
+{
+    match inequality {
+        Inequality::Symmetric => 2,
+        Inequality::BoundParts | Inequality::Bound => 3,
+        Inequality::DecayProducts | Inequality::DecayParts | Inequality::Decay => 4,
+        Inequality::FirstStart | Inequality::SecondStart | Inequality::StartsApart => 5,
+        Inequality::Reach => 6,
+        Inequality::Slope => 7,
+        Inequality::CentreGain => 8,
+        Inequality::CentreSum => 9,
+        Inequality::PairGain => 10,
+        Inequality::PairSum => 11,
+        Inequality::Distance => 12,
+        Inequality::Quantum | Inequality::Share => 13,
+        _ => 1,
+    }
+}
+
+/// How many places an inequality has, of `n` states.
+fn places(n: u8, inequality: Inequality) -> u8
+    requires { n ≤ 16 }
+    ensures { result ≡ places_of n inequality }
+{
+    match inequality {
+        Inequality::SignLambda
+        | Inequality::SignH1
+        | Inequality::SignH2
+        | Inequality::SignR
+        | Inequality::SignC
+        | Inequality::CentreSum
+        | Inequality::PairSum
+        | Inequality::FirstStart
+        | Inequality::SecondStart
+        | Inequality::StartsApart => 1,
+        Inequality::Symmetric => count_pairs(n),
+        _ => n,
+    }
+}
+
+/// The number before that of its first place.
+fn start(n: u8, inequality: Inequality) -> u32
+    requires { n ≤ 16 }
+    ensures { result ≡ start_of n inequality }
+{
+    let n = u32::from(n);
+    match inequality {
+        Inequality::SignMu => n,
+        Inequality::SignLambda => 2 * n,
+        Inequality::SignH1 => 2 * n + 1,
+        Inequality::SignH2 => 2 * n + 2,
+        Inequality::SignR => 2 * n + 3,
+        Inequality::SignZ => 2 * n + 4,
+        Inequality::SignS => 3 * n + 4,
+        Inequality::SignSigmaR => 4 * n + 4,
+        Inequality::SignC => 5 * n + 4,
+        Inequality::SignSigmaC => 5 * n + 5,
+        Inequality::SignE => 6 * n + 5,
+        Inequality::Share => n,
+        Inequality::SecondStart => 1,
+        Inequality::StartsApart => 2,
+        _ => 0,
+    }
+}
+
+/// How its two sides must stand to each other.
+fn relation(inequality: Inequality) -> Relation
+    ensures { result ≡ relation_of inequality }
+{
+    match inequality {
+        Inequality::Symmetric => Relation::Equal,
+        Inequality::FirstStart | Inequality::SecondStart | Inequality::StartsApart =>
+            Relation::AtMost,
+        _ => Relation::AtLeast,
+    }
+}
+
+/// The first fault of an inequality.
+pub fn check_inequality(m: &AffineSystem, x: &Certificate, inequality: Inequality) -> Option<Fault>
+    requires { IsWellFormed m.now x.now }
+    ensures { IsFaultOf (system m.now) (claim x.now) inequality result }
+{
+    let start = start(m.n, inequality);
+    for k in 0..places(m.n, inequality) {
+        let place = start + u32::from(k) + 1;
+        let fault = judge(
+            number(inequality),
+            place,
+            relation(inequality),
+            sides_of(m, x, inequality, k),
+        );
+        if fault.is_some() {
+            return fault;
+        }
+    }
+    None
+}
+
+/// The first fault of these inequalities, taken in order.
+pub fn check_in_order(
+    m: &AffineSystem,
+    x: &Certificate,
+    inequalities: &[Inequality],
+) -> Option<Fault>
+    requires { IsWellFormed m.now x.now }
+    ensures { IsFirstFaultOf (system m.now) (claim x.now) inequalities.now result }
+{
+    for inequality in inequalities {
+        let fault = check_inequality(m, x, *inequality);
+        if fault.is_some() {
+            return fault;
+        }
+    }
+    None
+}
+
+/// The verdict that tells of a fault, or of none.
+fn verdict_of(fault: Option<Fault>) -> Verdict
+    ensures { fault_of result ≡ fault }
+{
+    match fault {
+        None => Verdict::Accepted,
+        Some(
+            Fault::Rejected {
+                number,
+                place,
+                left,
+                right,
+            },
+        ) => Verdict::Rejected {
+            number,
+            place,
+            left,
+            right,
+        },
+        Some(Fault::Range { number, place }) => Verdict::Range { number, place },
+    }
+}
+
+/// Checks a certificate of a machine: its first fault in the order of the inequalities and their places, or that it has none.
+pub fn check(m: &Machine, c: &Certificate) -> Verdict
+    requires scope { IsInScope m.now }
+    requires size { c.now.n ≡ state_count m.now }
+
+    // Not accepted: the first fault, a sum that is out of range or an inequality that fails.
+    ensures verdict { IsFirstFaultOf (system_of m.now) (claim c.now) inequalities (fault_of result) }
+
+    // Accepted exactly where all inequalities hold and all sums by which they are taken are in range.
+    ensures accepted { (result ≡ Verdict.Accepted) ↔ (Holds (system_of m.now) (claim c.now) × AreSumsInRange (system_of m.now) (claim c.now)) }
+
+    // Then every two legitimate runs from the certificate's starts stay within its bounds, and the machine's own runs are among them.
+    ensures promised { result ≡ Verdict.Accepted → IsPromised m.now c.now }
+    ensures admitted { result ≡ Verdict.Accepted → AdmitsRuns m.now c.now }
+{
+    let affine = affine_system(m);
+    verdict_of(check_in_order(&affine, c, &ALL))
+}

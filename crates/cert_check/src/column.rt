@@ -1,0 +1,55 @@
+//! A list of at most sixteen numbers, which takes no memory.
+
+use std::marker::Model;
+
+/// At most sixteen whole numbers.
+#[derive(Drop)]
+pub struct Column {
+    len: u8,
+    cells: [i128; 16],
+}
+
+impl Model for Column {
+    ghost use Rattle.std.specs.Prelude.{List, ℤ, take, ◌≤◌};
+
+    ghost Value = { List ℤ };
+
+    ghost view = { λ column. take column.len column.cells };
+
+    ghost invariant = { λ column. column.len ≤ 16 };
+}
+
+impl Column {
+    ghost use Rattle.std.specs.Prelude.{◌≡◌, ◌<◌, [], ◌∷◌, ◌++◌, length};
+    ghost use Rattle.cert_matrix.specs.Matrix.{vector};
+
+    /// No number.
+    pub fn new() -> Self
+        ensures { result ≡ [] }
+    {
+        Column {
+            len: 0,
+            cells: [0; 16],
+        }
+    }
+
+    /// Puts a number after the last one.
+    pub fn push(&mut self, number: i128)
+        requires { length self.old < 16 }
+        ensures { self.new ≡ self.old ++ number ∷ [] }
+    {
+        self.cells[self.len as usize] = number;
+        self.len += 1;
+    }
+
+    /// The number at place `i`, or 0 after the end.
+    pub fn at(&self, i: u8) -> i128
+        ensures { result ≡ vector self.now i }
+    {
+        if i < self.len {
+            self.cells[i as usize]
+        } else {
+            0
+        }
+    }
+}

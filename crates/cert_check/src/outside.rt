@@ -1,0 +1,37 @@
+//! The machines that a certificate can speak of.
+
+ghost use Rattle.std.specs.Prelude.{◌≡◌, ◌↔◌, IsOk, IfOk, IfErr};
+ghost use Rattle.qss_machine.specs.Machines.{state_count};
+ghost use Rattle.cert_check.specs.Scope.{IsInScope, IsOutsideBy};
+
+use qss_machine::Machine;
+
+/// Why no certificate can speak of a machine.
+#[derive(Clone, Copy, Debug, PartialEq, Eq)]
+pub enum Outside {
+    /// It has this many clauses.
+    HasClauses { count: u32 },
+    /// It has no clauses, and this many states: none, or more than 16.
+    States { count: u32 },
+}
+
+/// The number of states of a machine without clauses and with 1 to 16 states.
+pub fn scope(m: &Machine) -> Result<u8, Outside>
+    ensures inside { IsOk result ↔ IsInScope m.now }
+    ensures states { IfOk result (λ n. n ≡ state_count m.now) }
+    ensures outside { IfErr result (λ why. IsOutsideBy m.now why) }
+{
+    let clauses = m.clauses.as_slice().len();
+    if clauses != 0 {
+        return Err(Outside::HasClauses {
+            count: clauses as u32,
+        });
+    }
+    let states = m.states.as_slice().len();
+    if states == 0 || states > 16 {
+        return Err(Outside::States {
+            count: states as u32,
+        });
+    }
+    Ok(states as u8)
+}

@@ -1,0 +1,276 @@
+//! The inequalities that read a matrix, and those on the starts.
+
+ghost use Rattle.std.specs.Prelude.{◌≡◌, ◌↔◌, ◌<◌, ◌≤◌, ◌+◌, ◌*◌, ◌^◌, ◌*ℤ◌, ℕ, pos, unsigned_abs, length, IsSome, IfSome};
+ghost use Rattle.cert_matrix.specs.Form.{less_gram, beside, form, diagonal};
+ghost use Rattle.cert_matrix.specs.Matrix.{table, vector};
+ghost use Rattle.cert_check.specs.Certificate.{surplus, decay, gap};
+ghost use Rattle.cert_check.specs.Pairs.{pairs, pair_of};
+ghost use Rattle.cert_check.specs.Reading.{claim, system};
+ghost use Rattle.cert_check.specs.Ranges.{IsPartInRange, IsDecayPartInRange, ArePartsInRange, AreProductsInRange, IsStageInRange, IsGapInRange, matrix_of, factor_of, root_of};
+ghost use Rattle.cert_check.specs.Inequality.{IsWellFormed, is_same_below, IsPlaceInRange, left_of, right_of};
+
+use crate::certificate::Certificate;
+use crate::fault::{Sides, product};
+use crate::inequalities::Inequality;
+use crate::numbers::at;
+use crate::system::AffineSystem;
+use crate::terms::product_entry;
+use cert_matrix::{Matrix, RangedSum, gram_row, quad};
+use mu_io::Items;
+
+/// The two inequalities that test a matrix by its rows.
+#[derive(Clone, Copy, Debug, PartialEq, Eq)]
+pub enum Stage {
+    Bounded,
+    Decaying,
+}
+
+/// The number at place `i` where the row and the column are the same, else 0.
+fn diagonal_at(numbers: &Items<i128>, i: u8, j: u8) -> i128
+    ensures { result ≡ diagonal (vector numbers.now) i j }
+{
+    if i == j { at(numbers, i) } else { 0 }
+}
+
+/// The entry of P less its lower bounds in row `i` and column `j`.
+fn surplus_at(x: &Certificate, i: u8, j: u8) -> Option<i128>
+    requires row { i < length x.now.pm }
+    requires column { j < length x.now.pm }
+    ensures in_range { IsSome result ↔ (unsigned_abs ((claim x.now).pm i j) + unsigned_abs (diagonal (claim x.now).p i j) ≤ 2 ^ 126) }
+    ensures value { IfSome result (λ value. value ≡ surplus (claim x.now) i j) }
+{
+    let entry = RangedSum::new().plus(x.pm.get(i, j), 1)?;
+    let part = entry.minus(diagonal_at(&x.p, i, j), 1)?;
+    Some(part.total())
+}
+
+/// The entry of the decay in row `i` and column `j`.
+fn decay_at(m: &AffineSystem, x: &Certificate, i: u8, j: u8) -> Option<i128>
+    requires formed { IsWellFormed m.now x.now }
+    requires row { i < m.now.n }
+    requires column { j < m.now.n }
+    ensures in_range { IsSome result ↔ IsDecayPartInRange (system m.now) (claim x.now) i j }
+    ensures value { IfSome result (λ value. value ≡ decay (system m.now) (claim x.now) i j) }
+{
+    let entry = product_entry(m, x, i, j)?;
+    let turned = product_entry(m, x, j, i)?;
+    let first = RangedSum::new().minus(entry, 1)?;
+    let second = first.minus(turned, 1)?;
+    let third = second.minus(diagonal_at(&x.mu, i, j), 1)?;
+    let whole = third.minus(x.lambda, x.pm.get(i, j))?;
+    Some(whole.total())
+}
+
+/// The entry of the matrix of a stage in row `i` and column `j`.
+fn part_at(m: &AffineSystem, x: &Certificate, stage: Stage, i: u8, j: u8) -> Option<i128>
+    requires formed { IsWellFormed m.now x.now }
+    requires row { i < m.now.n }
+    requires column { j < m.now.n }
+    ensures in_range { IsSome result ↔ IsPartInRange (system m.now) (claim x.now) stage i j }
+    ensures value { IfSome result (λ value. value ≡ matrix_of (system m.now) (claim x.now) stage i j) }
+{
+    match stage {
+        Stage::Bounded => surplus_at(x, i, j),
+        Stage::Decaying => decay_at(m, x, i, j),
+    }
+}
+
+/// A matrix whose row `i` is that of the matrix of a stage, where its sums are in range.
+fn stage_row(m: &AffineSystem, x: &Certificate, stage: Stage, i: u8) -> Option<Matrix>
+    requires formed { IsWellFormed m.now x.now }
+    requires row { i < m.now.n }
+    ensures in_range { IsSome result ↔ ArePartsInRange (system m.now) (claim x.now) stage i }
+    ensures size { IfSome result (λ rows. length rows ≡ m.now.n) }
+    ensures value { IfSome result (λ rows. (j : ℕ) → j < m.now.n → table rows i j ≡ matrix_of (system m.now) (claim x.now) stage i j) }
+{
+    let mut rows = Matrix::new(m.n);
+    for j in 0..m.n {
+        let part = part_at(m, x, stage, i, j)?;
+        rows.set(i, j, part);
+    }
+    Some(rows)
+}
+
+/// Both sides 0, where the sums of row `i` of the matrix of a stage are in range.
+pub fn parts_sides(m: &AffineSystem, x: &Certificate, stage: Stage, i: u8) -> Option<Sides>
+    requires formed { IsWellFormed m.now x.now }
+    requires row { i < m.now.n }
+    ensures in_range { IsSome result ↔ ArePartsInRange (system m.now) (claim x.now) stage i }
+    ensures left { IfSome result (λ sides. sides.left ≡ pos 0) }
+    ensures right { IfSome result (λ sides. sides.right ≡ pos 0) }
+{
+    let _rows = stage_row(m, x, stage, i)?;
+    Some(Sides { left: 0, right: 0 })
+}
+
+/// Both sides 0, where the entries in row `i` of P times the coefficients are in range.
+pub fn products_sides(m: &AffineSystem, x: &Certificate, i: u8) -> Option<Sides>
+    requires formed { IsWellFormed m.now x.now }
+    requires row { i < m.now.n }
+    ensures in_range { IsSome result ↔ AreProductsInRange (system m.now) (claim x.now) i }
+    ensures left { IfSome result (λ sides. sides.left ≡ pos 0) }
+    ensures right { IfSome result (λ sides. sides.right ≡ pos 0) }
+{
+    for j in 0..m.n {
+        let _entry = product_entry(m, x, i, j)?;
+    }
+    Some(Sides { left: 0, right: 0 })
+}
+
+/// The entry on the diagonal in row `i` of the third inequality, against the sizes beside it.
+pub fn bound_sides(m: &AffineSystem, x: &Certificate, i: u8) -> Option<Sides>
+    requires formed { IsWellFormed m.now x.now }
+    requires row { i < m.now.n }
+    ensures in_range { IsSome result ↔ IsStageInRange (system m.now) (claim x.now) Stage.Bounded i }
+    ensures left { IfSome result (λ sides. sides.left ≡ less_gram m.now.n x.now.h1 (surplus (claim x.now)) (claim x.now).g1 i i) }
+    ensures right { IfSome result (λ sides. sides.right ≡ beside m.now.n (less_gram m.now.n x.now.h1 (surplus (claim x.now)) (claim x.now).g1) i) }
+{
+    let rows = stage_row(m, x, Stage::Bounded, i)?;
+    let sides = gram_row(&x.h1, &rows, &x.g1, i)?;
+    Some(Sides {
+        left: sides.left,
+        right: sides.right,
+    })
+}
+
+/// The entry on the diagonal in row `i` of the fourth inequality, against the sizes beside it.
+pub fn decay_sides(m: &AffineSystem, x: &Certificate, i: u8) -> Option<Sides>
+    requires formed { IsWellFormed m.now x.now }
+    requires row { i < m.now.n }
+    ensures in_range { IsSome result ↔ IsStageInRange (system m.now) (claim x.now) Stage.Decaying i }
+    ensures left { IfSome result (λ sides. sides.left ≡ less_gram m.now.n x.now.h2 (decay (system m.now) (claim x.now)) (claim x.now).g2 i i) }
+    ensures right { IfSome result (λ sides. sides.right ≡ beside m.now.n (less_gram m.now.n x.now.h2 (decay (system m.now) (claim x.now)) (claim x.now).g2) i) }
+{
+    let rows = stage_row(m, x, Stage::Decaying, i)?;
+    let sides = gram_row(&x.h2, &rows, &x.g2, i)?;
+    Some(Sides {
+        left: sides.left,
+        right: sides.right,
+    })
+}
+
+/// The number of `start` at place `k`, less `factor` times that of `base`.
+fn gap_at(start: &Items<i128>, factor: &i128, base: &Items<i128>, k: u8) -> Option<i128>
+    ensures in_range { IsSome result ↔ (unsigned_abs (vector start.now k) + unsigned_abs factor.now * unsigned_abs (vector base.now k) ≤ 2 ^ 126) }
+    ensures value { IfSome result (λ value. value ≡ gap (vector start.now) factor.now (vector base.now) k) }
+{
+    let first = RangedSum::new().plus(at(start, k), 1)?;
+    let part = first.minus(*factor, at(base, k))?;
+    Some(part.total())
+}
+
+/// These differences at the first `n` places.
+fn gaps_of(n: u8, start: &Items<i128>, factor: &i128, base: &Items<i128>) -> Option<[i128; 16]>
+    requires { n ≤ 16 }
+    ensures in_range { IsSome result ↔ ((k : ℕ) → k < n → unsigned_abs (vector start.now k) + unsigned_abs factor.now * unsigned_abs (vector base.now k) ≤ 2 ^ 126) }
+    ensures value { IfSome result (λ gaps. (k : ℕ) → k < n → vector gaps k ≡ gap (vector start.now) factor.now (vector base.now) k) }
+{
+    let mut gaps = [0; 16];
+    for k in 0..n {
+        gaps[k as usize] = gap_at(start, factor, base, k)?;
+    }
+    Some(gaps)
+}
+
+/// The form of these differences, against the square of the unit times `bound`.
+pub fn gap_sides(
+    m: &AffineSystem,
+    x: &Certificate,
+    start: &Items<i128>,
+    factor: &i128,
+    base: &Items<i128>,
+    bound: &i128,
+) -> Option<Sides>
+    requires { IsWellFormed m.now x.now }
+    ensures in_range { IsSome result ↔ IsGapInRange (system m.now) (claim x.now) (vector start.now) factor.now (vector base.now) bound.now }
+    ensures left { IfSome result (λ sides. sides.left ≡ form m.now.n (claim x.now).pm (gap (vector start.now) factor.now (vector base.now))) }
+    ensures right { IfSome result (λ sides. sides.right ≡ m.now.unit *ℤ m.now.unit *ℤ bound.now) }
+{
+    let gaps = gaps_of(m.n, start, factor, base)?;
+    let left = quad(&x.pm, &gaps[..m.n as usize])?;
+    let square = product(m.unit, m.unit)?;
+    let right = product(square, *bound)?;
+    Some(Sides { left, right })
+}
+
+/// Whether two lists have the same numbers at the first `n` places.
+fn are_same(n: u8, first: &Items<i128>, second: &Items<i128>) -> bool
+    ensures { result ≡ is_same_below n (vector first.now) (vector second.now) }
+{
+    for k in 0..n {
+        if at(first, k) != at(second, k) {
+            return false;
+        }
+    }
+    true
+}
+
+/// The form of the difference of both starts, against its bound; both sides are 0 where they are equal.
+pub fn apart_sides(m: &AffineSystem, x: &Certificate) -> Option<Sides>
+    requires { IsWellFormed m.now x.now }
+    ensures in_range { IsSome result ↔ IsPlaceInRange (system m.now) (claim x.now) Inequality.StartsApart 0 }
+    ensures left { IfSome result (λ sides. sides.left ≡ left_of (system m.now) (claim x.now) Inequality.StartsApart 0) }
+    ensures right { IfSome result (λ sides. sides.right ≡ right_of (system m.now) (claim x.now) Inequality.StartsApart 0) }
+{
+    if are_same(m.n, &x.start1, &x.start2) {
+        return Some(Sides { left: 0, right: 0 });
+    }
+    gap_sides(m, x, &x.start1, &1, &x.start2, &x.cc)
+}
+
+/// A pair of places.
+#[derive(Clone, Copy)]
+struct Pair {
+    row: u8,
+    column: u8,
+}
+
+/// Pair `k` of the numbers below `n`.
+fn pair_at(n: u8, k: u8) -> Pair
+    requires few { n ≤ 16 }
+    requires place { k < pairs n }
+    ensures row { result.row ≡ (pair_of n k).0 }
+    ensures column { result.column ≡ (pair_of n k).1 }
+    ensures row_inside { result.row < n }
+    ensures column_inside { result.column < n }
+{
+    let mut rest = k;
+    for i in 0..n {
+        let width = n - 1 - i;
+        if rest < width {
+            return Pair {
+                row: i,
+                column: i + 1 + rest,
+            };
+        }
+        rest -= width;
+    }
+    Pair { row: 0, column: 0 }
+}
+
+/// Pair `k` of entries of P across the diagonal.
+pub fn pair_sides(m: &AffineSystem, x: &Certificate, k: u8) -> Option<Sides>
+    requires formed { IsWellFormed m.now x.now }
+    requires place { k < pairs m.now.n }
+    ensures some { IsSome result }
+    ensures left { IfSome result (λ sides. sides.left ≡ (claim x.now).pm (pair_of m.now.n k).0 (pair_of m.now.n k).1) }
+    ensures right { IfSome result (λ sides. sides.right ≡ (claim x.now).pm (pair_of m.now.n k).1 (pair_of m.now.n k).0) }
+{
+    let pair = pair_at(m.n, k);
+    Some(Sides {
+        left: x.pm.get(pair.row, pair.column),
+        right: x.pm.get(pair.column, pair.row),
+    })
+}
+
+/// How many pairs of two different numbers below `n` there are.
+pub fn count_pairs(n: u8) -> u8
+    requires { n ≤ 16 }
+    ensures { result ≡ pairs n }
+{
+    let mut count = 0;
+    for i in 0..n {
+        count += i;
+    }
+    count
+}

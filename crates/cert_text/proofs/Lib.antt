@@ -1,0 +1,13 @@
+pub mod Digits
+pub mod Places
+pub mod Faults
+pub mod Fields
+pub mod Turns
+pub mod Assembled
+pub mod Spelt
+pub mod Unique
+pub mod Cut
+pub mod Decimals
+pub mod Completed
+pub mod Wanted
+pub mod WrittenLines

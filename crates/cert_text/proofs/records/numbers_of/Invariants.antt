@@ -1,0 +1,15 @@
+use Rattle.std.proofs.Common.{◌≡◌, ◌≤◌, ◌+◌, ◌-◌, List, Some, map, take, drop, ℕ, ℤ}
+use Rattle.std.specs.List.{position_from}
+use Rattle.csv.specs.Records.{fields_of}
+use Rattle.cert_check.specs.Limits.{IsVector}
+use Rattle.cert_text.specs.Numbers.{number_in}
+use Rattle.cert_text.specs.Layout.{is_no_number}
+use Rattle.cert_text.proofs.records.numbers_of.Given as goal
+
+abbrev pub invariant-loop-place : goal.invariant-loop-place
+invariant-loop-place l = record {
+  some : 1 ≤ l.place;
+  spelt : map number_in (take (l.place - 1) (drop 1 (fields_of l.found))) ≡ map (λ z. Some z) l.row.items;
+  numbers : IsVector (l.place - 1) l.row.items;
+  faults : position_from is_no_number 2 (drop 1 (fields_of l.found)) ≡ position_from is_no_number (l.place + 1) (drop l.place (fields_of l.found));
+}

@@ -1,0 +1,55 @@
+-- The gap between a state and its level moves as the state does.
+use Rattle.std.proofs.Common.{◌≡◌, ℕ, ◌+◌, ◌-◌, pos, ℤ, ◌+ℤ◌, ◌-ℤ◌, ◌*ℤ◌, ◌≤ℤ◌, unsigned_abs, sym, subst, arith, Option}
+use Rattle.std.proofs.lemmas.Int.{ints, to_z-of_z}
+use Rattle.std.specs.Int.RustNames.{FitsSigned}
+use Rattle.mu_num.specs.Ticks.{FirstAfter, later_tick}
+use Rattle.mu_num.proofs.FirstTicks.{first_after-same, first_after-later}
+use Rattle.qss_quant.specs.Lines.{Line, state_at, IsAway}
+use Rattle.qss_quant.proofs.integrator.Integrator.due.Goals as goal
+use mir.Syntax.{w64, w128}
+
+moved_gap : (x s level : ℤ) → (x +ℤ s) -ℤ level ≡ (x -ℤ level) +ℤ s
+moved_gap x s level = omega (arith, ints)
+
+due_from : (i : Line) (unit quantum : ℤ) (ticks : Option ℕ) →
+    FirstAfter (λ n. (unit *ℤ quantum) ≤ℤ pos (unsigned_abs ((i.x -ℤ unit *ℤ i.level) +ℤ pos n *ℤ i.slope))) 0 ticks →
+    FirstAfter (λ tick. IsAway unit (state_at i tick) i.level quantum) i.tick (later_tick i.tick ticks)
+due_from i unit quantum ticks h =
+    let P : ℕ → Type 0 = λ tick. IsAway unit (state_at i tick) i.level quantum in
+    first_after-later P i.tick ticks
+    (first_after-same _ _ 0 ticks
+    (λ n later p. subst (λ z. (unit *ℤ quantum) ≤ℤ pos (unsigned_abs z)) (sym (same n)) p)
+    (λ n later q. subst (λ z. (unit *ℤ quantum) ≤ℤ pos (unsigned_abs z)) (same n) q)
+    h)
+  where
+    same : (n : ℕ) → state_at i (i.tick + n) -ℤ unit *ℤ i.level ≡ (i.x -ℤ unit *ℤ i.level) +ℤ pos n *ℤ i.slope
+    same n =
+        let e : (i.tick + n) - i.tick ≡ n = omega arith in
+        rw e (moved_gap i.x (pos n *ℤ i.slope) (unit *ℤ i.level))
+
+pub first_leaving-requires-clause-inside : goal.first_leaving-requires-clause-inside
+first_leaving-requires-clause-inside c =
+    let of_x : FitsSigned w128 c.self.inside.x = omega (arith, ints, c.self.invariant.small_state) in
+    let of_level : FitsSigned w64 c.self.inside.level = omega (arith, ints, c.self.invariant.small_level) in
+    let of_quantum = c.ranges.quantum in
+    let of_unit = c.ranges.unit in
+    let of_gap : FitsSigned w128 c.gap_of-gap.result = record { sfits = c.gap_of-gap.type_inv } in
+    let of_limit : FitsSigned w128 c.limit_of.result = record { sfits = c.limit_of.type_inv } in
+    let gap : c.gap_of-gap.result ≡ c.self.inside.x -ℤ c.args.unit *ℤ c.self.inside.level = simp to_z-of_z at c.gap_of-gap.ensures.value in
+    let limit : c.limit_of.result ≡ c.args.unit *ℤ c.args.quantum = simp to_z-of_z at c.limit_of.ensures.value in
+    rw (to_z-of_z w128 c.gap_of-gap.result of_gap, to_z-of_z w128 c.limit_of.result of_limit, gap, limit) (rw (← c.self.view_is) at c.requires.near)
+
+pub returns : goal.returns
+returns c =
+    let of_x : FitsSigned w128 c.self.inside.x = omega (arith, ints, c.self.invariant.small_state) in
+    let of_slope : FitsSigned w128 c.self.inside.slope = omega (arith, ints, c.self.invariant.small_slope) in
+    let of_level : FitsSigned w64 c.self.inside.level = omega (arith, ints, c.self.invariant.small_level) in
+    let of_quantum = c.ranges.quantum in
+    let of_unit = c.ranges.unit in
+    let of_gap : FitsSigned w128 c.gap_of-gap.result = record { sfits = c.gap_of-gap.type_inv } in
+    let of_limit : FitsSigned w128 c.limit_of.result = record { sfits = c.limit_of.type_inv } in
+    let gap : c.gap_of-gap.result ≡ c.self.inside.x -ℤ c.args.unit *ℤ c.self.inside.level = simp to_z-of_z at c.gap_of-gap.ensures.value in
+    let limit : c.limit_of.result ≡ c.args.unit *ℤ c.args.quantum = simp to_z-of_z at c.limit_of.ensures.value in
+    let first : FirstAfter (λ n. c.limit_of.result ≤ℤ pos (unsigned_abs (c.gap_of-gap.result +ℤ pos n *ℤ c.self.inside.slope))) 0 c.first_leaving.result = simp to_z-of_z at c.first_leaving.ensures in
+    let i : Line = record { tick = c.self.inside.tick; x = c.self.inside.x; slope = c.self.inside.slope; level = c.self.inside.level } in
+    rw (← c.self.view_is, c.tick_later.ensures) (due_from i c.args.unit c.args.quantum c.first_leaving.result (rw (gap, limit) at first))

@@ -1,0 +1,38 @@
+-- The state is within the quantum exactly where the code's test says so.
+use Rattle.std.proofs.Common.{◌≡◌, pos, ◌-ℤ◌, ◌*ℤ◌, ◌<ℤ◌, unsigned_abs, IsTrue, true, false, rules, arith}
+use Rattle.std.proofs.lemmas.Int.{ints, to_z-of_z}
+use Rattle.std.specs.Int.RustNames.{FitsSigned}
+use Rattle.qss_quant.proofs.quantizer.Quantizer.level.Goals as goal
+use mir.Syntax.{w128}
+
+not_true : {A : Type 0} → IsTrue false → A
+not_true h = absurd (search (rules, h))
+
+pub returns-then-is_inside-clause-taken : goal.returns-then-is_inside-clause-taken
+returns-then-is_inside-clause-taken g c away =
+    let of_x = c.ranges.x in
+    let of_old = c.ranges.old in
+    let of_quantum = c.ranges.quantum in
+    let of_unit = c.ranges.unit in
+    let of_gap : FitsSigned w128 c.gap_of.result = record { sfits = c.gap_of.type_inv } in
+    let of_limit : FitsSigned w128 c.limit_of.result = record { sfits = c.limit_of.type_inv } in
+    let gap : c.gap_of.result ≡ c.args.x -ℤ c.args.unit *ℤ c.args.old = simp to_z-of_z at c.gap_of.ensures.value in
+    let limit : c.limit_of.result ≡ c.args.unit *ℤ c.args.quantum = simp to_z-of_z at c.limit_of.ensures.value in
+    let test = simp to_z-of_z at c.if-is_inside.ensures in
+    let true_is : IsTrue true = search rules in
+    let inside = rw (gap, limit) at (test.0 true_is) in
+    absurd (omega (arith, ints, away, inside))
+
+pub returns-clause-kept : goal.returns-clause-kept
+returns-clause-kept g c near =
+    let of_x = c.ranges.x in
+    let of_old = c.ranges.old in
+    let of_quantum = c.ranges.quantum in
+    let of_unit = c.ranges.unit in
+    let of_gap : FitsSigned w128 c.gap_of.result = record { sfits = c.gap_of.type_inv } in
+    let of_limit : FitsSigned w128 c.limit_of.result = record { sfits = c.limit_of.type_inv } in
+    let gap : c.gap_of.result ≡ c.args.x -ℤ c.args.unit *ℤ c.args.old = simp to_z-of_z at c.gap_of.ensures.value in
+    let limit : c.limit_of.result ≡ c.args.unit *ℤ c.args.quantum = simp to_z-of_z at c.limit_of.ensures.value in
+    let test = simp to_z-of_z at c.if-is_inside.ensures in
+    let inside : pos (unsigned_abs c.gap_of.result) <ℤ c.limit_of.result = rw (gap, limit) near in
+    not_true (test.1 inside)

@@ -1,0 +1,97 @@
+ghost use Rattle.std.specs.Prelude.{pos, ◌^◌, ◌+ℤ◌, ◌*ℤ◌, ◌<ℤ◌, ◌≤ℤ◌, unsigned_abs};
+ghost use Rattle.mu_num.specs.Ticks.{FirstAfter, tick_limit};
+ghost use Rattle.mu_num.specs.Sizes.{IsWithin};
+
+use crate::gaps::{gap_of, limit_of};
+use crate::steps::Steps;
+use mu_num::{first_tick, tick_later};
+use std::marker::Model;
+use std::sync::ledger::Ledger;
+
+/// A state at a tick, with the slope at which it moves and its level.
+#[derive(Clone, Copy)]
+pub struct Integrator {
+    pub tick: u64,
+    pub x: i128,
+    pub slope: i128,
+    pub level: i64,
+}
+
+impl Model for Integrator {
+    ghost use Rattle.qss_quant.specs.Lines.{Line, IsLine};
+
+    ghost Value = { Line };
+
+    ghost view = { λ i. record { tick = i.tick; x = i.x; slope = i.slope; level = i.level } };
+
+    ghost invariant = { λ i. IsLine (record { tick = i.tick; x = i.x; slope = i.slope; level = i.level }) };
+
+    ghost inverse = { λ i. record { tick = i.tick; x = i.x; slope = i.slope; level = i.level } };
+}
+
+// The first tick from 1 on at which a number that rises by `speed` a tick is not below `limit`, where it is now.
+fn first_leaving(gap: i128, speed: i128, limit: i128) -> Option<u64>
+    requires gap { IsWithin 90 gap }
+    requires speed { IsWithin 88 speed }
+    requires inside { pos (unsigned_abs gap) <ℤ limit }
+    requires limit { limit ≤ℤ pos (2 ^ 87) }
+    ensures { FirstAfter (λ n. limit ≤ℤ pos (unsigned_abs (gap +ℤ pos n *ℤ speed))) 0 result }
+{
+    if speed < 0 {
+        first_tick(limit + gap, -speed)
+    } else {
+        first_tick(limit - gap, speed)
+    }
+}
+
+impl Integrator {
+    ghost use Rattle.std.specs.Prelude.{◌≡◌, ℕ, ◌+◌, ◌^◌, ◌≤◌};
+    ghost use Rattle.mu_num.specs.Ticks.{FirstAfter, tick_limit};
+    ghost use Rattle.mu_num.specs.Sizes.{IsWithin, IsPositiveWithin};
+    ghost use Rattle.qss_quant.specs.Lines.{state_at, IsNear, IsAway};
+
+    /// The first tick at which the state is no longer within the quantum of its level.
+    pub fn due(&self, quantum: i64, unit: i128) -> Option<u64>
+        requires quantum { IsPositiveWithin 43 quantum }
+        requires unit { IsPositiveWithin 44 unit }
+        requires near { IsNear unit self.now.x self.now.level quantum }
+        ensures { FirstAfter (λ tick. IsAway unit (state_at self.now tick) self.now.level quantum) self.now.tick result }
+    {
+        let gap = gap_of(self.x, self.level, unit);
+        tick_later(
+            self.tick,
+            first_leaving(gap, self.slope, limit_of(quantum, unit)),
+        )
+    }
+
+    /// The state at a tick.
+    pub fn value_at(&self, tick: u64) -> i128
+        requires later { self.now.tick ≤ tick }
+        requires in_time { tick ≤ tick_limit }
+        ensures { result ≡ state_at self.now tick }
+    {
+        self.x + i128::from(tick - self.tick) * self.slope
+    }
+
+    /// Moves the state along its line to a tick, which counts one.
+    pub fn move_to<L: Ledger>(&mut self, tick: u64, steps: &mut Steps<L>)
+        requires later { self.old.tick ≤ tick }
+        requires in_time { tick ≤ tick_limit }
+        requires small { IsWithin 89 (state_at self.old tick) }
+        ensures moved { self.new ≡ record self.old { tick = tick; x = state_at self.old tick } }
+        ensures counted { steps.new ≡ steps.old + 1 }
+    {
+        let x = self.value_at(tick);
+        self.x = x;
+        self.tick = tick;
+        steps.tick();
+    }
+
+    /// The state moves at another slope from its tick on.
+    pub fn set_slope(&mut self, slope: i128)
+        requires { IsWithin 88 slope }
+        ensures { self.new ≡ record self.old { slope = slope } }
+    {
+        self.slope = slope;
+    }
+}
