@@ -1,0 +1,2 @@
+pub mod FlatShapes
+pub mod Shapes
