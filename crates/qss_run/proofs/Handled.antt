@@ -1,0 +1,68 @@
+-- What the handlers of a tick did.
+use Rattle.std.proofs.Common.{◌≡◌, ℕ, ◌≤◌, Bool, true, false, List, [], length, get_or, ℤ, refl, sym, ◌∙◌, ap, arith}
+use Rattle.std.proofs.lemmas.Bool.Decides.{nat_tests}
+use Rattle.std.specs.Option.{option_or}
+use Rattle.std.specs.Prelude.{Option, Some, None, is_some, All}
+use Rattle.mu_num.specs.Sizes.{IsWithin, passes}
+use Rattle.qss_machine.specs.declared.rows.Row.{Row}
+use Rattle.qss_machine.specs.declared.system.Machine.{Machine}
+use Rattle.qss_machine.specs.Numbers.{first_past}
+use Rattle.qss_machine.specs.Handlers.{Handling, truths, due_flags, run_clauses}
+use Rattle.qss_hand.specs.Values.{Values}
+use Rattle.qss_hand.specs.Works.{handling_of, row_room}
+use Rattle.qss_run.specs.Stores.{handling_from}
+use Rattle.qss_run.proofs.Ranges.{none_passes}
+use Rattle.qss_run.proofs.Turns.{clauses_stay, rows_clauses}
+
+module _ (m : Machine) (tick : ℕ) (x d : List ℤ) (arrived settled : List Bool) where
+  -- a state that passed its limit on arrival
+  pub over_early : (o : Option ℕ) → is_some o ≡ true → o ≡ first_past 88 x → o ≡ (handling_from m tick x d arrived settled).overflow
+  over_early None some e = absurd (cc)
+  over_early (Some var) some e =
+      let start : Handling = record { states = x; discretes = d; rows = []; overflow = first_past 88 x } in
+      e ∙ ap (λ (h : Handling). h.overflow) (sym (clauses_stay m tick d 0 start var m.clauses (due_flags (truths m x d tick) arrived settled) (sym e)))
+
+  -- the handlers, where none did
+  pub handled : (v : Values) (due : List Bool) → v.x ≡ x → v.d ≡ d → v.pre ≡ d → v.tick ≡ tick → v.log ≡ [] → due ≡ due_flags (truths m x d tick) arrived settled → first_past 88 x ≡ None →
+      run_clauses m v.tick v.pre 0 (handling_of v) m.clauses due ≡ handling_from m tick x d arrived settled
+  handled v due of_x of_d of_pre of_tick of_log flags calm =
+      let flagged = due_flags (truths m x d tick) arrived settled in
+      ap (λ t. run_clauses m t v.pre 0 (handling_of v) m.clauses due) of_tick
+      ∙ ap (λ p. run_clauses m tick p 0 (handling_of v) m.clauses due) of_pre
+      ∙ ap (λ f. run_clauses m tick d 0 (handling_of v) m.clauses f) flags
+      ∙ ap (λ (y : List ℤ). run_clauses m tick d 0 (record { states = y; discretes = v.d; rows = v.log; overflow = None }) m.clauses flagged) of_x
+      ∙ ap (λ (y : List ℤ). run_clauses m tick d 0 (record { states = x; discretes = y; rows = v.log; overflow = None }) m.clauses flagged) of_d
+      ∙ ap (λ (y : List Row). run_clauses m tick d 0 (record { states = x; discretes = d; rows = y; overflow = None }) m.clauses flagged) of_log
+      ∙ ap (λ (o : Option ℕ). run_clauses m tick d 0 (record { states = x; discretes = d; rows = []; overflow = o }) m.clauses flagged) (sym calm)
+
+passes_no : (bits : ℕ) (z : ℤ) → passes bits z ≡ false → IsWithin bits z
+passes_no bits z e = grind (arith, nat_tests)
+
+-- no number passes
+pub all_within : (bits : ℕ) (xs : List ℤ) → first_past bits xs ≡ None → All (IsWithin bits) xs
+all_within bits xs e k z h = passes_no bits (get_or xs k z) (none_passes z (passes bits) xs e k h)
+
+pub not_some : (o : Option ℕ) → is_some o ≡ false → o ≡ None
+not_some None e = refl
+not_some (Some v) e = absurd (cc)
+
+pub clash : {A : Type 0} (o : Option ℕ) → is_some o ≡ true → o ≡ None → A
+clash None some e = absurd (cc)
+clash (Some v) some e = absurd (cc)
+
+pub none_of_some : {A : Type 0} (v : ℕ) → Some v ≡ None → A
+none_of_some v e = absurd (cc)
+
+-- the first of two overflows
+pub over_first : (o a b : Option ℕ) → is_some o ≡ true → o ≡ a → o ≡ option_or a b
+over_first None a b some e = absurd (cc)
+over_first (Some v) a b some e = ap (λ x. option_or x b) e
+
+pub over_second : (o a b : Option ℕ) → a ≡ None → o ≡ b → o ≡ option_or a b
+over_second o a b none e = e ∙ ap (λ x. option_or x b) (sym none)
+
+-- the rows of handlers have room
+pub rows_handled : (m : Machine) (tick : ℕ) (x d : List ℤ) (arrived settled : List Bool) → length (handling_from m tick x d arrived settled).rows ≤ row_room m.clauses
+rows_handled m tick x d arrived settled =
+    let start : Handling = record { states = x; discretes = d; rows = []; overflow = first_past 88 x } in
+    omega (arith, rows_clauses m tick d 0 start m.clauses (due_flags (truths m x d tick) arrived settled))

@@ -1,0 +1,150 @@
+-- A store just before its next visit.
+use Rattle.std.proofs.Common.{◌≡◌, ℕ, zero, suc, ◌+◌, ◌-◌, ◌≤◌, ◌<◌, Bool, true, false, List, length, ℤ, pos, ◌+ℤ◌, ◌*ℤ◌, refl, sym, ◌∙◌, ap, subst, arith, inl, inr}
+use Rattle.std.proofs.lemmas.Bool.{cases_lt}
+use Rattle.std.proofs.lemmas.List.{get_or_past}
+use Rattle.std.proofs.Common.{Vec, Global}
+use Rattle.std.proofs.lemmas.Bool.Decides.{nat_tests}
+use Rattle.std.specs.Prelude.{Option, Some, None, nat_lt, if◌then◌else◌}
+use Rattle.mu_num.specs.Ticks.{FirstAfter}
+use Rattle.qss_machine.specs.declared.system.Machine.{Machine}
+use Rattle.qss_machine.specs.Numbers.{int_at, tabulate}
+use Rattle.qss_machine.specs.Machines.{state_count, slope_at}
+use Rattle.qss_machine.specs.Handlers.{conditions}
+use Rattle.qss_quant.specs.declared.rule.Rule.{Rule}
+use Rattle.qss_quant.specs.Lines.{state_at}
+use Rattle.qss_sched.specs.Ranks.{due_at}
+use Rattle.qss_run.specs.declared.store.Store.{Store}
+use Rattle.qss_run.specs.Places.{line_at, watch_at}
+use Rattle.qss_run.specs.Sims.{StandsFor, rises}
+use Rattle.qss_run.specs.Skips.{states_after, world_after}
+use Rattle.qss_run.specs.Stores.{states_at, world_of, FitsMachine, Stands}
+use Rattle.qss_run.specs.Events.{AreSilent}
+use Rattle.qss_run.proofs.Quiet.{int_at-tabulate, tabulate-same}
+use Rattle.qss_run.proofs.Silence.{line_state_at, silence, stands_still}
+use Rattle.qss_run.proofs.Silences.{quiet_worlds, quiet_leads}
+
+later_of : (P : ℕ → Type 0) (from t : ℕ) (found : Option ℕ) → FirstAfter P from found → found ≡ Some t → from < t
+later_of P from t None first e = absurd (cc)
+later_of P from t (Some u) first e = let same : u ≡ t = cc in omega (arith, first.later, same)
+
+later_if : (tick t : ℕ) (b : Bool) → (if b then Some (tick + 1) else None) ≡ Some t → tick < t
+later_if tick t true e = let same : tick + 1 ≡ t = cc in omega (arith, same)
+later_if tick t false e = absurd (cc)
+
+-- each due tick is later
+dues_later : (m : Machine) (tick : ℕ) (s : Store) → Stands m tick s → (place t : ℕ) → due_at s.agenda place ≡ Some t → tick < t
+dues_later m tick s stands place t e = elim (cases_lt place n) [ inl below ↦ later_of _ tick t _ (for.dues place below) e | inr past ↦ beyond past ]
+  where
+    n : ℕ
+    n = state_count m
+
+    for : StandsFor m tick (world_of tick s) (line_at s.lines.items) (watch_at s.watches.items) s.agenda
+    for = stands.stands_for
+
+    count : ℕ
+    count = length (conditions m)
+
+    out_of : n + count < place → tick < t
+    out_of out = let none : due_at s.agenda place ≡ None = get_or_past s.agenda place None (omega (arith, out, stands.fits.places)) in absurd (cc)
+
+    risen : place ≡ n + count → tick < t
+    risen same = later_if tick t (rises (world_of tick s)) (sym for.rising ∙ ap (due_at s.agenda) (sym same) ∙ e)
+
+    last_place : n ≤ place → count ≤ (place - n) → tick < t
+    last_place past over = elim (cases_lt (n + count) place) [ inl out ↦ out_of out | inr within ↦ risen (omega (arith, past, over, within)) ]
+
+    inner : n ≤ place → (place - n) < count → tick < t
+    inner past inside =
+        let same : n + (place - n) ≡ place = omega (arith, past) in
+        later_of _ tick t _ (for.changes (place - n) inside) (ap (due_at s.agenda) same ∙ e)
+
+    beyond : n ≤ place → tick < t
+    beyond past = elim (cases_lt (place - n) count) [ inl inside ↦ inner past inside | inr over ↦ last_place past over ]
+
+-- the next visit is later
+pub next_later : (m : Machine) (tick : ℕ) (s : Store) (next last : ℕ) → Stands m tick s → tick < last → next ≤ last →
+    (next < last → (place : ℕ) × (due_at s.agenda place ≡ Some next)) → tick < next
+next_later m tick s next last stands before at_most reached =
+    elim (cases_lt next last) [ inl below ↦ dues_later m tick s stands (reached below).0 next (reached below).1 | inr past ↦ omega (arith, before, past) ]
+
+-- the states by then
+states_later : (m : Machine) (tick : ℕ) (s : Store) → Stands m tick s → (k : ℕ) → states_at s.lines.items (tick + k) ≡ states_after m (world_of tick s) k
+states_later m tick s stands k =
+    ap (λ n. tabulate n (λ j. state_at (line_at s.lines.items j) (tick + k))) stands.fits.lines
+    ∙ tabulate-same (pos 0) (state_count m) _ _
+    (λ j h.
+    line_state_at m tick (world_of tick s) (line_at s.lines.items) (watch_at s.watches.items) s.agenda stands.stands_for j k h
+    ∙ int_at-tabulate (state_count m) (λ i. int_at (world_of tick s).states i +ℤ pos k *ℤ slope_at m i s.levels.items s.work.d) j h)
+
+-- the truths on arrival by then
+abbrev pub arrived_then : ℕ → List Bool → List Bool → List Bool
+arrived_then zero arrived settled = arrived
+arrived_then (suc ticks) arrived settled = settled
+
+pub world_then : (m : Machine) (tick ticks : ℕ) (s : Store) (arrived : Vec Bool Global) → Stands m tick s → arrived.items ≡ arrived_then ticks s.arrived.items s.settled.items →
+    world_of (tick + ticks) (record s { arrived = arrived }) ≡ world_after m (world_of tick s) ticks
+world_then m tick zero s arrived stands is =
+    let e : tick + 0 ≡ tick = omega arith in
+    ap (λ t. world_of t (record s { arrived = arrived })) e
+    ∙ ap (λ (a : List Bool). record { states = states_at s.lines.items tick; levels = s.levels.items; discretes = s.work.d; arrived = a; settled = s.settled.items }) is
+world_then m tick (suc ticks) s arrived stands is =
+    ap (λ (x : List ℤ). record { states = x; levels = s.levels.items; discretes = s.work.d; arrived = arrived.items; settled = s.settled.items }) (states_later m tick s stands (suc ticks))
+    ∙ ap (λ (a : List Bool). record { states = states_after m (world_of tick s) (suc ticks); levels = s.levels.items; discretes = s.work.d; arrived = a; settled = s.settled.items }) is
+
+pub fits_then : (m : Machine) (s : Store) (arrived : Vec Bool Global) → FitsMachine m s → length arrived.items ≡ length (conditions m) → FitsMachine m (record s { arrived = arrived })
+fits_then m s arrived fits many = record {
+  branches = fits.branches;
+  lines = fits.lines;
+  levels = fits.levels;
+  slopes = fits.slopes;
+  fresh = fits.fresh;
+  watches = fits.watches;
+  arrived = many;
+  settled = fits.settled;
+  now = fits.now;
+  due = fits.due;
+  places = fits.places;
+  states = fits.states;
+  discretes = fits.discretes;
+  before = fits.before;
+  small_discretes = fits.small_discretes;
+  work_room = fits.work_room;
+  row_room = fits.row_room;
+}
+
+pub stands_then : (m : Machine) (tick ticks : ℕ) (s : Store) (arrived : Vec Bool Global) → Stands m tick s → tick + ticks < m.last →
+    ((place t : ℕ) → due_at s.agenda place ≡ Some t → tick + ticks + 1 ≤ t) → arrived.items ≡ arrived_then ticks s.arrived.items s.settled.items → Stands m (tick + ticks) (record s { arrived = arrived })
+stands_then m tick ticks s arrived stands before nothing is = record {
+  fits = fits_then m s arrived stands.fits (ap length is ∙ many ticks);
+  stands_for = subst (λ v. StandsFor m (tick + ticks) v (line_at s.lines.items) (watch_at s.watches.items) s.agenda) (sym (world_then m tick ticks s arrived stands is)) (still ticks before nothing);
+}
+  where
+    many : (k : ℕ) → length (arrived_then k s.arrived.items s.settled.items) ≡ length (conditions m)
+    many zero = stands.fits.arrived
+    many (suc k) = stands.fits.settled
+
+    still : (k : ℕ) → tick + k < m.last → ((place t : ℕ) → due_at s.agenda place ≡ Some t → tick + k + 1 ≤ t) →
+        StandsFor m (tick + k) (world_after m (world_of tick s) k) (line_at s.lines.items) (watch_at s.watches.items) s.agenda
+    still zero before nothing =
+        let e : tick ≡ tick + 0 = omega arith in
+        subst (λ t. StandsFor m t (world_of tick s) (line_at s.lines.items) (watch_at s.watches.items) s.agenda) e stands.stands_for
+    still (suc k) before nothing =
+        stands_still m tick (world_of tick s) (line_at s.lines.items) (watch_at s.watches.items) s.agenda (tick + suc k) (suc k) stands.stands_for (omega arith)
+        (omega (arith, before, m.has_units.last_tick)) (λ place t e. omega (arith, nothing place t e)) (omega arith)
+
+pub silent_then : (Rule : ℤ → ℤ → ℤ → ℤ → Type 0) (m : Machine) (tick ticks : ℕ) (s : Store) → Stands m tick s → tick + ticks < m.last →
+    ((place t : ℕ) → due_at s.agenda place ≡ Some t → tick + ticks + 1 ≤ t) →
+    AreSilent Rule m tick (world_of tick s) (quiet_worlds m (world_of tick s) ticks) (tick + ticks) (world_after m (world_of tick s) ticks)
+silent_then Rule m tick zero s stands before nothing = record { leads = tt; as_many = refl; reached = refl }
+silent_then Rule m tick (suc k) s stands before nothing =
+    let quiet = silence m tick (world_of tick s) (line_at s.lines.items) (watch_at s.watches.items) s.agenda (tick + suc k) stands.stands_for (omega arith)
+    (omega (arith, before, m.has_units.last_tick)) (λ place t e. omega (arith, nothing place t e)) in
+    quiet_leads Rule m tick (world_of tick s) (suc k) stands.stands_for.left quiet.0 (λ t positive below. quiet.1 t positive (omega (arith, below)))
+
+pub arrived_if : (tick next k : ℕ) (arrived settled : List Bool) → tick + k ≡ next - 1 → tick < next → (if nat_lt (tick + 1) next then settled else arrived) ≡ arrived_then k arrived settled
+arrived_if tick next zero arrived settled e later =
+    let no : nat_lt (tick + 1) next ≡ false = grind (arith, nat_tests) in
+    ap (λ b. if b then settled else arrived) no
+arrived_if tick next (suc k) arrived settled e later =
+    let yes : nat_lt (tick + 1) next ≡ true = grind (arith, nat_tests) in
+    ap (λ b. if b then settled else arrived) yes

@@ -1,0 +1,151 @@
+-- A state's line at a new slope.
+use Rattle.std.proofs.Common.{◌≡◌, ◌≢◌, ℕ, ◌+◌, ◌-◌, ◌<◌, Bool, true, false, not, length, get_or, set, List, [], ℤ, pos, ◌+ℤ◌, ◌*ℤ◌, refl, sym, ◌∙◌, ap, subst, arith, below_more}
+use Rattle.std.proofs.Math.IntN.{zero-*ℤ}
+use Rattle.std.proofs.lemmas.Bool.Decides.{nat_tests}
+use Rattle.std.proofs.lemmas.Int.{ints}
+use Rattle.std.proofs.lemmas.List.{get_or-set_other, get_or-set_same}
+use Rattle.std.proofs.lemmas.List.FromFn.{length-map-range_with_len, get_or-map-range_with_len}
+use Rattle.std.specs.Bool.{IsTrue}
+use Rattle.std.specs.Prelude.{Option, None, position, ◌||◌, All, MatchBool}
+use Rattle.mu_num.proofs.Tests.{int_lt-true, int_lt-false}
+use Rattle.mu_num.specs.Sizes.{IsWithin, passes}
+use Rattle.mu_num.specs.Ticks.{FirstAfter}
+use Rattle.qss_machine.specs.declared.parts.Condition.{Condition}
+use Rattle.qss_machine.specs.declared.parts.Rel.TheVariants.{Less}
+use Rattle.qss_machine.specs.declared.parts.SlopeRow.{SlopeRow}
+use Rattle.qss_machine.specs.declared.system.Machine.{Machine}
+use Rattle.qss_machine.specs.Numbers.{int_at, tabulate}
+use Rattle.qss_machine.specs.Slopes.{mode_fits, weight_of}
+use Rattle.qss_machine.specs.Machines.{state_count, level_unit, quantum_of, row_at, slope_at, value_of, speed_of, compares, truth}
+use Rattle.qss_machine.specs.Ticks.{is_near, is_overweight, IsNextLevel}
+use Rattle.qss_quant.specs.declared.rule.Rule.{Rule}
+use Rattle.qss_quant.specs.Rules.{IsAnswer}
+use Rattle.qss_quant.specs.Lines.{Line, state_at, IsNear, IsAway}
+use Rattle.qss_cross.specs.Crossing.{Watch, value_at, holds_at}
+use Rattle.qss_sched.specs.Ranks.{due_at}
+use Rattle.qss_run.specs.Places.{line_at, watch_at, IsTurned, IsWatched}
+use Rattle.qss_run.specs.Rules.{IsRuled}
+use Rattle.qss_run.specs.Sims.{condition_at, IsDue}
+use Rattle.qss_run.proofs.Ranges.{none_passes}
+use Rattle.qss_run.proofs.SlopeSizes.{slope-size}
+
+abbrev pub no_line : Line
+no_line = record { tick = 0; x = pos 0; slope = pos 0; level = pos 0 }
+
+abbrev pub no_watch : Watch
+no_watch = record { rel = Less; tick = 0; value = pos 0; speed = pos 0 }
+
+-- a line at its own tick
+pub line_here : (tick : ℕ) (x slope level : ℤ) → state_at (record { tick = tick; x = x; slope = slope; level = level }) tick ≡ x
+line_here tick x slope level =
+    let e : tick - tick ≡ 0 = omega arith in
+    ap (λ (n : ℕ). x +ℤ pos n *ℤ slope) e ∙ omega (arith, ints, zero-*ℤ slope)
+
+-- the tick that was found for a line from its tick on
+pub due_here : (m : Machine) (tick j : ℕ) (line : Line) (x slope level unit quantum : ℤ) (found : Option ℕ) →
+    line ≡ record { tick = tick; x = x; slope = slope; level = level } → unit ≡ level_unit m → quantum ≡ quantum_of m j level →
+    FirstAfter (λ t. IsAway unit (state_at line t) line.level quantum) line.tick found → IsDue m tick j line found
+due_here m tick j line x slope level unit quantum found is one own first =
+    let own' : quantum ≡ quantum_of m j line.level = own ∙ ap (λ (l : Line). quantum_of m j l.level) (sym is) in
+    subst (λ t. FirstAfter (λ n. IsAway (level_unit m) (state_at line n) line.level (quantum_of m j line.level)) t found) (ap (λ (l : Line). l.tick) is)
+    (subst (λ q. FirstAfter (λ n. IsAway (level_unit m) (state_at line n) line.level q) line.tick found) own'
+    (subst (λ u. FirstAfter (λ n. IsAway u (state_at line n) line.level quantum) line.tick found) one first))
+
+-- what a light row keeps
+pub record IsLight (m : Machine) (levels discretes : List ℤ) (j : ℕ) : Type 0 where
+  pub modes : mode_fits m.f (state_count m) (row_at m j) discretes ≡ true
+  pub slope : IsWithin 88 (slope_at m j levels discretes)
+
+or_false : (a b : Bool) → (not a || b) ≡ false → (a ≡ true) × (b ≡ false)
+or_false true true e = absurd (cc)
+or_false true false e = (refl, refl)
+or_false false b e = absurd (cc)
+
+passes_no : (bits : ℕ) (z : ℤ) → passes bits z ≡ false → IsWithin bits z
+passes_no bits z e = grind (arith, nat_tests)
+
+pub row_is_light : (m : Machine) (levels discretes : List ℤ) → position (is_overweight m levels discretes) m.rows ≡ None → (j : ℕ) → j < state_count m → IsLight m levels discretes j
+row_is_light m levels discretes light j h =
+    let none : SlopeRow = record { entries = []; products = []; beta = pos 0 } in
+    let inside : j < length m.rows = omega (arith, h, m.has_rows.one_each) in
+    let parts = or_false _ _ (none_passes none (is_overweight m levels discretes) m.rows light j inside) in
+    let small : IsWithin 88 (weight_of m.f (row_at m j) levels discretes) = passes_no 88 (weight_of m.f (row_at m j) levels discretes) parts.1 in
+    record { modes = parts.0; slope = omega (arith, ints, slope-size m.f (row_at m j) levels discretes, small) }
+
+pub is_true : (b : Bool) → b ≡ true → IsTrue b
+is_true b e = search (e)
+
+-- ---- one more line, one more level, one more watch
+
+pub turned_more : (m : Machine) (tick : ℕ) (x levels d : List ℤ) (lines : List Line) (agenda next : List (Option ℕ)) (j : ℕ) (line : Line) → j < length lines →
+    ((k : ℕ) → k < j → IsTurned m tick (int_at x k) (int_at levels k) (slope_at m k levels d) k (line_at lines k) (due_at agenda k)) →
+    ((place : ℕ) → (place ≡ j → ⊥) → due_at next place ≡ due_at agenda place) →
+    IsTurned m tick (int_at x j) (int_at levels j) (slope_at m j levels d) j line (due_at next j) →
+    (k : ℕ) → k < j + 1 → IsTurned m tick (int_at x k) (int_at levels k) (slope_at m k levels d) k (line_at (set lines j line) k) (due_at next k)
+turned_more m tick x levels d lines agenda next j line h before others here =
+    below_more (λ k. IsTurned m tick (int_at x k) (int_at levels k) (slope_at m k levels d) k (line_at (set lines j line) k) (due_at next k)) j
+    (λ k below.
+    let ne : k ≢ j = omega (arith, below) in
+    subst (λ l. IsTurned m tick (int_at x k) (int_at levels k) (slope_at m k levels d) k l (due_at next k)) (sym (get_or-set_other lines j k line no_line ne))
+    (subst (IsTurned m tick (int_at x k) (int_at levels k) (slope_at m k levels d) k (line_at lines k)) (sym (others k ne)) (before k below)))
+    (subst (λ l. IsTurned m tick (int_at x j) (int_at levels j) (slope_at m j levels d) j l (due_at next j)) (sym (get_or-set_same lines j line no_line h)) here)
+
+pub slopes_small : (m : Machine) (levels d e slopes : List ℤ) → position (is_overweight m levels d) m.rows ≡ None → e ≡ d →
+    slopes ≡ tabulate (state_count m) (λ j. slope_at m j levels e) → All (IsWithin 88) slopes
+slopes_small m levels d e slopes light same is k z h =
+    let many : length slopes ≡ state_count m = ap length is ∙ length-map-range_with_len (λ j. slope_at m j levels e) 0 (state_count m) in
+    let inside : k < state_count m = omega (arith, h, many) in
+    let here : get_or slopes k z ≡ slope_at m k levels d =
+    ap (λ xs. get_or xs k z) is ∙ get_or-map-range_with_len (λ j. slope_at m j levels e) 0 (state_count m) k k z inside (omega arith) ∙ ap (slope_at m k levels) same in
+    subst (IsWithin 88) (sym here) (row_is_light m levels d light k inside).slope
+
+-- the level that a quantizer gives may come next
+pub next_by : (name : Option Rule) (m : Machine) (j : ℕ) (state old new : ℤ) → (IsNear (level_unit m) state old (quantum_of m j old) → new ≡ old) →
+    (IsAway (level_unit m) state old (quantum_of m j old) → IsAnswer name state old (level_unit m) new) → IsNextLevel (IsRuled name) m j state old new
+next_by name m j state old new kept taken = by_near (is_near m j state old) refl
+  where
+    by_near : (b : Bool) → is_near m j state old ≡ b → MatchBool b (new ≡ old) (IsRuled name (level_unit m) state old new)
+    by_near true e = kept (int_lt-true _ _ e)
+    by_near false e = taken (int_lt-false _ _ e)
+
+-- a watch of a condition, and the first tick at which it changes
+pub watch_is : (m : Machine) (tick : ℕ) (x d slopes : List ℤ) (place : ℕ) (condition : Condition) (watch : Watch) (found : Option ℕ) →
+    watch ≡ record { rel = condition.rel; tick = tick; value = value_of m condition.form x d d tick; speed = speed_of m condition.form slopes } →
+    condition ≡ condition_at m place → FirstAfter (λ t. holds_at watch t ≢ compares watch.rel watch.value) watch.tick found →
+    IsWatched m tick x d slopes place watch found
+watch_is m tick x d slopes place condition watch found is own first =
+    let value : ℤ = value_of m (condition_at m place).form x d d tick in
+    let speed : ℤ = speed_of m (condition_at m place).form slopes in
+    let whole : watch ≡ record { rel = (condition_at m place).rel; tick = tick; value = value; speed = speed } =
+    is ∙ ap (λ (c : Condition). record { rel = c.rel; tick = tick; value = value_of m c.form x d d tick; speed = speed_of m c.form slopes }) own in
+    let e : tick - tick ≡ 0 = omega arith in
+    let own_rel : watch.rel ≡ (condition_at m place).rel = ap (λ (w : Watch). w.rel) whole in
+    let own_tick : watch.tick ≡ tick = ap (λ (w : Watch). w.tick) whole in
+    let held : compares watch.rel watch.value ≡ truth m (condition_at m place) x d tick = ap (λ (w : Watch). compares w.rel w.value) whole in
+    record {
+      not_later = omega (arith, own_tick);
+      here = ap (λ (w : Watch). value_at w tick) whole ∙ ap (λ (n : ℕ). value +ℤ pos n *ℤ speed) e ∙ omega (arith, ints, zero-*ℤ speed);
+      own_speed = ap (λ (w : Watch). w.speed) whole;
+      own_rel = own_rel;
+      is_change = subst (λ t. FirstAfter (λ n. holds_at watch n ≢ truth m (condition_at m place) x d tick) t found) own_tick
+          (subst (λ b. FirstAfter (λ n. holds_at watch n ≢ b) watch.tick found) held first);
+    }
+
+pub watched_more : (m : Machine) (tick n : ℕ) (x d slopes : List ℤ) (watches : List Watch) (agenda next : List (Option ℕ)) (j : ℕ) (watch : Watch) → j < length watches →
+    ((k : ℕ) → k < j → IsWatched m tick x d slopes k (watch_at watches k) (due_at agenda (n + k))) →
+    ((place : ℕ) → (place ≡ n + j → ⊥) → due_at next place ≡ due_at agenda place) →
+    IsWatched m tick x d slopes j watch (due_at next (n + j)) →
+    (k : ℕ) → k < j + 1 → IsWatched m tick x d slopes k (watch_at (set watches j watch) k) (due_at next (n + k))
+watched_more m tick n x d slopes watches agenda next j watch h before others here =
+    below_more (λ k. IsWatched m tick x d slopes k (watch_at (set watches j watch) k) (due_at next (n + k))) j
+    (λ k below.
+    let ne : k ≢ j = omega (arith, below) in
+    let far : n + k ≢ n + j = λ q. ne (omega (arith, q)) in
+    subst (λ w. IsWatched m tick x d slopes k w (due_at next (n + k))) (sym (get_or-set_other watches j k watch no_watch ne))
+    (subst (IsWatched m tick x d slopes k (watch_at watches k)) (sym (others (n + k) far)) (before k below)))
+    (subst (λ w. IsWatched m tick x d slopes j w (due_at next (n + j))) (sym (get_or-set_same watches j watch no_watch h)) here)
+
+-- a state near its level, in other words
+pub near_along : (m : Machine) (j : ℕ) (x y l k : ℤ) → x ≡ y → l ≡ k → IsNear (level_unit m) y k (quantum_of m j k) → IsNear (level_unit m) x l (quantum_of m j l)
+near_along m j x y l k same own near =
+    subst (λ z. IsNear (level_unit m) z l (quantum_of m j l)) (sym same) (subst (λ v. IsNear (level_unit m) y v (quantum_of m j v)) (sym own) near)

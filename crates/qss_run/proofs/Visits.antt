@@ -1,0 +1,219 @@
+-- A store after one tick.
+use Rattle.std.proofs.Common.{◌≡◌, ◌≢◌, ℕ, suc, ◌+◌, ◌<◌, Bool, true, false, List, [], length, ℤ, pos, ◌+ℤ◌, ◌*ℤ◌, ◌≤ℤ◌, zero, negsuc, ◌^◌, refl, sym, ◌∙◌, ap, subst, arith}
+use Rattle.std.proofs.lemmas.Int.{ints}
+use Rattle.std.proofs.lemmas.List.{get_or-map, get_or_default}
+use Rattle.std.proofs.lemmas.List.FromFn.{length-map-range_with_len}
+use Rattle.std.proofs.Common.{Vec, Global}
+use Rattle.std.specs.Vec.{with_items}
+use Rattle.std.specs.Option.{option_or}
+use Rattle.std.specs.Prelude.{Option, Some, None, Ok, All, MatchBool, is_some, position}
+use Rattle.mu_num.specs.Sizes.{IsWithin}
+use Rattle.mu_num.proofs.Tests.{int_lt-true}
+use Rattle.qss_machine.specs.declared.parts.Condition.{Condition}
+use Rattle.qss_machine.specs.declared.parts.Rel.TheVariants.{Less}
+use Rattle.qss_machine.specs.declared.system.Machine.{Machine}
+use Rattle.qss_machine.specs.Numbers.{int_at, tabulate, first_past}
+use Rattle.qss_machine.specs.Machines.{state_count, level_unit, slope_at, quantum_of, value_of, speed_of, truth}
+use Rattle.qss_machine.specs.Handlers.{Handling, conditions, truths}
+use Rattle.qss_machine.specs.Firing.{flag_at}
+use Rattle.qss_machine.specs.Ticks.{World, moved_states, handling_at, is_near, is_overweight, IsNextLevel, AreNextLevels, world_unless, settle, Step}
+use Rattle.qss_machine.proofs.Near.{quantum_positive}
+use Rattle.qss_quant.specs.declared.rule.Rule.{Rule}
+use Rattle.qss_quant.specs.Lines.{Line, state_at, IsNear, IsAway}
+use Rattle.qss_sched.specs.Ranks.{due_at}
+use Rattle.qss_run.specs.declared.store.Store.{Store}
+use Rattle.qss_run.specs.Places.{line_at, watch_at, IsTurned, IsWatched}
+use Rattle.qss_run.specs.Rules.{IsRuled}
+use Rattle.qss_run.specs.Sims.{slopes_of, condition_at, IsDue, IsChange, StandsFor, rising_tick}
+use Rattle.qss_run.specs.Stores.{states_at, handling_from, world_of, FitsMachine, Stands}
+use Rattle.qss_run.proofs.Quiet.{int_at-tabulate, tabulate-same, tabulate-int_at, moved_is}
+use Rattle.qss_run.proofs.Silence.{from_later, line_state_at}
+
+-- ---- on arrival
+
+module _ (m : Machine) (tick : ℕ) (s : Store) (stands : Stands m tick s) where
+  -- lines lead to the states of the next tick
+  pub arrives : states_at s.lines.items (tick + 1) ≡ moved_states m (world_of tick s)
+  arrives =
+      ap (λ n. tabulate n (λ j. state_at (line_at s.lines.items j) (tick + 1))) stands.fits.lines
+      ∙ tabulate-same (pos 0) (state_count m) _ _
+      (λ j h.
+      line_state_at m tick (world_of tick s) (line_at s.lines.items) (watch_at s.watches.items) s.agenda stands.stands_for j 1 h
+      ∙ int_at-tabulate (state_count m) (λ i. int_at (world_of tick s).states i +ℤ pos 1 *ℤ slope_at m i s.levels.items s.work.d) j h
+      ∙ sym (int_at-tabulate (state_count m) (λ i. int_at (world_of tick s).states i +ℤ pos 1 *ℤ slope_at m i s.levels.items s.work.d) j h)
+      ∙ ap (λ xs. int_at xs j) (sym (moved_is m (world_of tick s)))
+      ∙ int_at-tabulate (state_count m) (λ i. int_at (world_of tick s).states i +ℤ slope_at m i s.levels.items s.work.d) j h)
+
+  -- and the handlers then do what they do at that tick
+  pub handles : handling_from m (tick + 1) (states_at s.lines.items (tick + 1)) s.work.d s.arrived.items s.settled.items ≡ handling_at m (tick + 1) (world_of tick s)
+  handles = ap (λ x. handling_from m (tick + 1) x s.work.d s.arrived.items s.settled.items) arrives
+
+  -- a line that goes on as before keeps its due tick, since its state is near its level
+  pub due_stays : (j : ℕ) (state level : ℤ) → j < state_count m → IsNear (level_unit m) state level (quantum_of m j level) →
+      state_at (line_at s.lines.items j) (tick + 1) ≡ state → (line_at s.lines.items j).level ≡ level → IsDue m (tick + 1) j (line_at s.lines.items j) (due_at s.agenda j)
+  due_stays j state level h near here own =
+      let line : Line = line_at s.lines.items j in
+      let first : IsDue m tick j line (due_at s.agenda j) = stands.stands_for.dues j h in
+      let still : IsNear (level_unit m) (state_at line (tick + 1)) line.level (quantum_of m j line.level) =
+      subst (λ x. IsNear (level_unit m) x line.level (quantum_of m j line.level)) (sym here)
+      (subst (λ l. IsNear (level_unit m) state l (quantum_of m j l)) (sym own) near) in
+      from_later (λ t. IsAway (level_unit m) (state_at line t) line.level (quantum_of m j line.level)) tick (tick + 1) (due_at s.agenda j) (omega arith)
+      (λ u e. later u (due_at s.agenda j) e first still) first
+    where
+      later : (u : ℕ) (found : Option ℕ) → found ≡ Some u → IsDue m tick j (line_at s.lines.items j) found →
+          IsNear (level_unit m) (state_at (line_at s.lines.items j) (tick + 1)) (line_at s.lines.items j).level (quantum_of m j (line_at s.lines.items j).level) → tick + 1 < u
+      later u None e first still = absurd (cc)
+      later u (Some v) e first still =
+          let same : v ≡ u = cc in
+          let ne : v ≢ tick + 1 = λ q.
+          let away = subst (λ t. IsAway (level_unit m) (state_at (line_at s.lines.items j) t) (line_at s.lines.items j).level (quantum_of m j (line_at s.lines.items j).level)) q first.holds in
+          omega (arith, ints, away, still) in
+          omega (arith, first.later, same, ne)
+
+-- ---- new levels
+
+-- a level that may come next is near its state
+pub next_is_near : (name : Option Rule) (m : Machine) (j : ℕ) (state old new : ℤ) → j < state_count m → IsNextLevel (IsRuled name) m j state old new →
+    IsNear (level_unit m) state new (quantum_of m j new)
+next_is_near name m j state old new h next = by_near (is_near m j state old) refl next
+  where
+    above : (k : ℕ) (q : ℤ) → pos 1 ≤ℤ q → pos k ≤ℤ (pos k *ℤ q)
+    above k (pos zero) low = absurd (omega (arith, ints))
+    above k (pos (suc n)) low = omega (arith, ints)
+    above k (negsuc n) low = absurd (omega (arith, ints))
+
+    by_near : (b : Bool) → is_near m j state old ≡ b → MatchBool b (new ≡ old) (IsRuled name (level_unit m) state old new) → IsNear (level_unit m) state new (quantum_of m j new)
+    by_near true e same = subst (λ l. IsNear (level_unit m) state l (quantum_of m j l)) (sym same) (int_lt-true _ _ e)
+    by_near false e ruled = omega (arith, ints, ruled.close, above (2 ^ (m.p + m.k)) (quantum_of m j new) (quantum_positive m j new h))
+
+-- ---- the store stands again
+
+pub stands_again : (m : Machine) (t : ℕ) (s : Store) → FitsMachine m s → ((j : ℕ) → j < state_count m → IsWithin 43 (int_at s.levels.items j)) →
+    position (is_overweight m s.levels.items s.work.d) m.rows ≡ None →
+    s.slopes.items ≡ slopes_of m (world_of t s) →
+    ((j : ℕ) → j < state_count m → IsTurned m t (int_at s.work.x j) (int_at s.levels.items j) (slope_at m j s.levels.items s.work.d) j (line_at s.lines.items j) (due_at s.agenda j)) →
+    s.settled.items ≡ truths m s.work.x s.work.d t →
+    ((place : ℕ) → place < length (conditions m) → IsWatched m t s.work.x s.work.d s.slopes.items place (watch_at s.watches.items place) (due_at s.agenda (state_count m + place))) →
+    due_at s.agenda (state_count m + length (conditions m)) ≡ rising_tick t (world_of t s) →
+    (states_at s.lines.items t ≡ s.work.x) × Stands m t s
+stands_again m t s fits small light slopes turned settled watched rising = (states, record { fits = fits; stands_for = for })
+  where
+    states : states_at s.lines.items t ≡ s.work.x
+    states =
+        ap (λ n. tabulate n (λ j. state_at (line_at s.lines.items j) t)) fits.lines
+        ∙ tabulate-same (pos 0) (state_count m) _ (int_at s.work.x) (λ j h. (turned j h).here)
+        ∙ sym (tabulate-int_at s.work.x (state_count m) fits.states)
+
+    state : (j : ℕ) → int_at s.work.x j ≡ int_at (world_of t s).states j
+    state j = ap (λ xs. int_at xs j) (sym states)
+
+    flag : (place : ℕ) → place < length (conditions m) → truth m (condition_at m place) s.work.x s.work.d t ≡ flag_at s.settled.items place
+    flag place h =
+        let none : Condition = record { form = record { entries = []; time = pos 0; gamma = pos 0 }; rel = Less } in
+        let test = λ (c : Condition). truth m c s.work.x s.work.d t in
+        sym (ap (λ flags. flag_at flags place) settled ∙ get_or-map test (conditions m) place none false h)
+
+    for : StandsFor m t (world_of t s) (line_at s.lines.items) (watch_at s.watches.items) s.agenda
+    for = record {
+      left = record { one_each = fits.levels; small_levels = small; light = light };
+      states = length-map-range_with_len (λ j. state_at (line_at s.lines.items j) t) 0 (length s.lines.items) ∙ fits.lines;
+      settled = settled ∙ ap (λ x. truths m x s.work.d t) (sym states);
+      lines = λ j h. record {
+        not_later = (turned j h).not_later;
+        here = (turned j h).here ∙ state j;
+        own_slope = (turned j h).own_slope;
+        own_level = (turned j h).own_level;
+      };
+      dues = λ j h. (turned j h).is_due;
+      watches = λ place h. record {
+        not_later = (watched place h).not_later;
+        here = (watched place h).here ∙ ap (λ x. value_of m (condition_at m place).form x s.work.d s.work.d t) (sym states);
+        own_speed = (watched place h).own_speed ∙ ap (speed_of m (condition_at m place).form) slopes;
+        own_rel = (watched place h).own_rel;
+      };
+      changes = λ place h. subst (λ b. IsChange t b (watch_at s.watches.items place) (due_at s.agenda (state_count m + place))) (flag place h) (watched place h).is_change;
+      rising = rising;
+    }
+
+-- ---- the step
+
+-- the world that a tick leads to, if nothing overflows
+abbrev pub end_of : Machine → ℕ → World → Handling → List ℤ → World
+end_of m tick w h levels = record {
+  states = h.states;
+  levels = levels;
+  discretes = h.discretes;
+  arrived = truths m (moved_states m w) w.discretes tick;
+  settled = truths m h.states h.discretes tick;
+}
+
+-- a step that overflows in its handlers
+pub overflows_early : (Rule : ℤ → ℤ → ℤ → ℤ → Type 0) (m : Machine) (tick : ℕ) (w next : World) (var : ℕ) → (handling_at m tick w).overflow ≡ Some var →
+    Step Rule m tick w (world_unless (Some var) next)
+overflows_early Rule m tick w next var e = (
+  [],
+  (λ none. let both : Some var ≡ None = sym e ∙ none in absurd (cc)),
+  ap (λ o. world_unless (option_or o (option_or (first_past 43 []) (position (is_overweight m [] (handling_at m tick w).discretes) m.rows))) (end_of m tick w (handling_at m tick w) [])) (sym e),
+)
+
+-- a step that overflows at its levels or its rows
+pub overflows_late : (Rule : ℤ → ℤ → ℤ → ℤ → Type 0) (m : Machine) (tick : ℕ) (w next : World) (h : Handling) (levels : List ℤ) (var : ℕ) →
+    h ≡ handling_at m tick w → h.overflow ≡ None → AreNextLevels Rule m h.states w.levels levels →
+    Some var ≡ option_or (first_past 43 levels) (position (is_overweight m levels h.discretes) m.rows) →
+    Step Rule m tick w (world_unless (Some var) next)
+overflows_late Rule m tick w next h levels var is calm allowed over =
+    subst (λ (g : Handling). (levels : List ℤ) × (g.overflow ≡ None → AreNextLevels Rule m g.states w.levels levels) × (world_unless (Some var) next ≡ settle m tick w g levels)) is (
+      levels,
+      (λ none. allowed),
+      ap (λ o. world_unless o (end_of m tick w h levels)) over
+          ∙ ap (λ o. world_unless (option_or o (option_or (first_past 43 levels) (position (is_overweight m levels h.discretes) m.rows))) (end_of m tick w h levels)) (sym calm),
+    )
+
+-- a step to a world
+pub steps_to : (Rule : ℤ → ℤ → ℤ → ℤ → Type 0) (m : Machine) (tick : ℕ) (w next : World) (h : Handling) (levels : List ℤ) →
+    h ≡ handling_at m tick w → h.overflow ≡ None → AreNextLevels Rule m h.states w.levels levels →
+    None ≡ option_or (first_past 43 levels) (position (is_overweight m levels h.discretes) m.rows) →
+    next ≡ end_of m tick w h levels → Step Rule m tick w (Ok next)
+steps_to Rule m tick w next h levels is calm allowed over end =
+    subst (λ (g : Handling). (levels : List ℤ) × (g.overflow ≡ None → AreNextLevels Rule m g.states w.levels levels) × (Ok next ≡ settle m tick w g levels)) is (
+      levels,
+      (λ none. allowed),
+      ap (λ v. Ok v) end
+          ∙ ap (λ o. world_unless o (end_of m tick w h levels)) over
+          ∙ ap (λ o. world_unless (option_or o (option_or (first_past 43 levels) (position (is_overweight m levels h.discretes) m.rows))) (end_of m tick w h levels)) (sym calm),
+    )
+
+-- what did not overflow passes no limit
+pub both_none : (a b : Option ℕ) → None ≡ option_or a b → (a ≡ None) × (b ≡ None)
+both_none None b e = (refl, sym e)
+both_none (Some v) b e = absurd (cc)
+
+-- the same for an overflow that is not known by its variable
+pub early : (Rule : ℤ → ℤ → ℤ → ℤ → Type 0) (m : Machine) (tick : ℕ) (w next : World) (o : Option ℕ) → is_some o ≡ true → o ≡ (handling_at m tick w).overflow →
+    Step Rule m tick w (world_unless o next)
+early Rule m tick w next None some e = absurd (cc)
+early Rule m tick w next (Some var) some e = overflows_early Rule m tick w next var (sym e)
+
+pub late : (Rule : ℤ → ℤ → ℤ → ℤ → Type 0) (m : Machine) (tick : ℕ) (w next : World) (h : Handling) (levels : List ℤ) (o : Option ℕ) → is_some o ≡ true →
+    h ≡ handling_at m tick w → h.overflow ≡ None → AreNextLevels Rule m h.states w.levels levels →
+    o ≡ option_or (first_past 43 levels) (position (is_overweight m levels h.discretes) m.rows) → Step Rule m tick w (world_unless o next)
+late Rule m tick w next h levels None some is calm allowed e = absurd (cc)
+late Rule m tick w next h levels (Some var) some is calm allowed e = overflows_late Rule m tick w next h levels var is calm allowed e
+
+-- elements that are written in place keep their number
+pub same_length : {X : Type 0} (v : Vec X Global) (ws : List X) → length (with_items v ws).items ≡ length v.items
+same_length v ws = sym (with_items v ws).ok.0 ∙ v.ok.0
+
+-- the levels are small
+pub levels_small : (m : Machine) (tick : ℕ) (s : Store) → Stands m tick s → All (IsWithin 43) s.levels.items
+levels_small m tick s stands k z h =
+    subst (IsWithin 43) (get_or_default s.levels.items k (pos 0) z h) (stands.stands_for.left.small_levels k (omega (arith, h, stands.fits.levels)))
+
+-- a state at a tick is within the limit on arrival
+pub state_small : (lines : List Line) (t j : ℕ) → j < length lines → All (IsWithin 88) (states_at lines t) → IsWithin 89 (state_at (line_at lines j) t)
+state_small lines t j h small =
+    let many = length-map-range_with_len (λ i. state_at (line_at lines i) t) 0 (length lines) in
+    let here = int_at-tabulate (length lines) (λ i. state_at (line_at lines i) t) j h in
+    let within : IsWithin 88 (int_at (states_at lines t) j) = small j (pos 0) (omega (arith, h, many)) in
+    let own : IsWithin 88 (state_at (line_at lines j) t) = subst (IsWithin 88) here within in
+    omega (arith, own)

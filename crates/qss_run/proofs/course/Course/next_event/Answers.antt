@@ -1,0 +1,31 @@
+-- Under a rule with a name the rows of a call are the first of those that were to come.
+use Rattle.std.proofs.Common.{◌≡◌, ℕ, ◌++◌, sym, ◌∙◌, ap, subst}
+use Rattle.std.specs.Prelude.{Option, Some, None}
+use Rattle.qss_machine.specs.declared.system.Machine.{Machine}
+use Rattle.qss_quant.specs.Rules.{level_by}
+use Rattle.qss_run.specs.declared.outcome.Outcome.{Outcome}
+use Rattle.qss_run.specs.declared.store.Store.{Store}
+use Rattle.qss_run.specs.Rules.{IsRuled}
+use Rattle.qss_run.specs.Stores.{world_of}
+use Rattle.qss_run.specs.Standings.{Standing}
+use Rattle.qss_run.specs.Calls.{standing_of, tick_of, end_of}
+use Rattle.qss_run.specs.Events.{IsNext, rows_left}
+use Rattle.qss_run.proofs.NamedRows.{named_rows}
+use Rattle.qss_run.proofs.course.Course.next_event.Goals as goal
+
+pub returns-clause-rows : goal.returns-clause-rows
+returns-clause-rows g c rule named going =
+    let m : Machine = c.self.inside.machine in
+    let from : ℕ = c.self.inside.tick in
+    let s : Store = c.self.inside.store in
+    let outcome : Outcome = c.advance-outcome.result in
+    let after : Store = c.advance-outcome.new.s in
+    let to : ℕ = tick_of m.last outcome in
+    let none : c.self.inside.end ≡ None = ap (λ (v : Standing). v.end) c.self.view_is ∙ going in
+    let next : IsNext (IsRuled (Some rule)) (standing_of m from s None) (standing_of m to after (end_of outcome)) outcome =
+    subst (λ name. IsNext (IsRuled name) (standing_of m from s None) (standing_of m to after (end_of outcome)) outcome) named c.advance-outcome.ensures.next in
+    ap (rows_left (level_by rule)) (sym c.self.view_is)
+    ∙ ap (λ (e : Option Outcome). rows_left (level_by rule) (standing_of m from s e)) none
+    ∙ named_rows rule m from (world_of from s) s.rows.items outcome to (world_of to after) after.rows.items (end_of outcome) next
+    ∙ ap (λ (t : ℕ). after.rows.items ++ rows_left (level_by rule) (standing_of m t after (end_of outcome))) (sym c.tick-self-inside.ensures)
+    ∙ ap (λ (e : Option Outcome). after.rows.items ++ rows_left (level_by rule) (standing_of m c.tick-self-inside.result after e)) (sym c.end-self-inside.ensures)

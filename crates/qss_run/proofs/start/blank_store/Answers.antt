@@ -1,0 +1,77 @@
+-- All lists have the machine's lengths.
+use Rattle.std.proofs.Common.{◌≡◌, length, sym, ◌∙◌, ap, subst, arith}
+use Rattle.std.proofs.lemmas.List.{length-map}
+use Rattle.std.specs.Prelude.{All}
+use Rattle.mu_num.specs.Sizes.{IsWithin}
+use Rattle.qss_machine.specs.declared.parts.DiscreteInfo.{DiscreteInfo}
+use Rattle.qss_machine.specs.declared.parts.StateInfo.{StateInfo}
+use Rattle.qss_machine.specs.Machines.{state_count, discrete_count}
+use Rattle.qss_machine.specs.Handlers.{conditions}
+use Rattle.qss_hand.specs.Values.{Values}
+use Rattle.qss_run.proofs.Turns.{conditions_few}
+use Rattle.qss_run.proofs.Starts.{discretes_start, count_start}
+use Rattle.qss_run.proofs.start.blank_store.Goals as goal
+
+pub overflow_cast-states : goal.overflow_cast-states
+overflow_cast-states c =
+    let m = c.args.m.now in
+    omega (
+      arith,
+      c.len-states.ensures,
+      c.in_ok-levels.levels.ok.0,
+      ap length c.in_ok-levels.ensures,
+      count_start m,
+      c.len-conditions.ensures,
+      c.in_ok-branches.branches.ok.0,
+      c.in_ok-branches.ensures.as_many,
+      conditions_few m,
+      m.has_variables.few,
+    )
+
+pub returns : goal.returns
+returns c =
+    let m = c.args.m.now in
+    let states : c.len-states.result ≡ state_count m = omega (arith, c.len-states.ensures, c.in_ok-levels.levels.ok.0, ap length c.in_ok-levels.ensures, count_start m) in
+    let places : c.len-conditions.result ≡ length (conditions m) = omega (arith, c.len-conditions.ensures, c.in_ok-branches.branches.ok.0, c.in_ok-branches.ensures.as_many) in
+    let work = c.in_ok-work.ensures in
+    let of_x = ap (λ (v : Values). v.x) work in
+    let of_d = ap (λ (v : Values). v.d) work in
+    let of_pre = ap (λ (v : Values). v.pre) work in
+    let room = ap (λ (v : Values). v.room) work in
+    let discretes : length c.in_ok-work.work.d ≡ discrete_count m = ap length of_d ∙ length-map m.discretes (λ (d : DiscreteInfo). d.d0) in
+    record {
+      fits = record {
+        branches = c.in_ok-branches.ensures;
+        lines = c.in_ok-lines.ensures ∙ states;
+        levels = ap length c.in_ok-levels.ensures ∙ count_start m;
+        slopes = c.in_ok-slopes.ensures ∙ states;
+        fresh = c.in_ok-fresh.ensures ∙ states;
+        watches = c.in_ok-watches.ensures ∙ places;
+        arrived = c.in_ok-arrived.ensures ∙ places;
+        settled = c.in_ok-settled.ensures ∙ places;
+        now = c.in_ok-now.ensures ∙ places;
+        due = c.in_ok-due.ensures ∙ places;
+        places = omega (arith, c.in_ok-agenda.ensures.places, states, places);
+        states = ap length of_x ∙ length-map m.states (λ (s : StateInfo). s.x0);
+        discretes = discretes;
+        before = ap length of_pre ∙ length-map m.discretes (λ (d : DiscreteInfo). d.d0);
+        small_discretes = subst (All (IsWithin 43)) (sym of_d) (discretes_start m);
+        work_room = omega (arith, room);
+        row_room = omega (
+          arith,
+          c.in_ok-rows.ensures.capacity,
+          c.capacity.ensures,
+          c.len.ensures,
+          c.work.inside.d.ok.0,
+          ap (λ (v : Values). v.room) c.work.view_is,
+          ap (λ (v : Values). length v.d) c.work.view_is,
+          room,
+          discretes,
+          states,
+        );
+      };
+      states = of_x;
+      discretes = of_d;
+      levels = c.in_ok-levels.ensures;
+      no_dues = c.in_ok-agenda.ensures.none;
+    }

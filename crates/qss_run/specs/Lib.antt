@@ -1,0 +1,10 @@
+pub mod Skips
+pub mod Sims
+pub mod Changes
+pub mod Places
+pub mod Rules
+pub mod Stores
+pub mod Rooms
+pub mod Standings
+pub mod Events
+pub mod Calls

@@ -1,0 +1,46 @@
+-- The lines of states and the watches of conditions, by number, and the branches of conditions.
+use Rattle.std.specs.Prelude.{◌≡◌, ℕ, ◌<◌, ◌≤◌, List, length, ℤ, pos, Option, slice_index_or}
+use Rattle.qss_machine.specs.declared.parts.Rel.TheVariants.{Less}
+use Rattle.qss_machine.specs.declared.system.Machine.{Machine}
+use Rattle.qss_machine.specs.Machines.{value_of, speed_of, truth}
+use Rattle.qss_machine.specs.Handlers.{conditions}
+use Rattle.qss_hand.specs.Works.{clause_at, branch_at}
+use Rattle.qss_quant.specs.Lines.{Line, state_at}
+use Rattle.qss_cross.specs.Crossing.{Watch, value_at}
+use Rattle.qss_run.specs.declared.conditions.BranchPlace.{BranchPlace}
+use Rattle.qss_run.specs.Sims.{condition_at, IsDue, IsChange}
+
+-- the line of a state
+abbrev pub line_at : List Line → ℕ → Line
+line_at lines j = slice_index_or lines j (record { tick = 0; x = pos 0; slope = pos 0; level = pos 0 })
+
+-- the watch of a condition
+abbrev pub watch_at : List Watch → ℕ → Watch
+watch_at watches place = slice_index_or watches place (record { rel = Less; tick = 0; value = pos 0; speed = pos 0 })
+
+-- a branch of a clause whose condition is the one at a place in source order
+pub record IsBranchOf (m : Machine) (branch : BranchPlace) (place : ℕ) : Type 0 where
+  pub clause_known : branch.clause < length m.clauses
+  pub branch_known : branch.branch < length (clause_at m branch.clause).branches
+  pub own : (branch_at m branch.clause branch.branch).condition ≡ condition_at m place
+
+-- the branches of a machine's conditions in source order
+pub record AreBranches (m : Machine) (branches : List BranchPlace) : Type 0 where
+  pub as_many : length branches ≡ length (conditions m)
+  pub each : (place : ℕ) → place < length branches → IsBranchOf m (slice_index_or branches place (record { clause = 0; branch = 0 })) place
+
+-- a state's line is at this state at a tick and goes on at this slope and level, and this is the tick at which it then leaves its quantum
+pub record IsTurned (m : Machine) (tick : ℕ) (state level slope : ℤ) (j : ℕ) (line : Line) (due : Option ℕ) : Type 0 where
+  pub not_later : line.tick ≤ tick
+  pub here : state_at line tick ≡ state
+  pub own_slope : line.slope ≡ slope
+  pub own_level : line.level ≡ level
+  pub is_due : IsDue m tick j line due
+
+-- a condition's watch is at this value at a tick and goes on at this speed, and this is the tick of its first change
+pub record IsWatched (m : Machine) (tick : ℕ) (x d slopes : List ℤ) (place : ℕ) (watch : Watch) (due : Option ℕ) : Type 0 where
+  pub not_later : watch.tick ≤ tick
+  pub here : value_at watch tick ≡ value_of m (condition_at m place).form x d d tick
+  pub own_speed : watch.speed ≡ speed_of m (condition_at m place).form slopes
+  pub own_rel : watch.rel ≡ (condition_at m place).rel
+  pub is_change : IsChange tick (truth m (condition_at m place) x d tick) watch due

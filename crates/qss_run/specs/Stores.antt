@@ -1,0 +1,76 @@
+-- What a simulator keeps, and the world that it stands for.
+use Rattle.std.specs.Prelude.{◌≡◌, ℕ, ◌+◌, ◌≤◌, Bool, List, [], length, map, All, ℤ, Option, None, vec_capacity}
+use Rattle.mu_num.specs.Sizes.{IsWithin}
+use Rattle.qss_machine.specs.declared.system.Machine.{Machine}
+use Rattle.qss_machine.specs.Numbers.{tabulate, first_past}
+use Rattle.qss_machine.specs.Machines.{state_count, discrete_count, level_unit, start_states, start_discretes}
+use Rattle.qss_machine.specs.Limits.{level_below}
+use Rattle.qss_machine.specs.Handlers.{Handling, conditions, truths, due_flags, run_clauses}
+use Rattle.qss_machine.specs.Ticks.{World}
+use Rattle.qss_quant.specs.Lines.{Line, state_at}
+use Rattle.qss_hand.specs.Works.{row_room}
+use Rattle.qss_sched.specs.Ranks.{HasNone}
+use Rattle.qss_run.specs.declared.outcome.Outcome.{Outcome}
+use Rattle.qss_run.specs.declared.store.Store.{Store}
+use Rattle.qss_run.specs.Places.{line_at, watch_at, AreBranches}
+use Rattle.qss_run.specs.Sims.{StandsFor}
+
+-- the states to which lines lead at a tick
+abbrev pub states_at : List Line → ℕ → List ℤ
+states_at lines tick = tabulate (length lines) (λ j. state_at (line_at lines j) tick)
+
+-- what the handlers of a tick do, from these values on arrival and these truths of the tick before
+abbrev pub handling_from : Machine → ℕ → List ℤ → List ℤ → List Bool → List Bool → Handling
+handling_from m tick states discretes arrived settled =
+    run_clauses m tick discretes 0
+    (record { states = states; discretes = discretes; rows = []; overflow = first_past 88 states })
+    m.clauses
+    (due_flags (truths m states discretes tick) arrived settled)
+
+-- the world at a tick
+abbrev pub world_of : ℕ → Store → World
+world_of tick s = record {
+  states = states_at s.lines.items tick;
+  levels = s.levels.items;
+  discretes = s.work.d;
+  arrived = s.arrived.items;
+  settled = s.settled.items;
+}
+
+-- lists of the machine's lengths, values within the limits, and memory for all rows of a tick
+pub record FitsMachine (m : Machine) (s : Store) : Type 0 where
+  pub branches : AreBranches m s.branches.items
+  pub lines : length s.lines.items ≡ state_count m
+  pub levels : length s.levels.items ≡ state_count m
+  pub slopes : length s.slopes.items ≡ state_count m
+  pub fresh : length s.fresh.items ≡ state_count m
+  pub watches : length s.watches.items ≡ length (conditions m)
+  pub arrived : length s.arrived.items ≡ length (conditions m)
+  pub settled : length s.settled.items ≡ length (conditions m)
+  pub now : length s.now.items ≡ length (conditions m)
+  pub due : length s.due.items ≡ length (conditions m)
+  pub places : length s.agenda ≡ state_count m + length (conditions m) + 1
+  pub states : length s.work.x ≡ state_count m
+  pub discretes : length s.work.d ≡ discrete_count m
+  pub before : length s.work.pre ≡ discrete_count m
+  pub small_discretes : All (IsWithin 43) s.work.d
+  pub work_room : row_room m.clauses ≤ s.work.room
+  pub row_room : row_room m.clauses + state_count m + discrete_count m + 1 ≤ vec_capacity s.rows
+
+-- a store stands for its world at a tick
+pub record Stands (m : Machine) (tick : ℕ) (s : Store) : Type 0 where
+  pub fits : FitsMachine m s
+  pub stands_for : StandsFor m tick (world_of tick s) (line_at s.lines.items) (watch_at s.watches.items) s.agenda
+
+-- a store with memory and the values of the start
+pub record IsBlank (m : Machine) (s : Store) : Type 0 where
+  pub fits : FitsMachine m s
+  pub states : s.work.x ≡ start_states m
+  pub discretes : s.work.d ≡ start_discretes m
+  pub levels : s.levels.items ≡ map (level_below (level_unit m)) (start_states m)
+  pub no_dues : HasNone s.agenda
+
+-- what a simulator keeps: a tick of the run, memory for the rows of an overflow, and until the end of the run a store that stands there
+pub record IsSim (m : Machine) (tick : ℕ) (end : Option Outcome) (s : Store) : Type 0 where
+  pub in_time : tick ≤ m.last
+  pub stands : end ≡ None → Stands m tick s

@@ -1,0 +1,78 @@
+//! From one event to the next: ticks at which nothing happens, and one at which something may.
+
+ghost use Rattle.std.specs.Prelude.{◌≡◌, ℕ, ◌+◌, ◌<◌, ◌≤◌, List, None, Option, length, vec_capacity, if◌then◌else◌};
+ghost use Rattle.qss_machine.specs.Machines.{state_count};
+ghost use Rattle.qss_machine.specs.Ticks.{World, world_unless};
+ghost use Rattle.qss_machine.specs.Runs.{last_world, tick_rows};
+ghost use Rattle.qss_quant.specs.declared.rule.Rule.{Rule};
+ghost use Rattle.qss_run.specs.Rules.{IsRuled};
+ghost use Rattle.qss_run.specs.Stores.{world_of, Stands};
+ghost use Rattle.qss_run.specs.Events.{AreSilent, IsVisit};
+
+use crate::held::next_visit;
+use crate::store::Store;
+use crate::visit::visit;
+use qss_machine::Machine;
+use qss_quant::{Quantizer, Steps};
+use std::sync::ledger::Ledger;
+
+// After a tick at which nothing happens the conditions are on arrival as they were after the last handlers.
+fn catch_up(skipped: bool, settled: &[bool], arrived: &mut [bool])
+    requires { length arrived.old ≡ length settled.now }
+    ensures { arrived.new ≡ (if skipped then settled.now else arrived.old) }
+{
+    if skipped {
+        arrived.copy_from_slice(settled);
+    }
+}
+
+// Goes to just before the next tick at which something happens, or just before the last one.
+fn jump(m: &Machine, tick: u64, s: &mut Store) -> u64
+    requires stands { Stands m.now tick s.old }
+    requires in_time { tick < m.now.last }
+    ensures later { tick ≤ result }
+    ensures before { result < m.now.last }
+    ensures silent { (name : Option Rule) → (silent : List World) × AreSilent (IsRuled name) m.now tick (world_of tick s.old) silent result (world_of result s.new) }
+    ensures stands { Stands m.now result s.new }
+    ensures room { vec_capacity s.new.rows ≡ vec_capacity s.old.rows }
+{
+    let next = next_visit(&s.agenda, m.last);
+    catch_up(
+        tick + 1 < next,
+        s.settled.as_slice(),
+        s.arrived.as_mut_slice(),
+    );
+    next - 1
+}
+
+/// A tick that was gone to, and the variable that overflowed there, if one did.
+#[derive(Clone, Copy)]
+pub(crate) struct Visited {
+    pub tick: u64,
+    pub over: Option<u32>,
+}
+
+/// Goes on by ticks at which nothing happens, and by one more.
+pub(crate) fn go_to_visit<L: Ledger>(
+    m: &Machine,
+    q: &Quantizer,
+    tick: u64,
+    s: &mut Store,
+    steps: &mut Steps<L>,
+) -> Visited
+    requires stands { Stands m.now tick s.old }
+    requires in_time { tick < m.now.last }
+    ensures later { tick < result.tick }
+    ensures in_time { result.tick ≤ m.now.last }
+    ensures visited { (silent : List World) × IsVisit (IsRuled q.now.name) m.now tick (world_of tick s.old) silent result.tick (world_unless result.over (world_of result.tick s.new)) × (result.over ≡ None → s.new.rows.items ≡ tick_rows m.now result.tick (last_world (world_of tick s.old) silent) (world_of result.tick s.new)) }
+    ensures stands { result.over ≡ None → Stands m.now result.tick s.new }
+    ensures room { vec_capacity s.new.rows ≡ vec_capacity s.old.rows }
+    ensures counted { steps.new ≤ steps.old + state_count m.now }
+{
+    let before = jump(m, tick, s);
+    let over = visit(m, q, before, s, steps);
+    Visited {
+        tick: before + 1,
+        over,
+    }
+}

@@ -1,0 +1,31 @@
+//! The simulator of machines.
+#![tactic(auto)]
+
+mod advance;
+mod conditions;
+mod course;
+mod ends;
+mod going;
+mod handlers;
+mod held;
+mod jump;
+mod laws;
+mod levels;
+mod outcome;
+mod sim;
+mod slopes;
+mod start;
+mod states;
+mod store;
+mod visit;
+mod watches;
+mod weights;
+
+pub use course::Course;
+pub use laws::{
+    goes_to_next_visit, leaving_changes_level, only_due_states_pass, quiet_tick_is_forced,
+    rows_of_visits, silence_until_due, skipping_is_right, slopes_follow_discretes,
+    slopes_follow_levels, stands_still_until_due,
+};
+pub use outcome::Outcome;
+pub use sim::Sim;

@@ -1,0 +1,68 @@
+//! Simulators.
+
+ghost use Rattle.std.specs.Prelude.{◌≡◌};
+
+use crate::course::Course;
+use crate::outcome::Outcome;
+use qss_machine::{Machine, Row};
+use qss_quant::{Quantizer, Steps};
+use std::alloc::{AllocError, Global};
+use std::sync::ledger::Ledger;
+
+/// A machine at a tick of its run, with its quantizer. It visits only ticks at which something happens.
+#[derive(Drop)]
+pub struct Sim {
+    pub course: Course,
+    pub quantizer: Quantizer,
+}
+
+impl Sim {
+    ghost use Rattle.std.specs.Prelude.{◌≡◌, ℕ, ◌+◌, ◌-◌, ◌*◌, ◌≤◌, ◌++◌, None, Some, IfOk};
+    ghost use Rattle.qss_machine.specs.declared.rows.RowKind.TheVariants as kind;
+    ghost use Rattle.qss_machine.specs.Machines.{state_count};
+    ghost use Rattle.qss_machine.specs.Ticks.{start_world};
+    ghost use Rattle.qss_machine.specs.Runs.{world_rows};
+    ghost use Rattle.qss_quant.specs.declared.rule.Rule.{Rule};
+    ghost use Rattle.qss_quant.specs.Rules.{level_by};
+    ghost use Rattle.qss_run.specs.declared.outcome.Outcome.{Outcome};
+    ghost use Rattle.qss_run.specs.Rules.{IsRuled};
+    ghost use Rattle.qss_run.specs.Events.{IsNext, rows_left};
+
+    /// A simulator at tick 0, with the start rows. It takes all the memory that it ever needs.
+    pub fn new(alloc: Global, m: Machine, q: Quantizer) -> Result<Sim, AllocError>
+        ensures start { IfOk result (λ sim. sim.course ≡ record { machine = m; tick = 0; world = start_world m; rows = world_rows kind.Start 0 (start_world m); end = None }) }
+        ensures rule { IfOk result (λ sim. sim.quantizer.name ≡ q.name) }
+    {
+        let course = Course::new(alloc, m)?;
+        Ok(Sim {
+            course,
+            quantizer: q,
+        })
+    }
+
+    /// Goes on to the next tick that has rows, to an overflow, or to the last tick. After the end of the run it gives the
+    /// same answer again and changes nothing. It takes no memory.
+    pub fn next_event<L: Ledger>(&mut self, steps: &mut Steps<L>) -> Outcome
+        ensures same { (self.new.course.machine ≡ self.old.course.machine) × (self.new.quantizer ≡ self.old.quantizer) }
+        ensures again { (end : Outcome) → self.old.course.end ≡ Some end → (result ≡ end) × (self.new.course ≡ self.old.course) × (steps.new ≡ steps.old) }
+        ensures next { self.old.course.end ≡ None → IsNext (IsRuled self.old.quantizer.name) self.old.course self.new.course result }
+        ensures rows { (rule : Rule) → self.old.quantizer.name ≡ Some rule → self.old.course.end ≡ None → rows_left (level_by rule) self.old.course ≡ self.new.course.rows ++ rows_left (level_by rule) self.new.course }
+        ensures counted { steps.new ≤ steps.old + state_count self.old.course.machine * (self.new.course.tick - self.old.course.tick) }
+    {
+        self.course.next_event(&self.quantizer, steps)
+    }
+
+    /// The rows of the last event, or at tick 0 the start rows.
+    pub fn rows(&self) -> &[Row]
+        ensures { result.now ≡ self.now.course.rows }
+    {
+        self.course.rows()
+    }
+
+    /// Lends the machine.
+    pub fn machine(&self) -> &Machine
+        ensures { result.now ≡ self.now.course.machine }
+    {
+        self.course.machine()
+    }
+}

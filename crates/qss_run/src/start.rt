@@ -1,0 +1,291 @@
+//! A store at tick 0.
+
+ghost use Rattle.std.specs.Prelude.{◌≡◌, ℕ, ◌+◌, ◌<◌, ◌≤◌, ◌++◌, List, All, IfOk, None, pos, ◌<ℤ◌, length, map, position, vec_capacity};
+ghost use Rattle.mu_num.specs.Sizes.{IsWithin};
+ghost use Rattle.qss_machine.specs.declared.rows.RowKind.TheVariants as kind;
+ghost use Rattle.qss_machine.specs.Limits.{level_below};
+ghost use Rattle.qss_machine.specs.Numbers.{int_at, tabulate};
+ghost use Rattle.qss_machine.specs.Machines.{state_count, discrete_count, level_unit, slope_at, quantum_of, start_states, start_discretes};
+ghost use Rattle.qss_machine.specs.Ticks.{start_world, is_overweight};
+ghost use Rattle.qss_machine.specs.Handlers.{truths};
+ghost use Rattle.qss_machine.specs.Runs.{state_rows, discrete_rows, world_rows};
+ghost use Rattle.qss_quant.specs.Lines.{IsNear};
+ghost use Rattle.qss_sched.specs.Ranks.{due_at, HasNone};
+ghost use Rattle.qss_run.specs.Places.{AreBranches, line_at, watch_at, IsTurned, IsWatched};
+ghost use Rattle.qss_run.specs.Sims.{IsDue};
+ghost use Rattle.qss_run.specs.Stores.{world_of, FitsMachine, Stands, IsBlank};
+
+use crate::conditions::BranchPlace;
+use crate::ends::set_world_rows;
+use crate::levels::level_unit;
+use crate::store::Store;
+use crate::watches::rewatch_all;
+use mu_num::floor_div;
+use qss_cross::Detector;
+use qss_hand::Work;
+use qss_machine::{Machine, Rel, Row, RowKind};
+use qss_quant::Integrator;
+use qss_sched::Agenda;
+use std::alloc::{AllocError, Global};
+
+// The branches of a clause, after those before it.
+fn add_branches(found: &mut Vec<BranchPlace>, clause: u32, count: usize) -> Result<(), AllocError>
+    requires { count ≤ 16384 }
+    ensures { IfOk result (λ done. found.new.items ≡ found.old.items ++ tabulate count (λ branch. record { clause = clause; branch = branch })) }
+{
+    for branch in 0..count {
+        found.push(BranchPlace {
+            clause,
+            branch: branch as u32,
+        })?;
+    }
+    Ok(())
+}
+
+// The branches of all conditions in source order.
+fn branch_places(alloc: Global, m: &Machine) -> Result<Vec<BranchPlace>, AllocError>
+    ensures { IfOk result (λ branches. AreBranches m.now branches.items) }
+{
+    let clauses = m.clauses.as_slice();
+    let mut found: Vec<BranchPlace> = Vec::new(alloc);
+    for clause in 0..clauses.len() {
+        let count = clauses[clause].branches.as_slice().len();
+        add_branches(&mut found, clause as u32, count)?;
+    }
+    Ok(found)
+}
+
+// The greatest level at most a state.
+fn start_level(x0: i128, unit: i128) -> i64
+    requires unit { pos 0 <ℤ unit }
+    requires small { IsWithin 43 (level_below unit x0) }
+    ensures { result ≡ level_below unit x0 }
+{
+    floor_div(x0, unit) as i64
+}
+
+// The levels at the start.
+fn start_levels(alloc: Global, m: &Machine) -> Result<Vec<i64>, AllocError>
+    ensures { IfOk result (λ levels. levels.items ≡ map (level_below (level_unit m.now)) (start_states m.now)) }
+{
+    let unit = level_unit(m);
+    let states = m.states.as_slice();
+    let mut levels: Vec<i64> = Vec::with_capacity(alloc, states.len())?;
+    for j in 0..states.len() {
+        levels.push_reserved(start_level(states[j].x0, unit));
+    }
+    Ok(levels)
+}
+
+// So many equal elements.
+fn copies<T: Copy>(alloc: Global, value: T, count: usize) -> Result<Vec<T>, AllocError>
+    ensures { IfOk result (λ list. length list.items ≡ count) }
+{
+    let mut list: Vec<T> = Vec::with_capacity(alloc, count)?;
+    for _ in 0..count {
+        list.push_reserved(value);
+    }
+    Ok(list)
+}
+
+// All the memory of a store, with the states, levels and discrete values of the start.
+fn blank_store(alloc: Global, m: &Machine) -> Result<Store, AllocError>
+    ensures { IfOk result (λ s. IsBlank m.now s) }
+{
+    let branches = branch_places(alloc, m)?;
+    let work = Work::new(alloc, m)?;
+    let levels = start_levels(alloc, m)?;
+    let states = levels.len();
+    let conditions = branches.len();
+    let line = Integrator {
+        tick: 0,
+        x: 0,
+        slope: 0,
+        level: 0,
+    };
+    let watch = Detector {
+        rel: Rel::Less,
+        tick: 0,
+        value: 0,
+        speed: 0,
+    };
+    let lines = copies(alloc, line, states)?;
+    let slopes = copies(alloc, 0, states)?;
+    let fresh = copies(alloc, 0, states)?;
+    let watches = copies(alloc, watch, conditions)?;
+    let arrived = copies(alloc, false, conditions)?;
+    let settled = copies(alloc, false, conditions)?;
+    let now = copies(alloc, false, conditions)?;
+    let due = copies(alloc, false, conditions)?;
+    let agenda = Agenda::with_places(alloc, (states + conditions + 1) as u32)?;
+    let rows = Vec::with_capacity(alloc, work.log.capacity() + states + work.d.len() + 1)?;
+    Ok(Store {
+        branches,
+        lines,
+        levels,
+        slopes,
+        watches,
+        arrived,
+        settled,
+        now,
+        due,
+        fresh,
+        agenda,
+        work,
+        rows,
+    })
+}
+
+// State j goes on from tick 0 at its slope, and the agenda has the tick at which it then leaves its quantum.
+fn start_line(
+    m: &Machine,
+    j: u32,
+    x: i128,
+    slope: i128,
+    level: i64,
+    line: &mut Integrator,
+    agenda: &mut Agenda,
+)
+    requires state { j < state_count m.now }
+    requires place { j < length agenda.old }
+    requires small_state { IsWithin 88 x }
+    requires slope { IsWithin 88 slope }
+    requires level { IsWithin 43 level }
+    requires near { IsNear (level_unit m.now) x level (quantum_of m.now j level) }
+    ensures line { line.new ≡ record { tick = 0; x = x; slope = slope; level = level } }
+    ensures as_many { length agenda.new ≡ length agenda.old }
+    ensures others { (place : ℕ) → (place ≡ j → ⊥) → due_at agenda.new place ≡ due_at agenda.old place }
+    ensures due { IsDue m.now 0 j line.new (due_at agenda.new j) }
+{
+    *line = Integrator {
+        tick: 0,
+        x,
+        slope,
+        level,
+    };
+    let quantum = m.quantum_at(j, level);
+    agenda.set(j, line.due(quantum, level_unit(m)));
+}
+
+// All states go on from tick 0 at the slopes of these levels and discrete values.
+fn start_lines(
+    m: &Machine,
+    x: &[i128],
+    levels: &[i64],
+    d: &[i64],
+    slopes: &mut [i128],
+    lines: &mut [Integrator],
+    agenda: &mut Agenda,
+)
+    requires states { length x.now ≡ state_count m.now }
+    requires levels { length levels.now ≡ state_count m.now }
+    requires discretes { length d.now ≡ discrete_count m.now }
+    requires slopes { length slopes.old ≡ state_count m.now }
+    requires lines { length lines.old ≡ state_count m.now }
+    requires places { state_count m.now ≤ length agenda.old }
+    requires small_states { All (IsWithin 88) x.now }
+    requires small_levels { All (IsWithin 43) levels.now }
+    requires small_discretes { All (IsWithin 43) d.now }
+    requires light { position (is_overweight m.now levels.now d.now) m.now.rows ≡ None }
+    requires near { (j : ℕ) → j < state_count m.now → IsNear (level_unit m.now) (int_at x.now j) (int_at levels.now j) (quantum_of m.now j (int_at levels.now j)) }
+    ensures slopes { slopes.new ≡ tabulate (state_count m.now) (λ j. slope_at m.now j levels.now d.now) }
+    ensures lines { (j : ℕ) → j < state_count m.now → IsTurned m.now 0 (int_at x.now j) (int_at levels.now j) (slope_at m.now j levels.now d.now) j (line_at lines.new j) (due_at agenda.new j) }
+    ensures places { length agenda.new ≡ length agenda.old }
+    ensures others { (place : ℕ) → state_count m.now ≤ place → due_at agenda.new place ≡ due_at agenda.old place }
+{
+    for j in 0..lines.len() {
+        let slope = m.slope(j as u32, levels, d);
+        slopes[j] = slope;
+        start_line(m, j as u32, x[j], slope, levels[j], &mut lines[j], agenda);
+    }
+}
+
+// All states and conditions go on from tick 0.
+fn set_out(
+    m: &Machine,
+    branches: &[BranchPlace],
+    work: &Work,
+    levels: &[i64],
+    slopes: &mut [i128],
+    lines: &mut [Integrator],
+    watches: &mut [Detector],
+    arrived: &mut [bool],
+    settled: &mut [bool],
+    agenda: &mut Agenda,
+)
+    requires branches { AreBranches m.now branches.now }
+    requires states { work.now.x ≡ start_states m.now }
+    requires discretes { work.now.d ≡ start_discretes m.now }
+    requires levels { levels.now ≡ map (level_below (level_unit m.now)) (start_states m.now) }
+    requires slopes { length slopes.old ≡ state_count m.now }
+    requires lines { length lines.old ≡ state_count m.now }
+    requires watches { length watches.old ≡ length branches.now }
+    requires arrived { length arrived.old ≡ length branches.now }
+    requires settled { length settled.old ≡ length branches.now }
+    requires places { length agenda.old ≡ state_count m.now + length branches.now + 1 }
+    requires no_dues { HasNone agenda.old }
+    ensures slopes { slopes.new ≡ tabulate (state_count m.now) (λ j. slope_at m.now j levels.now work.now.d) }
+    ensures lines { (j : ℕ) → j < state_count m.now → IsTurned m.now 0 (int_at work.now.x j) (int_at levels.now j) (slope_at m.now j levels.now work.now.d) j (line_at lines.new j) (due_at agenda.new j) }
+    ensures arrived { arrived.new ≡ settled.new }
+    ensures settled { settled.new ≡ truths m.now work.now.x work.now.d 0 }
+    ensures watches { (place : ℕ) → place < length branches.now → IsWatched m.now 0 work.now.x work.now.d slopes.new place (watch_at watches.new place) (due_at agenda.new (state_count m.now + place)) }
+    ensures rising { due_at agenda.new (state_count m.now + length branches.now) ≡ None }
+    ensures places { length agenda.new ≡ length agenda.old }
+{
+    let x = work.x.as_slice();
+    let d = work.d.as_slice();
+    start_lines(m, x, levels, d, slopes, lines, agenda);
+    rewatch_all(m, branches, 0, x, d, slopes, watches, settled, agenda);
+    arrived.copy_from_slice(settled);
+}
+
+// The start rows.
+fn start_rows(work: &Work, levels: &[i64], rows: &mut Vec<Row>)
+    requires few { length work.now.x + length work.now.d ≤ 4096 }
+    requires as_many { length levels.now ≡ length work.now.x }
+    requires room { length work.now.x + length work.now.d ≤ vec_capacity rows.old }
+    ensures rows { rows.new.items ≡ state_rows kind.Start 0 levels.now work.now.x ++ discrete_rows kind.Start 0 (length work.now.x) work.now.d }
+    ensures room { vec_capacity rows.new ≡ vec_capacity rows.old }
+{
+    set_world_rows(
+        RowKind::Start,
+        0,
+        work.x.as_slice(),
+        levels,
+        work.d.as_slice(),
+        rows,
+    );
+}
+
+// A store with the values of the start stands at tick 0.
+fn begin(m: &Machine, s: &mut Store)
+    requires { IsBlank m.now s.old }
+    ensures stands { Stands m.now 0 s.new }
+    ensures world { world_of 0 s.new ≡ start_world m.now }
+    ensures rows { s.new.rows.items ≡ world_rows kind.Start 0 (start_world m.now) }
+{
+    set_out(
+        m,
+        s.branches.as_slice(),
+        &s.work,
+        s.levels.as_slice(),
+        s.slopes.as_mut_slice(),
+        s.lines.as_mut_slice(),
+        s.watches.as_mut_slice(),
+        s.arrived.as_mut_slice(),
+        s.settled.as_mut_slice(),
+        &mut s.agenda,
+    );
+    start_rows(&s.work, s.levels.as_slice(), &mut s.rows);
+}
+
+/// A store that stands at tick 0, with the start rows.
+pub(crate) fn start_store(alloc: Global, m: &Machine) -> Result<Store, AllocError>
+    ensures stands { IfOk result (λ s. Stands m.now 0 s) }
+    ensures world { IfOk result (λ s. world_of 0 s ≡ start_world m.now) }
+    ensures rows { IfOk result (λ s. s.rows.items ≡ world_rows kind.Start 0 (start_world m.now)) }
+{
+    let mut store = blank_store(alloc, m)?;
+    begin(m, &mut store);
+    Ok(store)
+}

@@ -1,0 +1,44 @@
+//! States on arrival at a tick, and their limits.
+
+ghost use Rattle.std.specs.Prelude.{◌≡◌, ℕ, ◌<◌, ◌≤◌, length, position};
+ghost use Rattle.mu_num.specs.Sizes.{passes};
+ghost use Rattle.mu_num.specs.Ticks.{tick_limit};
+ghost use Rattle.qss_machine.specs.Numbers.{tabulate};
+ghost use Rattle.qss_quant.specs.Lines.{state_at};
+ghost use Rattle.qss_run.specs.Places.{line_at};
+
+use qss_quant::Integrator;
+
+/// The states at a tick, along their lines.
+pub(crate) fn arrive(lines: &[Integrator], tick: u64, x: &mut [i128])
+    requires as_many { length x.old ≡ length lines.now }
+    requires not_later { (j : ℕ) → j < length lines.now → (line_at lines.now j).tick ≤ tick }
+    requires in_time { tick ≤ tick_limit }
+    ensures { x.new ≡ tabulate (length lines.now) (λ j. state_at (line_at lines.now j) tick) }
+{
+    for j in 0..lines.len() {
+        x[j] = lines[j].value_at(tick);
+    }
+}
+
+/// Whether a number is more than a power of two in size.
+pub(crate) fn is_past(z: i128, bits: u32) -> bool
+    requires { bits < 100 }
+    ensures { result ≡ passes bits z }
+{
+    z.unsigned_abs() > 1u128 << bits
+}
+
+/// The least place of a number that is more than a power of two in size.
+pub(crate) fn first_past(values: &[i128], bits: u32) -> Option<u32>
+    requires bits { bits < 100 }
+    requires few { length values.now ≤ 4096 }
+    ensures { result ≡ position (passes bits) values.now }
+{
+    for j in 0..values.len() {
+        if is_past(values[j], bits) {
+            return Some(j as u32);
+        }
+    }
+    None
+}

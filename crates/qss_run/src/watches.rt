@@ -1,0 +1,83 @@
+//! Conditions at new values and speeds.
+
+ghost use Rattle.std.specs.Prelude.{◌≡◌, ℕ, ◌+◌, ◌<◌, ◌≤◌, ◌^◌, All, length};
+ghost use Rattle.mu_num.specs.Sizes.{IsWithin};
+ghost use Rattle.qss_machine.specs.Limits.{IsBounded};
+ghost use Rattle.qss_machine.specs.Machines.{state_count, discrete_count, value_of, speed_of};
+ghost use Rattle.qss_machine.specs.Handlers.{conditions, truths};
+ghost use Rattle.qss_sched.specs.Ranks.{due_at};
+ghost use Rattle.qss_run.specs.Places.{AreBranches, watch_at, IsWatched};
+
+use crate::conditions::{BranchPlace, condition_of};
+use qss_cross::Detector;
+use qss_machine::{Condition, Machine};
+use qss_sched::Agenda;
+
+// A condition at a tick, with its value and its speed.
+fn watch_of(
+    m: &Machine,
+    condition: &Condition,
+    x: &[i128],
+    d: &[i64],
+    slopes: &[i128],
+    tick: u64,
+) -> Detector
+    requires form { IsBounded condition.now.form }
+    requires states { length x.now ≡ state_count m.now }
+    requires discretes { length d.now ≡ discrete_count m.now }
+    requires slopes { length slopes.now ≡ state_count m.now }
+    requires small_states { All (IsWithin 88) x.now }
+    requires small_discretes { All (IsWithin 43) d.now }
+    requires small_slopes { All (IsWithin 88) slopes.now }
+    requires in_time { tick < 2 ^ 32 }
+    ensures { result ≡ record { rel = condition.now.rel; tick = tick; value = value_of m.now condition.now.form x.now d.now d.now tick; speed = speed_of m.now condition.now.form slopes.now } }
+{
+    let value = m.form_value(&condition.form, x, d, d, tick);
+    let speed = m.form_speed(&condition.form, slopes);
+    Detector {
+        rel: condition.rel,
+        tick,
+        value,
+        speed,
+    }
+}
+
+/// All conditions are watched from a tick on, and the agenda has the ticks at which they change.
+pub(crate) fn rewatch_all(
+    m: &Machine,
+    branches: &[BranchPlace],
+    tick: u64,
+    x: &[i128],
+    d: &[i64],
+    slopes: &[i128],
+    watches: &mut [Detector],
+    settled: &mut [bool],
+    agenda: &mut Agenda,
+)
+    requires branches { AreBranches m.now branches.now }
+    requires states { length x.now ≡ state_count m.now }
+    requires discretes { length d.now ≡ discrete_count m.now }
+    requires slopes { length slopes.now ≡ state_count m.now }
+    requires watches { length watches.old ≡ length branches.now }
+    requires settled { length settled.old ≡ length branches.now }
+    requires places { state_count m.now + length branches.now ≤ length agenda.old }
+    requires few { length branches.now ≤ 16384 }
+    requires small_states { All (IsWithin 88) x.now }
+    requires small_discretes { All (IsWithin 43) d.now }
+    requires small_slopes { All (IsWithin 88) slopes.now }
+    requires in_time { tick < 2 ^ 32 }
+    ensures settled { settled.new ≡ truths m.now x.now d.now tick }
+    ensures watches { (place : ℕ) → place < length branches.now → IsWatched m.now tick x.now d.now slopes.now place (watch_at watches.new place) (due_at agenda.new (state_count m.now + place)) }
+    ensures places { length agenda.new ≡ length agenda.old }
+    ensures others { (place : ℕ) → place < state_count m.now → due_at agenda.new place ≡ due_at agenda.old place }
+    ensures beyond { (place : ℕ) → state_count m.now + length branches.now ≤ place → due_at agenda.new place ≡ due_at agenda.old place }
+{
+    let states = x.len();
+    for place in 0..branches.len() {
+        let condition = condition_of(m, branches[place]);
+        let watch = watch_of(m, condition, x, d, slopes, tick);
+        settled[place] = watch.truth();
+        agenda.set((states + place) as u32, watch.next_change());
+        watches[place] = watch;
+    }
+}
