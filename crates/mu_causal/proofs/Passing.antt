@@ -1,0 +1,87 @@
+-- Names that were passed over, since they are marked.
+use Rattle.std.proofs.Common.{◌≡◌, ◌∙◌, ℕ, ◌<◌, ◌≤◌, List, length, get_or, set, sym, ap, subst, arith, inl, inr, get_or-set_other}
+use Rattle.std.specs.Prelude.{Bool, true, false, Some, slice_get, Contains, All}
+use Rattle.std.proofs.lemmas.Option.{slice_get-get_or}
+use Rattle.std.proofs.lemmas.List.{get_or_default}
+use Rattle.std.proofs.lemmas.List.Elements.{Contains-get_or}
+use Rattle.std.proofs.lemmas.Grind.{get_or-set_at}
+use Rattle.std.proofs.lemmas.Bool.{cases_eq, cases_lt}
+use Rattle.std.proofs.Math.ListN.{length-set}
+use Rattle.std.specs.declared.vec.Vec.{Vec}
+use Rattle.std.specs.declared.alloc.Global.{Global}
+use Rattle.mu_causal.specs.Graphs.{Graph, Names, IsClosed}
+use Rattle.mu_causal.specs.Marks.{IsMarked, IsUnmarked, IsBlocked, IsUnblocked, ArePassed}
+
+-- what is read is there
+pub row_there : (g : Graph) (v : ℕ) (row : Vec ℕ Global) → v < length g → row ≡ get_or g v row → slice_get g v ≡ Some row
+row_there g v row h e = slice_get-get_or g v row h ∙ ap Some (sym e)
+
+-- one row stands at a place
+same_row : (g : Graph) (v : ℕ) (a b : Vec ℕ Global) → slice_get g v ≡ Some a → slice_get g v ≡ Some b → a ≡ b
+same_row g v a b p q = let e : Some a ≡ Some b = sym p ∙ q in cc
+
+-- the names of a closed graph are variables
+pub names_known : (g : Graph) (v : ℕ) (row : Vec ℕ Global) → IsClosed g → slice_get g v ≡ Some row → All (λ w. w < length g) row.items
+names_known g v row closed at k d h = closed v _ (record { row = row; at = at; named = Contains-get_or row.items k d h })
+
+-- more of one row was passed over
+pub passed_more : (g : Graph) (marks : List Bool) (passed : List ℕ) (v place : ℕ) (row : Vec ℕ Global) → ArePassed g marks passed → v < length g → slice_get g v ≡ Some row → place ≤ length row.items
+    → ((k : ℕ) → get_or passed v 0 ≤ k → k < place → IsMarked marks (get_or row.items k 0)) → ArePassed g marks (set passed v place)
+passed_more g marks passed v place row p there at within marked = record {
+  same_length = length-set passed v place ∙ p.same_length;
+  within = λ u r at_u. elim (cases_eq u v) [
+    | inl e ↦ rw (read u e, the_row u r e at_u) within
+    | inr ne ↦ rw (get_or-set_other passed v u place 0 ne) (p.within u r at_u)
+  ];
+  marked = λ u k r at_u below. elim (cases_eq u v) [
+    | inl e ↦
+        let lt : k < place = subst (λ x. k < x) (read u e) below in
+        rw (the_row u r e at_u) (elim (cases_lt k (get_or passed v 0)) [ inl old ↦ p.marked v k row at old | inr new ↦ marked k new lt ])
+    | inr ne ↦ p.marked u k r at_u (subst (λ x. k < x) (get_or-set_other passed v u place 0 ne) below)
+  ];
+}
+  where
+    read : (u : ℕ) → u ≡ v → get_or (set passed v place) u 0 ≡ place
+    read u e = get_or-set_at passed v u place 0 e (omega (arith, p.same_length))
+
+    the_row : (u : ℕ) (r : Vec ℕ Global) → u ≡ v → slice_get g u ≡ Some r → r ≡ row
+    the_row u r e at_u = same_row g v r row (subst (λ x. slice_get g x ≡ Some r) e at_u) at
+
+-- a variable all of whose names were passed over is not blocked
+pub unblocked_at_end : (g : Graph) (marks : List Bool) (passed : List ℕ) (v place : ℕ) (row : Vec ℕ Global) → ArePassed g marks passed → v < length g → slice_get g v ≡ Some row → IsUnmarked marks v → place ≡ length row.items
+    → ((k : ℕ) → get_or passed v 0 ≤ k → k < place → IsMarked marks (get_or row.items k 0)) → IsUnblocked g marks v
+unblocked_at_end g marks passed v place row p there at unmarked end marked = record {
+  there = there;
+  unmarked = unmarked;
+  names_marked = λ w n.
+      let same : n.row ≡ row = same_row g v n.row row n.at at in
+      let c : Contains row.items w = subst (λ (r : Vec ℕ Global). Contains r.items w) same n.named in
+      let lt : c.0 < place = omega (arith, c.1) in
+      let found : get_or row.items c.0 0 ≡ w = get_or_default row.items c.0 0 w c.1 ∙ c.2 in
+      subst (IsMarked marks) found
+      (elim (cases_lt c.0 (get_or passed v 0)) [ inl old ↦ p.marked v c.0 row at old | inr new ↦ marked c.0 new lt ]);
+}
+
+-- a variable with a name that is not marked is blocked
+pub blocked_at : (g : Graph) (marks : List Bool) (v place : ℕ) (row : Vec ℕ Global) → slice_get g v ≡ Some row → place < length row.items → IsUnmarked marks (get_or row.items place 0) → IsBlocked g marks v
+blocked_at g marks v place row at h unmarked =
+    record { by = get_or row.items place 0; names = record { row = row; at = at; named = Contains-get_or row.items place 0 h }; unmarked = unmarked }
+
+-- the first name that is not marked, where there is one, is within the names
+pub blocked_within : (g : Graph) (marks : List Bool) (v place : ℕ) (row : Vec ℕ Global) → slice_get g v ≡ Some row → IsBlocked g marks v → place ≤ length row.items
+    → ((k : ℕ) → 0 ≤ k → k < place → IsMarked marks (get_or row.items k 0)) → place < length row.items
+blocked_within g marks v place row at b end marked =
+    elim (cases_lt place (length row.items)) [
+      | inl lt ↦ lt
+      | inr ge ↦
+          let same : b.names.row ≡ row = same_row g v b.names.row row b.names.at at in
+          let c : Contains row.items b.by = subst (λ (r : Vec ℕ Global). Contains r.items b.by) same b.names.named in
+          let found : get_or row.items c.0 0 ≡ b.by = get_or_default row.items c.0 0 b.by c.1 ∙ c.2 in
+          let m : IsMarked marks b.by = subst (IsMarked marks) found (marked c.0 (omega arith) (omega (arith, c.1))) in
+          let f : true ≡ false = sym m ∙ b.unmarked in
+          absurd (cc)
+    ]
+
+-- the name at a place
+pub names_at : (g : Graph) (v place : ℕ) (row : Vec ℕ Global) → slice_get g v ≡ Some row → place < length row.items → Names g v (get_or row.items place 0)
+names_at g v place row at h = record { row = row; at = at; named = Contains-get_or row.items place 0 h }

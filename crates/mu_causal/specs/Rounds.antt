@@ -1,0 +1,9 @@
+-- Rounds: lists of numbers each of which leads to the next one, and the last one to the first.
+use Rattle.std.specs.Prelude.{ℕ, ◌≡◌, ◌<◌, ◌≤◌, List, ◌++◌, length, take, drop, slice_index}
+
+-- the same round, begun at its least number
+pub record IsTurned (round turned : List ℕ) : Type 0 where
+  pub place : ℕ
+  pub inside : place < length round
+  pub value : turned ≡ drop place round ++ take place round
+  pub least : (k : ℕ) → k < length round → slice_index round place ≤ slice_index round k

@@ -1,0 +1,54 @@
+// The order of a flat model.
+
+ghost use Rattle.std.specs.Prelude.{◌≡◌, ℕ, List, IfOk, IfErr};
+ghost use Rattle.mu_tree.specs.FlatExpression.{flat_model, FlatModelTree};
+ghost use Rattle.mu_causal.specs.Causality.{IsOrder, IsCycle};
+ghost use Rattle.mu_causal.specs.Dependencies.{IsNumbered, AreCounted, IsAlgebraic, DependsOn};
+ghost use Rattle.mu_causal.specs.Answers.{IsCausalFault};
+
+use crate::answer::{CausalErr, Order};
+use crate::count::check_counts;
+use crate::graph::{Causality, causality_of};
+use crate::names::{graph_of, known_of};
+use mu_io::Items;
+use mu_tree::flat::FlatModel;
+use std::alloc::Global;
+
+/// The order of the algebraic variables: each next one is the least-numbered one that is not listed
+/// yet and whose right side names only listed algebraic variables. Refused where a state or an
+/// algebraic variable has not one equation, or else where the algebraic variables have a cycle.
+pub fn order(alloc: Global, m: &FlatModel) -> Result<Order, CausalErr>
+    requires { IsNumbered (flat_model m.now) }
+    ensures counted { IfOk result (λ _. AreCounted (flat_model m.now)) }
+    ensures order { IfOk result (λ o. IsOrder (IsAlgebraic (flat_model m.now)) (DependsOn (flat_model m.now)) o.vars) }
+    ensures refused { IfErr result (IsCausalFault (flat_model m.now)) }
+{
+    if let Err(fault) = check_counts(m) {
+        return Err(fault);
+    }
+    let Ok(graph) = graph_of(alloc, m) else {
+        return Err(CausalErr::Memory);
+    };
+    let Ok(known) = known_of(alloc, &m.vars) else {
+        return Err(CausalErr::Memory);
+    };
+    match causality_of(alloc, &graph, &known) {
+        Ok(Causality::Order(vars)) => Ok(Order {
+            vars: Items::new(vars),
+        }),
+        Ok(Causality::Loop(vars)) => Err(CausalErr::Loop {
+            vars: Items::new(vars),
+        }),
+        Err(_) => Err(CausalErr::Memory),
+    }
+}
+
+/// A flat model with an order has no cycle: so a cycle is answered exactly where there is one.
+pub fn law_of_exclusion()
+    ensures { (m : FlatModelTree) (vars round : List ℕ) → IsOrder (IsAlgebraic m) (DependsOn m) vars → IsCycle (DependsOn m) round → ⊥ }
+{}
+
+/// A flat model has one order.
+pub fn law_of_one_order()
+    ensures { (m : FlatModelTree) (a b : List ℕ) → IsOrder (IsAlgebraic m) (DependsOn m) a → IsOrder (IsAlgebraic m) (DependsOn m) b → a ≡ b }
+{}
