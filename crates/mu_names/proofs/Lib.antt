@@ -1,0 +1,4 @@
+pub mod LeastLemmas
+pub mod Shapes
+pub mod LeastLaws
+pub mod TableLemmas

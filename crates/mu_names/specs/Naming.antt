@@ -1,0 +1,172 @@
+-- The faults of names where equations, clauses and start values are read, each at its place.
+use Rattle.std.specs.Prelude.{ℕ, Bool, true, false, not, ◌&&◌, if◌then◌else◌, List, [], ◌∷◌, ◌++◌}
+use Rattle.mu_tree.specs.Expression.{Expression, Number, Variable, Now, Previous, Sum, Product, Power, Reference, Whole, Element, Terms, no_terms, term, Factors, no_factors, factor}
+use Rattle.mu_tree.specs.ModelTree.{Range, EquationTree, Derivative, Algebraic as PlainEquation, EachEquation, EquationTrees, no_equations, equation_then, StatementTree, Assign, Restart, EachStatement, StatementTrees, no_statements, statement_then, BranchTree, ClauseTree, Branches, EachClause, ClauseTrees, no_clauses, clause_then, statements_of}
+use Rattle.mu_names.specs.declared.fault.NameErr.{NameErr}
+use Rattle.mu_names.specs.declared.fault.NameErr.TheVariants.{Duplicate, Unknown, Misused}
+use Rattle.mu_names.specs.declared.standing.Role.{Role}
+use Rattle.mu_names.specs.declared.standing.Role.TheVariants.{State, Discrete, Algebraic, Parameter}
+use Rattle.mu_names.specs.declared.standing.Standing.{Standing}
+use Rattle.mu_names.specs.declared.standing.Standing.TheVariants.{Loop, Declared, Missing}
+use Rattle.mu_names.specs.declared.standing.Wanted.{Wanted}
+use Rattle.mu_names.specs.declared.standing.Wanted.TheVariants as wanted
+use Rattle.mu_names.specs.declared.standing.Reading.{Reading}
+use Rattle.mu_names.specs.declared.standing.Reading.TheVariants as reading
+use Rattle.mu_names.specs.Stands.{name_of, standing_in}
+
+-- a role that a place wants: any value, a constant, a name of one role, one that has a start value, or none at all
+abbrev pub is_wanted : Wanted → Role → Bool
+is_wanted wanted.Value role = true
+is_wanted wanted.Constant Parameter = true
+is_wanted wanted.Constant State = false
+is_wanted wanted.Constant Discrete = false
+is_wanted wanted.Constant Algebraic = false
+is_wanted wanted.State State = true
+is_wanted wanted.State Discrete = false
+is_wanted wanted.State Algebraic = false
+is_wanted wanted.State Parameter = false
+is_wanted wanted.Discrete Discrete = true
+is_wanted wanted.Discrete State = false
+is_wanted wanted.Discrete Algebraic = false
+is_wanted wanted.Discrete Parameter = false
+is_wanted wanted.Algebraic Algebraic = true
+is_wanted wanted.Algebraic State = false
+is_wanted wanted.Algebraic Discrete = false
+is_wanted wanted.Algebraic Parameter = false
+is_wanted wanted.Started State = true
+is_wanted wanted.Started Discrete = true
+is_wanted wanted.Started Algebraic = false
+is_wanted wanted.Started Parameter = false
+is_wanted wanted.Nothing role = false
+
+-- a loop variable stands where any value or a constant is wanted
+abbrev pub wants_loops : Wanted → Bool
+wants_loops wanted.Value = true
+wants_loops wanted.Constant = true
+wants_loops wanted.State = false
+wants_loops wanted.Discrete = false
+wants_loops wanted.Algebraic = false
+wants_loops wanted.Started = false
+wants_loops wanted.Nothing = false
+
+-- both or neither
+abbrev pub is_same : Bool → Bool → Bool
+is_same true b = b
+is_same false b = not b
+
+-- the fault of a name at its place, with an index or without: an array has an index, and nothing else has one
+abbrev pub named_faults : Wanted → Bool → ℕ → Standing → List NameErr
+named_faults want indexed at Missing = Unknown at ∷ []
+named_faults want indexed at Loop = if wants_loops want && not indexed then [] else Misused at ∷ []
+named_faults want indexed at (Declared role array) = if is_wanted want role && is_same array indexed then [] else Misused at ∷ []
+
+-- what a name has to be in an equation, in a clause, and in a constant expression
+abbrev pub wanted_in : Reading → Wanted
+wanted_in reading.Equation = wanted.Value
+wanted_in reading.Clause = wanted.Value
+wanted_in reading.Constant = wanted.Constant
+
+-- and under `pre`, which stands in clauses alone
+abbrev pub wanted_before : Reading → Wanted
+wanted_before reading.Equation = wanted.Nothing
+wanted_before reading.Clause = wanted.Discrete
+wanted_before reading.Constant = wanted.Nothing
+
+-- time is no constant
+abbrev pub time_faults : Reading → ℕ → List NameErr
+time_faults reading.Equation at = []
+time_faults reading.Clause at = []
+time_faults reading.Constant at = Misused at ∷ []
+
+abbrev mutual
+  -- the faults of names in an expression; an index is constant
+  pub expression_faults : Reading → (List ℕ → Standing) → Expression → List NameErr
+  expression_faults place known (Number digits at) = []
+  expression_faults place known (Variable r) = reference_faults (wanted_in place) known r
+  expression_faults place known (Now at) = time_faults place at
+  expression_faults place known (Previous r) = reference_faults (wanted_before place) known r
+  expression_faults place known (Sum ts) = terms_faults place known ts
+  expression_faults place known (Product fs) = factors_faults place known fs
+  expression_faults place known (Power base exp at) = expression_faults place known base
+
+  -- the faults of a reference that has to be what is wanted
+  pub reference_faults : Wanted → (List ℕ → Standing) → Reference → List NameErr
+  reference_faults want known (Whole name at) = named_faults want false at (known name)
+  reference_faults want known (Element name index at) = named_faults want true at (known name) ++ expression_faults reading.Constant known index
+
+  pub terms_faults : Reading → (List ℕ → Standing) → Terms → List NameErr
+  terms_faults place known no_terms = []
+  terms_faults place known (term minus at e rest) = expression_faults place known e ++ terms_faults place known rest
+
+  pub factors_faults : Reading → (List ℕ → Standing) → Factors → List NameErr
+  factors_faults place known no_factors = []
+  factors_faults place known (factor divide at e rest) = expression_faults place known e ++ factors_faults place known rest
+
+-- a loop variable takes no name that is taken there
+abbrev pub taken_faults : ℕ → Standing → List NameErr
+taken_faults at Missing = []
+taken_faults at Loop = Duplicate at ∷ []
+taken_faults at (Declared role array) = Duplicate at ∷ []
+
+-- the faults of a loop's variable and of its bounds, which are constant
+abbrev pub range_faults : (List ℕ → Standing) → Range → List NameErr
+range_faults known r = taken_faults r.at (known r.var) ++ (expression_faults reading.Constant known r.from ++ expression_faults reading.Constant known r.to)
+
+-- a left side and a right side
+abbrev pub sides_faults : Wanted → Reading → (List ℕ → Standing) → Reference → Expression → List NameErr
+sides_faults want place known target e = reference_faults want known target ++ expression_faults place known e
+
+abbrev mutual
+  -- the faults of an equation inside these loops
+  pub equation_faults : (List ℕ → Standing) → List (List ℕ) → EquationTree → List NameErr
+  equation_faults declared loops (Derivative target e) = sides_faults wanted.State reading.Equation (standing_in loops declared) target e
+  equation_faults declared loops (PlainEquation target e) = sides_faults wanted.Algebraic reading.Equation (standing_in loops declared) target e
+  equation_faults declared loops (EachEquation range body) = range_faults (standing_in loops declared) range ++ equations_faults declared (loops ++ range.var ∷ []) body
+
+  pub equations_faults : (List ℕ → Standing) → List (List ℕ) → EquationTrees → List NameErr
+  equations_faults declared loops no_equations = []
+  equations_faults declared loops (equation_then e es) = equation_faults declared loops e ++ equations_faults declared loops es
+
+abbrev mutual
+  -- the faults of a statement of a clause
+  pub statement_faults : (List ℕ → Standing) → List (List ℕ) → StatementTree → List NameErr
+  statement_faults declared loops (Assign target e) = sides_faults wanted.Discrete reading.Clause (standing_in loops declared) target e
+  statement_faults declared loops (Restart target e) = sides_faults wanted.State reading.Clause (standing_in loops declared) target e
+  statement_faults declared loops (EachStatement range body) = range_faults (standing_in loops declared) range ++ statements_faults declared (loops ++ range.var ∷ []) body
+
+  pub statements_faults : (List ℕ → Standing) → List (List ℕ) → StatementTrees → List NameErr
+  statements_faults declared loops no_statements = []
+  statements_faults declared loops (statement_then s ss) = statement_faults declared loops s ++ statements_faults declared loops ss
+
+abbrev mutual
+  -- the faults of an assignment of a start value, whose right side is constant
+  pub start_faults : (List ℕ → Standing) → List (List ℕ) → StatementTree → List NameErr
+  start_faults declared loops (Assign target e) = sides_faults wanted.Started reading.Constant (standing_in loops declared) target e
+  start_faults declared loops (Restart target e) = []
+  start_faults declared loops (EachStatement range body) = range_faults (standing_in loops declared) range ++ starts_faults declared (loops ++ range.var ∷ []) body
+
+  pub starts_faults : (List ℕ → Standing) → List (List ℕ) → StatementTrees → List NameErr
+  starts_faults declared loops no_statements = []
+  starts_faults declared loops (statement_then s ss) = start_faults declared loops s ++ starts_faults declared loops ss
+
+-- the faults of a branch
+abbrev pub branch_faults : (List ℕ → Standing) → List (List ℕ) → BranchTree → List NameErr
+branch_faults declared loops b =
+    expression_faults reading.Clause (standing_in loops declared) b.condition.left
+    ++ (expression_faults reading.Clause (standing_in loops declared) b.condition.right
+    ++ statements_faults declared loops (statements_of b.body))
+
+-- the faults of branches
+abbrev pub branches_faults : (List ℕ → Standing) → List (List ℕ) → List BranchTree → List NameErr
+branches_faults declared loops [] = []
+branches_faults declared loops (b ∷ bs) = branch_faults declared loops b ++ branches_faults declared loops bs
+
+abbrev mutual
+  -- the faults of a clause
+  pub clause_faults : (List ℕ → Standing) → List (List ℕ) → ClauseTree → List NameErr
+  clause_faults declared loops (Branches bs) = branches_faults declared loops bs
+  clause_faults declared loops (EachClause range body) = range_faults (standing_in loops declared) range ++ clauses_faults declared (loops ++ range.var ∷ []) body
+
+  pub clauses_faults : (List ℕ → Standing) → List (List ℕ) → ClauseTrees → List NameErr
+  clauses_faults declared loops no_clauses = []
+  clauses_faults declared loops (clause_then c cs) = clause_faults declared loops c ++ clauses_faults declared loops cs

@@ -1,0 +1,67 @@
+-- What declared names are.
+use Rattle.std.specs.Prelude.{ℕ, Bool, true, false, bytes_eq, is_some, if◌then◌else◌, List, [], ◌∷◌, ◌++◌, Option, Some, None, unwrap_or}
+use Rattle.std.specs.List.{list_any}
+use Rattle.mu_tree.specs.declared.tree.Prefix.{Prefix}
+use Rattle.mu_tree.specs.declared.tree.Prefix.TheVariants as prefix
+use Rattle.mu_tree.specs.Expression.{Reference, Whole, Element}
+use Rattle.mu_tree.specs.ModelTree.{EquationTree, Derivative, Algebraic as PlainEquation, EachEquation, EquationTrees, no_equations, equation_then, equations_of, Declaration, ModelTree}
+use Rattle.mu_names.specs.declared.standing.Role.{Role}
+use Rattle.mu_names.specs.declared.standing.Role.TheVariants.{State, Discrete, Algebraic, Parameter}
+use Rattle.mu_names.specs.declared.standing.Standing.{Standing}
+use Rattle.mu_names.specs.declared.standing.Standing.TheVariants.{Loop, Declared, Missing}
+
+-- the name of a reference
+abbrev pub name_of : Reference → List ℕ
+name_of (Whole name at) = name
+name_of (Element name index at) = name
+
+abbrev mutual
+  -- the names under a derivative on a left side
+  pub derived : EquationTree → List (List ℕ)
+  derived (Derivative target e) = name_of target ∷ []
+  derived (PlainEquation target e) = []
+  derived (EachEquation range body) = derived_all body
+
+  pub derived_all : EquationTrees → List (List ℕ)
+  derived_all no_equations = []
+  derived_all (equation_then e es) = derived e ++ derived_all es
+
+-- the role that a declaration gives, by its prefix and by whether the name stands under a derivative
+abbrev pub role_by : Prefix → Bool → Role
+role_by prefix.Parameter is_derived = Parameter
+role_by prefix.Constant is_derived = Parameter
+role_by prefix.Discrete is_derived = Discrete
+role_by prefix.Plain is_derived = if is_derived then State else Algebraic
+
+-- a name is among others
+abbrev pub is_among : List (List ℕ) → List ℕ → Bool
+is_among names name = list_any (λ other. bytes_eq other name) names
+
+-- the role of a declared name, where these names stand under a derivative
+abbrev pub role_of : List (List ℕ) → Declaration → Role
+role_of ders d = role_by d.prefix (is_among ders d.name)
+
+-- what a declaration makes its name
+abbrev pub declared_by : List (List ℕ) → Declaration → Standing
+declared_by ders d = Declared (role_of ders d) (is_some d.size)
+
+-- what a name is by the first of these declarations that declares it
+abbrev pub first_declared : List (List ℕ) → List Declaration → List ℕ → Option Standing
+first_declared ders [] name = None
+first_declared ders (d ∷ ds) name = if bytes_eq d.name name then Some (declared_by ders d) else first_declared ders ds name
+
+-- what a name is among declarations
+abbrev pub declared_as : List (List ℕ) → List Declaration → List ℕ → Standing
+declared_as ders ds name = unwrap_or (first_declared ders ds name) Missing
+
+-- what a name is inside loops over these variables
+abbrev pub standing_in : List (List ℕ) → (List ℕ → Standing) → List ℕ → Standing
+standing_in loops declared name = if is_among loops name then Loop else declared name
+
+-- the names that stand under a derivative in a model
+abbrev pub derived_in : ModelTree → List (List ℕ)
+derived_in m = derived_all (equations_of m.equations)
+
+-- what the declared names of a model are
+abbrev pub declared_in : ModelTree → List ℕ → Standing
+declared_in m = declared_as (derived_in m) m.decls

@@ -1,0 +1,227 @@
+// The values of constant expressions.
+
+ghost use Rattle.std.specs.Prelude.{◌≡◌, map, ℕ, List, [], ◌∷◌, Result, Option, pos};
+ghost use Rattle.mu_num.specs.Fraction.{Fraction, whole};
+ghost use Rattle.mu_num.specs.declared.NumErr.{NumErr};
+ghost use Rattle.mu_tree.specs.Expression.{expression, reference, signed, scaled, terms_of, factors_of};
+ghost use Rattle.mu_names.specs.declared.meaning.Meaning.{Meaning};
+ghost use Rattle.mu_names.specs.Least.{least_of};
+ghost use Rattle.mu_names.specs.Constant.{value_of, faults_of, both, both_faults, joined, multiplied, one, one_faults, raised, constant_of, name_faults, indexed_faults, value, sum_value, product_value, reference_value, faults, sum_faults, product_faults, reference_faults, previous_faults};
+
+use crate::fault::{NameErr, note};
+use crate::meaning::Meaning;
+use mu_num::{NumErr, Ratio, decimal};
+use mu_tree::expr::{Expr, Factor, Ref, Term};
+
+// The value that a call answered, or its fault at a place.
+fn valued(answer: Result<Ratio, NumErr>, at: u32, least: &mut Option<NameErr>) -> Option<Ratio>
+    ensures value { result ≡ value_of answer }
+    ensures faults { least.new ≡ least_of least.old (faults_of at answer) }
+{
+    match answer {
+        Ok(value) => Some(value),
+        Err(fault) => {
+            note(least, NameErr::ConstFault { at, fault });
+            None
+        }
+    }
+}
+
+// A sum and one more term.
+fn join(
+    total: Option<Ratio>,
+    minus: bool,
+    value: Option<Ratio>,
+    at: u32,
+    least: &mut Option<NameErr>,
+) -> Option<Ratio>
+    ensures value { result ≡ both (joined minus) total value }
+    ensures faults { least.new ≡ least_of least.old (both_faults at (joined minus) total value) }
+{
+    match (total, value) {
+        (Some(total), Some(value)) => {
+            let answer = if minus {
+                total.sub(value)
+            } else {
+                total.add(value)
+            };
+            valued(answer, at, least)
+        }
+        _ => None,
+    }
+}
+
+// A product and one more factor.
+fn multiply(
+    total: Option<Ratio>,
+    divide: bool,
+    value: Option<Ratio>,
+    at: u32,
+    least: &mut Option<NameErr>,
+) -> Option<Ratio>
+    ensures value { result ≡ both (multiplied divide) total value }
+    ensures faults { least.new ≡ least_of least.old (both_faults at (multiplied divide) total value) }
+{
+    match (total, value) {
+        (Some(total), Some(value)) => {
+            let answer = if divide {
+                total.div(value)
+            } else {
+                total.mul(value)
+            };
+            valued(answer, at, least)
+        }
+        _ => None,
+    }
+}
+
+// A power.
+fn raise(base: Option<Ratio>, exp: u8, at: u32, least: &mut Option<NameErr>) -> Option<Ratio>
+    ensures value { result ≡ one (raised exp) base }
+    ensures faults { least.new ≡ least_of least.old (one_faults at (raised exp) base) }
+{
+    match base {
+        Some(base) => valued(base.pow(exp), at, least),
+        None => None,
+    }
+}
+
+/// What names mean.
+pub trait Meanings {
+    ghost meaning: { Self → List ℕ → Meaning };
+
+    /// What a name stands for.
+    fn meaning(&self, name: &[u8]) -> Meaning
+        ensures { result ≡ meaning self.now name.now };
+}
+
+// What a plain name stands for, noting its fault.
+fn named(meaning: Meaning, at: u32, least: &mut Option<NameErr>) -> Option<Ratio>
+    ensures value { result ≡ constant_of meaning }
+    ensures faults { least.new ≡ least_of least.old (name_faults at meaning) }
+{
+    match meaning {
+        Meaning::Constant(value) => value,
+        Meaning::Variable => {
+            note(least, NameErr::Misused { at });
+            None
+        }
+        Meaning::Undeclared => {
+            note(least, NameErr::Unknown { at });
+            None
+        }
+    }
+}
+
+// The fault of a name that may not stand so in a constant expression.
+fn misused(meaning: Meaning, at: u32, least: &mut Option<NameErr>)
+    ensures { least.new ≡ least_of least.old (indexed_faults at meaning) }
+{
+    match meaning {
+        Meaning::Undeclared => note(least, NameErr::Unknown { at }),
+        _ => note(least, NameErr::Misused { at }),
+    }
+}
+
+// A plain name, or one with an index, in a constant expression.
+#[cycle(evaluate)]
+#[tactic(auto, using(crate::proofs::LeastLemmas::least_of_append))]
+fn evaluate_reference<M: Meanings>(
+    meanings: &M,
+    target: &Ref,
+    least: &mut Option<NameErr>,
+) -> Option<Ratio>
+    ensures value { result ≡ reference_value (M.meaning meanings.now) (reference target.now) }
+    ensures faults { least.new ≡ least_of least.old (reference_faults (M.meaning meanings.now) (reference target.now)) }
+{
+    let meaning = meanings.meaning(target.name.bytes());
+    match &target.index {
+        None => named(meaning, target.at, least),
+        Some(index) => {
+            let _ = evaluate(meanings, index, least);
+            misused(meaning, target.at, least);
+            None
+        }
+    }
+}
+
+// A previous value in a constant expression.
+#[cycle(evaluate)]
+#[tactic(auto, using(crate::proofs::LeastLemmas::least_of_append))]
+fn evaluate_previous<M: Meanings>(meanings: &M, target: &Ref, least: &mut Option<NameErr>)
+    ensures { least.new ≡ least_of least.old (previous_faults (M.meaning meanings.now) (reference target.now)) }
+{
+    let meaning = meanings.meaning(target.name.bytes());
+    match &target.index {
+        None => misused(meaning, target.at, least),
+        Some(index) => {
+            let _ = evaluate(meanings, index, least);
+            misused(meaning, target.at, least);
+        }
+    }
+}
+
+// A sum, term by term.
+#[cycle(evaluate)]
+#[tactic(auto, using(crate::proofs::LeastLemmas::least_of_append))]
+fn evaluate_sum<M: Meanings>(
+    meanings: &M,
+    terms: &[Term],
+    least: &mut Option<NameErr>,
+) -> Option<Ratio>
+    ensures value { result ≡ sum_value (M.meaning meanings.now) (Some (whole (pos 0))) (terms_of (map signed terms.now)) }
+    ensures faults { least.new ≡ least_of least.old (sum_faults (M.meaning meanings.now) (Some (whole (pos 0))) (terms_of (map signed terms.now))) }
+{
+    let mut total = Some(Ratio::whole(0));
+    for term in terms {
+        let value = evaluate(meanings, &term.value, least);
+        total = join(total, term.minus, value, term.at, least);
+    }
+    total
+}
+
+// A product, factor by factor.
+#[cycle(evaluate)]
+#[tactic(auto, using(crate::proofs::LeastLemmas::least_of_append))]
+fn evaluate_product<M: Meanings>(
+    meanings: &M,
+    factors: &[Factor],
+    least: &mut Option<NameErr>,
+) -> Option<Ratio>
+    ensures value { result ≡ product_value (M.meaning meanings.now) (Some (whole (pos 1))) (factors_of (map scaled factors.now)) }
+    ensures faults { least.new ≡ least_of least.old (product_faults (M.meaning meanings.now) (Some (whole (pos 1))) (factors_of (map scaled factors.now))) }
+{
+    let mut total = Some(Ratio::whole(1));
+    for factor in factors {
+        let value = evaluate(meanings, &factor.value, least);
+        total = multiply(total, factor.divide, value, factor.at, least);
+    }
+    total
+}
+
+/// The value of a constant expression, where it has one; the faults of its parts are noted.
+#[cycle(evaluate)]
+#[tactic(auto, using(crate::proofs::LeastLemmas::least_of_append))]
+pub fn evaluate<M: Meanings>(meanings: &M, e: &Expr, least: &mut Option<NameErr>) -> Option<Ratio>
+    ensures value { result ≡ value (M.meaning meanings.now) (expression e.now) }
+    ensures faults { least.new ≡ least_of least.old (faults (M.meaning meanings.now) (expression e.now)) }
+{
+    match e {
+        Expr::Num { digits, at } => valued(decimal(digits.bytes()), *at, least),
+        Expr::Var(target) => evaluate_reference(meanings, target, least),
+        Expr::Time { at } => {
+            note(least, NameErr::Misused { at: *at });
+            None
+        }
+        Expr::Pre(target) => {
+            evaluate_previous(meanings, target, least);
+            None
+        }
+        Expr::Sum { terms } => evaluate_sum(meanings, terms, least),
+        Expr::Product { factors } => evaluate_product(meanings, factors, least),
+        Expr::Pow { base, exp, at } => {
+            let base = evaluate(meanings, base, least);
+            raise(base, *exp, *at, least)
+        }
+    }
+}

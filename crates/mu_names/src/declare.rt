@@ -1,0 +1,487 @@
+// Declarations and settings.
+
+ghost use Rattle.std.specs.Prelude.{◌≡◌, pos, ℕ, List, [], ◌∷◌, ◌<◌, ◌||◌, nat_eq, if◌then◌else◌, map, length, IfOk, OnOk};
+ghost use Rattle.std.specs.Option.{option_map};
+ghost use Rattle.mu_tree.specs.Expression.{expression};
+ghost use Rattle.mu_tree.specs.ModelTree.{declaration, equation, equations_of, model, setting};
+ghost use Rattle.mu_names.specs.Declarations.{all_valued, binding_faults, constants_after, constants_with, declaration_faults, declarations_faults, is_constant, is_size, meaning_after, meaning_of, optional_faults, optional_value, repeated_faults, size_faults, size_of, valued, whole_faults};
+ghost use Rattle.mu_names.specs.Stands.{declared_in, derived, derived_all, derived_in, is_among, role_by};
+ghost use Rattle.mu_names.specs.Least.{least_of};
+ghost use Rattle.mu_names.specs.declared.fault.NameErr.TheVariants.{Duplicate};
+ghost use Rattle.mu_names.specs.Roles.{all_known, known_as, default_settings, role_value, setting_number, settings_faults, settings_from, with_setting};
+ghost use Rattle.mu_names.specs.Tables.{added_at, entry_at, standing_at, is_entry};
+
+use crate::constant::{Meanings, evaluate};
+use crate::fault::{NameErr, note};
+use crate::meaning::Meaning;
+use crate::naming::{declared_standing, note_taken};
+use crate::scope::{Known, Valued};
+use crate::standing::{Role, Standing};
+use crate::table::{add, find};
+use mu_num::Ratio;
+use mu_tree::expr::Expr;
+use mu_tree::flat::Settings;
+use mu_tree::tree::{Decl, Equation, Model, Prefix, SettingItem, SettingName};
+use std::alloc::{AllocError, Global};
+use std::collections::BTreeMap;
+
+// Adds the names under a derivative on a left side.
+#[cycle(deriving)]
+fn add_derived<'a>(one: &'a Equation, names: &mut BTreeMap<&'a [u8], ()>) -> Result<(), AllocError>
+    ensures { OnOk result ((q : List ℕ) → is_entry names.new q ≡ is_entry names.old q || is_among (derived (equation one.now)) q) }
+{
+    match one {
+        Equation::Der { target, .. } => add(names, target.name.bytes(), ()),
+        Equation::Plain { .. } => Ok(()),
+        Equation::For { body, .. } => add_all_derived(body, names),
+    }
+}
+
+// Adds the names under derivatives on left sides.
+#[cycle(deriving)]
+fn add_all_derived<'a>(
+    equations: &'a [Equation],
+    names: &mut BTreeMap<&'a [u8], ()>,
+) -> Result<(), AllocError>
+    ensures { OnOk result ((q : List ℕ) → is_entry names.new q ≡ is_entry names.old q || is_among (derived_all (equations_of (map equation equations.now))) q) }
+{
+    for one in equations {
+        add_derived(one, names)?;
+    }
+    Ok(())
+}
+
+/// The names that stand under a derivative in a model.
+pub fn derived_names<'a>(
+    alloc: Global,
+    equations: &'a [Equation],
+) -> Result<BTreeMap<&'a [u8], ()>, AllocError>
+    ensures { IfOk result (λ names. is_entry names ≡ is_among (derived_all (equations_of (map equation equations.now)))) }
+{
+    let mut names = BTreeMap::new(alloc);
+    add_all_derived(equations, &mut names)?;
+    Ok(names)
+}
+
+// The role that a prefix gives.
+fn role_by(prefix: Prefix, derived: bool) -> Role
+    ensures { result ≡ role_by prefix derived }
+{
+    match prefix {
+        Prefix::Parameter | Prefix::Constant => Role::Parameter,
+        Prefix::Discrete => Role::Discrete,
+        Prefix::Plain => {
+            if derived {
+                Role::State
+            } else {
+                Role::Algebraic
+            }
+        }
+    }
+}
+
+// The role of a declaration.
+fn role_of(derived: &BTreeMap<&[u8], ()>, d: &Decl) -> Role
+    ensures { result ≡ role_by (declaration d.now).prefix (is_entry derived.now (declaration d.now).name) }
+{
+    role_by(d.prefix, find(derived, d.name.bytes()).is_some())
+}
+
+/// What the declared names are, noting each declaration that takes the name of an earlier one.
+pub fn declared_names<'a>(
+    alloc: Global,
+    derived: &BTreeMap<&[u8], ()>,
+    m: &'a Model,
+    least: &mut Option<NameErr>,
+) -> Result<BTreeMap<&'a [u8], Standing>, AllocError>
+    requires { is_entry derived.now ≡ is_among (derived_in (model m.now)) }
+    ensures table { IfOk result (λ table. standing_at table ≡ declared_in (model m.now)) }
+    ensures faults { OnOk result (least.new ≡ least_of least.old (repeated_faults (derived_in (model m.now)) [] (model m.now).decls)) }
+{
+    let mut table = BTreeMap::new(alloc);
+    for d in &m.decls {
+        let name = d.name.bytes();
+        note_taken(d.at, declared_standing(&table, name), least);
+        let standing = Standing::Declared(role_of(derived, d), d.size.is_some());
+        add(&mut table, name, standing)?;
+    }
+    Ok(table)
+}
+
+// What names mean in declarations and settings.
+#[derive(Drop)]
+struct Constants<'v, 'w, 'a, 'b> {
+    declared: &'v BTreeMap<&'a [u8], Standing>,
+    values: &'w BTreeMap<&'b [u8], Option<Ratio>>,
+}
+
+// What a name that is no constant so far means.
+fn meaning_of(value: Option<Option<Ratio>>, other: Standing) -> Meaning
+    ensures { result ≡ meaning_of value other }
+{
+    match value {
+        Some(value) => Meaning::Constant(value),
+        None => match other {
+            Standing::Declared(role, _) => match role {
+                Role::Parameter => Meaning::Undeclared,
+                Role::State | Role::Discrete | Role::Algebraic => Meaning::Variable,
+            },
+            Standing::Loop | Standing::Missing => Meaning::Undeclared,
+        },
+    }
+}
+
+impl<'v, 'w, 'a, 'b> Meanings for Constants<'v, 'w, 'a, 'b> {
+    ghost meaning = { λ c. meaning_after (entry_at c.values.now) (standing_at c.declared.now) };
+
+    fn meaning(&self, name: &[u8]) -> Meaning {
+        meaning_of(
+            find(self.values, name),
+            declared_standing(self.declared, name),
+        )
+    }
+}
+
+// The value of an expression that may be missing, noting the faults of its parts.
+fn evaluate_optional<M: Meanings>(
+    meanings: &M,
+    e: &Option<Expr>,
+    least: &mut Option<NameErr>,
+) -> Option<Ratio>
+    ensures value { result ≡ optional_value (M.meaning meanings.now) (option_map expression e.now) }
+    ensures faults { least.new ≡ least_of least.old (optional_faults (M.meaning meanings.now) (option_map expression e.now)) }
+{
+    match e {
+        None => None,
+        Some(e) => evaluate(meanings, e, least),
+    }
+}
+
+// Whether a value is whole.
+fn is_whole(value: Ratio) -> bool
+    ensures { result ≡ nat_eq value.den 1 }
+{
+    value.den() == 1
+}
+
+// Whether a whole number can be an array size.
+fn is_size(number: i128) -> bool
+    ensures { result ≡ is_size number }
+{
+    1 <= number && number <= 4096
+}
+
+// The array size that a value gives, noting a value that gives none.
+fn size_from(value: Option<Ratio>, at: u32, least: &mut Option<NameErr>) -> Option<u32>
+    ensures size { result ≡ size_of value }
+    ensures faults { least.new ≡ least_of least.old (size_faults at value) }
+{
+    let value = value?;
+    if !is_whole(value) {
+        note(least, NameErr::NotWhole { at });
+        return None;
+    }
+    let number = value.num();
+    if !is_size(number) {
+        note(least, NameErr::Size { at, value: number });
+        return None;
+    }
+    Some(number.unsigned_abs() as u32)
+}
+
+// Notes that an Integer parameter is not whole.
+fn note_whole(whole: bool, at: u32, value: Option<Ratio>, least: &mut Option<NameErr>)
+    ensures { least.new ≡ least_of least.old (whole_faults whole at value) }
+{
+    if whole {
+        match value {
+            None => {}
+            Some(value) => {
+                if !is_whole(value) {
+                    note(least, NameErr::NotWhole { at });
+                }
+            }
+        }
+    }
+}
+
+// Whether a prefix is that of a parameter or a constant.
+fn is_constant(prefix: Prefix) -> bool
+    ensures { result ≡ is_constant prefix }
+{
+    match prefix {
+        Prefix::Parameter | Prefix::Constant => true,
+        Prefix::Discrete | Prefix::Plain => false,
+    }
+}
+
+// Notes a binding or an array that a declaration may not have, and a value that it wants.
+fn note_binding(constant: bool, array: bool, bound: bool, at: u32, least: &mut Option<NameErr>)
+    ensures { least.new ≡ least_of least.old (binding_faults constant array bound at) }
+{
+    if constant {
+        if array {
+            note(least, NameErr::Misused { at });
+        }
+        if !bound {
+            note(least, NameErr::NoValue { at });
+        }
+    } else if bound {
+        note(least, NameErr::Misused { at });
+    }
+}
+
+// The values of a declaration, noting its faults.
+#[tactic(auto, using(crate::proofs::LeastLemmas::least_of_append))]
+fn evaluate_declaration<M: Meanings>(meanings: &M, d: &Decl, least: &mut Option<NameErr>) -> Valued
+    ensures value { result ≡ valued (M.meaning meanings.now) (declaration d.now) }
+    ensures faults { least.new ≡ least_of least.old (declaration_faults (M.meaning meanings.now) (declaration d.now)) }
+{
+    let size = evaluate_optional(meanings, &d.size, least);
+    let size = size_from(size, d.at, least);
+    let start = evaluate_optional(meanings, &d.start, least);
+    let quantum = evaluate_optional(meanings, &d.quantum, least);
+    let value = evaluate_optional(meanings, &d.value, least);
+    let constant = is_constant(d.prefix);
+    note_whole(constant && d.whole, d.at, value, least);
+    note_binding(constant, d.size.is_some(), d.value.is_some(), d.at, least);
+    Valued {
+        size,
+        value,
+        start,
+        quantum,
+    }
+}
+
+// The values of a declaration after these constants, noting its faults.
+fn evaluate_after(
+    declared: &BTreeMap<&[u8], Standing>,
+    constants: &BTreeMap<&[u8], Option<Ratio>>,
+    d: &Decl,
+    least: &mut Option<NameErr>,
+) -> Valued
+    ensures value { result ≡ valued (meaning_after (entry_at constants.now) (standing_at declared.now)) (declaration d.now) }
+    ensures faults { least.new ≡ least_of least.old (declaration_faults (meaning_after (entry_at constants.now) (standing_at declared.now)) (declaration d.now)) }
+{
+    let meanings = Constants {
+        declared,
+        values: constants,
+    };
+    evaluate_declaration(&meanings, d, least)
+}
+
+// Adds a constant, where it is one.
+fn add_constant<'a>(
+    constant: bool,
+    constants: &mut BTreeMap<&'a [u8], Option<Ratio>>,
+    name: &'a [u8],
+    value: Option<Ratio>,
+) -> Result<(), AllocError>
+    ensures { OnOk result (entry_at constants.new ≡ (if constant then added_at (entry_at constants.old) name.now value else entry_at constants.old)) }
+{
+    if constant {
+        add(constants, name, value)
+    } else {
+        Ok(())
+    }
+}
+
+// The values of a declaration, noting its faults; a constant is added to those so far.
+fn declare<'a>(
+    declared: &BTreeMap<&[u8], Standing>,
+    constants: &mut BTreeMap<&'a [u8], Option<Ratio>>,
+    d: &'a Decl,
+    least: &mut Option<NameErr>,
+) -> Result<Valued, AllocError>
+    ensures value { IfOk result (λ v. v ≡ valued (meaning_after (entry_at constants.old) (standing_at declared.now)) (declaration d.now)) }
+    ensures constants { OnOk result (entry_at constants.new ≡ constants_with (meaning_after (entry_at constants.old) (standing_at declared.now)) (entry_at constants.old) (declaration d.now)) }
+    ensures faults { OnOk result (least.new ≡ least_of least.old (declaration_faults (meaning_after (entry_at constants.old) (standing_at declared.now)) (declaration d.now))) }
+{
+    let valued = evaluate_after(declared, constants, d, least);
+    add_constant(
+        is_constant(d.prefix),
+        constants,
+        d.name.bytes(),
+        valued.value,
+    )?;
+    Ok(valued)
+}
+
+/// The values of declarations, each of which uses the constants before it, noting their faults;
+/// their constants are added to those so far.
+#[tactic(auto, using(crate::proofs::LeastLemmas::least_of_append))]
+pub fn evaluate_declarations<'a>(
+    alloc: Global,
+    declared: &BTreeMap<&[u8], Standing>,
+    constants: &mut BTreeMap<&'a [u8], Option<Ratio>>,
+    decls: &'a [Decl],
+    least: &mut Option<NameErr>,
+) -> Result<Vec<Valued>, AllocError>
+    ensures values { IfOk result (λ all. all.items ≡ all_valued (standing_at declared.now) (entry_at constants.old) (map declaration decls.now)) }
+    ensures constants { OnOk result (entry_at constants.new ≡ constants_after (standing_at declared.now) (entry_at constants.old) (map declaration decls.now)) }
+    ensures faults { OnOk result (least.new ≡ least_of least.old (declarations_faults (standing_at declared.now) (entry_at constants.old) (map declaration decls.now))) }
+{
+    let mut all = Vec::new(alloc);
+    for d in decls {
+        all.push(declare(declared, constants, d, least)?)?;
+    }
+    Ok(all)
+}
+
+// The place of a setting among the six.
+fn setting_number(which: SettingName) -> usize
+    ensures place { result ≡ setting_number which }
+    ensures among { result < 6 }
+{
+    match which {
+        SettingName::StartTime => 0,
+        SettingName::StopTime => 1,
+        SettingName::CoefBits => 2,
+        SettingName::TickBits => 3,
+        SettingName::LevelBits => 4,
+        SettingName::Quantum => 5,
+    }
+}
+
+// The settings with one of them set.
+fn with_setting(settings: Settings, which: SettingName, value: Option<Ratio>) -> Settings
+    ensures { result ≡ with_setting settings which value }
+{
+    let mut changed = settings;
+    match value {
+        None => {}
+        Some(value) => match which {
+            SettingName::StartTime => changed.start = value,
+            SettingName::StopTime => changed.stop = value,
+            SettingName::CoefBits => changed.coef_bits = value,
+            SettingName::TickBits => changed.tick_bits = value,
+            SettingName::LevelBits => changed.level_bits = value,
+            SettingName::Quantum => changed.quantum = value,
+        },
+    }
+    changed
+}
+
+// One part of 1,024.
+fn default_quantum() -> Ratio
+    ensures { result ≡ record { num = pos 1; den = 1024 } }
+{
+    match Ratio::whole(1).div(Ratio::whole(1024)) {
+        Ok(quantum) => quantum,
+        Err(_) => unreachable!(),
+    }
+}
+
+// The settings where none is written.
+fn default_settings() -> Settings
+    ensures { result ≡ default_settings }
+{
+    Settings {
+        start: Ratio::whole(0),
+        stop: Ratio::whole(1),
+        coef_bits: Ratio::whole(24),
+        tick_bits: Ratio::whole(10),
+        level_bits: Ratio::whole(16),
+        quantum: default_quantum(),
+    }
+}
+
+// Notes that a setting is written again.
+fn note_again(again: bool, at: u32, least: &mut Option<NameErr>)
+    ensures { least.new ≡ least_of least.old (if again then Duplicate at ∷ [] else []) }
+{
+    if again {
+        note(least, NameErr::Duplicate { at });
+    }
+}
+
+// The settings that are written over the default ones, noting their faults.
+#[tactic(auto, using(crate::proofs::LeastLemmas::least_of_append))]
+fn evaluate_settings<M: Meanings>(
+    meanings: &M,
+    items: &[SettingItem],
+    least: &mut Option<NameErr>,
+) -> Settings
+    ensures settings { result ≡ settings_from (M.meaning meanings.now) default_settings (map setting items.now) }
+    ensures faults { least.new ≡ least_of least.old (settings_faults (M.meaning meanings.now) [] (map setting items.now)) }
+{
+    let mut settings = default_settings();
+    let mut written = [false; 6];
+    for item in items {
+        let place = setting_number(item.which);
+        note_again(written[place], item.at, least);
+        written[place] = true;
+        let value = evaluate(meanings, &item.value, least);
+        settings = with_setting(settings, item.which, value);
+    }
+    settings
+}
+
+/// The settings of a model, noting their faults.
+pub fn model_settings(
+    declared: &BTreeMap<&[u8], Standing>,
+    constants: &BTreeMap<&[u8], Option<Ratio>>,
+    items: &[SettingItem],
+    least: &mut Option<NameErr>,
+) -> Settings
+    ensures settings { result ≡ settings_from (meaning_after (entry_at constants.now) (standing_at declared.now)) default_settings (map setting items.now) }
+    ensures faults { least.new ≡ least_of least.old (settings_faults (meaning_after (entry_at constants.now) (standing_at declared.now)) [] (map setting items.now)) }
+{
+    let meanings = Constants {
+        declared,
+        values: constants,
+    };
+    evaluate_settings(&meanings, items, least)
+}
+
+// The value of a parameter, and 0 for all others.
+fn role_value(role: Role, value: Option<Ratio>) -> Ratio
+    ensures { result ≡ role_value role value }
+{
+    match role {
+        Role::Parameter => value.unwrap_or(Ratio::whole(0)),
+        Role::State | Role::Discrete | Role::Algebraic => Ratio::whole(0),
+    }
+}
+
+// What is known of a declared name.
+fn known_of(
+    alloc: Global,
+    derived: &BTreeMap<&[u8], ()>,
+    quantum: Ratio,
+    d: &Decl,
+    value: Valued,
+) -> Result<Known, AllocError>
+    ensures { IfOk result (λ known. known ≡ known_as quantum (role_by (declaration d.now).prefix (is_entry derived.now (declaration d.now).name)) (declaration d.now) value) }
+{
+    let role = role_of(derived, d);
+    let name = d.name.copy(alloc)?;
+    Ok(Known {
+        name,
+        role,
+        size: value.size,
+        value: role_value(role, value.value),
+        start: value.start.unwrap_or(Ratio::whole(0)),
+        quantum: value.quantum.unwrap_or(quantum),
+        at: d.at,
+    })
+}
+
+/// What is known of the declared names, in their order.
+pub fn known_names(
+    alloc: Global,
+    derived: &BTreeMap<&[u8], ()>,
+    quantum: Ratio,
+    m: &Model,
+    values: &[Valued],
+) -> Result<Vec<Known>, AllocError>
+    requires derived { is_entry derived.now ≡ is_among (derived_in (model m.now)) }
+    requires same { length values.now ≡ length (model m.now).decls }
+    ensures { IfOk result (λ known. known.items ≡ all_known quantum (derived_in (model m.now)) (model m.now).decls values.now) }
+{
+    let mut known = Vec::new(alloc);
+    for (place, d) in m.decls.iter().enumerate() {
+        known.push(known_of(alloc, derived, quantum, d, values[place])?)?;
+    }
+    Ok(known)
+}

@@ -1,0 +1,493 @@
+// The faults of names where equations, clauses and start values are read.
+
+ghost use Rattle.std.specs.Prelude.{◌≡◌, ℕ, List, [], ◌∷◌, ◌++◌, map, OnOk, IfOk};
+ghost use Rattle.mu_tree.specs.Expression.{expression, reference, signed, scaled, terms_of, factors_of};
+ghost use Rattle.mu_tree.specs.ModelTree.{branch, clause, clauses_of, condition, equation, equations_of, range, statement, statements_of};
+ghost use Rattle.mu_names.specs.Stands.{standing_in, is_among};
+ghost use Rattle.mu_names.specs.Least.{least_of};
+ghost use Rattle.mu_names.specs.Naming.{named_faults, time_faults, taken_faults, expression_faults, reference_faults, terms_faults, factors_faults, range_faults, sides_faults, equation_faults, equations_faults, statement_faults, statements_faults, start_faults, starts_faults, branch_faults, branches_faults, clause_faults, clauses_faults};
+ghost use Rattle.mu_names.specs.Tables.{standing_at};
+
+use crate::fault::{NameErr, note};
+use crate::standing::{Reading, Standing, Wanted};
+use crate::table::find;
+use mu_io::Name;
+use mu_tree::expr::{Expr, Factor, Ref, Term};
+use mu_tree::tree::{Branch, Clause, Equation, Statement};
+use std::alloc::{AllocError, Global};
+use std::collections::BTreeMap;
+
+/// Whether a name is among others.
+pub fn is_among(names: &[Name], name: &[u8]) -> bool
+    ensures { result ≡ is_among names.now name.now }
+{
+    for other in names {
+        if other.bytes() == name {
+            return true;
+        }
+    }
+    false
+}
+
+/// What a declared name is.
+pub fn declared_standing(declared: &BTreeMap<&[u8], Standing>, name: &[u8]) -> Standing
+    ensures { result ≡ standing_at declared.now name.now }
+{
+    match find(declared, name) {
+        Some(standing) => standing,
+        None => Standing::Missing,
+    }
+}
+
+// What a name is inside loops.
+fn standing(declared: &BTreeMap<&[u8], Standing>, loops: &[Name], name: &[u8]) -> Standing
+    ensures { result ≡ standing_in loops.now (standing_at declared.now) name.now }
+{
+    if is_among(loops, name) {
+        Standing::Loop
+    } else {
+        declared_standing(declared, name)
+    }
+}
+
+// Notes the fault of a name, with an index or without.
+fn note_name(want: Wanted, indexed: bool, at: u32, standing: Standing, least: &mut Option<NameErr>)
+    ensures { least.new ≡ least_of least.old (named_faults want indexed at standing) }
+{
+    match standing {
+        Standing::Missing => note(least, NameErr::Unknown { at }),
+        Standing::Loop => {
+            if !(want.allows_loops() && !indexed) {
+                note(least, NameErr::Misused { at });
+            }
+        }
+        Standing::Declared(role, array) => {
+            if !(want.fits(role) && array == indexed) {
+                note(least, NameErr::Misused { at });
+            }
+        }
+    }
+}
+
+/// Notes that a name is taken.
+pub fn note_taken(at: u32, standing: Standing, least: &mut Option<NameErr>)
+    ensures { least.new ≡ least_of least.old (taken_faults at standing) }
+{
+    match standing {
+        Standing::Missing => {}
+        Standing::Loop | Standing::Declared(_, _) => note(least, NameErr::Duplicate { at }),
+    }
+}
+
+// Notes that time stands where only constants may.
+fn note_time(reading: Reading, at: u32, least: &mut Option<NameErr>)
+    ensures { least.new ≡ least_of least.old (time_faults reading at) }
+{
+    match reading {
+        Reading::Equation | Reading::Clause => {}
+        Reading::Constant => note(least, NameErr::Misused { at }),
+    }
+}
+
+// Notes the faults of a reference.
+#[cycle(naming)]
+#[tactic(auto, using(crate::proofs::LeastLemmas::least_of_append))]
+fn check_reference(
+    declared: &BTreeMap<&[u8], Standing>,
+    loops: &[Name],
+    want: Wanted,
+    target: &Ref,
+    least: &mut Option<NameErr>,
+)
+    ensures { least.new ≡ least_of least.old (reference_faults want (standing_in loops.now (standing_at declared.now)) (reference target.now)) }
+{
+    let standing = standing(declared, loops, target.name.bytes());
+    match &target.index {
+        None => note_name(want, false, target.at, standing, least),
+        Some(index) => {
+            note_name(want, true, target.at, standing, least);
+            check_expression(declared, loops, Reading::Constant, index, least);
+        }
+    }
+}
+
+// Notes the faults of names in an expression.
+#[cycle(naming)]
+#[tactic(auto, using(crate::proofs::LeastLemmas::least_of_append))]
+fn check_expression(
+    declared: &BTreeMap<&[u8], Standing>,
+    loops: &[Name],
+    reading: Reading,
+    e: &Expr,
+    least: &mut Option<NameErr>,
+)
+    ensures { least.new ≡ least_of least.old (expression_faults reading (standing_in loops.now (standing_at declared.now)) (expression e.now)) }
+{
+    match e {
+        Expr::Num { .. } => {}
+        Expr::Var(target) => check_reference(declared, loops, reading.wanted(), target, least),
+        Expr::Time { at } => note_time(reading, *at, least),
+        Expr::Pre(target) => {
+            check_reference(declared, loops, reading.wanted_before(), target, least)
+        }
+        Expr::Sum { terms } => check_terms(declared, loops, reading, terms, least),
+        Expr::Product { factors } => check_factors(declared, loops, reading, factors, least),
+        Expr::Pow { base, .. } => check_expression(declared, loops, reading, base, least),
+    }
+}
+
+// Notes the faults of names in terms.
+#[cycle(naming)]
+#[tactic(auto, using(crate::proofs::LeastLemmas::least_of_append))]
+fn check_terms(
+    declared: &BTreeMap<&[u8], Standing>,
+    loops: &[Name],
+    reading: Reading,
+    terms: &[Term],
+    least: &mut Option<NameErr>,
+)
+    ensures { least.new ≡ least_of least.old (terms_faults reading (standing_in loops.now (standing_at declared.now)) (terms_of (map signed terms.now))) }
+{
+    for term in terms {
+        check_expression(declared, loops, reading, &term.value, least);
+    }
+}
+
+// Notes the faults of names in factors.
+#[cycle(naming)]
+#[tactic(auto, using(crate::proofs::LeastLemmas::least_of_append))]
+fn check_factors(
+    declared: &BTreeMap<&[u8], Standing>,
+    loops: &[Name],
+    reading: Reading,
+    factors: &[Factor],
+    least: &mut Option<NameErr>,
+)
+    ensures { least.new ≡ least_of least.old (factors_faults reading (standing_in loops.now (standing_at declared.now)) (factors_of (map scaled factors.now))) }
+{
+    for factor in factors {
+        check_expression(declared, loops, reading, &factor.value, least);
+    }
+}
+
+// Notes the faults of a loop's variable and bounds.
+#[tactic(auto, using(crate::proofs::LeastLemmas::least_of_append))]
+fn check_range(
+    declared: &BTreeMap<&[u8], Standing>,
+    loops: &[Name],
+    var: &Name,
+    at: u32,
+    from: &Expr,
+    to: &Expr,
+    least: &mut Option<NameErr>,
+)
+    ensures { least.new ≡ least_of least.old (range_faults (standing_in loops.now (standing_at declared.now)) (range var.now at (expression from.now) (expression to.now))) }
+{
+    note_taken(at, standing(declared, loops, var.bytes()), least);
+    check_expression(declared, loops, Reading::Constant, from, least);
+    check_expression(declared, loops, Reading::Constant, to, least);
+}
+
+// Notes the faults of a left side and a right side.
+#[tactic(auto, using(crate::proofs::LeastLemmas::least_of_append))]
+fn check_sides(
+    declared: &BTreeMap<&[u8], Standing>,
+    loops: &[Name],
+    want: Wanted,
+    reading: Reading,
+    target: &Ref,
+    value: &Expr,
+    least: &mut Option<NameErr>,
+)
+    ensures { least.new ≡ least_of least.old (sides_faults want reading (standing_in loops.now (standing_at declared.now)) (reference target.now) (expression value.now)) }
+{
+    check_reference(declared, loops, want, target, least);
+    check_expression(declared, loops, reading, value, least);
+}
+
+// The loops around what a loop over a variable holds.
+fn inner_loops(alloc: Global, loops: &[Name], var: &Name) -> Result<Vec<Name>, AllocError>
+    ensures { IfOk result (λ inner. inner.items ≡ loops.now ++ var.now ∷ []) }
+{
+    let mut inner = Vec::new(alloc);
+    for name in loops {
+        inner.push(name.copy(alloc)?)?;
+    }
+    inner.push(var.copy(alloc)?)?;
+    Ok(inner)
+}
+
+// Notes the faults of an equation inside loops.
+#[cycle(naming_equations)]
+#[tactic(auto, using(crate::proofs::LeastLemmas::least_of_append))]
+fn check_equation(
+    alloc: Global,
+    declared: &BTreeMap<&[u8], Standing>,
+    loops: &[Name],
+    one: &Equation,
+    least: &mut Option<NameErr>,
+) -> Result<(), AllocError>
+    ensures { OnOk result (least.new ≡ least_of least.old (equation_faults (standing_at declared.now) loops.now (equation one.now))) }
+{
+    match one {
+        Equation::Der { target, value } => {
+            check_sides(
+                declared,
+                loops,
+                Wanted::State,
+                Reading::Equation,
+                target,
+                value,
+                least,
+            );
+            Ok(())
+        }
+        Equation::Plain { target, value } => {
+            check_sides(
+                declared,
+                loops,
+                Wanted::Algebraic,
+                Reading::Equation,
+                target,
+                value,
+                least,
+            );
+            Ok(())
+        }
+        Equation::For {
+            var,
+            at,
+            from,
+            to,
+            body,
+        } => {
+            check_range(declared, loops, var, *at, from, to, least);
+            let inner = inner_loops(alloc, loops, var)?;
+            check_equations(alloc, declared, &inner, body, least)
+        }
+    }
+}
+
+/// Notes the faults of equations inside loops.
+#[cycle(naming_equations)]
+#[tactic(auto, using(crate::proofs::LeastLemmas::least_of_append))]
+pub fn check_equations(
+    alloc: Global,
+    declared: &BTreeMap<&[u8], Standing>,
+    loops: &[Name],
+    equations: &[Equation],
+    least: &mut Option<NameErr>,
+) -> Result<(), AllocError>
+    ensures { OnOk result (least.new ≡ least_of least.old (equations_faults (standing_at declared.now) loops.now (equations_of (map equation equations.now)))) }
+{
+    for one in equations {
+        check_equation(alloc, declared, loops, one, least)?;
+    }
+    Ok(())
+}
+
+// Notes the faults of a statement of a clause.
+#[cycle(naming_statements)]
+#[tactic(auto, using(crate::proofs::LeastLemmas::least_of_append))]
+fn check_statement(
+    alloc: Global,
+    declared: &BTreeMap<&[u8], Standing>,
+    loops: &[Name],
+    one: &Statement,
+    least: &mut Option<NameErr>,
+) -> Result<(), AllocError>
+    ensures { OnOk result (least.new ≡ least_of least.old (statement_faults (standing_at declared.now) loops.now (statement one.now))) }
+{
+    match one {
+        Statement::Set { target, value } => {
+            check_sides(
+                declared,
+                loops,
+                Wanted::Discrete,
+                Reading::Clause,
+                target,
+                value,
+                least,
+            );
+            Ok(())
+        }
+        Statement::Reinit { target, value } => {
+            check_sides(
+                declared,
+                loops,
+                Wanted::State,
+                Reading::Clause,
+                target,
+                value,
+                least,
+            );
+            Ok(())
+        }
+        Statement::For {
+            var,
+            at,
+            from,
+            to,
+            body,
+        } => {
+            check_range(declared, loops, var, *at, from, to, least);
+            let inner = inner_loops(alloc, loops, var)?;
+            check_statements(alloc, declared, &inner, body, least)
+        }
+    }
+}
+
+// Notes the faults of statements of a clause.
+#[cycle(naming_statements)]
+#[tactic(auto, using(crate::proofs::LeastLemmas::least_of_append))]
+fn check_statements(
+    alloc: Global,
+    declared: &BTreeMap<&[u8], Standing>,
+    loops: &[Name],
+    statements: &[Statement],
+    least: &mut Option<NameErr>,
+) -> Result<(), AllocError>
+    ensures { OnOk result (least.new ≡ least_of least.old (statements_faults (standing_at declared.now) loops.now (statements_of (map statement statements.now)))) }
+{
+    for one in statements {
+        check_statement(alloc, declared, loops, one, least)?;
+    }
+    Ok(())
+}
+
+// Notes the faults of an assignment of a start value.
+#[cycle(naming_starts)]
+#[tactic(auto, using(crate::proofs::LeastLemmas::least_of_append))]
+fn check_start(
+    alloc: Global,
+    declared: &BTreeMap<&[u8], Standing>,
+    loops: &[Name],
+    one: &Statement,
+    least: &mut Option<NameErr>,
+) -> Result<(), AllocError>
+    ensures { OnOk result (least.new ≡ least_of least.old (start_faults (standing_at declared.now) loops.now (statement one.now))) }
+{
+    match one {
+        Statement::Set { target, value } => {
+            check_sides(
+                declared,
+                loops,
+                Wanted::Started,
+                Reading::Constant,
+                target,
+                value,
+                least,
+            );
+            Ok(())
+        }
+        Statement::Reinit { .. } => Ok(()),
+        Statement::For {
+            var,
+            at,
+            from,
+            to,
+            body,
+        } => {
+            check_range(declared, loops, var, *at, from, to, least);
+            let inner = inner_loops(alloc, loops, var)?;
+            check_starts(alloc, declared, &inner, body, least)
+        }
+    }
+}
+
+/// Notes the faults of assignments of start values.
+#[cycle(naming_starts)]
+#[tactic(auto, using(crate::proofs::LeastLemmas::least_of_append))]
+pub fn check_starts(
+    alloc: Global,
+    declared: &BTreeMap<&[u8], Standing>,
+    loops: &[Name],
+    statements: &[Statement],
+    least: &mut Option<NameErr>,
+) -> Result<(), AllocError>
+    ensures { OnOk result (least.new ≡ least_of least.old (starts_faults (standing_at declared.now) loops.now (statements_of (map statement statements.now)))) }
+{
+    for one in statements {
+        check_start(alloc, declared, loops, one, least)?;
+    }
+    Ok(())
+}
+
+// Notes the faults of a branch.
+#[tactic(auto, using(crate::proofs::LeastLemmas::least_of_append))]
+fn check_branch(
+    alloc: Global,
+    declared: &BTreeMap<&[u8], Standing>,
+    loops: &[Name],
+    one: &Branch,
+    least: &mut Option<NameErr>,
+) -> Result<(), AllocError>
+    ensures { OnOk result (least.new ≡ least_of least.old (branch_faults (standing_at declared.now) loops.now (branch one.now))) }
+{
+    check_expression(declared, loops, Reading::Clause, &one.cond.left, least);
+    check_expression(declared, loops, Reading::Clause, &one.cond.right, least);
+    check_statements(alloc, declared, loops, &one.body, least)
+}
+
+// Notes the faults of branches.
+#[tactic(auto, using(crate::proofs::LeastLemmas::least_of_append))]
+fn check_branches(
+    alloc: Global,
+    declared: &BTreeMap<&[u8], Standing>,
+    loops: &[Name],
+    branches: &[Branch],
+    least: &mut Option<NameErr>,
+) -> Result<(), AllocError>
+    ensures { OnOk result (least.new ≡ least_of least.old (branches_faults (standing_at declared.now) loops.now (map branch branches.now))) }
+{
+    for one in branches {
+        check_branch(alloc, declared, loops, one, least)?;
+    }
+    Ok(())
+}
+
+// Notes the faults of a clause.
+#[cycle(naming_clauses)]
+#[tactic(auto, using(crate::proofs::LeastLemmas::least_of_append))]
+fn check_clause(
+    alloc: Global,
+    declared: &BTreeMap<&[u8], Standing>,
+    loops: &[Name],
+    one: &Clause,
+    least: &mut Option<NameErr>,
+) -> Result<(), AllocError>
+    ensures { OnOk result (least.new ≡ least_of least.old (clause_faults (standing_at declared.now) loops.now (clause one.now))) }
+{
+    match one {
+        Clause::When { branches } => check_branches(alloc, declared, loops, branches, least),
+        Clause::For {
+            var,
+            at,
+            from,
+            to,
+            body,
+        } => {
+            check_range(declared, loops, var, *at, from, to, least);
+            let inner = inner_loops(alloc, loops, var)?;
+            check_clauses(alloc, declared, &inner, body, least)
+        }
+    }
+}
+
+/// Notes the faults of clauses.
+#[cycle(naming_clauses)]
+#[tactic(auto, using(crate::proofs::LeastLemmas::least_of_append))]
+pub fn check_clauses(
+    alloc: Global,
+    declared: &BTreeMap<&[u8], Standing>,
+    loops: &[Name],
+    clauses: &[Clause],
+    least: &mut Option<NameErr>,
+) -> Result<(), AllocError>
+    ensures { OnOk result (least.new ≡ least_of least.old (clauses_faults (standing_at declared.now) loops.now (clauses_of (map clause clauses.now)))) }
+{
+    for one in clauses {
+        check_clause(alloc, declared, loops, one, least)?;
+    }
+    Ok(())
+}
