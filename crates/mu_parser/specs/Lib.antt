@@ -1,0 +1,4 @@
+pub mod ConditionViews
+pub mod ItemViews
+pub mod ModelViews
+pub mod Views

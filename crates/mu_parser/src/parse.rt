@@ -1,0 +1,57 @@
+// Reads the model that tokens spell.
+
+ghost use Rattle.std.specs.Prelude.{◌≡◌, ◌<◌, ◌≤◌, ◌^◌, All, IfErr, IfOk, List, Ok, Err, length, ℕ};
+ghost use Rattle.mu_lexer.specs.Reading.{IsWithin};
+ghost use Rattle.mu_tree.specs.ModelTree.{ModelTree, model};
+ghost use Rattle.mu_grammar.specs.declared.fault.ParseErr.{ParseErr};
+ghost use Rattle.mu_grammar.specs.Fronts.{Gives, IsFault};
+ghost use Rattle.mu_grammar.specs.Models.{SpellsModel};
+ghost use Rattle.mu_grammar.specs.Symbols.{symbols};
+
+use crate::model::{Next, advance};
+use crate::state::{State, Then};
+pub use mu_grammar::fault::ParseErr;
+use mu_grammar::shape::Fixed;
+use mu_lexer::token::Token;
+use mu_tree::tree::Model;
+use std::alloc::Global;
+
+/// The model that the tokens of this source spell, nested at most 64 deep. Brackets of all three kinds nest, and `for` and
+/// `when`. The offsets in the model are those of the source.
+///
+/// `Syntax` names the first token such that the tokens up to and with it begin no model, however deep, or the number of
+/// tokens where they end too early. `Deep` names the first one such that they begin only deeper models. `Memory` is want of
+/// memory.
+pub fn parse(alloc: Global, source: &[u8], tokens: &[Token]) -> Result<Model, ParseErr>
+    requires few { length tokens.now < 2 ^ 32 }
+    requires spans { All (IsWithin source.now) tokens.now }
+    ensures spelled { IfOk result (λ m. SpellsModel 64 (symbols source.now tokens.now) (model m)) }
+    ensures only { (m : ModelTree) → SpellsModel 64 (symbols source.now tokens.now) m → Gives model m result }
+    ensures fault { IfErr result (IsFault SpellsModel 64 (symbols source.now tokens.now)) }
+{
+    let mut state = State::Expects(Fixed::ModelWord, Then::ModelName);
+    for (i, token) in tokens.iter().enumerate() {
+        let text = &source[token.start as usize..token.end as usize];
+        match advance(alloc, state, token.kind, text, token.start)? {
+            Next::Going(next) => state = next,
+            Next::Done(whole) => return finished(whole, i + 1, tokens.len()),
+            Next::Wrong => return Err(ParseErr::Syntax { token: i as u32 }),
+            Next::TooDeep => return Err(ParseErr::Deep { token: i as u32 }),
+        }
+    }
+    Err(ParseErr::Syntax {
+        token: tokens.len() as u32,
+    })
+}
+
+// The model, if all tokens are read.
+fn finished(whole: Model, read: usize, all: usize) -> Result<Model, ParseErr>
+    requires { all < 2 ^ 32 }
+    ensures more { read < all → result ≡ Err (ParseErr.Syntax read) }
+    ensures end { all ≤ read → result ≡ Ok whole }
+{
+    if read < all {
+        return Err(ParseErr::Syntax { token: read as u32 });
+    }
+    Ok(whole)
+}
