@@ -5,6 +5,7 @@ pub mod MachineLimits
 pub mod SourceReading
 pub mod OneStep
 pub mod RunLines
+pub mod TreeFacts
 pub mod Existence
 pub mod OutcomeFacts
 pub mod Tellings

@@ -7,7 +7,9 @@ use Rattle.mu_io.specs.Sinks.{AppendsPrefix}
 use Rattle.qss_machine.specs.Runs.{run_rows}
 use Rattle.qss_machine.specs.declared.system.Machine.{Machine}
 use Rattle.qss_rows.specs.Lines.{header, name_of, lines_of}
-use Rattle.qss_top.specs.Answers.{printed}
+use Rattle.mu_tree.specs.Canonical.{canonical_text}
+use Rattle.mu_tree.specs.ModelTree.{ModelTree}
+use Rattle.qss_top.specs.Answers.{printed, printed_text}
 use Rattle.qss_top.specs.OneState.{floor_run, EndsAt}
 use Rattle.qss_top.specs.Outcomes.{IsOutcome}
 use Rattle.qss_top.specs.declared.outcome.Outcome.TheVariants as outcome
@@ -49,3 +51,10 @@ run_over m name tick old mid now before later first written named end =
       prefix = whole_prefix old now (header ++ run_lines m) whole;
       quiet = λ e. absurd (cc e);
     }
+
+-- the text of a model was written, or a part of it
+pub text_done : (tree : ModelTree) (old now : Option (List ℕ)) (before later : ℕ) → Appends old now (canonical_text tree) → later ≡ before → IsOutcome (printed_text tree) outcome.Done old now before later
+text_done tree old now before later written calm = record { defined = λ e. (refl, refl, written); prefix = whole_prefix old now (canonical_text tree) written; quiet = λ e. calm }
+
+pub text_cut : (tree : ModelTree) (old now : Option (List ℕ)) (before later : ℕ) → AppendsPrefix old now (canonical_text tree) → IsOutcome (printed_text tree) outcome.WriteFault old now before later
+text_cut tree old now before later p = record { defined = λ e. absurd (cc e); prefix = p; quiet = λ e. absurd (cc e) }

@@ -4,16 +4,21 @@ use Rattle.std.specs.declared.option.Option.{Option}
 use Rattle.std.specs.Prelude.{MatchBool}
 use Rattle.mu_io.specs.Files.{Files, file_of}
 use Rattle.mu_num.specs.Levels.{floor_level}
+use Rattle.mu_tree.specs.ModelTree.{ModelTree}
 use Rattle.qss_machine.specs.SameData.{HaveSameData}
 use Rattle.qss_machine.specs.declared.system.Machine.{Machine}
 use Rattle.qss_machine.specs.Runs.{run_by}
 use Rattle.qss_machine.proofs.Fields.{same_machine}
 use Rattle.qss_top.specs.FirstForm.{FirstForm}
 use Rattle.qss_top.specs.Meanings.{number_of, IsMachineOf}
-use Rattle.qss_top.specs.Commands.{Command, run_model, command_of}
-use Rattle.qss_top.specs.Answers.{Answer, Told, printed, IsMeaningAnswer, IsRunAnswer, answered, Says, ReadsThen, LeadsTo, Defines}
+use Rattle.qss_top.specs.Commands.{Command, run_model, print_model, command_of}
+use Rattle.qss_top.specs.Answers.{Answer, Told, refusal, refused, printed, printed_text, IsMeaningAnswer, IsTreeAnswer, IsSourceAnswer, IsRunAnswer, IsPrintAnswer, answered, Says, ReadsThen, LeadsTo, Defines}
 use Rattle.qss_top.specs.Laws.{MeaningsAreUnique, AnswersAreUnique}
+use Rattle.qss_top.specs.Trees.{SpellsTree, IsRefusedBy}
+use Rattle.qss_top.specs.declared.status.Status.TheVariants as ends
+use Rattle.qss_top.specs.declared.tree.Refusal.{Refusal}
 use Rattle.qss_top.proofs.Sources.{one_form}
+use Rattle.qss_top.proofs.TreeFacts.{one_tree, one_refusal, no_both}
 
 same_data : (s : FirstForm) (m n : Machine) → IsMachineOf s m → IsMachineOf s n → HaveSameData m n
 same_data s m n a b =
@@ -48,8 +53,20 @@ one_choice : (r a b : Answer) (P : Answer → Type 0) → (P a → P b → a ≡
 one_choice r a b P one true p q = p ∙ sym q
 one_choice r a b P one false p q = one p q
 
+pub one_answer : (bytes : List ℕ) (P : ModelTree → Answer → Type 0) → ((tree : ModelTree) (a b : Answer) → P tree a → P tree b → a ≡ b) → (a b : Answer) → IsTreeAnswer bytes P a → IsTreeAnswer bytes P b → a ≡ b
+one_answer bytes P one a b (inl p) (inl q) = p.2 ∙ ap (λ (r : Refusal). refusal ends.ModelRefused (refused r)) (one_refusal bytes p.0 q.0 p.1 q.1) ∙ sym q.2
+one_answer bytes P one a b (inl p) (inr q) = absurd (no_both bytes p.0 q.0 p.1 q.1)
+one_answer bytes P one a b (inr p) (inl q) = absurd (no_both bytes q.0 p.0 q.1 p.1)
+one_answer bytes P one a b (inr p) (inr q) = one p.0 a b p.2 (subst (λ (tree : ModelTree). P tree b) (one_tree bytes q.0 p.0 q.1 p.1) q.2)
+
+one_source : (bytes : List ℕ) (P : ModelTree → Answer → Type 0) → ((tree : ModelTree) (a b : Answer) → P tree a → P tree b → a ≡ b) → (a b : Answer) → IsSourceAnswer bytes P a → IsSourceAnswer bytes P b → a ≡ b
+one_source bytes P one a b p q = one_choice _ a b (IsTreeAnswer bytes P) (one_answer bytes P one a b) (nat_lt (2 ^ 20) (length bytes)) p q
+
 one_run : (bytes : List ℕ) (a b : Answer) → IsRunAnswer bytes a → IsRunAnswer bytes b → a ≡ b
-one_run bytes a b p q = one_choice _ a b (IsMeaningAnswer bytes) (one_meaning bytes a b) (nat_lt (2 ^ 20) (length bytes)) p q
+one_run bytes a b p q = one_source bytes (λ tree. IsMeaningAnswer bytes) (λ tree. one_meaning bytes) a b p q
+
+one_print : (bytes : List ℕ) (a b : Answer) → IsPrintAnswer bytes a → IsPrintAnswer bytes b → a ≡ b
+one_print bytes a b p q = one_source bytes (λ tree answer. answer ≡ printed_text tree) (λ tree c d e f. e ∙ sym f) a b p q
 
 one_says : (P : Answer → Type 0) → ((a b : Answer) → P a → P b → a ≡ b) → (s t : Told) → Says P s → Says P t → s ≡ t
 one_says P one s t p q = p.2 ∙ ap (λ (answer : Answer). record { arrivals = []; reply = answered answer }) (one p.0 q.0 p.1 q.1) ∙ sym q.2
@@ -63,6 +80,8 @@ one_read name Leads one (Some bytes) s t p q =
 one_command : (command : Command) (files : Files) (s t : Told) → LeadsTo command files s → LeadsTo command files t → s ≡ t
 one_command (run_model model) files s t p q =
     one_read model (λ bytes. Says (IsRunAnswer bytes)) (λ bytes. one_says (IsRunAnswer bytes) (one_run bytes)) (file_of files model) s t p q
+one_command (print_model model) files s t p q =
+    one_read model (λ bytes. Says (IsPrintAnswer bytes)) (λ bytes. one_says (IsPrintAnswer bytes) (one_print bytes)) (file_of files model) s t p q
 
 one_told : (command : Option Command) (files : Option Files) (s t : Told) → Defines command files s → Defines command files t → s ≡ t
 one_told None files s t p q = one_says _ (λ a b e f. e ∙ sym f) s t p q

@@ -1,8 +1,8 @@
 -- The status and the line of an outcome, for what is told.
 use Rattle.std.proofs.Common.{◌≡◌, ◌≢◌, ◌⊎◌, true, ℕ, List, refl, sym, ap, ◌∙◌, subst, inl, inr}
 use Rattle.std.specs.declared.option.Option.{Option}
-use Rattle.qss_top.specs.Answers.{Reply, answered, absent, untold, Tells}
-use Rattle.qss_top.specs.Outcomes.{HasLine, status_of, line_of, IsReported}
+use Rattle.qss_top.specs.Answers.{Line, Reply, answered, absent, untold, Tells}
+use Rattle.qss_top.specs.Outcomes.{HasLine, status_of, line_of, takes_memory, IsReported}
 use Rattle.qss_top.specs.Statuses.{is_defined, leaves_out}
 use Rattle.qss_top.specs.TopCall.{IsReplied, IsReplyLine, IsLineOf}
 use Rattle.qss_top.specs.declared.outcome.Outcome.{Outcome}
@@ -10,19 +10,19 @@ use Rattle.qss_top.specs.declared.outcome.Outcome.TheVariants as outcome
 use Rattle.qss_top.specs.declared.status.Status.{Status}
 use Rattle.qss_top.specs.declared.status.Status.TheVariants as ends
 
--- the status is that of the outcome, but for an overflow whose line found no memory
+-- the status is that of the outcome, but for a line that found no memory
 abbrev pub IsStatus : Status → Outcome → Type 0
-IsStatus status what = (status ≡ status_of what) ⊎ ((status ≡ ends.Memory) × (status_of what ≡ ends.Overflow))
+IsStatus status what = (status ≡ status_of what) ⊎ ((status ≡ ends.Memory) × (takes_memory (status_of what) ≡ true))
 
-in_memory : (reply : Reply) (old new : Option (List ℕ)) → IsReplied reply ends.Overflow old new → IsReplied reply ends.Memory old new
-in_memory (answered answer) old new h = λ e. absurd (cc e)
-in_memory absent old new h = inr refl
-in_memory untold old new h = tt
+in_memory : (reply : Reply) (s : Status) (old new : Option (List ℕ)) → takes_memory s ≡ true → IsReplied reply s old new → IsReplied reply ends.Memory old new
+in_memory (answered answer) s old new m h = λ e. absurd (cc e)
+in_memory absent s old new m h = inr refl
+in_memory (untold command) s old new m h = λ e. absurd (cc e)
 
 pub replied : (reply : Reply) (status : Status) (what : Outcome) (old new : Option (List ℕ)) → IsStatus status what → IsReplied reply (status_of what) old new → IsReplied reply status old new
 replied reply status what old new (inl e) h = subst (λ (s : Status). IsReplied reply s old new) (sym e) h
 replied reply status what old new (inr e) h =
-    subst (λ (s : Status). IsReplied reply s old new) (sym e.0) (in_memory reply old new (subst (λ (s : Status). IsReplied reply s old new) e.1 h))
+    subst (λ (s : Status). IsReplied reply s old new) (sym e.0) (in_memory reply (status_of what) old new e.1 h)
 
 pub defined_of : (status : Status) (what : Outcome) → IsStatus status what → is_defined status ≡ true → is_defined (status_of what) ≡ true
 defined_of status what (inl e) d = sym (ap is_defined e) ∙ d
@@ -44,6 +44,7 @@ read_is outcome.ReadFault e = refl
 read_is outcome.WriteFault e = absurd (cc e)
 read_is outcome.TooLong e = absurd (cc e)
 read_is outcome.NoForm e = absurd (cc e)
+read_is (outcome.Refused r) e = absurd (cc e)
 read_is (outcome.Overflow name tick) e = absurd (cc e)
 read_is outcome.Memory e = absurd (cc e)
 
@@ -54,6 +55,7 @@ write_is outcome.ReadFault e = absurd (cc e)
 write_is outcome.WriteFault e = refl
 write_is outcome.TooLong e = absurd (cc e)
 write_is outcome.NoForm e = absurd (cc e)
+write_is (outcome.Refused r) e = absurd (cc e)
 write_is (outcome.Overflow name tick) e = absurd (cc e)
 write_is outcome.Memory e = absurd (cc e)
 
@@ -64,6 +66,7 @@ done_is outcome.ReadFault e = absurd (cc e)
 done_is outcome.WriteFault e = absurd (cc e)
 done_is outcome.TooLong e = absurd (cc e)
 done_is outcome.NoForm e = absurd (cc e)
+done_is (outcome.Refused r) e = absurd (cc e)
 done_is (outcome.Overflow name tick) e = absurd (cc e)
 done_is outcome.Memory e = absurd (cc e)
 
@@ -74,6 +77,7 @@ usage_is outcome.ReadFault e = absurd (cc e)
 usage_is outcome.WriteFault e = absurd (cc e)
 usage_is outcome.TooLong e = absurd (cc e)
 usage_is outcome.NoForm e = absurd (cc e)
+usage_is (outcome.Refused r) e = absurd (cc e)
 usage_is (outcome.Overflow name tick) e = absurd (cc e)
 usage_is outcome.Memory e = absurd (cc e)
 
@@ -90,17 +94,17 @@ pub usage_of : (status : Status) (what : Outcome) → IsStatus status what → s
 usage_of status what h e = usage_is what (sym e ∙ same_status status what h (λ m. absurd (cc (e, m))))
 
 -- the other way round
-pub status_by : (status : Status) (what : Outcome) → IsStatus status what → status_of what ≢ ends.Overflow → status ≡ status_of what
+pub status_by : (status : Status) (what : Outcome) → IsStatus status what → takes_memory (status_of what) ≢ true → status ≡ status_of what
 status_by status what (inl e) other = e
 status_by status what (inr e) other = absurd (other e.1)
 
 pub no_write : (status : Status) (what : Outcome) → IsStatus status what → status ≢ ends.WriteFault → what ≢ outcome.WriteFault
-no_write status what h other e = other (status_by status what h (λ o. absurd (cc (ap status_of e, o))) ∙ ap status_of e)
+no_write status what h other e = other (status_by status what h (λ o. absurd (cc (ap (λ (w : Outcome). takes_memory (status_of w)) e, o))) ∙ ap status_of e)
 
 tells_reply : (reply : Reply) (what : Outcome) (line : List ℕ) → HasLine reply (line_of what) → Tells (line_of what) line → IsReplyLine reply line
 tells_reply (answered answer) what line has tells = rw has at tells
 tells_reply absent what line has tells = tt
-tells_reply untold what line has tells = tt
+tells_reply (untold command) what line has tells = (has.0, has.1, has.2, has.3, has.4, subst (λ (l : Line). Tells l line) has.5 tells)
 
 pub line_is : (status : Status) (reply : Reply) (what : Outcome) (line : List ℕ) → (is_defined status ≡ true → HasLine reply (line_of what)) → IsReported status what line → IsLineOf status reply line
 line_is ends.Ok reply what line has h = h

@@ -2,13 +2,17 @@
 use Rattle.std.specs.Prelude.{◌≡◌, ◌⊎◌, ℕ, ◌+◌, ◌^◌, List, [], ◌∷◌, ◌++◌, length, nat_lt, codes, decimal, Option, Some, None, MatchBool}
 use Rattle.mu_io.specs.Files.{Files, file_of}
 use Rattle.mu_num.specs.Levels.{floor_level}
+use Rattle.mu_tree.specs.Canonical.{canonical_text}
+use Rattle.mu_tree.specs.ModelTree.{ModelTree}
 use Rattle.qss_machine.specs.Runs.{Run, run_by, run_rows}
 use Rattle.qss_machine.specs.declared.system.Machine.{Machine}
 use Rattle.qss_rows.specs.Lines.{header, name_of, lines_of}
-use Rattle.qss_top.specs.Commands.{Command, run_model, command_of, files_of}
+use Rattle.qss_top.specs.Commands.{Command, run_model, print_model, command_of, files_of}
 use Rattle.qss_top.specs.Meanings.{Means}
+use Rattle.qss_top.specs.Trees.{SpellsTree, IsRefusedBy, phase_text}
 use Rattle.qss_top.specs.declared.status.Status.{Status}
 use Rattle.qss_top.specs.declared.status.Status.TheVariants as ends
+use Rattle.qss_top.specs.declared.tree.Refusal.{Refusal}
 
 -- what the line on err says of an answer
 pub data Line : Type 0 where
@@ -16,6 +20,7 @@ pub data Line : Type 0 where
   usage : Line
   too_long : Line
   no_form : Line
+  refused : Refusal → Line
   over : (name : List ℕ) → (tick : ℕ) → Line
 
 -- the text says that
@@ -24,6 +29,7 @@ Tells quiet text = text ≡ []
 Tells usage text = text ≡ codes "usage: qss VERB [WORD] [WORD] [--rule RULE] [--only NAME]\n"
 Tells too_long text = text ≡ codes "refused: top 1\n"
 Tells no_form text = text ≡ codes "refused: top 2\n"
+Tells (refused r) text = text ≡ codes "refused: " ++ phase_text r.phase ++ codes " " ++ decimal r.number ++ codes " " ++ decimal r.place ++ codes "\n"
 Tells (over name tick) text = text ≡ codes "overflow: " ++ name ++ codes " at tick " ++ decimal tick ++ codes "\n"
 
 -- an answer: how the program ends, what out gains, and what the line on err says
@@ -55,22 +61,40 @@ line_of_run m run = line_by run.overflow
 abbrev pub printed : Machine → Run → Answer
 printed m run = record { status = status_of_run run; out = header ++ lines_of m (run_rows m run); line = line_of_run m run }
 
--- the answer to `run` on a source of at most 2^20 bytes: refused where it means no machine, else the run of its machine by the rule `floor`
+-- the answer to `run` on a source that spells a model: refused where it means no machine, else the run of its machine by the rule `floor`
 abbrev pub IsMeaningAnswer : List ℕ → Answer → Type 0
 IsMeaningAnswer bytes answer =
     (((m : Machine) → ¬ Means bytes m) × (answer ≡ refusal ends.ModelRefused no_form))
     ⊎ ((m : Machine) × Means bytes m × (answer ≡ printed m (run_by floor_level m)))
 
+-- the answer that prints a model
+abbrev pub printed_text : ModelTree → Answer
+printed_text tree = record { status = ends.Ok; out = canonical_text tree; line = quiet }
+
+-- the answer to a source of at most 2^20 bytes: refused where it spells no model, else an answer to its model
+abbrev pub IsTreeAnswer : List ℕ → (ModelTree → Answer → Type 0) → Answer → Type 0
+IsTreeAnswer bytes IsAnswer answer =
+    ((r : Refusal) × IsRefusedBy bytes r × (answer ≡ refusal ends.ModelRefused (refused r)))
+    ⊎ ((tree : ModelTree) × SpellsTree bytes tree × IsAnswer tree answer)
+
+-- the answer to a source
+abbrev pub IsSourceAnswer : List ℕ → (ModelTree → Answer → Type 0) → Answer → Type 0
+IsSourceAnswer bytes IsAnswer answer =
+    MatchBool (nat_lt (2 ^ 20) (length bytes)) (answer ≡ refusal ends.ModelRefused too_long) (IsTreeAnswer bytes IsAnswer answer)
+
 -- the answer to `run` on a source
 abbrev pub IsRunAnswer : List ℕ → Answer → Type 0
-IsRunAnswer bytes answer =
-    MatchBool (nat_lt (2 ^ 20) (length bytes)) (answer ≡ refusal ends.ModelRefused too_long) (IsMeaningAnswer bytes answer)
+IsRunAnswer bytes answer = IsSourceAnswer bytes (λ tree. IsMeaningAnswer bytes) answer
 
--- what is replied: an answer; none, since a file is not on the shelf; or nothing that can be known, since the shelf does not tell its files
+-- the answer to `print` on a source
+abbrev pub IsPrintAnswer : List ℕ → Answer → Type 0
+IsPrintAnswer bytes answer = IsSourceAnswer bytes (λ tree answer. answer ≡ printed_text tree) answer
+
+-- what is replied: an answer; none, since a file is not on the shelf; or an answer to this command that cannot be named, since the shelf does not tell its files
 pub data Reply : Type 0 where
   answered : Answer → Reply
   absent : Reply
-  untold : Reply
+  untold : Command → Reply
 
 -- what is told: the files at which it arrives, in order, and the reply
 pub record Told : Type 0 where
@@ -92,10 +116,15 @@ Reads files name Leads told = ReadsThen name Leads (file_of files name) told
 -- a command on these files leads to what is told
 abbrev pub LeadsTo : Command → Files → Told → Type 0
 LeadsTo (run_model model) files told = Reads files model (λ bytes. Says (IsRunAnswer bytes)) told
+LeadsTo (print_model model) files told = Reads files model (λ bytes. Says (IsPrintAnswer bytes)) told
 
--- the same where the shelf may not tell its files
+-- on some files the answer to the command is such a one
+abbrev pub MayAnswer : Command → (Answer → Type 0) → Type 0
+MayAnswer command IsSuch = (files : Files) × (told : Told) × (answer : Answer) × LeadsTo command files told × (told.reply ≡ answered answer) × IsSuch answer
+
+-- what the command leads to where the shelf may not tell its files
 abbrev pub LeadsFrom : Command → Option Files → Told → Type 0
-LeadsFrom command None told = told ≡ record { arrivals = files_of command; reply = untold }
+LeadsFrom command None told = told ≡ record { arrivals = files_of command; reply = untold command }
 LeadsFrom command (Some files) told = LeadsTo command files told
 
 -- what words and files define: words that are no command are answered so, whatever the files are

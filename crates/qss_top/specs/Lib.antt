@@ -1,5 +1,6 @@
 pub mod FirstForm
 pub mod Meanings
+pub mod Trees
 pub mod Commands
 pub mod Words
 pub mod Answers

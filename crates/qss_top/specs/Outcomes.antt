@@ -1,8 +1,8 @@
 -- What became of a command, and what it meets of what is told.
-use Rattle.std.specs.Prelude.{◌≡◌, ℕ, List, [], codes, Contains, true, Option, Some, IfSome}
+use Rattle.std.specs.Prelude.{◌≡◌, ℕ, List, [], codes, Contains, Bool, true, false, Option, Some, IfSome}
 use Rattle.std.specs.Io.KnownBytes.{Appends}
 use Rattle.mu_io.specs.Sinks.{AppendsPrefix}
-use Rattle.qss_top.specs.Answers.{Answer, Line, quiet, usage, too_long, no_form, over, Reply, answered, absent, untold, Told, Tells}
+use Rattle.qss_top.specs.Answers.{Answer, Line, quiet, usage, too_long, no_form, refused, over, Reply, answered, absent, untold, MayAnswer, Told, Tells}
 use Rattle.qss_top.specs.Statuses.{is_defined}
 use Rattle.qss_top.specs.TopCall.{IsReplied, text_of, SomeRose}
 use Rattle.qss_top.specs.declared.outcome.Outcome.{Outcome}
@@ -18,6 +18,7 @@ status_of outcome.ReadFault = ends.ReadFault
 status_of outcome.WriteFault = ends.WriteFault
 status_of outcome.TooLong = ends.ModelRefused
 status_of outcome.NoForm = ends.ModelRefused
+status_of (outcome.Refused r) = ends.ModelRefused
 status_of (outcome.Overflow name tick) = ends.Overflow
 status_of outcome.Memory = ends.Memory
 
@@ -29,8 +30,15 @@ line_of outcome.ReadFault = quiet
 line_of outcome.WriteFault = quiet
 line_of outcome.TooLong = too_long
 line_of outcome.NoForm = no_form
+line_of (outcome.Refused r) = refused r
 line_of (outcome.Overflow name tick) = over name tick
 line_of outcome.Memory = quiet
+
+-- whether a line of this status may be made in memory
+abbrev pub takes_memory : Status → Bool
+takes_memory ends.ModelRefused = true
+takes_memory ends.Overflow = true
+takes_memory _ = false
 
 -- the outcome is that of the answer, or a write fault or want of memory, and no more than the answer's text was written
 pub record IsOutcome (answer : Answer) (what : Outcome) (old new : Option (List ℕ)) (before now : ℕ) : Type 0 where
@@ -42,7 +50,7 @@ pub record IsOutcome (answer : Answer) (what : Outcome) (old new : Option (List 
 abbrev pub HasLine : Reply → Line → Type 0
 HasLine (answered answer) line = line ≡ answer.line
 HasLine absent line = Unit {0}
-HasLine untold line = Unit {0}
+HasLine (untold command) line = MayAnswer command (λ answer. line ≡ answer.line)
 
 -- the outcome is one for what is told: its status, its line and what was written, and which counts rose
 pub record Meets (told : Told) (what : Outcome) (old new : Option (List ℕ)) (out_before out_now : ℕ) (before now : List ℕ → ℕ) : Type 0 where

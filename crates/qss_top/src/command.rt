@@ -1,19 +1,23 @@
 // The commands: what the words ask for, and what is done for it.
-ghost use Rattle.std.specs.Prelude.{◌≡◌, ◌≢◌, ◌≤◌, ◌↔◌, ◌^◌, [], ◌∷◌, true, false, map, option_map, None, ℕ, List};
+ghost use Rattle.std.specs.Prelude.{length, ◌≡◌, ◌≢◌, ◌≤◌, ◌↔◌, ◌^◌, [], ◌∷◌, true, false, map, option_map, None, ℕ, List};
 ghost use Rattle.mu_io.specs.Faults.{OnlyCounts};
+ghost use Rattle.mu_tree.specs.ModelTree.{model};
 ghost use Rattle.qss_rows.specs.Lines.{name_of};
-ghost use Rattle.qss_top.specs.Answers.{Answer, Told, IsMeaningAnswer, printed, LeadsFrom, IsTold};
-ghost use Rattle.qss_top.specs.Commands.{run_model, command_of};
+ghost use Rattle.qss_top.specs.Answers.{Answer, Told, IsMeaningAnswer, IsTreeAnswer, printed, printed_text, LeadsFrom, IsTold};
+ghost use Rattle.qss_top.specs.Commands.{command_of};
 ghost use Rattle.qss_top.specs.OneState.{IsSingle, floor_run};
 ghost use Rattle.qss_top.specs.Outcomes.{IsOutcome, Meets, status_of};
 ghost use Rattle.qss_top.specs.Statuses.{leaves_out};
 ghost use Rattle.qss_top.specs.TopCall.{EndsByFault};
-ghost use Rattle.qss_top.specs.Words.{command_in};
+ghost use Rattle.qss_top.specs.Words.{command_in, command_with, IsAnswerTo};
 
 use crate::machine::machine_of;
 use crate::outcome::Outcome;
 use crate::run::{Stop, write_run};
+use crate::tree::{TreeErr, read_model};
 use mu_io::{Name, ReadErr, Shelf, Sink, WriteErr, read_all, write_all};
+use mu_tree::canonical::write_model;
+use mu_tree::tree::Model;
 use qss_machine::Machine;
 use qss_rows::header;
 use std::alloc::Global;
@@ -25,6 +29,14 @@ const MODEL_LIMIT: usize = 1 << 20;
 #[derive(Clone, Copy, Debug)]
 pub enum Request<'a> {
     Run { model: &'a str },
+    Print { model: &'a str },
+}
+
+/// What is done with a model.
+#[derive(Clone, Copy, Debug)]
+pub enum Task {
+    Run,
+    Print,
 }
 
 // What the words ask for, where they are a command.
@@ -33,6 +45,7 @@ fn requested<'a>(words: &[&'a str]) -> Option<Request<'a>>
 {
     match words {
         [verb, model] if *verb == "run" => Some(Request::Run { model }),
+        [verb, model] if *verb == "print" => Some(Request::Print { model }),
         _ => None,
     }
 }
@@ -53,14 +66,21 @@ pub(crate) fn answer<S: Shelf, O: Sink>(
     ensures later { (name : List ℕ) → S.faults shelf.old name ≤ S.faults shelf.new name }
 {
     match requested(words) {
-        Some(Request::Run { model }) => run(alloc, model, shelf, out),
+        Some(Request::Run { model }) => on_file(alloc, Task::Run, model, shelf, out),
+        Some(Request::Print { model }) => on_file(alloc, Task::Print, model, shelf, out),
         None => Outcome::Usage,
     }
 }
 
-// Runs the model in a file.
-fn run<S: Shelf, O: Sink>(alloc: Global, model: &str, shelf: &mut S, out: &mut O) -> Outcome
-    ensures meets { (told : Told) → LeadsFrom (run_model model.now) (S.files shelf.old) told → Meets told result (O.written out.old) (O.written out.new) (O.faults out.old) (O.faults out.new) (S.faults shelf.old) (S.faults shelf.new) }
+// Does this with the model in a file.
+fn on_file<S: Shelf, O: Sink>(
+    alloc: Global,
+    task: Task,
+    model: &str,
+    shelf: &mut S,
+    out: &mut O,
+) -> Outcome
+    ensures meets { (told : Told) → LeadsFrom (command_with task model.now) (S.files shelf.old) told → Meets told result (O.written out.old) (O.written out.new) (O.faults out.old) (O.faults out.new) (S.faults shelf.old) (S.faults shelf.new) }
     ensures not_usage { result ≢ Outcome.Usage }
     ensures untouched { leaves_out (status_of result) ≡ true → out.new ≡ out.old }
     ensures calm { result ≢ Outcome.WriteFault → O.faults out.new ≡ O.faults out.old }
@@ -69,10 +89,58 @@ fn run<S: Shelf, O: Sink>(alloc: Global, model: &str, shelf: &mut S, out: &mut O
     ensures counts { OnlyCounts model.now (S.faults shelf.old) (S.faults shelf.new) }
 {
     match read_all(alloc, shelf, model, MODEL_LIMIT) {
-        Ok(bytes) => run_source(alloc, &bytes, out),
+        Ok(bytes) => on_source(alloc, task, &bytes, out),
         Err(ReadErr::TooLong) => Outcome::TooLong,
         Err(ReadErr::Fault) => Outcome::ReadFault,
         Err(ReadErr::Memory) => Outcome::Memory,
+    }
+}
+
+// Does this with the model that a source spells.
+fn on_source<O: Sink>(alloc: Global, task: Task, bytes: &[u8], out: &mut O) -> Outcome
+    requires { length bytes.now ≤ 2 ^ 20 }
+    ensures outcome { (answer : Answer) → IsTreeAnswer bytes.now (IsAnswerTo task bytes.now) answer → IsOutcome answer result (O.written out.old) (O.written out.new) (O.faults out.old) (O.faults out.new) }
+    ensures not_usage { result ≢ Outcome.Usage }
+    ensures not_read { result ≢ Outcome.ReadFault }
+    ensures untouched { leaves_out (status_of result) ≡ true → out.new ≡ out.old }
+    ensures calm { result ≢ Outcome.WriteFault → O.faults out.new ≡ O.faults out.old }
+    ensures last { result ≡ Outcome.WriteFault → EndsByFault O.written O.faults out.old out.new }
+{
+    match read_model(alloc, bytes) {
+        Ok(tree) => on_tree(alloc, task, bytes, &tree, out),
+        Err(TreeErr::Refused(refusal)) => Outcome::Refused(refusal),
+        Err(TreeErr::Memory) => Outcome::Memory,
+    }
+}
+
+// Does this with a source and its model.
+fn on_tree<O: Sink>(alloc: Global, task: Task, bytes: &[u8], tree: &Model, out: &mut O) -> Outcome
+    ensures outcome { (answer : Answer) → IsAnswerTo task bytes.now (model tree.now) answer → IsOutcome answer result (O.written out.old) (O.written out.new) (O.faults out.old) (O.faults out.new) }
+    ensures not_usage { result ≢ Outcome.Usage }
+    ensures not_read { result ≢ Outcome.ReadFault }
+    ensures untouched { leaves_out (status_of result) ≡ true → out.new ≡ out.old }
+    ensures calm { result ≢ Outcome.WriteFault → O.faults out.new ≡ O.faults out.old }
+    ensures last { result ≡ Outcome.WriteFault → EndsByFault O.written O.faults out.old out.new }
+{
+    match task {
+        Task::Run => run_source(alloc, bytes, out),
+        Task::Print => print_model(alloc, tree, out),
+    }
+}
+
+// Writes the canonical text of a model.
+fn print_model<O: Sink>(alloc: Global, tree: &Model, out: &mut O) -> Outcome
+    ensures outcome { IsOutcome (printed_text (model tree.now)) result (O.written out.old) (O.written out.new) (O.faults out.old) (O.faults out.new) }
+    ensures prints { leaves_out (status_of result) ≡ false }
+    ensures calm { result ≢ Outcome.WriteFault → O.faults out.new ≡ O.faults out.old }
+    ensures last { result ≡ Outcome.WriteFault → EndsByFault O.written O.faults out.old out.new }
+{
+    match write_model(alloc, tree) {
+        Ok(text) => match write_all(out, &text) {
+            Ok(()) => Outcome::Done,
+            Err(WriteErr::Fault) => Outcome::WriteFault,
+        },
+        Err(_) => Outcome::Memory,
     }
 }
 

@@ -1,5 +1,10 @@
 // Laws on what sources mean and on what is told.
-ghost use Rattle.qss_top.specs.Laws.{MeaningsAreUnique, AnswersAreUnique, AnswersExist};
+ghost use Rattle.qss_top.specs.Laws.{SourcesAreJudged, MeaningsAreUnique, AnswersAreUnique, AnswersExist};
+
+/// Law: a source spells one model, or is refused for one reason.
+pub fn sources_are_judged()
+    ensures { SourcesAreJudged }
+{}
 
 /// Law: a source means at most one machine.
 pub fn meanings_are_unique()

@@ -10,8 +10,9 @@ mod run;
 mod source;
 mod status;
 mod top;
+mod tree;
 
-pub use laws::{answers_are_unique, answers_exist, meanings_are_unique};
+pub use laws::{answers_are_unique, answers_exist, meanings_are_unique, sources_are_judged};
 pub use status::Status;
 pub use top::qss_main;
 

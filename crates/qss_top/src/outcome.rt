@@ -1,10 +1,11 @@
 // What became of a command, and the line that tells it.
-ghost use Rattle.std.specs.Prelude.{◌≡◌, ◌⊎◌, ◌≤◌, ℕ, List, codes, IfOk};
-ghost use Rattle.qss_top.specs.Answers.{Tells, over};
+ghost use Rattle.std.specs.Prelude.{true, ◌≡◌, ◌⊎◌, ◌≤◌, ℕ, List, codes, IfOk};
+ghost use Rattle.qss_top.specs.Answers.{Tells, over, refused};
 ghost use Rattle.qss_top.specs.Outcomes as Spec;
 ghost use Rattle.qss_top.specs.TopCall.{WritesLine};
 
 use crate::Status;
+use crate::tree::Refusal;
 use mu_io::{Name, Sink, write_all};
 use std::alloc::{AllocError, Global};
 
@@ -17,13 +18,14 @@ pub enum Outcome {
     WriteFault,
     TooLong,
     NoForm,
+    Refused(Refusal),
     Overflow { name: Name, tick: u64 },
     Memory,
 }
 
 /// Writes the line of an outcome. Where the memory for it is not found, that is told in its place.
 pub(crate) fn report<E: Sink>(alloc: Global, outcome: &Outcome, err: &mut E) -> Status
-    ensures status { (result ≡ Spec.status_of outcome.now) ⊎ ((result ≡ Status.Memory) × (Spec.status_of outcome.now ≡ Status.Overflow)) }
+    ensures status { (result ≡ Spec.status_of outcome.now) ⊎ ((result ≡ Status.Memory) × (Spec.takes_memory (Spec.status_of outcome.now) ≡ true)) }
     ensures silent { outcome.now ≡ Outcome.Done → err.new ≡ err.old }
     ensures line { (line : List ℕ) × Spec.IsReported result outcome.now line × WritesLine line (E.written err.old) (E.written err.new) (E.faults err.old) (E.faults err.new) }
     ensures later { E.faults err.old ≤ E.faults err.new }
@@ -39,6 +41,10 @@ pub(crate) fn report<E: Sink>(alloc: Global, outcome: &Outcome, err: &mut E) -> 
         Outcome::WriteFault => tell(Status::WriteFault, b"write fault\n", err),
         Outcome::TooLong => tell(Status::ModelRefused, b"refused: top 1\n", err),
         Outcome::NoForm => tell(Status::ModelRefused, b"refused: top 2\n", err),
+        Outcome::Refused(refusal) => match refusal_text(alloc, *refusal) {
+            Ok(line) => tell(Status::ModelRefused, &line, err),
+            Err(_) => tell(Status::Memory, b"out of memory\n", err),
+        },
         Outcome::Overflow { name, tick } => match overflow_text(alloc, name.bytes(), *tick) {
             Ok(line) => tell(Status::Overflow, &line, err),
             Err(_) => tell(Status::Memory, b"out of memory\n", err),
@@ -65,6 +71,21 @@ fn overflow_text(alloc: Global, name: &[u8], tick: u64) -> Result<Vec<u8>, Alloc
     line.extend_from_slice(name)?;
     line.extend_from_slice(b" at tick ")?;
     line.extend_from_slice(tick.as_bytes())?;
+    line.extend_from_slice(b"\n")?;
+    Ok(line)
+}
+
+fn refusal_text(alloc: Global, refusal: Refusal) -> Result<Vec<u8>, AllocError>
+    ensures { IfOk result (λ line. Tells (refused refusal) line.items) }
+{
+    let number = refusal.number.to_string(alloc)?;
+    let place = refusal.place.to_string(alloc)?;
+    let mut line = b"refused: ".to_vec(alloc)?;
+    line.extend_from_slice(refusal.phase.text())?;
+    line.extend_from_slice(b" ")?;
+    line.extend_from_slice(number.as_bytes())?;
+    line.extend_from_slice(b" ")?;
+    line.extend_from_slice(place.as_bytes())?;
     line.extend_from_slice(b"\n")?;
     Ok(line)
 }

@@ -2,6 +2,7 @@
 use super::*;
 use mu_io::{MemShelf, MemSink, Name};
 use std::alloc::Global;
+use std::process::Abort;
 use std::test::Fail;
 
 const DECAY: &str =
@@ -98,13 +99,17 @@ fn what_is_refused(rt: HostRuntime) -> Result<(), Fail> {
     let alloc = rt.alloc();
     let blanks = vec![in alloc; b' '; (1 << 20) + 1]?;
     let long = String::from_utf8(blanks)?;
-    let cases: [(&[&str], &str, u8, &str); 9] = [
+    let cases: [(&[&str], &str, u8, &str); 13] = [
         (&["run", "M"], FRACTIONS, 5, "refused: top 2\n"),
-        (&["run", "M"], RESERVED, 5, "refused: top 2\n"),
+        (&["run", "M"], RESERVED, 5, "refused: parse 1 1\n"),
         (&["run", "M"], NO_QUANTUM, 5, "refused: top 2\n"),
         (&["run", "M"], &long, 5, "refused: top 1\n"),
+        (&["print", "M"], RESERVED, 5, "refused: parse 1 1\n"),
+        (&["print", "M"], &long, 5, "refused: top 1\n"),
         (&["run", "absent"], DECAY, 3, "read fault\n"),
+        (&["print", "absent"], DECAY, 3, "read fault\n"),
         (&["run"], DECAY, 2, USAGE),
+        (&["print"], DECAY, 2, USAGE),
         (&["run", "M", "M"], DECAY, 2, USAGE),
         (&["walk", "M"], DECAY, 2, USAGE),
         (&[], DECAY, 2, USAGE),
@@ -155,15 +160,27 @@ fn a_write_that_fails_ends_the_run(rt: HostRuntime) -> Result<(), Fail> {
 #[test]
 fn faults_of_the_shelf_and_of_err(rt: HostRuntime) -> Result<(), Fail> {
     let alloc = rt.alloc();
-    for call in 0..3u32 {
+    let both: [&[&str]; 2] = [&["run", "M"], &["print", "M"]];
+    for words in both {
+        for call in 0..3u32 {
+            let setting = Setting {
+                words,
+                shelf_fails: &[call],
+                ..run_of(DECAY)
+            };
+            let (got, out, err) = outcome(alloc, &setting)?;
+            assert_eq!(rt; got, Status::ReadFault);
+            assert_eq!(rt; out.bytes(), b"".as_slice());
+            assert_eq!(rt; err.bytes(), b"read fault\n".as_slice());
+        }
         let setting = Setting {
-            shelf_fails: &[call],
-            ..run_of(DECAY)
+            words,
+            err_fails: &[0],
+            ..run_of("model m $")
         };
-        let (got, out, err) = outcome(alloc, &setting)?;
-        assert_eq!(rt; got, Status::ReadFault);
-        assert_eq!(rt; out.bytes(), b"".as_slice());
-        assert_eq!(rt; err.bytes(), b"read fault\n".as_slice());
+        let (got, _, err) = outcome(alloc, &setting)?;
+        assert_eq!(rt; got, Status::ModelRefused);
+        assert_eq!(rt; err.bytes(), b"".as_slice());
     }
     let setting = Setting {
         shelf_fails: &[3],
@@ -173,5 +190,121 @@ fn faults_of_the_shelf_and_of_err(rt: HostRuntime) -> Result<(), Fail> {
     let (got, _, err) = outcome(alloc, &setting)?;
     assert_eq!(rt; got, Status::Overflow);
     assert_eq!(rt; err.bytes(), b"".as_slice());
+    Ok(())
+}
+
+const BALL: &str =
+    "model ball\n  import math;\n  Real y(start = 1), v(start = 0) \"speed\";\nequation\n  der(y) = v;\n  der(v) = -10;\nalgorithm\n  when y < 0 then\n    reinit(v, -0.25*v);\n  end when;\n  annotation(experiment(MMO_Description = \"ball\", MMO_Solver = QSS3, StartTime = 0.0, StopTime = 1.25, Tolerance = {1e-3}, QSS_CoefBits = 4, QSS_TickBits = 2, QSS_LevelBits = 2, QSS_Quantum = 0.25));\nend ball;";
+
+const BALL_TEXT: &str =
+    "model ball Real y ( start = 1 ) ;\nReal v ( start = 0 ) ;\nequation der ( y ) = v ;\nder ( v ) = - 10 ;\nalgorithm when y < 0 then reinit ( v , - 0.25 * v ) ;\nend when ;\nannotation ( experiment ( StartTime = 0.0 , StopTime = 1.25 , QSS_CoefBits = 4 , QSS_TickBits = 2 , QSS_LevelBits = 2 , QSS_Quantum = 0.25 ) ) ;\nend ball ;\n";
+
+// A source whose right side begins with so many brackets.
+fn brackets(alloc: Global, count: usize) -> Result<String, Fail> {
+    let mut text = b"model m Real x; equation der(x) = ".to_vec(alloc)?;
+    let open = vec![in alloc; b'('; count]?;
+    text.extend_from_slice(&open)?;
+    Ok(String::from_utf8(text)?)
+}
+
+// Status, out and err of both commands on a source that spells no model.
+fn assert_refused(rt: &impl Abort, alloc: Global, source: &str, line: &str) -> Result<(), Fail> {
+    let both: [&[&str]; 2] = [&["print", "M"], &["run", "M"]];
+    for words in both {
+        let setting = Setting {
+            words,
+            ..run_of(source)
+        };
+        let (got, out, err) = outcome(alloc, &setting)?;
+        assert_eq!(rt; got, Status::ModelRefused);
+        assert_eq!(rt; out.bytes(), b"".as_slice());
+        assert_eq!(rt; err.bytes(), line.as_bytes());
+    }
+    Ok(())
+}
+
+#[test]
+fn what_is_no_model(rt: HostRuntime) -> Result<(), Fail> {
+    let alloc = rt.alloc();
+    let cases = [
+        ("", "refused: parse 1 0\n"),
+        ("model m $", "refused: lex 1 8\n"),
+        ("model m /* x", "refused: lex 2 8\n"),
+        ("model m \"x", "refused: lex 3 8\n"),
+        ("model m Real x x", "refused: parse 1 4\n"),
+        ("model m m $", "refused: lex 1 10\n"),
+    ];
+    for (source, line) in cases {
+        assert_refused(&rt, alloc, source, line)?;
+    }
+    assert_refused(&rt, alloc, &brackets(alloc, 65)?, "refused: parse 2 75\n")?;
+    Ok(())
+}
+
+#[test]
+fn a_million_brackets_are_too_deep(rt: HostRuntime) -> Result<(), Fail> {
+    let alloc = rt.alloc();
+    let source = brackets(alloc, 1_000_000)?;
+    assert_refused(&rt, alloc, &source, "refused: parse 2 75\n")
+}
+
+#[test]
+fn how_models_are_printed(rt: HostRuntime) -> Result<(), Fail> {
+    let alloc = rt.alloc();
+    let cases = [
+        (
+            "model m Real x; equation der(x) = -(x); end m;",
+            "model m Real x ;\nequation der ( x ) = - x ;\nend m ;\n",
+        ),
+        (BALL, BALL_TEXT),
+        (BALL_TEXT, BALL_TEXT),
+    ];
+    for (source, text) in cases {
+        let setting = Setting {
+            words: &["print", "M"],
+            ..run_of(source)
+        };
+        let (got, out, err) = outcome(alloc, &setting)?;
+        assert_eq!(rt; got, Status::Ok);
+        assert_eq!(rt; out.bytes(), text.as_bytes());
+        assert_eq!(rt; err.bytes(), b"".as_slice());
+    }
+    Ok(())
+}
+
+#[test]
+fn a_write_that_fails_ends_the_print(rt: HostRuntime) -> Result<(), Fail> {
+    let alloc = rt.alloc();
+    let fails: [(&[u32], usize, usize); 3] = [(&[0], 1000, 0), (&[], 40, 40), (&[], 0, 0)];
+    for (out_fails, room, written) in fails {
+        let setting = Setting {
+            words: &["print", "M"],
+            out_fails,
+            room,
+            ..run_of(BALL)
+        };
+        let (got, out, err) = outcome(alloc, &setting)?;
+        assert_eq!(rt; got, Status::WriteFault);
+        assert_eq!(rt; Some(out.bytes()), BALL_TEXT.as_bytes().get(..written));
+        assert_eq!(rt; err.bytes(), b"write fault\n".as_slice());
+    }
+    Ok(())
+}
+
+#[test]
+fn a_model_that_is_cut_is_none(rt: HostRuntime) -> Result<(), Fail> {
+    let alloc = rt.alloc();
+    for end in 0..BALL.len() {
+        let Some(source) = BALL.get(..end) else {
+            break;
+        };
+        let setting = Setting {
+            words: &["print", "M"],
+            ..run_of(source)
+        };
+        let (got, out, _) = outcome(alloc, &setting)?;
+        assert_eq!(rt; got, Status::ModelRefused);
+        assert_eq!(rt; out.bytes(), b"".as_slice());
+    }
     Ok(())
 }

@@ -1,5 +1,6 @@
 use Rattle.std.proofs.Common.{ap, ◌∙◌}
-use Rattle.qss_top.specs.Outcomes.{status_of}
+use Rattle.qss_top.specs.Outcomes.{status_of, takes_memory}
+use Rattle.qss_top.specs.declared.outcome.Outcome.{Outcome}
 use Rattle.qss_top.proofs.TopFacts.{replied, defined_of, leaves_of, read_of, write_of, done_of, usage_of, status_by, no_write, line_is}
 use Rattle.qss_top.proofs.top.qss_main.Goals as goal
 
@@ -17,7 +18,7 @@ pub returns-clause-usage : goal.returns-clause-usage
 returns-clause-usage g c = (
   λ e. c.answer-outcome.ensures.usage.0 (usage_of c.report.result c.answer-outcome.result c.report.ensures.status e),
   λ none. let is = c.answer-outcome.ensures.usage.1 none in
-      status_by c.report.result c.answer-outcome.result c.report.ensures.status (λ o. absurd (cc (ap status_of is, o))) ∙ ap status_of is,
+      status_by c.report.result c.answer-outcome.result c.report.ensures.status (λ o. absurd (cc (ap (λ (w : Outcome). takes_memory (status_of w)) is, o))) ∙ ap status_of is,
 )
 
 pub returns-clause-read_fault : goal.returns-clause-read_fault
