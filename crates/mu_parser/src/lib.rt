@@ -11,11 +11,7 @@ mod item;
 mod machine;
 mod model;
 pub mod parse;
-#[cfg(test)]
-mod printed;
 mod state;
 mod statement;
 mod sum;
 mod target;
-#[cfg(test)]
-mod tests;

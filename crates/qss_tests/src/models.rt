@@ -1,7 +1,7 @@
 // Sources with what the parser says of them.
 
-use crate::parse::{ParseErr, parse};
 use mu_lexer::lex::lex;
+use mu_parser::parse::{ParseErr, parse};
 use std::alloc::Global;
 use std::test::Fail;
 

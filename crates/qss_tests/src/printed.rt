@@ -1,7 +1,7 @@
 // Sources with their canonical text.
 
-use crate::parse::parse;
 use mu_lexer::lex::lex;
+use mu_parser::parse::parse;
 use mu_tree::canonical::write_model;
 use std::alloc::Global;
 use std::test::Fail;
