@@ -1,4 +1,5 @@
-//! Tests that cross crates: sources read as models and printed again, and texts of certificates.
+//! Tests that cross crates: sources read as models and printed again, models unrolled, and texts of
+//! certificates.
 #![tactic(auto)]
 
 #[cfg(test)]
@@ -7,3 +8,5 @@ mod certificates;
 mod models;
 #[cfg(test)]
 mod printed;
+#[cfg(test)]
+mod unrolling;

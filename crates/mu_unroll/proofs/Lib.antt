@@ -1,0 +1,13 @@
+pub mod Faulty
+pub mod Totals
+pub mod Rounding
+pub mod Starts
+pub mod Prefixes
+pub mod Placing
+pub mod Stepping
+pub mod Numbering
+pub mod FlatParts
+pub mod Keeping
+pub mod FlatModels
+pub mod Listed
+pub mod Whole

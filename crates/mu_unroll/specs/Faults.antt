@@ -1,0 +1,11 @@
+-- Which faults a call may answer, where this is defined: the one that is defined, or want of memory.
+use Rattle.std.specs.Prelude.{◌≡◌, Result, Err}
+use Rattle.mu_unroll.specs.declared.fault.UnrollErr.{UnrollErr}
+use Rattle.mu_unroll.specs.declared.fault.UnrollErr.TheVariants.{Index, NotWhole, TooMany, ConstFault, Memory}
+
+abbrev pub IsFault : {A : Type 0} → Result A UnrollErr → UnrollErr → Type 0
+IsFault r Memory = Unit {0}
+IsFault r (Index at value size) = r ≡ Err (Index at value size)
+IsFault r (NotWhole at) = r ≡ Err (NotWhole at)
+IsFault r (TooMany count) = r ≡ Err (TooMany count)
+IsFault r (ConstFault at fault) = r ≡ Err (ConstFault at fault)

@@ -1,0 +1,98 @@
+-- Expressions and left sides with constants put in.
+use Rattle.std.specs.Prelude.{ℕ, ℤ, pos, ◌+◌, ◌-◌, ◌&&◌, int_le, unsigned_abs, Bool, true, false, if◌then◌else◌, List, [], ◌∷◌, Option, Some, None, Result, Ok, Err}
+use Rattle.mu_num.specs.Fraction.{Fraction}
+use Rattle.mu_num.specs.Decimal.{decimal_value}
+use Rattle.mu_tree.specs.declared.flat.FlatRole.{FlatRole}
+use Rattle.mu_tree.specs.declared.flat.FlatRole.TheVariants as flat_role
+use Rattle.mu_tree.specs.Expression.{Expression, Number, Variable, Now, Previous, Sum, Product, Power, Reference, Whole, Element, Terms, no_terms, term, Factors, no_factors, factor}
+use Rattle.mu_tree.specs.FlatExpression.{FlatExpression, FlatSigned, FlatScaled, flat_terms_of, flat_factors_of, Constant}
+use Rattle.mu_tree.specs.FlatExpression as flat
+use Rattle.mu_unroll.specs.declared.fault.UnrollErr.{UnrollErr}
+use Rattle.mu_unroll.specs.declared.fault.UnrollErr.TheVariants.{Index}
+use Rattle.mu_unroll.specs.declared.place.Found.{Found}
+use Rattle.mu_unroll.specs.declared.place.Found.TheVariants.{Value, Numbered, Unfound}
+use Rattle.mu_unroll.specs.declared.place.Meant.{Meant}
+use Rattle.mu_unroll.specs.declared.place.Meant.TheVariants as meant
+use Rattle.mu_unroll.specs.Values.{then_do, placed, zero_value, constant_value, whole_at}
+use Rattle.mu_unroll.specs.Places.{constant_of, is_kind}
+
+-- the constants among what names stand for
+abbrev pub constants_in : (List ℕ → Meant) → List ℕ → Option Fraction
+constants_in known name = constant_of (known name)
+
+-- an index from 1 to a size, counted from 0
+abbrev pub index_in : (at size : ℕ) → ℤ → Result ℕ UnrollErr
+index_in at size i = if int_le (pos 1) i && int_le i (pos size) then Ok (unsigned_abs i - 1) else Err (Index at i size)
+
+-- what a name without an index is: an array has none, but no model with such a reference gets here
+abbrev pub whole_found : Meant → Found
+whole_found (meant.Constant a) = Value a
+whole_found (meant.Variable kind first None) = Numbered kind first
+whole_found (meant.Variable kind first (Some size)) = Unfound
+whole_found meant.Nothing = Unfound
+
+-- what an element is; only an array has any
+abbrev pub element_found : (List ℕ → Meant) → ℕ → Expression → Meant → Result Found UnrollErr
+element_found known at index (meant.Constant a) = Ok Unfound
+element_found known at index (meant.Variable kind first None) = Ok Unfound
+element_found known at index (meant.Variable kind first (Some size)) =
+    then_do (constant_value (constants_in known) index) (λ a. then_do (whole_at at a) (λ i. then_do (index_in at size i) (λ k. Ok (Numbered kind (first + k)))))
+element_found known at index meant.Nothing = Ok Unfound
+
+-- what a reference is
+abbrev pub found : (List ℕ → Meant) → Reference → Result Found UnrollErr
+found known (Whole name at) = Ok (whole_found (known name))
+found known (Element name index at) = element_found known at index (known name)
+
+-- where a reference stands
+abbrev pub place_of : Reference → ℕ
+place_of (Whole name at) = at
+place_of (Element name index at) = at
+
+-- a reference as a part of an expression
+abbrev pub part_of : ℕ → Found → FlatExpression
+part_of at (Value a) = Constant a at
+part_of at (Numbered kind v) = flat.Variable v at
+part_of at Unfound = Constant zero_value at
+
+-- the number of a variable of a kind
+abbrev pub number_of_kind : FlatRole → Found → Option ℕ
+number_of_kind kind (Value a) = None
+number_of_kind kind (Numbered other v) = if is_kind kind other then Some v else None
+number_of_kind kind Unfound = None
+
+-- a previous value as a part of an expression: it stands in clauses alone
+abbrev pub previous_part : Bool → ℕ → Option ℕ → FlatExpression
+previous_part true at (Some v) = flat.Previous v at
+previous_part true at None = Constant zero_value at
+previous_part false at v = Constant zero_value at
+
+-- a literal as a part of an expression
+abbrev pub literal_part : ℕ → Result Fraction UnrollErr → Result FlatExpression UnrollErr
+literal_part at (Ok a) = Ok (Constant a at)
+literal_part at (Err fault) = Err fault
+
+abbrev mutual
+  -- an expression with constants put in, in a clause or in an equation
+  pub flattened : Bool → (List ℕ → Meant) → Expression → Result FlatExpression UnrollErr
+  flattened in_clause known (Number digits at) = literal_part at (placed at (decimal_value digits))
+  flattened in_clause known (Variable r) = then_do (found known r) (λ f. Ok (part_of (place_of r) f))
+  flattened in_clause known (Now at) = Ok (flat.Now at)
+  flattened in_clause known (Previous r) = then_do (found known r) (λ f. Ok (previous_part in_clause (place_of r) (number_of_kind flat_role.Discrete f)))
+  flattened in_clause known (Sum ts) = then_do (flattened_terms in_clause known ts) (λ ts. Ok (flat.Sum (flat_terms_of ts)))
+  flattened in_clause known (Product fs) = then_do (flattened_factors in_clause known fs) (λ fs. Ok (flat.Product (flat_factors_of fs)))
+  flattened in_clause known (Power base exp at) = then_do (flattened in_clause known base) (λ b. Ok (flat.Power b exp at))
+
+  pub flattened_terms : Bool → (List ℕ → Meant) → Terms → Result (List FlatSigned) UnrollErr
+  flattened_terms in_clause known no_terms = Ok []
+  flattened_terms in_clause known (term minus at e rest) =
+      then_do (flattened in_clause known e) (λ f. then_do (flattened_terms in_clause known rest) (λ fs. Ok (record { minus = minus; at = at; value = f } ∷ fs)))
+
+  pub flattened_factors : Bool → (List ℕ → Meant) → Factors → Result (List FlatScaled) UnrollErr
+  flattened_factors in_clause known no_factors = Ok []
+  flattened_factors in_clause known (factor divide at e rest) =
+      then_do (flattened in_clause known e) (λ f. then_do (flattened_factors in_clause known rest) (λ fs. Ok (record { divide = divide; at = at; value = f } ∷ fs)))
+
+-- a bound of a loop, at its variable's place
+abbrev pub bound_of : (List ℕ → Meant) → ℕ → Expression → Result ℤ UnrollErr
+bound_of known at e = then_do (constant_value (constants_in known) e) (whole_at at)

@@ -1,0 +1,11 @@
+pub mod Values
+pub mod Faults
+pub mod Places
+pub mod Tables
+pub mod Counting
+pub mod Flattening
+pub mod Bounds
+pub mod Unrolling
+pub mod Nexts
+pub mod WellFormed
+pub mod Listing

@@ -1,0 +1,40 @@
+-- The number of the next variable of each kind.
+use Rattle.std.specs.Prelude.{ℕ, ◌≡◌, ◌+◌, ◌≤◌, Option, Some, None}
+use Rattle.mu_tree.specs.declared.flat.FlatRole.{FlatRole}
+use Rattle.mu_tree.specs.declared.flat.FlatRole.TheVariants.{State, Discrete, Algebraic}
+use Rattle.mu_names.specs.declared.scope.Known.{Known}
+use Rattle.mu_unroll.specs.declared.place.Meant.{Meant}
+use Rattle.mu_unroll.specs.declared.place.Meant.TheVariants.{Constant, Variable}
+use Rattle.mu_unroll.specs.declared.variables.Next.{Next}
+use Rattle.mu_unroll.specs.Places.{kind_of, width}
+
+abbrev pub next_number : Next → FlatRole → ℕ
+next_number n State = n.state
+next_number n Discrete = n.discrete
+next_number n Algebraic = n.algebraic
+
+-- after so many variables of a kind
+abbrev pub next_after : Next → FlatRole → ℕ → Next
+next_after n State count = record n { state = n.state + count }
+next_after n Discrete count = record n { discrete = n.discrete + count }
+next_after n Algebraic count = record n { algebraic = n.algebraic + count }
+
+-- what a declared name stands for, where these are the next numbers
+abbrev pub meant_at_next : Next → Known → Meant
+meant_at_next n k = by_kind (kind_of k.role)
+  where
+    by_kind : Option FlatRole → Meant
+    by_kind None = Constant k.value
+    by_kind (Some kind) = Variable kind (next_number n kind) k.size
+
+-- the next numbers after a declared name
+abbrev pub after_known : Next → Known → Next
+after_known n k = by_kind (kind_of k.role)
+  where
+    by_kind : Option FlatRole → Next
+    by_kind None = n
+    by_kind (Some kind) = next_after n kind (width k.size)
+
+-- the variables of a declared name have numbers below 4,096
+abbrev pub HasRoom : Next → Known → Type 0
+HasRoom n k = (kind : FlatRole) → kind_of k.role ≡ Some kind → next_number n kind + width k.size ≤ 4096

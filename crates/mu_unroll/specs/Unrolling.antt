@@ -1,0 +1,196 @@
+-- The flat model of a model: each equation, clause and statement in source order, for each value of its loop variables
+-- in order, with constants put in; or the first fault in that order.
+use Rattle.std.specs.Prelude.{ℕ, ℤ, pos, negsuc, ◌+◌, ◌+ℤ◌, ◌-ℤ◌, ◌^◌, nat_lt, if◌then◌else◌, Bool, true, false, unwrap_or, List, [], ◌∷◌, ◌++◌, Option, Some, None, Result, Ok, Err}
+use Prim.Native.Nat.{zero, suc}
+use Rattle.mu_num.specs.Fraction.{Fraction, whole}
+use Rattle.mu_tree.specs.declared.flat.FlatRole.{FlatRole}
+use Rattle.mu_tree.specs.declared.flat.FlatRole.TheVariants as flat_role
+use Rattle.mu_tree.specs.Expression.{Expression, Reference}
+use Rattle.mu_tree.specs.FlatExpression.{FlatVariable, FlatEquationTree, FlatAction, FlatBranchTree, FlatModelTree}
+use Rattle.mu_tree.specs.FlatExpression as flat
+use Rattle.mu_tree.specs.FlatModels.{target_role}
+use Rattle.mu_tree.specs.ModelTree.{Range, EquationTree, Derivative, Algebraic, EachEquation, EquationTrees, no_equations, equation_then, StatementTree, Assign, Restart, EachStatement, StatementTrees, no_statements, statement_then, BranchTree, ClauseTree, Branches, EachClause, ClauseTrees, no_clauses, clause_then, equations_of, statements_of, clauses_of, ModelTree}
+use Rattle.mu_names.specs.declared.scope.Known.{Known}
+use Rattle.mu_names.specs.declared.scope.Scope.{Scope}
+use Rattle.mu_unroll.specs.declared.counts.Counts.{Counts}
+use Rattle.mu_unroll.specs.declared.fault.UnrollErr.{UnrollErr}
+use Rattle.mu_unroll.specs.declared.fault.UnrollErr.TheVariants.{TooMany}
+use Rattle.mu_unroll.specs.declared.place.Found.{Found}
+use Rattle.mu_unroll.specs.declared.place.Found.TheVariants as found_as
+use Rattle.mu_unroll.specs.declared.place.Meant.{Meant}
+use Rattle.mu_unroll.specs.declared.place.Meant.TheVariants as meant
+use Rattle.mu_unroll.specs.declared.place.LoopVar.{LoopVar}
+use Rattle.mu_unroll.specs.Values.{then_do, constant_value}
+use Rattle.mu_unroll.specs.Places.{meant_in, first_meant, scalars_in, scalar_count}
+use Rattle.mu_unroll.specs.Counting.{node_count, with_item, with_round, no_counts}
+use Rattle.mu_unroll.specs.Bounds.{bounds_of}
+use Rattle.mu_unroll.specs.Flattening.{constants_in, found, flattened, number_of_kind}
+
+-- what was made so far, and what was counted
+pub record Progress (X : Type 0) : Type 0 where
+  pub done : List X
+  pub counts : Counts
+
+abbrev pub progress : {X : Type 0} → List X → Counts → Progress X
+progress done counts = record { done = done; counts = counts }
+
+-- one more
+abbrev pub with_more : {X : Type 0} → Progress X → Counts → X → Progress X
+with_more p counts x = record { done = p.done ++ x ∷ []; counts = counts }
+
+-- and none, where there is none
+abbrev pub with_maybe : {X : Type 0} → Progress X → Counts → Option X → Progress X
+with_maybe p counts (Some x) = with_more p counts x
+with_maybe p counts None = record { done = p.done; counts = counts }
+
+-- a whole number from 0 on, and 0 for all below
+abbrev pub natural : ℤ → ℕ
+natural (pos n) = n
+natural (negsuc n) = 0
+
+-- how many whole numbers there are from one to another
+abbrev pub rounds_from : ℤ → ℤ → ℕ
+rounds_from a b = natural ((b -ℤ a) +ℤ pos 1)
+
+-- the rounds of a loop from a number on, each of which counts before what it holds
+abbrev pub repeated : {X : Type 0} → (ℤ → Progress X → Result (Progress X) UnrollErr) → ℤ → ℕ → Progress X → Result (Progress X) UnrollErr
+repeated once i zero p = Ok p
+repeated once i (suc more) p =
+    then_do (with_round p.counts) (λ c. then_do (once i (record { done = p.done; counts = c })) (λ q. repeated once (i +ℤ pos 1) more q))
+
+-- inside a loop its variable has a value
+abbrev pub inside : List LoopVar → List ℕ → ℤ → List LoopVar
+inside loops var i = loops ++ record { name = var; value = whole i } ∷ []
+
+-- a loop: its first bound, its last bound, and then its rounds
+abbrev pub looped : {X : Type 0} → (List ℕ → Meant) → Range → (ℤ → Progress X → Result (Progress X) UnrollErr) → Progress X → Result (Progress X) UnrollErr
+looped known range once p =
+    then_do (bounds_of known range.at range.from range.to) (λ r. repeated once r.next (rounds_from r.next r.last) p)
+
+-- an equation for a variable, where its left side is one
+abbrev pub equation_for : (der : Bool) → Option ℕ → flat.FlatExpression → Option FlatEquationTree
+equation_for der (Some v) f = Some (record { der = der; target = v; value = f })
+equation_for der None f = None
+
+-- one flat equation: it counts, then its left side, then its right side
+abbrev pub one_equation : Bool → (List ℕ → Meant) → Reference → Expression → Progress FlatEquationTree → Result (Progress FlatEquationTree) UnrollErr
+one_equation der known target e p =
+    then_do (with_item p.counts (node_count e)) (λ c. then_do (found known target) (λ t. then_do (flattened false known e) (λ f.
+    Ok (with_maybe p c (equation_for der (number_of_kind (target_role der) t) f)))))
+
+abbrev mutual
+  -- an equation inside loops
+  pub unrolled_equation : (List ℕ → Meant) → List LoopVar → EquationTree → Progress FlatEquationTree → Result (Progress FlatEquationTree) UnrollErr
+  unrolled_equation declared loops (Derivative target e) p = one_equation true (meant_in loops declared) target e p
+  unrolled_equation declared loops (Algebraic target e) p = one_equation false (meant_in loops declared) target e p
+  unrolled_equation declared loops (EachEquation range body) p =
+      looped (meant_in loops declared) range (λ i q. unrolled_equations declared (inside loops range.var i) body q) p
+
+  pub unrolled_equations : (List ℕ → Meant) → List LoopVar → EquationTrees → Progress FlatEquationTree → Result (Progress FlatEquationTree) UnrollErr
+  unrolled_equations declared loops no_equations p = Ok p
+  unrolled_equations declared loops (equation_then e es) p = then_do (unrolled_equation declared loops e p) (λ q. unrolled_equations declared loops es q)
+
+-- an assignment to a discrete variable, and a reinit of a state
+abbrev pub assign_to : Option ℕ → flat.FlatExpression → Option FlatAction
+assign_to (Some v) f = Some (flat.Assign v f)
+assign_to None f = None
+
+abbrev pub restart_of : Option ℕ → flat.FlatExpression → Option FlatAction
+restart_of (Some v) f = Some (flat.Restart v f)
+restart_of None f = None
+
+-- one flat statement
+abbrev pub one_action : (Option ℕ → flat.FlatExpression → Option FlatAction) → FlatRole → (List ℕ → Meant) → Reference → Expression → Progress FlatAction → Result (Progress FlatAction) UnrollErr
+one_action action kind known target e p =
+    then_do (with_item p.counts (node_count e)) (λ c. then_do (found known target) (λ t. then_do (flattened true known e) (λ f.
+    Ok (with_maybe p c (action (number_of_kind kind t) f)))))
+
+abbrev mutual
+  -- a statement of a clause inside loops
+  pub unrolled_statement : (List ℕ → Meant) → List LoopVar → StatementTree → Progress FlatAction → Result (Progress FlatAction) UnrollErr
+  unrolled_statement declared loops (Assign target e) p = one_action assign_to flat_role.Discrete (meant_in loops declared) target e p
+  unrolled_statement declared loops (Restart target e) p = one_action restart_of flat_role.State (meant_in loops declared) target e p
+  unrolled_statement declared loops (EachStatement range body) p =
+      looped (meant_in loops declared) range (λ i q. unrolled_statements declared (inside loops range.var i) body q) p
+
+  pub unrolled_statements : (List ℕ → Meant) → List LoopVar → StatementTrees → Progress FlatAction → Result (Progress FlatAction) UnrollErr
+  unrolled_statements declared loops no_statements p = Ok p
+  unrolled_statements declared loops (statement_then s ss) p = then_do (unrolled_statement declared loops s p) (λ q. unrolled_statements declared loops ss q)
+
+-- a branch: its condition counts with the nodes of both sides, then come its left side, its right side and its statements
+abbrev pub unrolled_branch : (List ℕ → Meant) → List LoopVar → BranchTree → Progress FlatBranchTree → Result (Progress FlatBranchTree) UnrollErr
+unrolled_branch declared loops b p =
+    then_do (with_item p.counts (node_count b.condition.left + node_count b.condition.right)) (λ c.
+    then_do (flattened true (meant_in loops declared) b.condition.left) (λ l.
+    then_do (flattened true (meant_in loops declared) b.condition.right) (λ r.
+    then_do (unrolled_statements declared loops (statements_of b.body) (record { done = []; counts = c })) (λ q.
+    Ok (with_more p q.counts (record { left = l; rel = b.condition.rel; right = r; at = b.condition.at; body = q.done }))))))
+
+-- branches in order
+abbrev pub unrolled_branches : (List ℕ → Meant) → List LoopVar → List BranchTree → Progress FlatBranchTree → Result (Progress FlatBranchTree) UnrollErr
+unrolled_branches declared loops [] p = Ok p
+unrolled_branches declared loops (b ∷ bs) p = then_do (unrolled_branch declared loops b p) (λ q. unrolled_branches declared loops bs q)
+
+-- one flat clause
+abbrev pub one_clause : (List ℕ → Meant) → List LoopVar → List BranchTree → Progress (List FlatBranchTree) → Result (Progress (List FlatBranchTree)) UnrollErr
+one_clause declared loops bs p =
+    then_do (unrolled_branches declared loops bs (record { done = []; counts = p.counts })) (λ q. Ok (with_more p q.counts q.done))
+
+abbrev mutual
+  -- a clause inside loops
+  pub unrolled_clause : (List ℕ → Meant) → List LoopVar → ClauseTree → Progress (List FlatBranchTree) → Result (Progress (List FlatBranchTree)) UnrollErr
+  unrolled_clause declared loops (Branches bs) p = one_clause declared loops bs p
+  unrolled_clause declared loops (EachClause range body) p =
+      looped (meant_in loops declared) range (λ i q. unrolled_clauses declared (inside loops range.var i) body q) p
+
+  pub unrolled_clauses : (List ℕ → Meant) → List LoopVar → ClauseTrees → Progress (List FlatBranchTree) → Result (Progress (List FlatBranchTree)) UnrollErr
+  unrolled_clauses declared loops no_clauses p = Ok p
+  unrolled_clauses declared loops (clause_then c cs) p = then_do (unrolled_clause declared loops c p) (λ q. unrolled_clauses declared loops cs q)
+
+-- variables with the start value of one of them replaced
+abbrev pub start_at : List FlatVariable → ℕ → Fraction → List FlatVariable
+start_at [] v a = []
+start_at (d ∷ ds) zero a = record d { start = a } ∷ ds
+start_at (d ∷ ds) (suc v) a = d ∷ start_at ds v a
+
+-- an assignment of a start value: a state or a discrete variable has one
+abbrev pub with_start : List FlatVariable → Found → Fraction → List FlatVariable
+with_start vars (found_as.Numbered flat_role.State v) a = start_at vars v a
+with_start vars (found_as.Numbered flat_role.Discrete v) a = start_at vars v a
+with_start vars (found_as.Numbered flat_role.Algebraic v) a = vars
+with_start vars (found_as.Value b) a = vars
+with_start vars found_as.Unfound a = vars
+
+-- one assignment of a start value, which has no nodes
+abbrev pub one_start : (List ℕ → Meant) → Reference → Expression → Progress FlatVariable → Result (Progress FlatVariable) UnrollErr
+one_start known target e p =
+    then_do (with_item p.counts 0) (λ c. then_do (found known target) (λ t. then_do (constant_value (constants_in known) e) (λ a.
+    Ok (record { done = with_start p.done t a; counts = c }))))
+
+abbrev mutual
+  -- an assignment of start values inside loops: the last one stands
+  pub unrolled_start : (List ℕ → Meant) → List LoopVar → StatementTree → Progress FlatVariable → Result (Progress FlatVariable) UnrollErr
+  unrolled_start declared loops (Assign target e) p = one_start (meant_in loops declared) target e p
+  unrolled_start declared loops (Restart target e) p = Ok p
+  unrolled_start declared loops (EachStatement range body) p =
+      looped (meant_in loops declared) range (λ i q. unrolled_starts declared (inside loops range.var i) body q) p
+
+  pub unrolled_starts : (List ℕ → Meant) → List LoopVar → StatementTrees → Progress FlatVariable → Result (Progress FlatVariable) UnrollErr
+  unrolled_starts declared loops no_statements p = Ok p
+  unrolled_starts declared loops (statement_then s ss) p = then_do (unrolled_start declared loops s p) (λ q. unrolled_starts declared loops ss q)
+
+-- what the declared names of a scope stand for
+abbrev pub declared_in : List Known → List ℕ → Meant
+declared_in ks name = unwrap_or (first_meant ks [] ks name) meant.Nothing
+
+-- the flat model of a model whose names stand for this, with these variables: the assignments of start values, then the equations, then the clauses
+abbrev pub unrolled_with : (List ℕ → Meant) → ModelTree → List FlatVariable → Result FlatModelTree UnrollErr
+unrolled_with declared m vars =
+    then_do (unrolled_starts declared [] (statements_of m.starts) (record { done = vars; counts = no_counts })) (λ s.
+    then_do (unrolled_equations declared [] (equations_of m.equations) (record { done = []; counts = s.counts })) (λ e.
+    then_do (unrolled_clauses declared [] (clauses_of m.clauses) (record { done = []; counts = e.counts })) (λ c.
+    Ok (record { vars = s.done; equations = e.done; clauses = c.done }))))
+
+-- the flat model of a model with this scope, or the first fault: at most 4,096 scalar variables, and then the rest
+abbrev pub unrolled : ModelTree → List Known → Result FlatModelTree UnrollErr
+unrolled m ks = if nat_lt (2 ^ 12) (scalar_count ks) then Err (TooMany (2 ^ 12 + 1)) else unrolled_with (declared_in ks) m (scalars_in ks)

@@ -1,0 +1,60 @@
+-- Values of constant expressions inside loops: the value, or the first fault of a part, the inner parts first and then from the left.
+use Rattle.std.specs.Prelude.{ℕ, ℤ, pos, Bool, bytes_eq, nat_eq, if◌then◌else◌, List, [], ◌∷◌, Option, Some, None, Result, Ok, Err}
+use Rattle.mu_num.specs.declared.NumErr.{NumErr}
+use Rattle.mu_num.specs.Fraction.{Fraction, whole}
+use Rattle.mu_num.specs.Decimal.{decimal_value}
+use Rattle.mu_tree.specs.Expression.{Expression, Number, Variable, Now, Previous, Sum, Product, Power, Reference, Whole, Element, Terms, no_terms, term, Factors, no_factors, factor}
+use Rattle.mu_names.specs.Constant.{joined, multiplied, raised}
+use Rattle.mu_unroll.specs.declared.fault.UnrollErr.{UnrollErr}
+use Rattle.mu_unroll.specs.declared.fault.UnrollErr.TheVariants.{NotWhole, ConstFault}
+
+-- what follows of a value, where there is one
+abbrev pub then_do : {A B : Type 0} → Result A UnrollErr → (A → Result B UnrollErr) → Result B UnrollErr
+then_do (Ok a) next = next a
+then_do (Err fault) next = Err fault
+
+-- a number, or its fault at a place
+abbrev pub placed : ℕ → Result Fraction NumErr → Result Fraction UnrollErr
+placed at (Ok a) = Ok a
+placed at (Err fault) = Err (ConstFault at fault)
+
+-- the fraction 0
+abbrev pub zero_value : Fraction
+zero_value = whole (pos 0)
+
+-- the value of a name; one that is no constant stands for 0, but no model with such a name gets here
+abbrev pub constant_or_zero : Option Fraction → Result Fraction UnrollErr
+constant_or_zero (Some a) = Ok a
+constant_or_zero None = Ok zero_value
+
+abbrev mutual
+  -- the value of a constant expression
+  pub constant_value : (List ℕ → Option Fraction) → Expression → Result Fraction UnrollErr
+  constant_value constant (Number digits at) = placed at (decimal_value digits)
+  constant_value constant (Variable r) = reference_value constant r
+  constant_value constant (Now at) = Ok zero_value
+  constant_value constant (Previous r) = Ok zero_value
+  constant_value constant (Sum ts) = sum_value constant zero_value ts
+  constant_value constant (Product fs) = product_value constant (whole (pos 1)) fs
+  constant_value constant (Power base exp at) = then_do (constant_value constant base) (λ a. placed at (raised exp a))
+
+  -- the value of a reference: a constant has no index
+  pub reference_value : (List ℕ → Option Fraction) → Reference → Result Fraction UnrollErr
+  reference_value constant (Whole name at) = constant_or_zero (constant name)
+  reference_value constant (Element name index at) = Ok zero_value
+
+  -- the value of a sum, term by term from the left
+  pub sum_value : (List ℕ → Option Fraction) → Fraction → Terms → Result Fraction UnrollErr
+  sum_value constant total no_terms = Ok total
+  sum_value constant total (term minus at e rest) =
+      then_do (constant_value constant e) (λ a. then_do (placed at (joined minus total a)) (λ next. sum_value constant next rest))
+
+  -- the value of a product, factor by factor from the left
+  pub product_value : (List ℕ → Option Fraction) → Fraction → Factors → Result Fraction UnrollErr
+  product_value constant total no_factors = Ok total
+  product_value constant total (factor divide at e rest) =
+      then_do (constant_value constant e) (λ a. then_do (placed at (multiplied divide total a)) (λ next. product_value constant next rest))
+
+-- a whole number
+abbrev pub whole_at : ℕ → Fraction → Result ℤ UnrollErr
+whole_at at a = if nat_eq a.den 1 then Ok a.num else Err (NotWhole at)

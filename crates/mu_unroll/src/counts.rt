@@ -1,0 +1,138 @@
+// What is counted while a model is unrolled.
+
+ghost use Rattle.std.specs.Prelude.{◌≡◌, ◌+◌, ◌^◌, map, min};
+ghost use Rattle.mu_tree.specs.Expression.{expression, signed, scaled, terms_of, factors_of};
+ghost use Rattle.mu_unroll.specs.Counting.{no_counts, node_count, term_nodes, factor_nodes, with_item, with_total, with_round};
+
+use crate::fault::UnrollErr;
+use mu_tree::expr::{Expr, Factor, Term};
+
+/// The items, the rounds of loops and the nodes of flat expressions so far.
+#[derive(Clone, Copy, Drop)]
+pub struct Counts {
+    pub items: u32,
+    pub rounds: u32,
+    pub nodes: u32,
+}
+
+/// Nothing is counted yet.
+pub fn no_counts() -> Counts
+    ensures { result ≡ no_counts }
+{
+    Counts {
+        items: 0,
+        rounds: 0,
+        nodes: 0,
+    }
+}
+
+/// The most items.
+const ITEMS: u32 = 1 << 14;
+
+/// The most rounds.
+const ROUNDS: u32 = 1 << 16;
+
+/// The most nodes.
+const NODES: u32 = 1 << 20;
+
+/// One node past the limit.
+const MANY: u32 = NODES + 1;
+
+// One node more, cut past the limit.
+fn one_node(before: u32) -> u32
+    ensures { result ≡ min (before + 1) (2 ^ 20 + 1) }
+{
+    if before < MANY { before + 1 } else { MANY }
+}
+
+// The nodes with those of an expression, cut past the limit.
+#[cycle(counting)]
+fn add_nodes(before: u32, e: &Expr) -> u32
+    ensures { result ≡ min (before + node_count (expression e.now)) (2 ^ 20 + 1) }
+{
+    match e {
+        Expr::Num { .. } | Expr::Var(_) | Expr::Time { .. } | Expr::Pre(_) => one_node(before),
+        Expr::Sum { terms } => add_term_nodes(one_node(before), terms),
+        Expr::Product { factors } => add_factor_nodes(one_node(before), factors),
+        Expr::Pow { base, .. } => add_nodes(one_node(before), base),
+    }
+}
+
+// The nodes with those of terms, cut past the limit.
+#[cycle(counting)]
+fn add_term_nodes(before: u32, terms: &[Term]) -> u32
+    ensures { result ≡ min (before + term_nodes (terms_of (map signed terms.now))) (2 ^ 20 + 1) }
+{
+    let mut nodes = before.min(MANY);
+    for term in terms {
+        nodes = add_nodes(nodes, &term.value);
+    }
+    nodes
+}
+
+// The nodes with those of factors, cut past the limit.
+#[cycle(counting)]
+fn add_factor_nodes(before: u32, factors: &[Factor]) -> u32
+    ensures { result ≡ min (before + factor_nodes (factors_of (map scaled factors.now))) (2 ^ 20 + 1) }
+{
+    let mut nodes = before.min(MANY);
+    for factor in factors {
+        nodes = add_nodes(nodes, &factor.value);
+    }
+    nodes
+}
+
+// One item more, after which there are so many nodes.
+fn count(counts: Counts, nodes: u32) -> Result<Counts, UnrollErr>
+    ensures { result ≡ with_total counts nodes }
+{
+    if counts.items >= ITEMS {
+        return Err(UnrollErr::TooMany { count: ITEMS + 1 });
+    }
+    if nodes > NODES {
+        return Err(UnrollErr::TooMany { count: MANY });
+    }
+    Ok(Counts {
+        items: counts.items + 1,
+        rounds: counts.rounds,
+        nodes,
+    })
+}
+
+/// One item more, with the nodes of an expression.
+#[tactic(auto, using(crate::proofs::Totals::with_total_min))]
+pub fn count_expression(counts: Counts, e: &Expr) -> Result<Counts, UnrollErr>
+    ensures { result ≡ with_item counts (node_count (expression e.now)) }
+{
+    count(counts, add_nodes(counts.nodes, e))
+}
+
+/// One item more, with the nodes of two expressions.
+#[tactic(auto, using(crate::proofs::Totals::with_total_min))]
+pub fn count_sides(counts: Counts, left: &Expr, right: &Expr) -> Result<Counts, UnrollErr>
+    ensures { result ≡ with_item counts (node_count (expression left.now) + node_count (expression right.now)) }
+{
+    count(counts, add_nodes(add_nodes(counts.nodes, left), right))
+}
+
+/// One item more, with no nodes.
+#[tactic(auto, using(crate::proofs::Totals::with_total_min))]
+pub fn count_start(counts: Counts) -> Result<Counts, UnrollErr>
+    ensures { result ≡ with_item counts 0 }
+{
+    count(counts, counts.nodes.min(MANY))
+}
+
+/// One round more.
+pub fn count_round(counts: Counts) -> Result<Counts, UnrollErr>
+    ensures { result ≡ with_round counts }
+{
+    if counts.rounds >= ROUNDS {
+        return Err(UnrollErr::TooMany { count: ROUNDS + 1 });
+    }
+    Ok(Counts {
+        items: counts.items,
+        rounds: counts.rounds + 1,
+        nodes: counts.nodes,
+    })
+}

@@ -1,0 +1,268 @@
+// Expressions and left sides with constants put in.
+
+ghost use Rattle.std.specs.Prelude.{◌≡◌, map, Ok, IfOk, IfErr};
+ghost use Rattle.mu_tree.specs.Expression.{expression, reference, signed, scaled, terms_of, factors_of};
+ghost use Rattle.mu_tree.specs.FlatExpression.{flat_expression, flat_signed, flat_scaled};
+ghost use Rattle.mu_unroll.specs.Faults.{IsFault};
+ghost use Rattle.mu_unroll.specs.Flattening.{element_found, flattened, flattened_factors, flattened_terms, found, literal_part, number_of_kind, part_of, place_of, previous_part, whole_found};
+ghost use Rattle.mu_unroll.specs.Places.{ArePlaced, IsPlaced, is_kind, meant_in};
+ghost use Rattle.mu_unroll.specs.Tables.{meant_at};
+
+use crate::fault::UnrollErr;
+use crate::place::{Found, LoopVar, Meant, meaning_of};
+use crate::value::{constant_value, index_in, literal, whole_at};
+use mu_num::Ratio;
+use mu_tree::expr::{Expr, Factor, Ref, Term};
+use mu_tree::flat::{FlatExpr, FlatFactor, FlatRole, FlatTerm};
+use std::alloc::Global;
+use std::collections::BTreeMap;
+
+// What a name without an index is.
+fn whole_found(meant: Meant) -> Found
+    ensures { result ≡ whole_found meant }
+{
+    match meant {
+        Meant::Constant(value) => Found::Value(value),
+        Meant::Variable(kind, first, size) => match size {
+            None => Found::Numbered(kind, first),
+            Some(_) => Found::Unfound,
+        },
+        Meant::Nothing => Found::Unfound,
+    }
+}
+
+// What an element is.
+fn element_found(
+    declared: &BTreeMap<&[u8], Meant>,
+    loops: &[LoopVar],
+    at: u32,
+    index: &Expr,
+    meant: Meant,
+) -> Result<Found, UnrollErr>
+    requires { IsPlaced 4096 meant }
+    ensures { result ≡ element_found (meant_in loops.now (meant_at declared.now)) at (expression index.now) meant }
+{
+    match meant {
+        Meant::Variable(kind, first, Some(size)) => {
+            let value = match constant_value(declared, loops, index) {
+                Ok(value) => value,
+                Err(fault) => return Err(fault),
+            };
+            let whole = match whole_at(value, at) {
+                Ok(whole) => whole,
+                Err(fault) => return Err(fault),
+            };
+            match index_in(at, size, whole) {
+                Ok(place) => Ok(Found::Numbered(kind, first + place)),
+                Err(fault) => Err(fault),
+            }
+        }
+        Meant::Variable(_, _, None) | Meant::Constant(_) | Meant::Nothing => Ok(Found::Unfound),
+    }
+}
+
+/// What a reference is.
+pub fn found(
+    declared: &BTreeMap<&[u8], Meant>,
+    loops: &[LoopVar],
+    target: &Ref,
+) -> Result<Found, UnrollErr>
+    requires { ArePlaced 4096 (meant_at declared.now) }
+    ensures { result ≡ found (meant_in loops.now (meant_at declared.now)) (reference target.now) }
+{
+    let meant = meaning_of(declared, loops, target.name.bytes());
+    match &target.index {
+        None => Ok(whole_found(meant)),
+        Some(index) => element_found(declared, loops, target.at, index, meant),
+    }
+}
+
+/// Whether two kinds are one.
+pub fn is_kind(kind: FlatRole, other: FlatRole) -> bool
+    ensures { result ≡ is_kind kind other }
+{
+    match kind {
+        FlatRole::State => match other {
+            FlatRole::State => true,
+            FlatRole::Discrete | FlatRole::Algebraic => false,
+        },
+        FlatRole::Discrete => match other {
+            FlatRole::Discrete => true,
+            FlatRole::State | FlatRole::Algebraic => false,
+        },
+        FlatRole::Algebraic => match other {
+            FlatRole::Algebraic => true,
+            FlatRole::State | FlatRole::Discrete => false,
+        },
+    }
+}
+
+/// The number of a variable of a kind.
+pub fn number_of_kind(kind: FlatRole, found: Found) -> Option<u32>
+    ensures { result ≡ number_of_kind kind found }
+{
+    match found {
+        Found::Numbered(other, number) => {
+            if is_kind(kind, other) {
+                Some(number)
+            } else {
+                None
+            }
+        }
+        Found::Value(_) | Found::Unfound => None,
+    }
+}
+
+// A reference as a part of an expression.
+fn part_of(at: u32, found: Found) -> FlatExpr
+    ensures { flat_expression result ≡ part_of at found }
+{
+    match found {
+        Found::Value(value) => FlatExpr::Const { value, at },
+        Found::Numbered(_, var) => FlatExpr::Var { var, at },
+        Found::Unfound => FlatExpr::Const {
+            value: Ratio::whole(0),
+            at,
+        },
+    }
+}
+
+// A previous value as a part of an expression.
+fn previous_part(in_clause: bool, at: u32, number: Option<u32>) -> FlatExpr
+    ensures { flat_expression result ≡ previous_part in_clause at number }
+{
+    if in_clause {
+        match number {
+            Some(var) => FlatExpr::Pre { var, at },
+            None => FlatExpr::Const {
+                value: Ratio::whole(0),
+                at,
+            },
+        }
+    } else {
+        FlatExpr::Const {
+            value: Ratio::whole(0),
+            at,
+        }
+    }
+}
+
+// The terms of a sum with constants put in.
+#[cycle(flattening)]
+fn flatten_terms(
+    alloc: Global,
+    declared: &BTreeMap<&[u8], Meant>,
+    loops: &[LoopVar],
+    in_clause: bool,
+    terms: &[Term],
+) -> Result<Vec<FlatTerm>, UnrollErr>
+    requires { ArePlaced 4096 (meant_at declared.now) }
+    ensures ok { IfOk result (λ flat. flattened_terms in_clause (meant_in loops.now (meant_at declared.now)) (terms_of (map signed terms.now)) ≡ Ok (map flat_signed flat.items)) }
+    ensures err { IfErr result (IsFault (flattened_terms in_clause (meant_in loops.now (meant_at declared.now)) (terms_of (map signed terms.now)))) }
+{
+    let mut all = Vec::new(alloc);
+    for term in terms {
+        let value = match flatten(alloc, declared, loops, in_clause, &term.value) {
+            Ok(value) => value,
+            Err(fault) => return Err(fault),
+        };
+        if all
+            .push(FlatTerm {
+                minus: term.minus,
+                at: term.at,
+                value,
+            })
+            .is_err()
+        {
+            return Err(UnrollErr::Memory);
+        }
+    }
+    Ok(all)
+}
+
+// The factors of a product with constants put in.
+#[cycle(flattening)]
+fn flatten_factors(
+    alloc: Global,
+    declared: &BTreeMap<&[u8], Meant>,
+    loops: &[LoopVar],
+    in_clause: bool,
+    factors: &[Factor],
+) -> Result<Vec<FlatFactor>, UnrollErr>
+    requires { ArePlaced 4096 (meant_at declared.now) }
+    ensures ok { IfOk result (λ flat. flattened_factors in_clause (meant_in loops.now (meant_at declared.now)) (factors_of (map scaled factors.now)) ≡ Ok (map flat_scaled flat.items)) }
+    ensures err { IfErr result (IsFault (flattened_factors in_clause (meant_in loops.now (meant_at declared.now)) (factors_of (map scaled factors.now)))) }
+{
+    let mut all = Vec::new(alloc);
+    for factor in factors {
+        let value = match flatten(alloc, declared, loops, in_clause, &factor.value) {
+            Ok(value) => value,
+            Err(fault) => return Err(fault),
+        };
+        if all
+            .push(FlatFactor {
+                divide: factor.divide,
+                at: factor.at,
+                value,
+            })
+            .is_err()
+        {
+            return Err(UnrollErr::Memory);
+        }
+    }
+    Ok(all)
+}
+
+/// An expression with constants put in, in a clause or in an equation.
+#[cycle(flattening)]
+pub fn flatten(
+    alloc: Global,
+    declared: &BTreeMap<&[u8], Meant>,
+    loops: &[LoopVar],
+    in_clause: bool,
+    e: &Expr,
+) -> Result<FlatExpr, UnrollErr>
+    requires { ArePlaced 4096 (meant_at declared.now) }
+    ensures ok { IfOk result (λ flat. flattened in_clause (meant_in loops.now (meant_at declared.now)) (expression e.now) ≡ Ok (flat_expression flat)) }
+    ensures err { IfErr result (IsFault (flattened in_clause (meant_in loops.now (meant_at declared.now)) (expression e.now))) }
+{
+    match e {
+        Expr::Num { digits, at } => match literal(digits.bytes(), *at) {
+            Ok(value) => Ok(FlatExpr::Const { value, at: *at }),
+            Err(fault) => Err(fault),
+        },
+        Expr::Var(target) => match found(declared, loops, target) {
+            Ok(found) => Ok(part_of(target.at, found)),
+            Err(fault) => Err(fault),
+        },
+        Expr::Time { at } => Ok(FlatExpr::Time { at: *at }),
+        Expr::Pre(target) => match found(declared, loops, target) {
+            Ok(found) => {
+                let number = number_of_kind(FlatRole::Discrete, found);
+                Ok(previous_part(in_clause, target.at, number))
+            }
+            Err(fault) => Err(fault),
+        },
+        Expr::Sum { terms } => match flatten_terms(alloc, declared, loops, in_clause, terms) {
+            Ok(terms) => Ok(FlatExpr::Sum { terms }),
+            Err(fault) => Err(fault),
+        },
+        Expr::Product { factors } => {
+            match flatten_factors(alloc, declared, loops, in_clause, factors) {
+                Ok(factors) => Ok(FlatExpr::Product { factors }),
+                Err(fault) => Err(fault),
+            }
+        }
+        Expr::Pow { base, exp, at } => match flatten(alloc, declared, loops, in_clause, base) {
+            Ok(base) => match Box::new(alloc, base) {
+                Ok(base) => Ok(FlatExpr::Pow {
+                    base,
+                    exp: *exp,
+                    at: *at,
+                }),
+                Err(_) => Err(UnrollErr::Memory),
+            },
+            Err(fault) => Err(fault),
+        },
+    }
+}

@@ -1,0 +1,91 @@
+// What names stand for.
+
+ghost use Rattle.std.specs.Prelude.{◌≡◌, ◌++◌, ◌∷◌, [], ◌≤◌, ◌^◌, unsigned_abs, IfOk};
+ghost use Rattle.mu_num.specs.Fraction.{whole};
+ghost use Rattle.mu_unroll.specs.Places.{loop_value, meant_in, constant_of};
+ghost use Rattle.mu_unroll.specs.Tables.{meant_at};
+
+use mu_io::Name;
+use mu_names::table::find;
+use mu_num::Ratio;
+use mu_tree::flat::FlatRole;
+use std::alloc::{AllocError, Global};
+use std::collections::BTreeMap;
+
+/// What a name stands for.
+#[derive(Clone, Copy, Drop)]
+pub enum Meant {
+    /// A parameter or a loop variable, with its value.
+    Constant(Ratio),
+    /// A variable: its kind, the number of its first element, and its size where it is an array.
+    Variable(FlatRole, u32, Option<u32>),
+    /// Nothing.
+    Nothing,
+}
+
+/// What a reference is.
+#[derive(Clone, Copy, Drop)]
+pub enum Found {
+    /// A constant, with its value.
+    Value(Ratio),
+    /// A scalar variable: its kind and its number.
+    Numbered(FlatRole, u32),
+    /// Neither.
+    Unfound,
+}
+
+/// A loop variable with its value.
+#[derive(Drop)]
+pub struct LoopVar {
+    pub name: Name,
+    pub value: Ratio,
+}
+
+// The value of a loop variable, where there is one of the name.
+fn loop_value(loops: &[LoopVar], name: &[u8]) -> Option<Ratio>
+    ensures { result ≡ loop_value loops.now name.now }
+{
+    for one in loops {
+        if one.name.bytes() == name {
+            return Some(one.value);
+        }
+    }
+    None
+}
+
+/// What a name stands for inside loops.
+pub fn meaning_of(declared: &BTreeMap<&[u8], Meant>, loops: &[LoopVar], name: &[u8]) -> Meant
+    ensures { result ≡ meant_in loops.now (meant_at declared.now) name.now }
+{
+    match loop_value(loops, name) {
+        Some(value) => Meant::Constant(value),
+        None => match find(declared, name) {
+            Some(meant) => meant,
+            None => Meant::Nothing,
+        },
+    }
+}
+
+/// The loop variables inside one more loop.
+pub fn inner_loops(
+    alloc: Global,
+    loops: &[LoopVar],
+    var: &Name,
+    value: i128,
+) -> Result<Vec<LoopVar>, AllocError>
+    requires { unsigned_abs value ≤ 2 ^ 62 }
+    ensures { IfOk result (λ inner. inner.items ≡ loops.now ++ record { name = var.now; value = whole value } ∷ []) }
+{
+    let mut inner = Vec::new(alloc);
+    for one in loops {
+        inner.push(LoopVar {
+            name: one.name.copy(alloc)?,
+            value: one.value,
+        })?;
+    }
+    inner.push(LoopVar {
+        name: var.copy(alloc)?,
+        value: Ratio::whole(value),
+    })?;
+    Ok(inner)
+}

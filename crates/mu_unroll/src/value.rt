@@ -1,0 +1,258 @@
+// Values of constant expressions inside loops.
+
+ghost use Rattle.std.specs.Prelude.{◌≡◌, pos, map, ◌≤◌, ◌^◌, ◌+ℤ◌, ◌≤ℤ◌, int_le, nat_eq, unsigned_abs, IfOk};
+ghost use Rattle.mu_num.specs.Decimal.{decimal_value};
+ghost use Rattle.mu_num.specs.Fraction.{whole};
+ghost use Rattle.mu_tree.specs.Expression.{expression, reference, signed, scaled, terms_of, factors_of};
+ghost use Rattle.mu_names.specs.Constant.{joined, multiplied};
+ghost use Rattle.mu_unroll.specs.Bounds.{IsNear, bounds_of};
+ghost use Rattle.mu_unroll.specs.Flattening.{bound_of, constants_in, index_in};
+ghost use Rattle.mu_unroll.specs.Places.{constant_of, meant_in};
+ghost use Rattle.mu_unroll.specs.Tables.{meant_at};
+ghost use Rattle.mu_unroll.specs.Values.{constant_value, placed, product_value, reference_value, sum_value, whole_at, zero_value};
+
+use crate::fault::UnrollErr;
+use crate::place::{LoopVar, Meant, meaning_of};
+use mu_num::{NumErr, Ratio, decimal};
+use mu_tree::expr::{Expr, Factor, Ref, Term};
+use std::collections::BTreeMap;
+
+// A number, or its fault at a place.
+fn placed(answer: Result<Ratio, NumErr>, at: u32) -> Result<Ratio, UnrollErr>
+    ensures { result ≡ placed at answer }
+{
+    match answer {
+        Ok(value) => Ok(value),
+        Err(fault) => Err(UnrollErr::ConstFault { at, fault }),
+    }
+}
+
+/// The value of a literal.
+pub fn literal(digits: &[u8], at: u32) -> Result<Ratio, UnrollErr>
+    ensures { result ≡ placed at (decimal_value digits.now) }
+{
+    placed(decimal(digits), at)
+}
+
+// A sum and one more term.
+fn join(total: Ratio, minus: bool, value: Ratio, at: u32) -> Result<Ratio, UnrollErr>
+    ensures { result ≡ placed at (joined minus total value) }
+{
+    if minus {
+        placed(total.sub(value), at)
+    } else {
+        placed(total.add(value), at)
+    }
+}
+
+// A product and one more factor.
+fn multiply(total: Ratio, divide: bool, value: Ratio, at: u32) -> Result<Ratio, UnrollErr>
+    ensures { result ≡ placed at (multiplied divide total value) }
+{
+    if divide {
+        placed(total.div(value), at)
+    } else {
+        placed(total.mul(value), at)
+    }
+}
+
+// The constant that a name stands for.
+fn constant_of(meant: Meant) -> Option<Ratio>
+    ensures { result ≡ constant_of meant }
+{
+    match meant {
+        Meant::Constant(value) => Some(value),
+        Meant::Variable(_, _, _) | Meant::Nothing => None,
+    }
+}
+
+// The value of a reference.
+fn reference_value(
+    declared: &BTreeMap<&[u8], Meant>,
+    loops: &[LoopVar],
+    target: &Ref,
+) -> Result<Ratio, UnrollErr>
+    ensures { result ≡ reference_value (constants_in (meant_in loops.now (meant_at declared.now))) (reference target.now) }
+{
+    match &target.index {
+        Some(_) => Ok(Ratio::whole(0)),
+        None => match constant_of(meaning_of(declared, loops, target.name.bytes())) {
+            Some(value) => Ok(value),
+            None => Ok(Ratio::whole(0)),
+        },
+    }
+}
+
+// The value of a sum, term by term.
+#[cycle(valuing)]
+fn sum_value(
+    declared: &BTreeMap<&[u8], Meant>,
+    loops: &[LoopVar],
+    terms: &[Term],
+) -> Result<Ratio, UnrollErr>
+    ensures { result ≡ sum_value (constants_in (meant_in loops.now (meant_at declared.now))) zero_value (terms_of (map signed terms.now)) }
+{
+    let mut total = Ratio::whole(0);
+    for term in terms {
+        let value = match constant_value(declared, loops, &term.value) {
+            Ok(value) => value,
+            Err(fault) => return Err(fault),
+        };
+        total = match join(total, term.minus, value, term.at) {
+            Ok(next) => next,
+            Err(fault) => return Err(fault),
+        };
+    }
+    Ok(total)
+}
+
+// The value of a product, factor by factor.
+#[cycle(valuing)]
+fn product_value(
+    declared: &BTreeMap<&[u8], Meant>,
+    loops: &[LoopVar],
+    factors: &[Factor],
+) -> Result<Ratio, UnrollErr>
+    ensures { result ≡ product_value (constants_in (meant_in loops.now (meant_at declared.now))) (whole (pos 1)) (factors_of (map scaled factors.now)) }
+{
+    let mut total = Ratio::whole(1);
+    for factor in factors {
+        let value = match constant_value(declared, loops, &factor.value) {
+            Ok(value) => value,
+            Err(fault) => return Err(fault),
+        };
+        total = match multiply(total, factor.divide, value, factor.at) {
+            Ok(next) => next,
+            Err(fault) => return Err(fault),
+        };
+    }
+    Ok(total)
+}
+
+/// The value of a constant expression, or the first fault of its parts.
+#[cycle(valuing)]
+pub fn constant_value(
+    declared: &BTreeMap<&[u8], Meant>,
+    loops: &[LoopVar],
+    e: &Expr,
+) -> Result<Ratio, UnrollErr>
+    ensures { result ≡ constant_value (constants_in (meant_in loops.now (meant_at declared.now))) (expression e.now) }
+{
+    match e {
+        Expr::Num { digits, at } => literal(digits.bytes(), *at),
+        Expr::Var(target) => reference_value(declared, loops, target),
+        Expr::Time { .. } | Expr::Pre(_) => Ok(Ratio::whole(0)),
+        Expr::Sum { terms } => sum_value(declared, loops, terms),
+        Expr::Product { factors } => product_value(declared, loops, factors),
+        Expr::Pow { base, exp, at } => match constant_value(declared, loops, base) {
+            Ok(base) => placed(base.pow(*exp), *at),
+            Err(fault) => Err(fault),
+        },
+    }
+}
+
+// Whether a value is whole.
+fn is_whole(value: Ratio) -> bool
+    ensures { result ≡ nat_eq value.den 1 }
+{
+    value.den() == 1
+}
+
+/// A whole number of at most 2^62 in size, at a place.
+pub fn whole_at(value: Ratio, at: u32) -> Result<i128, UnrollErr>
+    ensures value { result ≡ whole_at at value }
+    ensures size { IfOk result (λ number. unsigned_abs number ≤ 2 ^ 62) }
+{
+    if is_whole(value) {
+        Ok(value.num())
+    } else {
+        Err(UnrollErr::NotWhole { at })
+    }
+}
+
+// A bound of the loop over the variable at a place.
+fn bound_of(
+    declared: &BTreeMap<&[u8], Meant>,
+    loops: &[LoopVar],
+    at: u32,
+    e: &Expr,
+) -> Result<i128, UnrollErr>
+    ensures value { result ≡ bound_of (meant_in loops.now (meant_at declared.now)) at (expression e.now) }
+    ensures size { IfOk result (λ number. unsigned_abs number ≤ 2 ^ 62) }
+{
+    match constant_value(declared, loops, e) {
+        Ok(value) => whole_at(value, at),
+        Err(fault) => Err(fault),
+    }
+}
+
+/// The rounds of a loop that are left: the value of its variable in the next one and in the last one.
+#[derive(Clone, Copy, Drop)]
+pub struct Rounds {
+    pub next: i128,
+    pub last: i128,
+}
+
+impl Rounds {
+    /// Whether a round is left.
+    pub fn has_next(self) -> bool
+        ensures { result ≡ int_le self.next self.last }
+    {
+        self.next <= self.last
+    }
+
+    /// The value of the loop's variable in the next round.
+    pub fn first(self) -> i128
+        ensures { result ≡ self.next }
+    {
+        self.next
+    }
+
+    /// The rounds after the next one.
+    pub fn after_next(self) -> Rounds
+        requires near { IsNear self }
+        requires there { self.next ≤ℤ self.last }
+        ensures { result ≡ record { next = self.next +ℤ pos 1; last = self.last } }
+    {
+        Rounds {
+            next: self.next + 1,
+            last: self.last,
+        }
+    }
+}
+
+/// All rounds of the loop over the variable at a place.
+pub fn bounds_of(
+    declared: &BTreeMap<&[u8], Meant>,
+    loops: &[LoopVar],
+    at: u32,
+    from: &Expr,
+    to: &Expr,
+) -> Result<Rounds, UnrollErr>
+    ensures value { result ≡ bounds_of (meant_in loops.now (meant_at declared.now)) at (expression from.now) (expression to.now) }
+    ensures near { IfOk result IsNear }
+{
+    let next = match bound_of(declared, loops, at, from) {
+        Ok(next) => next,
+        Err(fault) => return Err(fault),
+    };
+    match bound_of(declared, loops, at, to) {
+        Ok(last) => Ok(Rounds { next, last }),
+        Err(fault) => Err(fault),
+    }
+}
+
+/// The place of an element from 0 on, by its index from 1 on.
+pub fn index_in(at: u32, size: u32, index: i128) -> Result<u32, UnrollErr>
+    ensures { result ≡ index_in at size index }
+{
+    if 1 <= index && index <= size as i128 {
+        Ok((index - 1) as u32)
+    } else {
+        Err(UnrollErr::Index {
+            at,
+            value: index,
+            size,
+        })
+    }
+}

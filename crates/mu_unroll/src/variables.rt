@@ -1,0 +1,252 @@
+// The scalar variables of a scope, and what its names stand for.
+
+ghost use Rattle.std.specs.Prelude.{◌≡◌, ◌+◌, ◌^◌, ◌++◌, ◌≤◌, map, min, nat_lt, OnOk, IfOk};
+ghost use Rattle.mu_tree.specs.FlatExpression.{flat_variable};
+ghost use Rattle.mu_unroll.specs.Places.{ArePlaced, count_of_kind, elements_from, element_name, has_kind, is_kind, kind_of, scalar, scalar_count, scalars_in, scalars_of, scalars_of_kind, width};
+ghost use Rattle.mu_unroll.specs.Nexts.{HasRoom, after_known, meant_at_next, next_after, next_number};
+ghost use Rattle.mu_unroll.specs.Tables.{meant_at};
+ghost use Rattle.mu_unroll.specs.Unrolling.{declared_in};
+
+use crate::flatten::is_kind;
+use crate::place::Meant;
+use mu_io::Name;
+use mu_names::scope::Known;
+use mu_names::standing::Role;
+use mu_names::table::add;
+use mu_tree::flat::{FlatRole, FlatVar};
+use std::alloc::{AllocError, Global};
+use std::collections::BTreeMap;
+
+/// One scalar variable past the limit.
+const MANY: u32 = 4097;
+
+// The kind of variable that a role gives.
+fn kind_of(role: Role) -> Option<FlatRole>
+    ensures { result ≡ kind_of role }
+{
+    match role {
+        Role::State => Some(FlatRole::State),
+        Role::Discrete => Some(FlatRole::Discrete),
+        Role::Algebraic => Some(FlatRole::Algebraic),
+        Role::Parameter => None,
+    }
+}
+
+// Whether a declared name is a variable of a kind.
+fn has_kind(kind: FlatRole, known: &Known) -> bool
+    ensures { result ≡ has_kind kind known.now }
+{
+    match kind_of(known.role) {
+        Some(other) => is_kind(kind, other),
+        None => false,
+    }
+}
+
+// How many scalar variables a name has.
+fn width(size: Option<u32>) -> u32
+    ensures { result ≡ width size }
+{
+    match size {
+        None => 1,
+        Some(count) => count,
+    }
+}
+
+// How many scalar variables of a kind there are, cut past the limit.
+fn count_of_kind(kind: FlatRole, known: &[Known]) -> u32
+    ensures { result ≡ min (count_of_kind kind known.now) 4097 }
+{
+    let mut count = 0;
+    for one in known {
+        if has_kind(kind, one) {
+            count = (count + width(one.size).min(MANY)).min(MANY);
+        }
+    }
+    count
+}
+
+// The name of an element.
+fn element_name(alloc: Global, name: &[u8], index: u32) -> Result<Name, AllocError>
+    ensures { IfOk result (λ element. element ≡ element_name name.now index) }
+{
+    let digits = index.to_string(alloc)?;
+    let mut bytes = Vec::from_slice(alloc, name)?;
+    bytes.push(b'[')?;
+    bytes.extend_from_slice(digits.as_bytes())?;
+    bytes.push(b']')?;
+    Name::new(alloc, &bytes)
+}
+
+// Appends the elements of an array, from the first on.
+fn push_elements(
+    alloc: Global,
+    kind: FlatRole,
+    known: &Known,
+    count: u32,
+    vars: &mut Vec<FlatVar>,
+) -> Result<(), AllocError>
+    ensures { OnOk result (map flat_variable vars.new.items ≡ map flat_variable vars.old.items ++ elements_from kind known.now 1 count) }
+{
+    for before in 0..count {
+        let name = element_name(alloc, known.name.bytes(), before + 1)?;
+        vars.push(FlatVar {
+            name,
+            role: kind,
+            start: known.start,
+            quantum: known.quantum,
+        })?;
+    }
+    Ok(())
+}
+
+// Appends the scalar variables of a name.
+fn push_scalars(
+    alloc: Global,
+    kind: FlatRole,
+    known: &Known,
+    vars: &mut Vec<FlatVar>,
+) -> Result<(), AllocError>
+    ensures { OnOk result (map flat_variable vars.new.items ≡ map flat_variable vars.old.items ++ scalars_of kind known.now) }
+{
+    match known.size {
+        None => {
+            let name = known.name.copy(alloc)?;
+            vars.push(FlatVar {
+                name,
+                role: kind,
+                start: known.start,
+                quantum: known.quantum,
+            })?;
+            Ok(())
+        }
+        Some(count) => push_elements(alloc, kind, known, count, vars),
+    }
+}
+
+// Appends the scalar variables of a kind.
+fn push_kind(
+    alloc: Global,
+    kind: FlatRole,
+    known: &[Known],
+    vars: &mut Vec<FlatVar>,
+) -> Result<(), AllocError>
+    ensures { OnOk result (map flat_variable vars.new.items ≡ map flat_variable vars.old.items ++ scalars_of_kind kind known.now) }
+{
+    for one in known {
+        if has_kind(kind, one) {
+            push_scalars(alloc, kind, one, vars)?;
+        }
+    }
+    Ok(())
+}
+
+/// All scalar variables: the states, then the discrete and then the algebraic variables.
+pub fn scalars_in(alloc: Global, known: &[Known]) -> Result<Vec<FlatVar>, AllocError>
+    ensures { IfOk result (λ vars. map flat_variable vars.items ≡ scalars_in known.now) }
+{
+    let mut vars = Vec::new(alloc);
+    push_kind(alloc, FlatRole::State, known, &mut vars)?;
+    push_kind(alloc, FlatRole::Discrete, known, &mut vars)?;
+    push_kind(alloc, FlatRole::Algebraic, known, &mut vars)?;
+    Ok(vars)
+}
+
+/// Whether there are too many scalar variables.
+pub fn are_too_many(known: &[Known]) -> bool
+    ensures { result ≡ nat_lt (2 ^ 12) (scalar_count known.now) }
+{
+    let states = count_of_kind(FlatRole::State, known);
+    let discretes = count_of_kind(FlatRole::Discrete, known);
+    let algebraics = count_of_kind(FlatRole::Algebraic, known);
+    states + discretes + algebraics >= MANY
+}
+
+// The number of the next variable of each kind.
+#[derive(Clone, Copy, Drop)]
+pub struct Next {
+    pub state: u32,
+    pub discrete: u32,
+    pub algebraic: u32,
+}
+
+impl Next {
+    // The number of the next variable of a kind.
+    fn number(self, kind: FlatRole) -> u32
+        ensures { result ≡ next_number self kind }
+    {
+        match kind {
+            FlatRole::State => self.state,
+            FlatRole::Discrete => self.discrete,
+            FlatRole::Algebraic => self.algebraic,
+        }
+    }
+
+    // The numbers after so many variables of a kind.
+    fn after(self, kind: FlatRole, count: u32) -> Next
+        requires { next_number self kind + count ≤ 4096 }
+        ensures { result ≡ next_after self kind count }
+    {
+        match kind {
+            FlatRole::State => Next {
+                state: self.state + count,
+                discrete: self.discrete,
+                algebraic: self.algebraic,
+            },
+            FlatRole::Discrete => Next {
+                state: self.state,
+                discrete: self.discrete + count,
+                algebraic: self.algebraic,
+            },
+            FlatRole::Algebraic => Next {
+                state: self.state,
+                discrete: self.discrete,
+                algebraic: self.algebraic + count,
+            },
+        }
+    }
+}
+
+// What a declared name stands for, where these are the next numbers.
+fn meant_at_next(next: Next, known: &Known) -> Meant
+    ensures { result ≡ meant_at_next next known.now }
+{
+    match kind_of(known.role) {
+        None => Meant::Constant(known.value),
+        Some(kind) => Meant::Variable(kind, next.number(kind), known.size),
+    }
+}
+
+// The next numbers after a declared name.
+fn after_known(next: Next, known: &Known) -> Next
+    requires { HasRoom next known.now }
+    ensures { result ≡ after_known next known.now }
+{
+    match kind_of(known.role) {
+        None => next,
+        Some(kind) => next.after(kind, width(known.size)),
+    }
+}
+
+/// What the declared names stand for.
+pub fn declared_names<'a>(
+    alloc: Global,
+    known: &'a [Known],
+) -> Result<BTreeMap<&'a [u8], Meant>, AllocError>
+    requires { scalar_count known.now ≤ 4096 }
+    ensures names { IfOk result (λ table. meant_at table ≡ declared_in known.now) }
+    ensures placed { IfOk result (λ table. ArePlaced 4096 (meant_at table)) }
+{
+    let discrete = count_of_kind(FlatRole::State, known);
+    let algebraic = discrete + count_of_kind(FlatRole::Discrete, known);
+    let mut next = Next {
+        state: 0,
+        discrete,
+        algebraic,
+    };
+    let mut table = BTreeMap::new(alloc);
+    for one in known {
+        add(&mut table, one.name.bytes(), meant_at_next(next, one))?;
+        next = after_known(next, one);
+    }
+    Ok(table)
+}
