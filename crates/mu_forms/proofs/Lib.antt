@@ -1,0 +1,12 @@
+pub mod Fractions
+pub mod Rows
+pub mod Checks
+pub mod Sums
+pub mod Finishing
+pub mod Scalings
+pub mod Showing
+pub mod Making
+pub mod Multiplying
+pub mod Products
+pub mod Settings
+pub mod Crossing
