@@ -157,31 +157,49 @@ fn a_write_that_fails_ends_the_run(rt: HostRuntime) -> Result<(), Fail> {
     Ok(())
 }
 
+// A command is told a read fault where the shelf fails at these calls.
+fn assert_read_fault(
+    rt: &impl Abort,
+    alloc: Global,
+    words: &[&str],
+    fails: &[u32],
+) -> Result<(), Fail> {
+    let setting = Setting {
+        words,
+        shelf_fails: fails,
+        ..run_of(DECAY)
+    };
+    let (got, out, err) = outcome(alloc, &setting)?;
+    assert_eq!(rt; got, Status::ReadFault);
+    assert_eq!(rt; out.bytes(), b"".as_slice());
+    assert_eq!(rt; err.bytes(), b"read fault\n".as_slice());
+    Ok(())
+}
+
+// A command refuses a source whose line err does not take.
+fn assert_line_lost(rt: &impl Abort, alloc: Global, words: &[&str]) -> Result<(), Fail> {
+    let setting = Setting {
+        words,
+        err_fails: &[0],
+        ..run_of("model m $")
+    };
+    let (got, _, err) = outcome(alloc, &setting)?;
+    assert_eq!(rt; got, Status::ModelRefused);
+    assert_eq!(rt; err.bytes(), b"".as_slice());
+    Ok(())
+}
+
 #[test]
 fn faults_of_the_shelf_and_of_err(rt: HostRuntime) -> Result<(), Fail> {
     let alloc = rt.alloc();
-    let both: [&[&str]; 2] = [&["run", "M"], &["print", "M"]];
-    for words in both {
-        for call in 0..3u32 {
-            let setting = Setting {
-                words,
-                shelf_fails: &[call],
-                ..run_of(DECAY)
-            };
-            let (got, out, err) = outcome(alloc, &setting)?;
-            assert_eq!(rt; got, Status::ReadFault);
-            assert_eq!(rt; out.bytes(), b"".as_slice());
-            assert_eq!(rt; err.bytes(), b"read fault\n".as_slice());
-        }
-        let setting = Setting {
-            words,
-            err_fails: &[0],
-            ..run_of("model m $")
-        };
-        let (got, _, err) = outcome(alloc, &setting)?;
-        assert_eq!(rt; got, Status::ModelRefused);
-        assert_eq!(rt; err.bytes(), b"".as_slice());
-    }
+    assert_read_fault(&rt, alloc, &["run", "M"], &[0])?;
+    assert_read_fault(&rt, alloc, &["run", "M"], &[1])?;
+    assert_read_fault(&rt, alloc, &["run", "M"], &[2])?;
+    assert_read_fault(&rt, alloc, &["print", "M"], &[0])?;
+    assert_read_fault(&rt, alloc, &["print", "M"], &[1])?;
+    assert_read_fault(&rt, alloc, &["print", "M"], &[2])?;
+    assert_line_lost(&rt, alloc, &["run", "M"])?;
+    assert_line_lost(&rt, alloc, &["print", "M"])?;
     let setting = Setting {
         shelf_fails: &[3],
         err_fails: &[0],
