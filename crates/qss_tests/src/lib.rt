@@ -1,5 +1,4 @@
-//! Tests that cross crates: sources read as models and printed again, models unrolled, and texts of
-//! certificates.
+//! Tests that cross crates: sources read as models and printed again, and texts of certificates.
 #![tactic(auto)]
 
 #[cfg(test)]
@@ -8,5 +7,3 @@ mod certificates;
 mod models;
 #[cfg(test)]
 mod printed;
-#[cfg(test)]
-mod unrolling;

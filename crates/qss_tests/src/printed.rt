@@ -45,36 +45,3 @@ fn prints_models(rt: HostRuntime) -> Result<(), Fail> {
     }
     Ok(())
 }
-
-// A text, another one so many times, and an end.
-fn repeated(
-    alloc: Global,
-    front: &[u8],
-    text: &[u8],
-    times: u32,
-    end: &[u8],
-) -> Result<Vec<u8>, Fail> {
-    let mut whole = Vec::from_slice(alloc, front)?;
-    for _ in 0..times {
-        whole.extend_from_slice(text)?;
-    }
-    whole.extend_from_slice(end)?;
-    Ok(whole)
-}
-
-// A source of 2^20 bytes less two.
-#[test]
-fn prints_a_model_of_the_greatest_size(rt: HostRuntime) -> Result<(), Fail> {
-    let alloc = rt.alloc();
-    let source = repeated(alloc, b"model m equation ", b"x = 1; ", 149793, b"end m;")?;
-    assert_eq!(rt; source.len(), 1048574);
-    let text = repeated(
-        alloc,
-        b"model m equation ",
-        b"x = 1 ;\n",
-        149793,
-        b"end m ;\n",
-    )?;
-    assert!(rt; printed(alloc, &source)? == text);
-    Ok(())
-}
