@@ -4,28 +4,13 @@ ghost use Rattle.std.specs.Prelude.{◌≡◌, ◌≤◌, [], ◌∷◌, pos, ne
 ghost use Rattle.qss_machine.specs.Machines.{state_count};
 ghost use Rattle.cert_check.specs.Limits.{IsNumber, IsVector, IsSquareTable};
 
+use crate::lists::{none, one};
 use cert_check::{Certificate, Outside, Verdict, check, scope};
 use cert_matrix::Matrix;
 use mu_io::{Items, Name};
 use qss_machine::{Entry, Machine, SlopeRow, StateInfo};
 use std::alloc::{AllocError, Global};
 use std::test::Fail;
-
-// One item.
-fn one<T: Drop>(alloc: Global, item: T) -> Result<Items<T>, AllocError>
-    ensures { IfOk result (λ items. items ≡ item ∷ []) }
-{
-    let mut items = Vec::new(alloc);
-    items.push(item)?;
-    Ok(Items::new(items))
-}
-
-// No items.
-fn none<T>(alloc: Global) -> Items<T>
-    ensures { result ≡ [] }
-{
-    Items::new(Vec::new(alloc))
-}
 
 // A state that starts at 262144 and has the quantum 4.
 fn decay_states(alloc: Global) -> Result<Items<StateInfo>, AllocError>
