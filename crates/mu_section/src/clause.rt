@@ -20,10 +20,8 @@ ghost use Rattle.mu_section.specs.Views.{body_of, branch_of, clause_loop, clause
 ghost use Rattle.mu_grammar.specs.Symbols.{symbol_with};
 
 use crate::between::{between, end_loop};
-use crate::state::{
-    Body, ClauseLoop, Draft, Effect, LoopRange, OpenBranch, OpenWhen, Stage, State, Then,
-};
-use mu_expression::condition::{Turn, depth_of, read_token};
+use crate::state::{Body, ClauseLoop, Draft, Effect, LoopRange, OpenBranch, OpenWhen, State, Then};
+use mu_expression::condition::{Stage, Turn, depth_of, read_token};
 use mu_grammar::shape::Fixed;
 use mu_lexer::token::{Kind, Word};
 use mu_tree::tree::{Branch, Clause, Cond};

@@ -1,4 +1,4 @@
-use Rattle.std.proofs.Common.{◌≡◌, ◌+◌, ◌∙◌, ap}
+use Rattle.std.proofs.Common.{◌∙◌, ap}
 use Rattle.mu_grammar.specs.SumMachine.{depth_at}
 use Rattle.mu_expression.specs.Views.{position_of, frames_of}
 use Rattle.mu_grammar.proofs.Levels.{levels_before, levels_left, levels_right, levels_behind}
