@@ -1,4 +1,5 @@
-//! Tests of the language's crates: numbers, files, tokens, sources read as models and printed again.
+//! Tests of the language's crates: numbers, files, tokens, sources read as models and printed again, and sources
+//! brought to machines or refused.
 #![tactic(auto)]
 
 #[cfg(test)]
@@ -11,5 +12,7 @@ mod numbers;
 mod printed;
 #[cfg(test)]
 mod shelves;
+#[cfg(test)]
+mod sources;
 #[cfg(test)]
 mod tokens;
