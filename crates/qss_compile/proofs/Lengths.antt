@@ -1,6 +1,7 @@
 -- How many forms a flat model has: one for each state, and one for each condition and statement.
 use Rattle.std.proofs.Common.{◌≡◌, ◌∙◌, ap, sym, refl, arith, ℕ, zero, suc, ◌+◌, List, [], ◌∷◌, ◌++◌, length, Result, Ok, Err, length-append}
 use Rattle.std.specs.Prelude.{sum_by, nat_eq, if◌then◌else◌}
+use Rattle.std.proofs.lemmas.List.Sums.{sum_by-cons}
 use Rattle.mu_affine.specs.FormOf.{form_of}
 use Rattle.mu_affine.specs.Normal.{Taken, then_take, counted, solve, solve_all, keep, keep_states, condition_form, action_form, keep_actions, keep_branches, keep_clauses, right_side, nothing_taken, forms_of}
 use Rattle.mu_affine.specs.Solution.{sizes_of, equation_context, clause_context}
@@ -65,7 +66,7 @@ keep_branches_length n (b ∷ bs) t u e =
     let now = keep_length n _ t one.0 one.1 in
     let body = keep_actions_length n b.body one.0 two.0 two.1 in
     let later = keep_branches_length n bs two.0 u two.2 in
-    omega (arith, now, body, later)
+    omega (arith, now, body, later, sum_by-cons branch_forms b bs)
 
 keep_clauses_length : (n : Sizes) (cs : List (List FlatBranchTree)) (t u : Taken) → keep_clauses n cs t ≡ Ok u → length u.kept ≡ length t.kept + sum_by clause_forms cs
 keep_clauses_length n [] t u e = let s = ap (λ (x : Taken). length x.kept) (made t u e) in omega (arith, s)
@@ -73,7 +74,7 @@ keep_clauses_length n (bs ∷ cs) t u e =
     let one = taken_of (keep_branches n bs t) (keep_clauses n cs) u e in
     let now = keep_branches_length n bs t one.0 one.1 in
     let later = keep_clauses_length n cs one.0 u one.2 in
-    omega (arith, now, later)
+    omega (arith, now, later, sum_by-cons clause_forms bs cs)
 
 -- the forms that are kept are as many as states, conditions and statements
 pub kept_length : (m : FlatModelTree) (order : List ℕ) (t : Taken) → forms_of m order ≡ Ok t → length t.kept ≡ (sizes_of m).states + sum_by clause_forms m.clauses

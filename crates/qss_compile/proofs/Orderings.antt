@@ -105,7 +105,7 @@ told : (marks : List Bool) (v : ℕ) → IsMarked marks v ⊎ IsUnmarked marks v
 told marks v = cases_Bool (get_or marks v false)
 
 module _ (n : ℕ) (variable : ℕ → Type 0) (needs : ℕ → ℕ → Type 0) (bounded : (v : ℕ) → variable v → v < n) (target : (v w : ℕ) → needs v w → variable w)
-(is_variable : (v : ℕ) → IsDecided (variable v)) (does_need : (v w : ℕ) → IsDecided (needs v w)) where
+    (is_variable : (v : ℕ) → IsDecided (variable v)) (does_need : (v w : ℕ) → IsDecided (needs v w)) where
   -- it needs one that is not marked
   abbrev IsBlocked : List Bool → ℕ → Type 0
   IsBlocked marks v = (w : ℕ) × needs v w × IsUnmarked marks w

@@ -87,8 +87,8 @@ mutual
 
 -- what holds of items, and of items in order
 module _ {T Ts : Type 0} (limit : ℕ) (kind : Kind T Ts) (IsBare : ℕ → List Symbol → List Symbol → T → Type 0) (Has : T → Type 0) (Have : Ts → Type 0)
-(of_bare : (d : ℕ) (ts rest : List Symbol) (v : T) → IsBare d ts rest v → Has v) (of_loop : (r : Range) (vs : Ts) → Have vs → Has (kind.each r vs))
-(of_none : Have kind.none) (of_then : (v : T) (vs : Ts) → Has v → Have vs → Have (kind.then v vs)) where
+    (of_bare : (d : ℕ) (ts rest : List Symbol) (v : T) → IsBare d ts rest v → Has v) (of_loop : (r : Range) (vs : Ts) → Have vs → Has (kind.each r vs))
+    (of_none : Have kind.none) (of_then : (v : T) (vs : Ts) → Has v → Have vs → Have (kind.then v vs)) where
   mutual
     item_has : {d : ℕ} {ts rest : List Symbol} {v : T} → IsItem limit kind IsBare d ts rest v → Has v
     item_has {d = d} {ts = ts} {rest = rest} {v = v} (bare b) = of_bare d ts rest v b

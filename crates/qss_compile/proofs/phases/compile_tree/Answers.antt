@@ -28,4 +28,4 @@ returns-in-Ok-machine_of-clause-means c = (flat_source c.in-Ok.flat, c.in-Ok.ens
 pub returns-clause-refused : goal.returns-clause-refused
 returns-clause-refused c =
     later_answer (IsNotFlat (model c.args.tree.now)) (IsFlatOf (model c.args.tree.now)) IsFlatRefused (flat_source c.in-Ok.flat) c.refused_with.result c.in-Ok.ensures.flat
-    (named_answer (flat_model c.in-Ok.flat.model) (IsFlatRefused (flat_source c.in-Ok.flat)) c.in-Err.error c.refused_with.result c.refused_with.ensures c.in-Err.ensures.refused)
+    (named_answer (flat_model c.in-Ok.flat.model) (IsFlatRefused (flat_source c.in-Ok.flat)) c.in-Err-machine_of.error c.refused_with.result c.refused_with.ensures c.in-Err-machine_of.ensures.refused)
