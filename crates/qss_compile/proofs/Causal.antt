@@ -38,15 +38,15 @@ source_decided (e ∷ es) v w = by (cases_eq e.target v) (contains_decided (name
     later s = record { equation = s.equation; there = (suc s.there.0, (let lt = s.there.1 in omega (arith, lt)), s.there.2); target = s.target; named = s.named }
 
     neither : ((e.target ≡ v) → Contains (names_of e.value) w → ⊥) → (Source es v w → ⊥) → Source (e ∷ es) v w → ⊥
-    neither no none s = elim (one_of e s.equation es s.there) [
-      | inl same ↦ no (ap (λ (x : FlatEquationTree). x.target) same ∙ s.target) (subst (λ (x : FlatEquationTree). Contains (names_of x.value) w) (sym same) s.named)
+    neither fails none s = elim (one_of e s.equation es s.there) [
+      | inl same ↦ fails (ap (λ (x : FlatEquationTree). x.target) same ∙ s.target) (subst (λ (x : FlatEquationTree). Contains (names_of x.value) w) (sym same) s.named)
       | inr c ↦ none (record { equation = s.equation; there = c; target = s.target; named = s.named })
     ]
 
     by : (e.target ≡ v) ⊎ (e.target ≢ v) → IsDecided (Contains (names_of e.value) w) → IsDecided (Source es v w) → IsDecided (Source (e ∷ es) v w)
     by (inl t) (inl c) rest = inl (record { equation = e; there = (0, omega arith, refl); target = t; named = c })
     by h c (inl s) = inl (later s)
-    by (inl t) (inr no) (inr none) = inr (neither (λ _ c. no c) none)
+    by (inl t) (inr fails) (inr none) = inr (neither (λ _ c. fails c) none)
     by (inr ne) c (inr none) = inr (neither (λ t _. ne t) none)
 
 -- a variable at a place is one
@@ -57,7 +57,7 @@ algebraic_decided : (m : FlatModelTree) (v : ℕ) → IsDecided (IsAlgebraic m v
 algebraic_decided m v = by (slice_get m.vars v) refl
   where
     other : (d : FlatVariable) → slice_get m.vars v ≡ Some d → (d.role ≡ Algebraic → ⊥) → IsAlgebraic m v → ⊥
-    other d at no a = no (ap (λ (x : FlatVariable). x.role) (same_variable m v d a.variable at a.at) ∙ a.role)
+    other d at fails a = fails (ap (λ (x : FlatVariable). x.role) (same_variable m v d a.variable at a.at) ∙ a.role)
 
     by_role : (d : FlatVariable) → slice_get m.vars v ≡ Some d → (r : FlatRole) → d.role ≡ r → IsDecided (IsAlgebraic m v)
     by_role d at State e = inr (other d at (λ h. let wrong = sym e ∙ h in cc wrong))
@@ -73,9 +73,9 @@ depends_decided m v w = by (source_decided m.equations v w) (algebraic_decided m
   where
     by : IsDecided (Source m.equations v w) → IsDecided (IsAlgebraic m v) → IsDecided (IsAlgebraic m w) → IsDecided (DependsOn m v w)
     by (inl s) (inl a) (inl b) = inl (record { equation = s.equation; there = s.there; target = s.target; named = s.named; from_algebraic = a; to_algebraic = b })
-    by (inr no) a b = inr (λ d. no (record { equation = d.equation; there = d.there; target = d.target; named = d.named }))
-    by (inl s) (inr no) b = inr (λ d. no d.from_algebraic)
-    by (inl s) (inl a) (inr no) = inr (λ d. no d.to_algebraic)
+    by (inr fails) a b = inr (λ d. fails (record { equation = d.equation; there = d.there; target = d.target; named = d.named }))
+    by (inl s) (inr fails) b = inr (λ d. fails d.from_algebraic)
+    by (inl s) (inl a) (inr fails) = inr (λ d. fails d.to_algebraic)
 
 -- a variable that wants one equation and has none or more
 abbrev IsMiscounted : FlatModelTree → ℕ → Type 0
@@ -107,16 +107,16 @@ miscounted_decided : (m : FlatModelTree) (v : ℕ) → IsDecided (IsMiscounted m
 miscounted_decided m v = by (wants_decided m v) (one_decided m v)
   where
     by : IsDecided (WantsEquation m v) → IsDecided (HasOneEquation m v) → IsDecided (IsMiscounted m v)
-    by (inl w) (inr no) = inl (w, no)
+    by (inl w) (inr fails) = inl (w, fails)
     by (inl w) (inl one) = inr (λ p. p.1 one)
-    by (inr no) one = inr (λ p. no p.0)
+    by (inr fails) one = inr (λ p. fails p.0)
 
 module _ (m : FlatModelTree) where
   refused_at : (v : ℕ) → IsLeastOf (IsMiscounted m) (length m.vars) v → (ns : List ℕ) → equation_numbers m v ≡ ns → Decides (OrderRefuses m) (HasOrder m)
   refused_at v l ns e = by ns e
     where
       below : AreCountedBelow m v
-      below w lt wants = elim (one_decided m w) [ inl one ↦ one | inr no ↦ absurd (l.least w lt (wants, no)) ]
+      below w lt wants = elim (one_decided m w) [ inl one ↦ one | inr fails ↦ absurd (l.least w lt (wants, fails)) ]
 
       by : (ns : List ℕ) → equation_numbers m v ≡ ns → Decides (OrderRefuses m) (HasOrder m)
       by [] e = inr (with_names m (of_order (ordering.NoEquation v)), (ordering.NoEquation v, λ wrong. cc wrong, (l.holds.0, below, e), refl))
@@ -126,7 +126,7 @@ module _ (m : FlatModelTree) where
   counted_all : ((v : ℕ) → v < length m.vars → IsMiscounted m v → ⊥) → AreCounted m
   counted_all none v wants =
       let inside = slice_get_within m.vars v wants.variable wants.at in
-      elim (one_decided m v) [ inl one ↦ one | inr no ↦ absurd (none v inside (wants, no)) ]
+      elim (one_decided m v) [ inl one ↦ one | inr fails ↦ absurd (none v inside (wants, fails)) ]
 
   by_graph : AreCounted m → ((vars : List ℕ) × IsOrder (IsAlgebraic m) (DependsOn m) vars) ⊎ ((vars : List ℕ) × IsCycle (DependsOn m) vars) → Decides (OrderRefuses m) (HasOrder m)
   by_graph counted (inl order) = inl (order.0, (counted, order.1))

@@ -16,7 +16,7 @@ use Rattle.mu_forms.specs.declared.form.Forms.{Forms}
 use Rattle.mu_forms.specs.declared.form.Place.{Place}
 use Rattle.mu_tree.specs.FlatExpression.{FlatEquationTree, FlatAction, FlatBranchTree, FlatModelTree}
 use Rattle.mu_tree.specs.FlatModels.{IsFlatEquation, IsFlatAction, IsFlatBranch, IsFlatClause, IsFlatModel}
-use Rattle.qss_compile.proofs.Lengths.{taken_of, made, keep_length, keep_actions_length, keep_branches_length}
+use Rattle.qss_compile.proofs.Lengths.{taken_of, made, solve_all_kept, keep_length, keep_states_length, keep_actions_length, keep_branches_length}
 use Rattle.qss_compile.proofs.Listing.{IsTidy, form_listed}
 use Rattle.qss_compile.proofs.Tidy.{AreTidy, Gives, constant_tidy, form_gives, condition_gives, action_gives}
 
@@ -35,16 +35,16 @@ abbrev place_with : FlatModelTree → Bool → Place
 place_with m b = record { sizes = sizes_of m; in_equation = b }
 
 of_state : (m : FlatModelTree) (i : ℕ) → i < (sizes_of m).states → equation_place m ≡ place_at m i
-of_state m i h = ap (place_with m) (yes i (sizes_of m).states h)
+of_state m i h = ap (place_with m) (is_below i (sizes_of m).states h)
   where
-    yes : (a b : ℕ) → a < b → true ≡ nat_lt a b
-    yes a b h = grind (arith, nat_tests)
+    is_below : (a b : ℕ) → a < b → true ≡ nat_lt a b
+    is_below a b h = grind (arith, nat_tests)
 
 of_clause : (m : FlatModelTree) (i : ℕ) → (sizes_of m).states ≤ i → clause_place m ≡ place_at m i
-of_clause m i h = ap (place_with m) (no i (sizes_of m).states h)
+of_clause m i h = ap (place_with m) (is_past i (sizes_of m).states h)
   where
-    no : (a b : ℕ) → b ≤ a → false ≡ nat_lt a b
-    no a b h = grind (arith, nat_tests)
+    is_past : (a b : ℕ) → b ≤ a → false ≡ nat_lt a b
+    is_past a b h = grind (arith, nat_tests)
 
 -- forms that are tidy at their places, the first at this one
 abbrev ArePlaced : FlatModelTree → ℕ → List AffineForm → Type 0

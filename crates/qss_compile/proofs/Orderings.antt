@@ -71,7 +71,7 @@ cycle_of_round needs (v ∷ vs) r d =
     (turned, cycle_from_round needs (v ∷ vs) turned r d (record { place = place.0; inside = place.1; value = refl; least = place.2 }))
 
 -- no mark, at each of so many numbers
-no_marks : ℕ → List Bool
+abbrev no_marks : ℕ → List Bool
 no_marks zero = []
 no_marks (suc n) = false ∷ no_marks n
 
@@ -151,7 +151,7 @@ module _ (n : ℕ) (variable : ℕ → Type 0) (needs : ℕ → ℕ → Type 0) 
       by : IsDecided (needs v w) → IsMarked marks w ⊎ IsUnmarked marks w → IsDecided (IsMissing marks v w)
       by (inl n) (inl old) = inr (λ p. not_both marks w old p.1)
       by (inl n) (inr new) = inl (n, new)
-      by (inr no) t = inr (λ p. no p.0)
+      by (inr fails) t = inr (λ p. fails p.0)
 
   -- ready, or no variable, or listed, or blocked
   ready_or : (marks : List Bool) (listed : List ℕ) → Marks n marks listed → (v : ℕ) → IsReady variable needs listed v ⊎ ((variable v → IsUnmarked marks v → IsBlocked marks v) × (IsReady variable needs listed v → ⊥))
@@ -159,7 +159,7 @@ module _ (n : ℕ) (variable : ℕ → Type 0) (needs : ℕ → ℕ → Type 0) 
     where
       by : IsDecided (variable v) → IsMarked marks v ⊎ IsUnmarked marks v → ((w : ℕ) × IsLeastOf (IsMissing marks v) n w) ⊎ ((w : ℕ) → w < n → IsMissing marks v w → ⊥)
           → IsReady variable needs listed v ⊎ ((variable v → IsUnmarked marks v → IsBlocked marks v) × (IsReady variable needs listed v → ⊥))
-      by (inr no) t missing = inr (λ there. absurd (no there), λ r. no r.there)
+      by (inr fails) t missing = inr (λ there. absurd (fails there), λ r. fails r.there)
       by (inl there) (inl old) missing = inr (λ _ new. absurd (not_both marks v old new), λ r. r.unlisted (m.listed_of v old))
       by (inl there) (inr new) (inl found) =
           let lack = found.1.holds in
@@ -171,10 +171,10 @@ module _ (n : ℕ) (variable : ℕ → Type 0) (needs : ℕ → ℕ → Type 0) 
       })
 
   is_ready : (marks : List Bool) (listed : List ℕ) → Marks n marks listed → (v : ℕ) → IsDecided (IsReady variable needs listed v)
-  is_ready marks listed m v = elim (ready_or marks listed m v) [ inl r ↦ inl r | inr no ↦ inr no.1 ]
+  is_ready marks listed m v = elim (ready_or marks listed m v) [ inl r ↦ inl r | inr fails ↦ inr fails.1 ]
 
   blocked_if : (marks : List Bool) (listed : List ℕ) → Marks n marks listed → ((v : ℕ) → v < n → IsReady variable needs listed v → ⊥) → (w : ℕ) → variable w → IsUnmarked marks w → IsBlocked marks w
-  blocked_if marks listed m none w there new = elim (ready_or marks listed m w) [ inl r ↦ absurd (none w (bounded w there) r) | inr no ↦ no.0 there new ]
+  blocked_if marks listed m none w there new = elim (ready_or marks listed m w) [ inl r ↦ absurd (none w (bounded w there) r) | inr fails ↦ fails.0 there new ]
 
   abbrev OrderOrCycle : Type 0
   OrderOrCycle = ((vars : List ℕ) × IsOrder variable needs vars) ⊎ Cycle
@@ -193,7 +193,7 @@ module _ (n : ℕ) (variable : ℕ → Type 0) (needs : ℕ → ℕ → Type 0) 
           left_by : IsDecided (variable v) → IsMarked marks v ⊎ IsUnmarked marks v → IsDecided (IsLeft marks v)
           left_by (inl there) (inl old) = inr (λ p. not_both marks v old p.1)
           left_by (inl there) (inr new) = inl (there, new)
-          left_by (inr no) t = inr (λ p. no p.0)
+          left_by (inr fails) t = inr (λ p. fails p.0)
 
       by : ((v : ℕ) × IsLeastOf (IsLeft marks) n v) ⊎ ((v : ℕ) → v < n → IsLeft marks v → ⊥) → OrderOrCycle
       by (inl found) =

@@ -123,7 +123,7 @@ meanings_positive constants declared h name = by (constants name) refl
   where
     by : (o : Option (Option Fraction)) → constants name ≡ o → IsPositive (constant_of (meaning_of o (declared name)))
     by None e = other_positive (declared name)
-    by (Some v) e x is = h name x (e ∙ ap (λ (w : Option Fraction). Some w) is)
+    by (Some v) e = λ x is. h name x (e ∙ ap (λ (w : Option Fraction). Some w) is)
 
 optional_positive : (meaning : List ℕ → Meaning) → ((name : List ℕ) → IsPositive (constant_of (meaning name))) → (o : Option Expression) → IsPositive (optional_value meaning o)
 optional_positive meaning known None = none_positive

@@ -83,8 +83,8 @@ nonzero_before a h = elim (cases_Bool (is_nonzero a)) [
 -- a test that passes nowhere, at one number
 fails_at : (start count k : ℕ) (test : ℕ → Bool) → any_from start count test ≡ false → start ≤ k → k < start + count → test k ≡ false
 fails_at start count k test none_there low high = elim (cases_Bool (test k)) [
-  | inl yes ↦ absurd (let wrong : false ≡ true = sym none_there ∙ any_from-some start count k test low high yes in cc wrong)
-  | inr no ↦ no
+  | inl holds ↦ absurd (let wrong : false ≡ true = sym none_there ∙ any_from-some start count k test low high holds in cc wrong)
+  | inr fails ↦ fails
 ]
 
 negated : (b : Bool) → not b ≡ true → b ≡ false
@@ -159,9 +159,9 @@ one_of_two : (a b x : Fraction) → (a.num ≡ pos 0 → b.num ≡ pos 0 → x.n
 one_of_two a b x zeros some = by (cases_Bool (is_nonzero a)) (cases_Bool (is_nonzero b))
   where
     by : (is_nonzero a ≡ true) ⊎ (is_nonzero a ≡ false) → (is_nonzero b ≡ true) ⊎ (is_nonzero b ≡ false) → (is_nonzero a ≡ true) ⊎ (is_nonzero b ≡ true)
-    by (inl yes) t = inl yes
-    by (inr no) (inl yes) = inr yes
-    by (inr no) (inr none_there) = absurd (let e = zero_from_num x (zeros (zero_num a no) (zero_num b none_there)) in let wrong : false ≡ true = sym e ∙ some in cc wrong)
+    by (inl holds) t = inl holds
+    by (inr fails) (inl holds) = inr holds
+    by (inr fails) (inr none_there) = absurd (let e = zero_from_num x (zeros (zero_num a fails) (zero_num b none_there)) in let wrong : false ≡ true = sym e ∙ some in cc wrong)
 
 difference_zeros : (a b : Fraction) → a.num ≡ pos 0 → b.num ≡ pos 0 → (difference a b).num ≡ pos 0
 difference_zeros a b h k = omega (arith, ints, ap (λ n. n *ℤ pos b.den) h, ap (λ n. n *ℤ pos a.den) k, zero-*ℤ (pos b.den), zero-*ℤ (pos a.den))
