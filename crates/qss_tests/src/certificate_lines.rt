@@ -1,7 +1,7 @@
 // The lines of every cause, as they are to be read.
 
-use cert_lines::{cause_line, outside_line, verdict_line};
 use cert_check::{Outside, Verdict};
+use cert_lines::{cause_line, outside_line, verdict_line};
 use cert_text::CertErr;
 use std::test::Fail;
 
