@@ -27,14 +27,14 @@ accepted_text m c text (verdict.Rejected a b l r) h e = absurd (cc)
 accepted_text m c text (verdict.Range a b) h e = absurd (cc)
 
 pub bounds : BoundsHold
-bounds m bytes text (inl refused) = absurd refused
+bounds m bytes text (inl (why, h, e)) = absurd (cc)
 bounds m bytes text (inr (c, read, (v, h, e))) =
     let accepted = accepted_text m c text v h e in
     let holds = accepted-holds (system_of m) (claim c) (quanta_positive m) accepted.0 in
     (c, read.text, accepted.1, promised m c holds, admitted m c read.scope.plain holds)
 
 pub upgrades : UpgradesKeep
-upgrades m bytes text (inl refused) = absurd refused
+upgrades m bytes text (inl (why, h, e)) = absurd (cc)
 upgrades m bytes text (inr (c, read, e)) =
     let same : text ≡ lines_text (lines (pos 3) c) = cc in
     let P : List ℕ → Type 0 = λ t. IsTextOf m t c in

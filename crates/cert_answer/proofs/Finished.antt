@@ -12,8 +12,10 @@ use Rattle.cert_check.specs.declared.verdict.Verdict.TheVariants as verdict
 use Rattle.cert_laws.specs.Verdicts.{IsVerdict}
 use Rattle.cert_lines.specs.Bounds.{bounds_text}
 use Rattle.cert_text.specs.Texts.{IsTextOf}
-use Rattle.cert_answer.specs.Answers.{Answer, outside, too_long, unread, rejected, written, IsRefusal, IsCertified, certified, IsCertification}
+use Rattle.cert_answer.specs.Answers.{Answer, refused, written, IsAnswer, IsCertified, certified, IsCertification}
 use Rattle.cert_answer.specs.Endings.{Ends, MayEnd, RefusesBy, ending_of, text_of}
+use Rattle.cert_answer.specs.declared.ending.CertificateRefusal.{CertificateRefusal}
+use Rattle.cert_answer.specs.declared.ending.CertificateRefusal.TheVariants.{Rejected}
 use Rattle.cert_answer.specs.declared.ending.Ending.{Ending}
 use Rattle.cert_answer.specs.declared.ending.Ending.TheVariants as ending
 use Rattle.cert_answer.proofs.Bounds.{bounds}
@@ -46,9 +48,9 @@ module _ {K : Type 0} (known : K → Option (List ℕ)) (faults : K → ℕ) whe
   }
 
   -- a refusal is told, and nothing is written
-  refusal_told : (m : Machine) (bytes : List ℕ) (IsSuch : Answer → Type 0) (a : Answer) → IsRefusal m bytes a → IsSuch a → (sink : K) → Ends known faults IsSuch (ending_of a) sink sink
-  refusal_told m bytes IsSuch (outside why) h is sink = record {
-    answer = outside why;
+  refusal_told : (IsSuch : Answer → Type 0) (why : CertificateRefusal) → IsSuch (refused why) → (sink : K) → Ends known faults IsSuch (ending.Refused why) sink sink
+  refusal_told IsSuch why is sink = record {
+    answer = refused why;
     is = is;
     told = refl;
     whole = λ e. absurd (cc e);
@@ -57,54 +59,23 @@ module _ {K : Type 0} (known : K → Option (List ℕ)) (faults : K → ℕ) whe
     calm = λ e. refl;
     last = λ e. absurd (cc e);
   }
-  refusal_told m bytes IsSuch too_long h is sink = record {
-    answer = too_long;
-    is = is;
-    told = refl;
-    whole = λ e. absurd (cc e);
-    prefix = λ e. absurd (cc e);
-    untouched = λ e. refl;
-    calm = λ e. refl;
-    last = λ e. absurd (cc e);
-  }
-  refusal_told m bytes IsSuch (unread why) h is sink = record {
-    answer = unread why;
-    is = is;
-    told = refl;
-    whole = λ e. absurd (cc e);
-    prefix = λ e. absurd (cc e);
-    untouched = λ e. refl;
-    calm = λ e. refl;
-    last = λ e. absurd (cc e);
-  }
-  refusal_told m bytes IsSuch (rejected v) h is sink = absurd h
-  refusal_told m bytes IsSuch (written t) h is sink = absurd h
 
   -- the bytes are not read
-  pub not_read : (m : Machine) (bytes : List ℕ) (IsSuch : Answer → Type 0) → ((a : Answer) → IsRefusal m bytes a → IsSuch a) → (a : Answer) → IsSuch a → (end : Ending) → RefusesBy m bytes end
-      → (sink : K) → Ends known faults IsSuch end sink sink
-  not_read m bytes IsSuch into a is end (inl e) sink =
-      let P : Ending → Type 0 = λ x. Ends known faults IsSuch x sink sink in
-      subst P (sym e) (memory_wanted IsSuch a is sink)
-  not_read m bytes IsSuch into a is end (inr (b, h, e)) sink =
-      let P : Ending → Type 0 = λ x. Ends known faults IsSuch x sink sink in
-      subst P (sym e) (refusal_told m bytes IsSuch b h (into b h) sink)
+  pub not_read : (m : Machine) (bytes : List ℕ) (IsSuch : Certificate → Answer → Type 0) (a : Answer) → IsAnswer m IsSuch bytes a → (end : Ending) → RefusesBy m bytes end → (sink : K)
+      → Ends known faults (IsAnswer m IsSuch bytes) end sink sink
+  not_read m bytes IsSuch a is end (inl e) sink =
+      let P : Ending → Type 0 = λ x. Ends known faults (IsAnswer m IsSuch bytes) x sink sink in
+      subst P (sym e) (memory_wanted (IsAnswer m IsSuch bytes) a is sink)
+  not_read m bytes IsSuch a is end (inr (why, h, e)) sink =
+      let P : Ending → Type 0 = λ x. Ends known faults (IsAnswer m IsSuch bytes) x sink sink in
+      subst P (sym e) (refusal_told (IsAnswer m IsSuch bytes) why (inl (why, h, refl)) sink)
 
   -- the certificate is not accepted
   pub verdict_told : (m : Machine) (c : Certificate) (v : Verdict) → IsVerdict (system_of m) (claim c) v → (v ≡ verdict.Accepted → ⊥) → (sink : K)
-      → Ends known faults (IsCertified m c) (ending.Rejected v) sink sink
-  verdict_told m c v h other sink = record {
-    answer = rejected v;
-    is = (v, h, rejected_by v other);
-    told = refl;
-    whole = λ e. absurd (cc e);
-    prefix = λ e. absurd (cc e);
-    untouched = λ e. refl;
-    calm = λ e. refl;
-    last = λ e. absurd (cc e);
-  }
+      → Ends known faults (IsCertified m c) (ending.Refused (Rejected v)) sink sink
+  verdict_told m c v h other sink = refusal_told (IsCertified m c) (Rejected v) (v, h, rejected_by v other) sink
     where
-      rejected_by : (v : Verdict) → (v ≡ verdict.Accepted → ⊥) → rejected v ≡ certified m c v
+      rejected_by : (v : Verdict) → (v ≡ verdict.Accepted → ⊥) → refused (Rejected v) ≡ certified m c v
       rejected_by verdict.Accepted other = absurd (other refl)
       rejected_by (verdict.Rejected a b l r) other = refl
       rejected_by (verdict.Range a b) other = refl
@@ -114,12 +85,9 @@ module _ {K : Type 0} (known : K → Option (List ℕ)) (faults : K → ℕ) whe
       → (c : Certificate) × IsTextOf m bytes c × Appends (known old) (known new) (bounds_text m c) × IsPromised m c × AdmitsRuns m c
   promised_end m bytes end old new h e = by h.answer h.is (let P : Ending → Type 0 = λ x. MayEnd h.answer x in subst P e h.told) (h.whole e)
     where
-      by : (a : Answer) → IsCertification m bytes a → ending.Written ≡ ending_of a → Appends (known old) (known new) (text_of a)
+      by : (a : Answer) → IsCertification m bytes a → ending_of a ≡ ending.Written → Appends (known old) (known new) (text_of a)
           → (c : Certificate) × IsTextOf m bytes c × Appends (known old) (known new) (bounds_text m c) × IsPromised m c × AdmitsRuns m c
       by (written text) is told all =
           let law = bounds m bytes text is in
           (law.0, law.1, subst (Appends (known old) (known new)) law.2 all, law.3, law.4)
-      by (outside why) is told all = absurd (cc)
-      by too_long is told all = absurd (cc)
-      by (unread why) is told all = absurd (cc)
-      by (rejected v) is told all = absurd (cc)
+      by (refused why) is told all = absurd (cc)

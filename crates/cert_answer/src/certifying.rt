@@ -11,7 +11,7 @@ ghost use Rattle.cert_text.specs.Texts.{IsTextOf};
 ghost use Rattle.cert_answer.specs.Answers.{written, IsCertified, IsCertification};
 ghost use Rattle.cert_answer.specs.Endings.{Ends};
 
-use crate::ending::Ending;
+use crate::ending::{CertificateRefusal, Ending};
 use crate::reading::read_for;
 use crate::writing::write_text;
 use cert_check::{Certificate, Verdict, check};
@@ -43,7 +43,7 @@ fn judge<O: Sink>(alloc: Global, m: &Machine, c: &Certificate, out: &mut O) -> E
 {
     match check(m, c) {
         Verdict::Accepted => write_bounds(alloc, m, c, out),
-        verdict => Ending::Rejected(verdict),
+        verdict => Ending::Refused(CertificateRefusal::Rejected(verdict)),
     }
 }
 

@@ -11,7 +11,7 @@ mod upgrading;
 mod writing;
 
 pub use certifying::certify;
-pub use ending::Ending;
+pub use ending::{CertificateRefusal, Ending};
 pub use laws::{answers_are_one, bounds_hold, upgrades_keep};
-pub use telling::ending_line;
+pub use telling::{ending_line, refusal_line};
 pub use upgrading::upgrade;

@@ -7,7 +7,7 @@ ghost use Rattle.cert_text.specs.Texts.{IsRefusedFor};
 ghost use Rattle.cert_answer.specs.Answers.{limit, IsRead};
 ghost use Rattle.cert_answer.specs.Endings.{RefusesBy};
 
-use crate::ending::Ending;
+use crate::ending::{CertificateRefusal, Ending};
 use cert_check::{Certificate, scope};
 use cert_text::{CertErr, read_certificate};
 use qss_machine::Machine;
@@ -23,7 +23,7 @@ pub(crate) fn read_for(alloc: Global, m: &Machine, bytes: &[u8]) -> Result<Certi
 {
     match scope(m) {
         Ok(_states) => read_short(alloc, m, bytes),
-        Err(why) => Err(Ending::Outside(why)),
+        Err(why) => Err(Ending::Refused(CertificateRefusal::Outside(why))),
     }
 }
 
@@ -34,7 +34,7 @@ fn read_short(alloc: Global, m: &Machine, bytes: &[u8]) -> Result<Certificate, E
     ensures refused { IfErr result (RefusesBy m.now bytes.now) }
 {
     if bytes.len() > LIMIT {
-        return Err(Ending::TooLong);
+        return Err(Ending::Refused(CertificateRefusal::TooLong));
     }
     match read_certificate(alloc, bytes, m) {
         Ok(c) => Ok(c),
@@ -48,6 +48,6 @@ fn unread(why: CertErr) -> Ending
 {
     match why {
         CertErr::Memory => Ending::Memory,
-        why => Ending::Unread(why),
+        why => Ending::Refused(CertificateRefusal::Unread(why)),
     }
 }

@@ -2,7 +2,7 @@
 
 use crate::certificates::{decay, text};
 use crate::checks::empty;
-use cert_answer::{Ending, certify, ending_line, upgrade};
+use cert_answer::{CertificateRefusal, Ending, certify, ending_line, upgrade};
 use cert_check::{Outside, Verdict};
 use cert_text::CertErr;
 use mu_io::MemSink;
@@ -50,13 +50,13 @@ fn an_upgrade_has_all_lines(rt: HostRuntime) -> Result<(), Fail> {
 fn other_certificates_are_refused(rt: HostRuntime) -> Result<(), Fail> {
     let alloc = rt.alloc();
     let m = decay(alloc)?;
-    let apart = Ending::Rejected(Verdict::Rejected {
+    let apart = CertificateRefusal::Rejected(Verdict::Rejected {
         number: 5,
         place: 3,
         left: 7398752256,
         right: 7247757312,
     });
-    let cases: [(&str, &str, Ending, u8, &str); 2] = [
+    let cases: [(&str, &str, CertificateRefusal, u8, &str); 2] = [
         (
             "form,2\n",
             "E,21\nstart1,262144\nstart2,176128\n",
@@ -67,7 +67,7 @@ fn other_certificates_are_refused(rt: HostRuntime) -> Result<(), Fail> {
         (
             "form,7\n",
             "",
-            Ending::Unread(CertErr::Form { got: 7 }),
+            CertificateRefusal::Unread(CertErr::Form { got: 7 }),
             7,
             "certificate refused: 5 7\n",
         ),
@@ -77,7 +77,7 @@ fn other_certificates_are_refused(rt: HostRuntime) -> Result<(), Fail> {
         let mut out = sink(alloc, &[])?;
         let ending = certify(alloc, &m, &bytes, &mut out);
         let line = ending_line(alloc, ending)?;
-        assert_eq!(rt; ending, wanted);
+        assert_eq!(rt; ending, Ending::Refused(wanted));
         assert_eq!(rt; ending.code(), code);
         assert_eq!(rt; line.as_slice(), told.as_bytes());
         assert_eq!(rt; out.bytes(), b"".as_slice());
@@ -90,13 +90,14 @@ fn the_machine_comes_first_and_then_the_length(rt: HostRuntime) -> Result<(), Fa
     let alloc = rt.alloc();
     let long = vec![in alloc; b'x'; 262145]?;
     let mut out = sink(alloc, &[])?;
-    let outside = Ending::Outside(Outside::States { count: 0 });
+    let outside = Ending::Refused(CertificateRefusal::Outside(Outside::States { count: 0 }));
     let m = empty(alloc);
     assert_eq!(rt; certify(alloc, &m, &long, &mut out), outside);
     assert_eq!(rt; upgrade(alloc, &m, &long, &mut out), outside);
+    let too_long = Ending::Refused(CertificateRefusal::TooLong);
     let m = decay(alloc)?;
-    assert_eq!(rt; certify(alloc, &m, &long, &mut out), Ending::TooLong);
-    assert_eq!(rt; upgrade(alloc, &m, &long, &mut out), Ending::TooLong);
+    assert_eq!(rt; certify(alloc, &m, &long, &mut out), too_long);
+    assert_eq!(rt; upgrade(alloc, &m, &long, &mut out), too_long);
     assert_eq!(rt; out.bytes(), b"".as_slice());
     Ok(())
 }

@@ -1,5 +1,5 @@
-use Rattle.std.proofs.Common.{inl, inr}
-use Rattle.cert_answer.specs.Answers.{Answer, IsRefusal, IsCertified, IsCertification}
+use Rattle.std.proofs.Common.{inr}
+use Rattle.cert_answer.specs.Answers.{Answer, IsCertified, IsCertification}
 use Rattle.cert_answer.proofs.Finished.{ends_as, not_read, promised_end}
 use Rattle.cert_answer.proofs.Sameness.{some_answer, some_certified}
 use Rattle.cert_answer.proofs.certifying.certify.Goals as goal
@@ -18,5 +18,5 @@ returns-in-Ok-clause-promised g c =
 pub returns-in-Err-clause-answered : goal.returns-in-Err-clause-answered
 returns-in-Err-clause-answered g c =
     let some = some_answer c.args.m.now c.args.bytes.now (IsCertified c.args.m.now) (some_certified c.args.m.now) in
-    not_read (λ k. g.O.Sink.written k) (λ k. g.O.Sink.faults k) c.args.m.now c.args.bytes.now (IsCertification c.args.m.now c.args.bytes.now)
-    (λ (a : Answer) (h : IsRefusal c.args.m.now c.args.bytes.now a). inl h) some.0 some.1 c.in-Err.ending c.in-Err.ensures.refused c.args.out.now
+    not_read (λ k. g.O.Sink.written k) (λ k. g.O.Sink.faults k) c.args.m.now c.args.bytes.now (IsCertified c.args.m.now) some.0 some.1 c.in-Err.ending c.in-Err.ensures.refused
+    c.args.out.now
