@@ -4,6 +4,10 @@
 #[cfg(test)]
 mod agendas;
 #[cfg(test)]
+mod answers;
+#[cfg(test)]
+mod certificate_lines;
+#[cfg(test)]
 mod certificates;
 #[cfg(test)]
 mod checks;
