@@ -15,3 +15,5 @@ mod machines;
 mod matrices;
 #[cfg(test)]
 mod quanta;
+#[cfg(test)]
+mod rows;
