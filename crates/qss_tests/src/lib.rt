@@ -19,3 +19,5 @@ mod plays;
 mod quanta;
 #[cfg(test)]
 mod rows;
+#[cfg(test)]
+mod top;
