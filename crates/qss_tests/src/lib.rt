@@ -10,6 +10,8 @@ mod checks;
 #[cfg(test)]
 mod crossings;
 #[cfg(test)]
+mod lists;
+#[cfg(test)]
 mod machines;
 #[cfg(test)]
 mod matrices;
