@@ -1,6 +1,6 @@
 // Whole runs of the top call, with texts that were worked out by hand.
-use super::*;
 use mu_io::{MemShelf, MemSink, Name};
+use qss_top::{Status, qss_main};
 use std::alloc::Global;
 use std::process::Abort;
 use std::test::Fail;
@@ -28,7 +28,7 @@ const HEADER: &str = "tick,event,name,level,state\n";
 const DECAY_ROWS: &str =
     "0,start,x,64,262144\n1,level,x,60,245760\n3,level,x,52,215040\n5,level,x,46,188416\n7,level,x,40,164864\n9,level,x,35,144384\n11,level,x,30,126464\n14,level,x,25,103424\n16,end,x,25,90624\n";
 
-const USAGE: &str = "usage: qss VERB [WORD] [WORD] [--rule RULE] [--only NAME]\n";
+const USAGE: &str = "usage: qss VERB [WORD] [WORD] [--rule RULE] [--only NAME] [--relative N]\n";
 
 // What a call of the top call is given, and the calls that are to fail.
 #[derive(Clone, Copy)]
@@ -99,7 +99,7 @@ fn what_is_refused(rt: HostRuntime) -> Result<(), Fail> {
     let alloc = rt.alloc();
     let blanks = vec![in alloc; b' '; (1 << 20) + 1]?;
     let long = String::from_utf8(blanks)?;
-    let cases: [(&[&str], &str, u8, &str); 13] = [
+    let cases: [(&[&str], &str, u8, &str); 14] = [
         (&["run", "M"], FRACTIONS, 5, "refused: top 2\n"),
         (&["run", "M"], RESERVED, 5, "refused: parse 1 1\n"),
         (&["run", "M"], NO_QUANTUM, 5, "refused: top 2\n"),
@@ -107,6 +107,7 @@ fn what_is_refused(rt: HostRuntime) -> Result<(), Fail> {
         (&["print", "M"], RESERVED, 5, "refused: parse 1 1\n"),
         (&["print", "M"], &long, 5, "refused: top 1\n"),
         (&["run", "absent"], DECAY, 3, "read fault\n"),
+        (&["run", "--", "--only"], DECAY, 3, "read fault\n"),
         (&["print", "absent"], DECAY, 3, "read fault\n"),
         (&["run"], DECAY, 2, USAGE),
         (&["print"], DECAY, 2, USAGE),
@@ -123,6 +124,91 @@ fn what_is_refused(rt: HostRuntime) -> Result<(), Fail> {
         assert_eq!(rt; got.code(), code);
         assert_eq!(rt; out.bytes(), b"".as_slice());
         assert_eq!(rt; err.bytes(), line.as_bytes());
+    }
+    Ok(())
+}
+
+#[test]
+fn words_that_are_no_command(rt: HostRuntime) -> Result<(), Fail> {
+    let alloc = rt.alloc();
+    let cases: [&[&str]; 15] = [
+        &["print", "M", "--rule", "floor"],
+        &["print", "M", "--relative=0"],
+        &["run", "M", "--rule", "ceil"],
+        &["run", "M", "--rule="],
+        &["run", "M", "--rule"],
+        &["run", "M", "--rule", "floor", "--rule", "floor"],
+        &["run", "M", "--only", "--rule"],
+        &["run", "M", "--only", "x", "--only=x"],
+        &["run", "M", "--relative", "2049"],
+        &["run", "M", "--relative", "00512"],
+        &["run", "M", "--relative", "+12"],
+        &["run", "M", "--relative", ""],
+        &["run", "M", "-x"],
+        &["run", "M", "--other", "x"],
+        &["--", "run", "M", "--only", "x"],
+    ];
+    for words in cases {
+        let setting = Setting {
+            words,
+            ..run_of(DECAY)
+        };
+        let (got, out, err) = outcome(alloc, &setting)?;
+        assert_eq!(rt; got, Status::Usage);
+        assert_eq!(rt; out.bytes(), b"".as_slice());
+        assert_eq!(rt; err.bytes(), USAGE.as_bytes());
+    }
+    Ok(())
+}
+
+const FINE: &str =
+    "model decay Real x(start = 64); equation der(x) = -1*x; annotation(experiment(StopTime = 1, QSS_CoefBits = 8, QSS_TickBits = 4, QSS_LevelBits = 0, QSS_Quantum = 1)); end decay;";
+
+const NEAR_ROWS: &str =
+    "0,start,x,64,262144\n1,level,x,60,245760\n3,level,x,52,215040\n5,level,x,46,188416\n7,level,x,40,164864\n9,level,x,35,144384\n11,level,x,31,126464\n13,level,x,27,110592\n16,level,x,22,89856\n16,end,x,22,89856\n";
+
+const INWARD_ROWS: &str =
+    "0,start,x,64,262144\n1,level,x,60,245760\n3,level,x,53,215040\n5,level,x,46,187904\n7,level,x,41,164352\n9,level,x,35,143360\n11,level,x,31,125440\n13,level,x,27,109568\n16,level,x,22,88832\n16,end,x,22,88832\n";
+
+const RELATIVE_ROWS: &str =
+    "0,start,x,64,262144\n2,level,x,56,229376\n4,level,x,49,200704\n6,level,x,42,175616\n9,level,x,35,143360\n11,level,x,30,125440\n13,level,x,26,110080\n16,level,x,22,90112\n16,end,x,22,90112\n";
+
+#[test]
+fn runs_with_options(rt: HostRuntime) -> Result<(), Fail> {
+    let alloc = rt.alloc();
+    let cases: [(&[&str], &str, &str); 9] = [
+        (&["run", "M", "--rule", "floor"], DECAY, DECAY_ROWS),
+        (&["--rule", "near", "run", "M"], DECAY, NEAR_ROWS),
+        (&["run", "--rule=inward", "M"], DECAY, INWARD_ROWS),
+        (&["run", "M", "--only", "x"], DECAY, DECAY_ROWS),
+        (&["run", "M", "--only", "y"], DECAY, ""),
+        (&["run", "--only=-", "--", "M"], DECAY, ""),
+        (&["run", "M", "--relative", "0"], DECAY, DECAY_ROWS),
+        (&["run", "M", "--relative=512"], FINE, RELATIVE_ROWS),
+        (
+            &[
+                "--only",
+                "x",
+                "--relative",
+                "0512",
+                "run",
+                "M",
+                "--rule=floor",
+            ],
+            FINE,
+            RELATIVE_ROWS,
+        ),
+    ];
+    for (words, source, rows) in cases {
+        let setting = Setting {
+            words,
+            ..run_of(source)
+        };
+        let (got, out, err) = outcome(alloc, &setting)?;
+        assert_eq!(rt; got, Status::Ok);
+        let text = format!(in alloc; "{}{}", HEADER, rows)?;
+        assert_eq!(rt; out.bytes(), text.as_bytes());
+        assert_eq!(rt; err.bytes(), b"".as_slice());
     }
     Ok(())
 }
@@ -157,49 +243,31 @@ fn a_write_that_fails_ends_the_run(rt: HostRuntime) -> Result<(), Fail> {
     Ok(())
 }
 
-// A command is told a read fault where the shelf fails at these calls.
-fn assert_read_fault(
-    rt: &impl Abort,
-    alloc: Global,
-    words: &[&str],
-    fails: &[u32],
-) -> Result<(), Fail> {
-    let setting = Setting {
-        words,
-        shelf_fails: fails,
-        ..run_of(DECAY)
-    };
-    let (got, out, err) = outcome(alloc, &setting)?;
-    assert_eq!(rt; got, Status::ReadFault);
-    assert_eq!(rt; out.bytes(), b"".as_slice());
-    assert_eq!(rt; err.bytes(), b"read fault\n".as_slice());
-    Ok(())
-}
-
-// A command refuses a source whose line err does not take.
-fn assert_line_lost(rt: &impl Abort, alloc: Global, words: &[&str]) -> Result<(), Fail> {
-    let setting = Setting {
-        words,
-        err_fails: &[0],
-        ..run_of("model m $")
-    };
-    let (got, _, err) = outcome(alloc, &setting)?;
-    assert_eq!(rt; got, Status::ModelRefused);
-    assert_eq!(rt; err.bytes(), b"".as_slice());
-    Ok(())
-}
-
 #[test]
 fn faults_of_the_shelf_and_of_err(rt: HostRuntime) -> Result<(), Fail> {
     let alloc = rt.alloc();
-    assert_read_fault(&rt, alloc, &["run", "M"], &[0])?;
-    assert_read_fault(&rt, alloc, &["run", "M"], &[1])?;
-    assert_read_fault(&rt, alloc, &["run", "M"], &[2])?;
-    assert_read_fault(&rt, alloc, &["print", "M"], &[0])?;
-    assert_read_fault(&rt, alloc, &["print", "M"], &[1])?;
-    assert_read_fault(&rt, alloc, &["print", "M"], &[2])?;
-    assert_line_lost(&rt, alloc, &["run", "M"])?;
-    assert_line_lost(&rt, alloc, &["print", "M"])?;
+    let both: [&[&str]; 2] = [&["run", "M"], &["print", "M"]];
+    for words in both {
+        for call in 0..3u32 {
+            let setting = Setting {
+                words,
+                shelf_fails: &[call],
+                ..run_of(DECAY)
+            };
+            let (got, out, err) = outcome(alloc, &setting)?;
+            assert_eq!(rt; got, Status::ReadFault);
+            assert_eq!(rt; out.bytes(), b"".as_slice());
+            assert_eq!(rt; err.bytes(), b"read fault\n".as_slice());
+        }
+        let setting = Setting {
+            words,
+            err_fails: &[0],
+            ..run_of("model m $")
+        };
+        let (got, _, err) = outcome(alloc, &setting)?;
+        assert_eq!(rt; got, Status::ModelRefused);
+        assert_eq!(rt; err.bytes(), b"".as_slice());
+    }
     let setting = Setting {
         shelf_fails: &[3],
         err_fails: &[0],
