@@ -1,0 +1,12 @@
+pub mod Failing
+pub mod KeptNumbers
+pub mod Turns
+pub mod RowLaws
+pub mod Placing
+pub mod InOrder
+pub mod Assembly
+pub mod UnitLaws
+pub mod Whole
+pub mod ProductSums
+pub mod Modes
+pub mod FormLaws

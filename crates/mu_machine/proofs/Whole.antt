@@ -1,0 +1,95 @@
+-- All checks, phase by phase.
+use Rattle.std.proofs.Common.{◌≡◌, ℕ, ◌+◌, ◌-◌, ◌≤◌, List, ◌++◌, length, take, drop, map, refl, sym, ◌∙◌, ap, arith, None}
+use Rattle.std.proofs.lemmas.List.{take_all, length-drop}
+use Rattle.std.specs.Prelude.{sum_by}
+use Rattle.mu_forms.specs.declared.form.ExactForm.{ExactForm}
+use Rattle.mu_tree.specs.declared.flat.Settings.{Settings}
+use Rattle.mu_tree.specs.FlatExpression.{FlatVariable, FlatModelTree}
+use Rattle.mu_machine.specs.declared.fault.MachineErr.{MachineErr}
+use Rattle.mu_machine.specs.declared.fault.MachineErr.TheVariants.{Start, Quantum, Coefficient}
+use Rattle.mu_machine.specs.Rounded.{rounded, rounded_row, rounded_form}
+use Rattle.mu_machine.specs.Places.{state_count, states_of, discretes_of, clause_forms}
+use Rattle.mu_machine.specs.Checks.{Check, first_failed, checks, IsRefusal, bits_of, setting_checks, is_start, is_value, is_quantum, start_level, row_fits, row_starts, form_fits, start_checks, quantum_checks, coefficient_checks, form_checks, machine_checks}
+use Rattle.mu_machine.proofs.Failing.{refused_before, refused_after, none_failed, none_first, none_others}
+
+-- the checks of forms from a place on are those of all that are left
+pub form_checks-rest : (p f : ℕ) (forms : List ExactForm) (n count : ℕ) → length forms ≡ n + count →
+    form_checks p f forms n count ≡ checks (λ form. form_fits (rounded_form p f form)) Coefficient (n + 1) (drop n forms)
+form_checks-rest p f forms n count e =
+    ap (checks (λ form. form_fits (rounded_form p f form)) Coefficient (n + 1)) (take_all count (drop n forms) (omega (arith, length-drop n forms)))
+
+module _ (forms : List ExactForm) (m : FlatModelTree) (s : Settings) where
+  abbrev p : ℕ
+  p = bits_of s.coef_bits
+
+  abbrev k : ℕ
+  k = bits_of s.tick_bits
+
+  abbrev f : ℕ
+  f = bits_of s.level_bits
+
+  abbrev starts : List Check
+  starts = checks (λ (v : FlatVariable). is_start p k f v.start) Start 0 (states_of m.vars)
+
+  abbrev values : List Check
+  values = checks (λ (v : FlatVariable). is_value f v.start) Start (state_count m.vars) (discretes_of m.vars)
+
+  abbrev weights : List Check
+  weights = checks (λ form. row_starts f (map (λ (v : FlatVariable). start_level p k f v.start) (states_of m.vars)) (map (λ (v : FlatVariable). rounded f v.start) (discretes_of m.vars)) (rounded_row p f form)) Start 0 (take (state_count m.vars) forms)
+
+  abbrev quanta : List Check
+  quanta = checks (λ (v : FlatVariable). is_quantum f v.quantum) Quantum 0 (states_of m.vars)
+
+  abbrev rows : List Check
+  rows = checks (λ form. row_fits (rounded_row p f form)) Coefficient 1 (take (state_count m.vars) forms)
+
+  abbrev items : List Check
+  items = checks (λ form. form_fits (rounded_form p f form)) Coefficient (state_count m.vars + 1) (drop (state_count m.vars) forms)
+
+  pub refused_settings : (fault : MachineErr) → IsRefusal (setting_checks s) fault → IsRefusal (machine_checks forms m s) fault
+  refused_settings fault h =
+      refused_before ((setting_checks s ++ (starts ++ values ++ weights)) ++ quanta) (rows ++ items) fault
+      (refused_before (setting_checks s ++ (starts ++ values ++ weights)) quanta fault (refused_before (setting_checks s) (starts ++ values ++ weights) fault h))
+
+  in_starts : (fault : MachineErr) → first_failed (setting_checks s) ≡ None → IsRefusal (starts ++ values ++ weights) fault → IsRefusal (machine_checks forms m s) fault
+  in_starts fault settings h =
+      refused_before ((setting_checks s ++ (starts ++ values ++ weights)) ++ quanta) (rows ++ items) fault
+      (refused_before (setting_checks s ++ (starts ++ values ++ weights)) quanta fault (refused_after (setting_checks s) (starts ++ values ++ weights) fault settings h))
+
+  pub refused_starts : (fault : MachineErr) → first_failed (setting_checks s) ≡ None → IsRefusal starts fault → IsRefusal (machine_checks forms m s) fault
+  refused_starts fault settings h = in_starts fault settings (refused_before (starts ++ values) weights fault (refused_before starts values fault h))
+
+  pub refused_values : (fault : MachineErr) → first_failed (setting_checks s) ≡ None → first_failed starts ≡ None → IsRefusal values fault → IsRefusal (machine_checks forms m s) fault
+  refused_values fault settings first h = in_starts fault settings (refused_before (starts ++ values) weights fault (refused_after starts values fault first h))
+
+  pub refused_weights : (fault : MachineErr) → first_failed (setting_checks s) ≡ None → first_failed starts ≡ None → first_failed values ≡ None →
+      IsRefusal weights fault → IsRefusal (machine_checks forms m s) fault
+  refused_weights fault settings first second h = in_starts fault settings (refused_after (starts ++ values) weights fault (none_failed starts values first second) h)
+
+  pub none_started : first_failed (setting_checks s) ≡ None → first_failed starts ≡ None → first_failed values ≡ None → first_failed weights ≡ None →
+      first_failed (setting_checks s ++ (starts ++ values ++ weights)) ≡ None
+  none_started settings first second third =
+      none_failed (setting_checks s) (starts ++ values ++ weights) settings (none_failed (starts ++ values) weights (none_failed starts values first second) third)
+
+  pub refused_quanta : (fault : MachineErr) → first_failed (setting_checks s ++ (starts ++ values ++ weights)) ≡ None → IsRefusal quanta fault → IsRefusal (machine_checks forms m s) fault
+  refused_quanta fault before h =
+      refused_before ((setting_checks s ++ (starts ++ values ++ weights)) ++ quanta) (rows ++ items) fault
+      (refused_after (setting_checks s ++ (starts ++ values ++ weights)) quanta fault before h)
+
+  pub refused_rows : (fault : MachineErr) → first_failed (setting_checks s ++ (starts ++ values ++ weights)) ≡ None → first_failed quanta ≡ None →
+      IsRefusal rows fault → IsRefusal (machine_checks forms m s) fault
+  refused_rows fault before own h =
+      refused_after ((setting_checks s ++ (starts ++ values ++ weights)) ++ quanta) (rows ++ items) fault
+      (none_failed (setting_checks s ++ (starts ++ values ++ weights)) quanta before own) (refused_before rows items fault h)
+
+  pub refused_items : (fault : MachineErr) → first_failed (setting_checks s ++ (starts ++ values ++ weights)) ≡ None → first_failed quanta ≡ None → first_failed rows ≡ None →
+      IsRefusal items fault → IsRefusal (machine_checks forms m s) fault
+  refused_items fault before own first h =
+      refused_after ((setting_checks s ++ (starts ++ values ++ weights)) ++ quanta) (rows ++ items) fault
+      (none_failed (setting_checks s ++ (starts ++ values ++ weights)) quanta before own) (refused_after rows items fault first h)
+
+  pub none_refused : first_failed (setting_checks s ++ (starts ++ values ++ weights)) ≡ None → first_failed quanta ≡ None → first_failed rows ≡ None → first_failed items ≡ None →
+      first_failed (machine_checks forms m s) ≡ None
+  none_refused before own first second =
+      none_failed ((setting_checks s ++ (starts ++ values ++ weights)) ++ quanta) (rows ++ items)
+      (none_failed (setting_checks s ++ (starts ++ values ++ weights)) quanta before own) (none_failed rows items first second)

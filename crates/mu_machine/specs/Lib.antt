@@ -1,0 +1,4 @@
+pub mod Rounded
+pub mod Places
+pub mod Checks
+pub mod Machines

@@ -1,0 +1,15 @@
+//! From exact forms to a machine of whole numbers: each number is rounded once, and the first limit that is passed is
+//! named.
+#![tactic(auto)]
+
+mod clauses;
+mod fault;
+mod machine;
+mod numbers;
+mod rows;
+mod units;
+mod variables;
+mod weights;
+
+pub use fault::MachineErr;
+pub use machine::to_machine;
