@@ -74,6 +74,16 @@ pub one_fails : (b : Bool) (fault : MachineErr) (cs : List Check) → b ≡ fals
 one_fails true fault cs e = absurd (cc)
 one_fails false fault cs e = refl
 
+-- a check that holds leaves the answer to the others
+pub passes_on : (b : Bool) (fault : MachineErr) (cs : List Check) → b ≡ true → first_failed (record { holds = b; fault = fault } ∷ cs) ≡ first_failed cs
+passes_on true fault cs e = refl
+passes_on false fault cs e = absurd (cc)
+
+-- where none fails the first one holds, and none of the others fails
+pub none_both : (b : Bool) (fault : MachineErr) (cs : List Check) → first_failed (record { holds = b; fault = fault } ∷ cs) ≡ None → (b ≡ true) × (first_failed cs ≡ None)
+none_both true fault cs e = (refl, e)
+none_both false fault cs e = absurd (cc)
+
 -- a turn of a loop whose element passes
 pub checks_more : {X : Type 0} (holds : X → Bool) (fault : ℕ → MachineErr) (n : ℕ) (xs : List X) (i : ℕ) (d : X) → i < length xs →
     first_failed (checks holds fault n (take i xs)) ≡ None → holds (get_or xs i d) ≡ true → first_failed (checks holds fault n (take (i + 1) xs)) ≡ None
