@@ -10,3 +10,9 @@ pub mod Whole
 pub mod ProductSums
 pub mod Modes
 pub mod FormLaws
+pub mod Made
+pub mod Seen
+pub mod Finished
+pub mod OneMachine
+pub mod Phases
+pub mod VariableLaws

@@ -97,6 +97,16 @@ forms_refused p f forms first a b total fault part within before refused =
     (refused_before (form_checks p f forms first (a + b)) (form_checks p f forms (first + (a + b)) rest) fault two) in
     subst (λ (count : ℕ). IsRefusal (form_checks p f forms first count) fault) whole three
 
+-- one of the first forms that is refused
+pub forms_refused_first : (p f : ℕ) (forms : List ExactForm) (first a total : ℕ) (fault : MachineErr) → a ≤ total → first + total ≤ length forms →
+    IsRefusal (form_checks p f forms first a) fault → IsRefusal (form_checks p f forms first total) fault
+forms_refused_first p f forms first a total fault part within refused =
+    let rest = total - a in
+    let whole : a + rest ≡ total = omega arith in
+    let P : List Check → Type 0 = λ cs. IsRefusal cs fault in
+    let two = subst P (sym (form_checks-add p f forms first a rest (omega arith))) (refused_before (form_checks p f forms first a) (form_checks p f forms (first + a) rest) fault refused) in
+    subst (λ (count : ℕ). IsRefusal (form_checks p f forms first count) fault) whole two
+
 -- what was made so far, and one more
 pub placed_turn : {X Y : Type 0} (forms : X → ℕ) (make : ℕ → X → Y) (first : ℕ) (xs : List X) (i : ℕ) (x : X) (before : List Y) (next : ℕ) (y : Y) → i < length xs → x ≡ get_or xs i x →
     before ≡ placed forms make first (take i xs) → next ≡ first + sum_by forms (take i xs) → y ≡ make next x → before ++ y ∷ [] ≡ placed forms make first (take (i + 1) xs)
@@ -113,3 +123,23 @@ place_turn forms first xs i x next h at place = omega (arith, sum_by_more forms 
 -- and that it is among all forms
 pub place_within : {X : Type 0} (forms : X → ℕ) (xs : List X) (i : ℕ) (x : X) → i < length xs → x ≡ get_or xs i x → sum_by forms (take i xs) + forms x ≤ sum_by forms xs
 place_within forms xs i x h at = omega (arith, sum_by_more_le forms xs i x h, ap forms at)
+
+-- the checks of a turn, by what it reads
+module _ {X : Type 0} (p f : ℕ) (forms : List ExactForm) (size : X → ℕ) (first : ℕ) (xs : List X) (i : ℕ) (x : X) (next : ℕ) (inside : i < length xs) (at : x ≡ get_or xs i x)
+    (place : next ≡ first + sum_by size (take i xs)) (within : first + sum_by size xs ≤ length forms) (before : first_failed (form_checks p f forms first (sum_by size (take i xs))) ≡ None) where
+  abbrev so_far : ℕ
+  so_far = sum_by size (take i xs)
+
+  room : so_far + size x ≤ sum_by size xs
+  room = place_within size xs i x inside at
+
+  pub none_turn : first_failed (form_checks p f forms next (size x)) ≡ None → first_failed (form_checks p f forms first (sum_by size (take (i + 1) xs))) ≡ None
+  none_turn own =
+      let one_more : sum_by size (take (i + 1) xs) ≡ so_far + size x = sum_by_more size xs i x inside ∙ ap (λ y. so_far + size y) (sym at) in
+      ap (λ n. first_failed (form_checks p f forms first n)) one_more
+      ∙ forms_turn p f forms first so_far (size x) (omega (arith, room, within)) before (ap (λ n. first_failed (form_checks p f forms n (size x))) (sym place) ∙ own)
+
+  pub refused_turn : (total : ℕ) (fault : MachineErr) → total ≡ sum_by size xs → IsRefusal (form_checks p f forms next (size x)) fault → IsRefusal (form_checks p f forms first total) fault
+  refused_turn total fault whole refused =
+      forms_refused p f forms first so_far (size x) total fault (omega (arith, room, whole)) (omega (arith, within, whole)) before
+      (subst (λ n. IsRefusal (form_checks p f forms n (size x)) fault) place refused)

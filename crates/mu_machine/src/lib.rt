@@ -4,6 +4,7 @@
 
 mod clauses;
 mod fault;
+mod laws;
 mod machine;
 mod numbers;
 mod rows;
@@ -12,4 +13,5 @@ mod variables;
 mod weights;
 
 pub use fault::MachineErr;
+pub use laws::machines_are_unique;
 pub use machine::to_machine;

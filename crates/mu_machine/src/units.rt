@@ -24,14 +24,20 @@ pub(crate) struct Units {
     ghost in_range: { HasUnits p k f last 0 },
 }
 
+// Whether a number is whole and from 0 to a limit.
+fn is_bits(value: Ratio, limit: u8) -> bool
+    ensures { result ≡ is_bits limit value }
+{
+    value.den() == 1 && 0 <= value.num() && value.num() <= i128::from(limit)
+}
+
 // A number of bits, where it is whole and from 0 to a limit.
 fn bits(value: Ratio, limit: u8) -> Option<u8>
     ensures none { IfNone result (is_bits limit value ≡ false) }
     ensures some { IfSome result (λ bits. (is_bits limit value ≡ true) × (bits ≡ bits_of value) × (bits ≤ limit)) }
 {
-    let whole = value.num();
-    if value.den() == 1 && 0 <= whole && whole <= i128::from(limit) {
-        Some(whole as u8)
+    if is_bits(value, limit) {
+        Some(value.num() as u8)
     } else {
         None
     }

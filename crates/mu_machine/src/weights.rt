@@ -9,18 +9,8 @@ ghost use Rattle.qss_machine.specs.Slopes.{coefficient_of, mode_coefficient, mod
 
 use crate::numbers::{passes, unit};
 use mu_num::near_div;
-use qss_machine::{Entry, Product, SlopeRow};
+use qss_machine::{Entry, Product, SlopeRow, coefficient, entry_weight, term};
 use std::alloc::{AllocError, Global};
-
-// A coefficient times a level or a discrete value.
-fn term(coef: i64, value: i64) -> i128
-    requires coef { IsWithin 44 coef }
-    requires value { IsWithin 43 value }
-    ensures value { result ≡ coef *ℤ value }
-    ensures bound { IsWithin 87 result }
-{
-    i128::from(coef) * i128::from(value)
-}
 
 // A product's coefficient times the value of its discrete variable.
 fn product_term(product: Product, first: usize, values: &[i64]) -> i128
@@ -66,30 +56,6 @@ fn product_sums(
         add_at(&mut sums, product.state as usize, number);
     }
     Ok(sums)
-}
-
-// An entry's coefficient where it is of this variable, else 0.
-fn coefficient_in(entry: &Entry, var: u32) -> i128
-    ensures value { result ≡ (if entry.now.var == var then entry.now.coef else pos 0) }
-    ensures bound { unsigned_abs result ≤ 2 ^ 63 }
-{
-    if entry.var == var {
-        i128::from(entry.coef)
-    } else {
-        0
-    }
-}
-
-// The coefficient of a variable.
-fn coefficient(entries: &[Entry], var: u32) -> i128
-    requires few { length entries.now ≤ 4096 }
-    ensures { result ≡ coefficient_of entries.now var }
-{
-    let mut sum: i128 = 0;
-    for entry in entries {
-        sum += coefficient_in(entry, var);
-    }
-    sum
 }
 
 // The mode coefficient of a state with this sum of products.
@@ -219,50 +185,6 @@ fn products_weight(
         return Ok(Some(0));
     }
     excess_sum(alloc, row, level_bits, levels, values)
-}
-
-// The value at a place of two lists, one after the other.
-fn value_at(first: &[i64], second: &[i64], place: usize) -> i64
-    requires place { place < length first.now + length second.now }
-    requires firsts { All (IsWithin 43) first.now }
-    requires seconds { All (IsWithin 43) second.now }
-    ensures value { result ≡ int_at (first.now ++ second.now) place }
-    ensures bound { IsWithin 43 result }
-{
-    if place < first.len() {
-        first[place]
-    } else {
-        second[place - first.len()]
-    }
-}
-
-// The size of an entry's coefficient times the value of its variable.
-fn entry_size(entry: Entry, levels: &[i64], values: &[i64]) -> i128
-    requires small { IsWithin 44 entry.coef }
-    requires known { entry.var < length levels.now + length values.now }
-    requires levels { All (IsWithin 43) levels.now }
-    requires values { All (IsWithin 43) values.now }
-    ensures value { result ≡ size (entry.coef *ℤ int_at (levels.now ++ values.now) entry.var) }
-    ensures bound { unsigned_abs result ≤ 2 ^ 87 }
-{
-    term(entry.coef, value_at(levels, values, entry.var as usize)).abs()
-}
-
-// The sizes of all entries' coefficients times the values of their variables, added up.
-fn entry_weight(entries: &[Entry], levels: &[i64], values: &[i64]) -> i128
-    requires few { length entries.now ≤ 4096 }
-    requires small { All (λ entry. IsWithin 44 entry.coef) entries.now }
-    requires known { All (λ entry. entry.var < length levels.now + length values.now) entries.now }
-    requires levels { All (IsWithin 43) levels.now }
-    requires values { All (IsWithin 43) values.now }
-    ensures value { result ≡ sum_over (λ entry. size (entry.coef *ℤ int_at (levels.now ++ values.now) entry.var)) entries.now }
-    ensures bound { unsigned_abs result ≤ 2 ^ 99 }
-{
-    let mut sum: i128 = 0;
-    for entry in entries {
-        sum += entry_size(*entry, levels, values);
-    }
-    sum
 }
 
 // The sum of what entries weigh, what products add, and the size of a constant.
