@@ -74,11 +74,6 @@ pub one_fails : (b : Bool) (fault : MachineErr) (cs : List Check) → b ≡ fals
 one_fails true fault cs e = absurd (cc)
 one_fails false fault cs e = refl
 
--- a check that holds leaves the answer to the others
-pub passes_on : (b : Bool) (fault : MachineErr) (cs : List Check) → b ≡ true → first_failed (record { holds = b; fault = fault } ∷ cs) ≡ first_failed cs
-passes_on true fault cs e = refl
-passes_on false fault cs e = absurd (cc)
-
 -- where none fails the first one holds, and none of the others fails
 pub none_both : (b : Bool) (fault : MachineErr) (cs : List Check) → first_failed (record { holds = b; fault = fault } ∷ cs) ≡ None → (b ≡ true) × (first_failed cs ≡ None)
 none_both true fault cs e = (refl, e)

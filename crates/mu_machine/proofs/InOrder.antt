@@ -11,28 +11,31 @@ use Rattle.mu_tree.specs.FlatExpression.{FlatVariable}
 use Rattle.mu_tree.specs.FlatModels.{HasRole, rank}
 use Rattle.mu_machine.specs.Places.{is_state, is_discrete, state_count, discrete_count}
 
+abbrev one_if : Bool → ℕ
+one_if b = cond b 1 0
+
 abbrev own_rank : FlatVariable → ℕ
 own_rank v = rank v.role
 
 -- one more variable at the front
-states_cons : (v : FlatVariable) (vs : List FlatVariable) → state_count (v ∷ vs) ≡ cond (is_state v.role) 1 0 + state_count vs
-states_cons v vs = sum_by-cons (λ (v : FlatVariable). cond (is_state v.role) 1 0) v vs
+states_cons : (v : FlatVariable) (vs : List FlatVariable) → state_count (v ∷ vs) ≡ one_if (is_state v.role) + state_count vs
+states_cons v vs = sum_by-cons (λ (v : FlatVariable). one_if (is_state v.role)) v vs
 
-discretes_cons : (v : FlatVariable) (vs : List FlatVariable) → discrete_count (v ∷ vs) ≡ cond (is_discrete v.role) 1 0 + discrete_count vs
-discretes_cons v vs = sum_by-cons (λ (v : FlatVariable). cond (is_discrete v.role) 1 0) v vs
+discretes_cons : (v : FlatVariable) (vs : List FlatVariable) → discrete_count (v ∷ vs) ≡ one_if (is_discrete v.role) + discrete_count vs
+discretes_cons v vs = sum_by-cons (λ (v : FlatVariable). one_if (is_discrete v.role)) v vs
 
 -- a variable is one of three
-one_role : (r : FlatRole) → cond (is_state r) 1 0 + cond (is_discrete r) 1 0 ≤ 1
+one_role : (r : FlatRole) → one_if (is_state r) + one_if (is_discrete r) ≤ 1
 one_role State = omega arith
 one_role Discrete = omega arith
 one_role Algebraic = omega arith
 
-no_state : (r : FlatRole) → 1 ≤ rank r → cond (is_state r) 1 0 ≡ 0
+no_state : (r : FlatRole) → 1 ≤ rank r → one_if (is_state r) ≡ 0
 no_state State h = absurd (omega arith)
 no_state Discrete h = refl
 no_state Algebraic h = refl
 
-no_discrete : (r : FlatRole) → 2 ≤ rank r → cond (is_discrete r) 1 0 ≡ 0
+no_discrete : (r : FlatRole) → 2 ≤ rank r → one_if (is_discrete r) ≡ 0
 no_discrete State h = refl
 no_discrete Discrete h = absurd (omega arith)
 no_discrete Algebraic h = refl
@@ -69,7 +72,7 @@ pub state_place : (vs : List FlatVariable) (i : ℕ) (w : FlatVariable) → IsNo
 state_place [] i w h e r = absurd (cc)
 state_place (v ∷ vs) zero w h e r =
     let same : v ≡ w = cc in
-    let own : cond (is_state v.role) 1 0 ≡ 1 = ap (λ (v : FlatVariable). cond (is_state v.role) 1 0) same ∙ ap (λ (r : FlatRole). cond (is_state r) 1 0) r in
+    let own : one_if (is_state v.role) ≡ 1 = ap (λ (v : FlatVariable). one_if (is_state v.role)) same ∙ ap (λ (r : FlatRole). one_if (is_state r)) r in
     omega (arith, own, states_cons v vs)
 state_place (v ∷ vs) (suc i) w h e r = by_role v.role refl (state_place vs i w (rest_ordered v vs h) e r)
   where
@@ -78,7 +81,7 @@ state_place (v ∷ vs) (suc i) w h e r = by_role v.role refl (state_place vs i w
 
     by_role : (r : FlatRole) → v.role ≡ r → i < state_count vs → suc i < state_count (v ∷ vs)
     by_role State is later =
-        let own : cond (is_state v.role) 1 0 ≡ 1 = ap (λ (r : FlatRole). cond (is_state r) 1 0) is in
+        let own : one_if (is_state v.role) ≡ 1 = ap (λ (r : FlatRole). one_if (is_state r)) is in
         omega (arith, own, states_cons v vs, later)
     by_role Discrete is later = none Discrete is (omega arith) later
     by_role Algebraic is later = none Algebraic is (omega arith) later
@@ -90,8 +93,8 @@ discrete_place [] i w h e r = absurd (cc)
 discrete_place (v ∷ vs) zero w h e r =
     let same : v ≡ w = cc in
     let is : v.role ≡ Discrete = ap (λ (v : FlatVariable). v.role) same ∙ r in
-    let own : cond (is_discrete v.role) 1 0 ≡ 1 = ap (λ (r : FlatRole). cond (is_discrete r) 1 0) is in
-    let other : cond (is_state v.role) 1 0 ≡ 0 = ap (λ (r : FlatRole). cond (is_state r) 1 0) is in
+    let own : one_if (is_discrete v.role) ≡ 1 = ap (λ (r : FlatRole). one_if (is_discrete r)) is in
+    let other : one_if (is_state v.role) ≡ 0 = ap (λ (r : FlatRole). one_if (is_state r)) is in
     let low : 1 ≤ rank v.role = rw is (omega arith) in
     let none = no_states vs (rank v.role) low (rest_higher v vs h) in
     (omega (arith, other, none, states_cons v vs), omega (arith, own, discretes_cons v vs))
@@ -99,12 +102,12 @@ discrete_place (v ∷ vs) (suc i) w h e r = by_role v.role refl (discrete_place 
   where
     by_role : (r : FlatRole) → v.role ≡ r → (state_count vs ≤ i) × (i < state_count vs + discrete_count vs) → (state_count (v ∷ vs) ≤ suc i) × (suc i < state_count (v ∷ vs) + discrete_count (v ∷ vs))
     by_role State is later =
-        let own : cond (is_state v.role) 1 0 ≡ 1 = ap (λ (r : FlatRole). cond (is_state r) 1 0) is in
-        let other : cond (is_discrete v.role) 1 0 ≡ 0 = ap (λ (r : FlatRole). cond (is_discrete r) 1 0) is in
+        let own : one_if (is_state v.role) ≡ 1 = ap (λ (r : FlatRole). one_if (is_state r)) is in
+        let other : one_if (is_discrete v.role) ≡ 0 = ap (λ (r : FlatRole). one_if (is_discrete r)) is in
         (omega (arith, own, states_cons v vs, later.0), omega (arith, own, other, states_cons v vs, discretes_cons v vs, later.1))
     by_role Discrete is later =
-        let own : cond (is_discrete v.role) 1 0 ≡ 1 = ap (λ (r : FlatRole). cond (is_discrete r) 1 0) is in
-        let other : cond (is_state v.role) 1 0 ≡ 0 = ap (λ (r : FlatRole). cond (is_state r) 1 0) is in
+        let own : one_if (is_discrete v.role) ≡ 1 = ap (λ (r : FlatRole). one_if (is_discrete r)) is in
+        let other : one_if (is_state v.role) ≡ 0 = ap (λ (r : FlatRole). one_if (is_state r)) is in
         (omega (arith, other, states_cons v vs, later.0), omega (arith, own, other, states_cons v vs, discretes_cons v vs, later.1))
     by_role Algebraic is later =
         let low : 2 ≤ rank v.role = rw is (omega arith) in

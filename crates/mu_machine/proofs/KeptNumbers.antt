@@ -83,6 +83,14 @@ cast_small z e =
     let narrow : FitsSigned w64 z = omega (arith, ints) in
     ap (λ y. to_z w64 (of_z w64 y)) (to_z-of_z w128 z wide) ∙ to_z-of_z w64 z narrow
 
+-- so does a level
+pub cast_level : (z : ℤ) → passes 43 z ≡ false → to_z w64 (of_z w64 (to_z w128 (of_z w128 z))) ≡ z
+cast_level z e =
+    let small : unsigned_abs z ≤ 2 ^ 43 = grind (arith, nat_tests) in
+    let wide : FitsSigned w128 z = omega (arith, ints) in
+    let narrow : FitsSigned w64 z = omega (arith, ints) in
+    ap (λ y. to_z w64 (of_z w64 y)) (to_z-of_z w128 z wide) ∙ to_z-of_z w64 z narrow
+
 -- an entry of a small coefficient
 pub entry_turn : (p : ℕ) (es : List ExactEntry) (i : ℕ) (x : ExactEntry) (before after : List Entry) (z : ℤ) → i < length es → x ≡ get_or es i x → before ≡ rounded_entries p (take i es) →
     z ≡ rounded p x.coef → after ≡ before ++ (if is_some_number z then record { var = x.var; coef = z } ∷ [] else []) → after ≡ rounded_entries p (take (i + 1) es)

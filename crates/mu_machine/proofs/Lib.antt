@@ -16,3 +16,4 @@ pub mod Finished
 pub mod OneMachine
 pub mod Phases
 pub mod VariableLaws
+pub mod Branches

@@ -1,5 +1,5 @@
 -- What accepted settings say of the units of a machine.
-use Rattle.std.proofs.Common.{◌≡◌, ℕ, ◌+◌, ◌^◌, ◌≤◌, ◌<◌, Bool, true, false, ◌&&◌, List, [], ◌∷◌, ℤ, pos, negsuc, ◌*ℤ◌, ◌≤ℤ◌, ◌<ℤ◌, refl, sym, ◌∙◌, ap, subst, arith, Option, None, Some, lit≤}
+use Rattle.std.proofs.Common.{◌≡◌, ℕ, ◌+◌, ◌^◌, ◌≤◌, ◌<◌, Bool, true, false, ◌&&◌, List, [], ◌∷◌, ℤ, pos, negsuc, ◌*ℤ◌, ◌≤ℤ◌, ◌<ℤ◌, refl, sym, ◌∙◌, ap, subst, arith, None, lit≤}
 use Rattle.std.proofs.Math.IntN.{*ℤ-zero}
 use Rattle.std.proofs.lemmas.Int.{ints}
 use Rattle.std.proofs.lemmas.Bool.{and_parts, leb-true}
@@ -18,7 +18,7 @@ use Rattle.mu_machine.specs.declared.fault.MachineErr.{MachineErr}
 use Rattle.mu_machine.specs.declared.fault.MachineErr.TheVariants.{Setting}
 use Rattle.mu_machine.specs.Rounded.{rounded_up}
 use Rattle.mu_machine.specs.Checks.{Check, first_failed, is_bits, bits_of, last_of, setting_checks}
-use Rattle.mu_machine.proofs.Failing.{one_fails, one_holds, passes_on, none_both}
+use Rattle.mu_machine.proofs.Failing.{none_both}
 
 ceiling_low : (n d q : ℤ) → pos 0 <ℤ d → pos 0 ≤ℤ n → IsCeiling n d q → pos 0 ≤ℤ q
 ceiling_low n d (pos q) positive low h = omega (arith, ints)
@@ -44,7 +44,7 @@ bits_low limit r e =
     in_bits : (z : ℤ) (limit : ℕ) → int_le (pos 0) z ≡ true → int_le z (pos limit) ≡ true → unsigned_abs z ≤ limit
     in_bits z limit a b = grind (arith, ints)
 
--- ---- the checks of settings, one after the other
+-- ---- the checks of settings
 
 module _ (s : Settings) where
   abbrev p : ℕ
@@ -89,42 +89,6 @@ module _ (s : Settings) where
 
   abbrev from_stops : List Check
   from_stops = record { holds = stops; fault = Setting StopTime s.stop } ∷ from_coefs
-
-  pub start_fails : starts ≡ false → first_failed (setting_checks s) ≡ Some (Setting StartTime s.start)
-  start_fails e = one_fails starts (Setting StartTime s.start) from_stops e
-
-  after_start : starts ≡ true → first_failed (setting_checks s) ≡ first_failed from_stops
-  after_start e = passes_on starts (Setting StartTime s.start) from_stops e
-
-  pub stop_fails : starts ≡ true → stops ≡ false → first_failed (setting_checks s) ≡ Some (Setting StopTime s.stop)
-  stop_fails a e = after_start a ∙ one_fails stops (Setting StopTime s.stop) from_coefs e
-
-  after_stop : starts ≡ true → stops ≡ true → first_failed (setting_checks s) ≡ first_failed from_coefs
-  after_stop a b = after_start a ∙ passes_on stops (Setting StopTime s.stop) from_coefs b
-
-  pub coefs_fail : starts ≡ true → stops ≡ true → coefs ≡ false → first_failed (setting_checks s) ≡ Some (Setting CoefBits s.coef_bits)
-  coefs_fail a b e = after_stop a b ∙ one_fails coefs (Setting CoefBits s.coef_bits) from_ticks e
-
-  after_coefs : starts ≡ true → stops ≡ true → coefs ≡ true → first_failed (setting_checks s) ≡ first_failed from_ticks
-  after_coefs a b c = after_stop a b ∙ passes_on coefs (Setting CoefBits s.coef_bits) from_ticks c
-
-  pub ticks_fail : starts ≡ true → stops ≡ true → coefs ≡ true → ticks ≡ false → first_failed (setting_checks s) ≡ Some (Setting TickBits s.tick_bits)
-  ticks_fail a b c e = after_coefs a b c ∙ one_fails ticks (Setting TickBits s.tick_bits) from_levels e
-
-  after_ticks : starts ≡ true → stops ≡ true → coefs ≡ true → ticks ≡ true → first_failed (setting_checks s) ≡ first_failed from_levels
-  after_ticks a b c d = after_coefs a b c ∙ passes_on ticks (Setting TickBits s.tick_bits) from_levels d
-
-  pub levels_fail : starts ≡ true → stops ≡ true → coefs ≡ true → ticks ≡ true → levels ≡ false → first_failed (setting_checks s) ≡ Some (Setting LevelBits s.level_bits)
-  levels_fail a b c d e = after_ticks a b c d ∙ one_fails levels (Setting LevelBits s.level_bits) from_ends e
-
-  after_levels : starts ≡ true → stops ≡ true → coefs ≡ true → ticks ≡ true → levels ≡ true → first_failed (setting_checks s) ≡ first_failed from_ends
-  after_levels a b c d e = after_ticks a b c d ∙ passes_on levels (Setting LevelBits s.level_bits) from_ends e
-
-  pub end_fails : starts ≡ true → stops ≡ true → coefs ≡ true → ticks ≡ true → levels ≡ true → ends ≡ false → first_failed (setting_checks s) ≡ Some (Setting StopTime s.stop)
-  end_fails a b c d e h = after_levels a b c d e ∙ one_fails ends (Setting StopTime s.stop) [] h
-
-  pub settings_pass : starts ≡ true → stops ≡ true → coefs ≡ true → ticks ≡ true → levels ≡ true → ends ≡ true → first_failed (setting_checks s) ≡ None
-  settings_pass a b c d e h = after_levels a b c d e ∙ one_holds ends (Setting StopTime s.stop) h
 
   -- where none fails, the units are those of a machine
   pub are_units : 0 < s.stop.den → first_failed (setting_checks s) ≡ None → HasUnits p k f (unsigned_abs (last_of s)) 0 × (pos (unsigned_abs (last_of s)) ≡ last_of s)

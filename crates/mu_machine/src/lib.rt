@@ -13,5 +13,5 @@ mod variables;
 mod weights;
 
 pub use fault::MachineErr;
-pub use laws::machines_are_unique;
+pub use laws::{finished_forms_are_laid_out, machines_are_unique};
 pub use machine::to_machine;

@@ -1,5 +1,6 @@
 use Rattle.std.proofs.Common.{◌≡◌, ◌+◌, length, take, map, sym, ◌∙◌, ap, arith}
 use Rattle.std.proofs.lemmas.List.{take_all, length-take-le}
+use Rattle.std.proofs.lemmas.Result.{err_from_is_err_and}
 use Rattle.std.specs.Prelude.{sum_by}
 use Rattle.mu_tree.specs.declared.flat.FlatStatement.{FlatStatement}
 use Rattle.mu_tree.specs.FlatExpression.{FlatAction, flat_action}
@@ -10,8 +11,10 @@ use Rattle.mu_machine.proofs.clauses.actions_of.Goals as goal
 
 pub returns-in_err-action-clause-err : goal.returns-in_err-action-clause-err
 returns-in_err-action-clause-err c =
-    forms_refused c.args.units.p c.args.units.f c.args.forms.now c.args.first c.loop-place.place 1 (length c.args.body.now) _ (omega (arith, c.loop-place-test.true)) c.requires.within
-    c.loop-place.invariant.none c.in_err-action.ensures.err
+    let p = err_from_is_err_and c.from_residual.result c.from_residual.ensures.1 in
+    rw (p.1, p.2)
+    (forms_refused c.args.units.p c.args.units.f c.args.forms.now c.args.first c.loop-place.place 1 (length c.args.body.now) _ (omega (arith, c.loop-place-test.true)) c.requires.within
+    c.loop-place.invariant.none c.in_err-action.ensures.err)
 
 pub loop-place-preserved : goal.loop-place-preserved
 loop-place-preserved c =

@@ -1,5 +1,6 @@
-use Rattle.std.proofs.Common.{◌≡◌, ◌+◌, ◌≤◌, length, take, map, sym, ◌∙◌, ap, subst, arith, None}
+use Rattle.std.proofs.Common.{◌≡◌, ◌+◌, ◌≤◌, ℕ, length, take, map, sym, ◌∙◌, ap, subst, arith, None}
 use Rattle.std.proofs.lemmas.List.{take_all, length-map}
+use Rattle.std.proofs.lemmas.Result.{err_from_is_err_and}
 use Rattle.std.specs.Prelude.{sum_by}
 use Rattle.mu_tree.specs.declared.flat.FlatBranch.{FlatBranch}
 use Rattle.mu_tree.specs.FlatExpression.{flat_action, flat_branch}
@@ -9,8 +10,8 @@ use Rattle.mu_machine.proofs.Placing.{place_turn, place_within, placed_turn, non
 use Rattle.mu_machine.proofs.Turns.{placed_map, sum_by_map}
 use Rattle.mu_machine.proofs.clauses.branches_of.Goals as goal
 
-pub branch_of-made-requires-clause-within : goal.branch_of-made-requires-clause-within
-branch_of-made-requires-clause-within c =
+pub branch_of-requires-clause-within : goal.branch_of-requires-clause-within
+branch_of-requires-clause-within c =
     omega (
       arith,
       c.requires.within,
@@ -23,13 +24,15 @@ pub returns-in_err-made-clause-err : goal.returns-in_err-made-clause-err
 returns-in_err-made-clause-err c =
     let size = λ (b : FlatBranch). branch_forms (flat_branch b) in
     let whole = sum_by_map flat_branch branch_forms c.args.branches.now in
-    refused_turn c.args.units.p c.args.units.f c.args.forms.now size c.args.first c.args.branches.now c.loop-branch.branch-index c.branch-item.result c.loop-branch.next
-    c.loop-branch-test.true c.branch-item.is c.loop-branch.invariant.place (omega (arith, c.requires.within, whole)) c.loop-branch.invariant.none _ _ whole c.in_err-made.ensures.err
+    let p = err_from_is_err_and c.from_residual.result c.from_residual.ensures.1 in
+    rw (p.1, p.2)
+    (refused_turn c.args.units.p c.args.units.f c.args.forms.now size c.args.first c.args.branches.now c.loop-branch.branch-index c.branch-item.result c.loop-branch.next
+    c.loop-branch-test.true c.branch-item.is c.loop-branch.invariant.place (omega (arith, c.requires.within, whole)) c.loop-branch.invariant.none _ _ whole c.in_err-made.ensures.err)
 
 pub loop-branch-preserved : goal.loop-branch-preserved
 loop-branch-preserved c =
     let size = λ (b : FlatBranch). branch_forms (flat_branch b) in
-    let make = λ k (b : FlatBranch). branch_of c.args.units.p c.args.units.f c.args.forms.now k (flat_branch b) in
+    let make = λ (k : ℕ) (b : FlatBranch). branch_of c.args.units.p c.args.units.f c.args.forms.now k (flat_branch b) in
     let whole = sum_by_map flat_branch branch_forms c.args.branches.now in
     let x = c.branch-item.result in
     let i = c.loop-branch.branch-index in

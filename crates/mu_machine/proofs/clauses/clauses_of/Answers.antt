@@ -1,5 +1,6 @@
-use Rattle.std.proofs.Common.{◌≡◌, ◌+◌, ◌≤◌, length, take, map, sym, ◌∙◌, ap, subst, arith, None}
+use Rattle.std.proofs.Common.{◌≡◌, ◌+◌, ◌≤◌, ℕ, length, take, map, sym, ◌∙◌, ap, subst, arith, None}
 use Rattle.std.proofs.lemmas.List.{take_all}
+use Rattle.std.proofs.lemmas.Result.{err_from_is_err_and}
 use Rattle.std.specs.Prelude.{sum_by}
 use Rattle.mu_tree.specs.declared.flat.FlatClause.{FlatClause}
 use Rattle.mu_tree.specs.FlatExpression.{flat_branch, flat_clause}
@@ -7,12 +8,13 @@ use Rattle.qss_machine.specs.declared.parts.BranchInfo.{BranchInfo}
 use Rattle.qss_machine.specs.declared.parts.ClauseInfo.{ClauseInfo}
 use Rattle.mu_machine.specs.Places.{clause_forms, clause_of, placed}
 use Rattle.mu_machine.specs.Checks.{first_failed, form_checks}
+use Rattle.mu_machine.proofs.Branches.{clause_made}
 use Rattle.mu_machine.proofs.Placing.{place_turn, place_within, placed_turn, none_turn, refused_turn}
 use Rattle.mu_machine.proofs.Turns.{placed_map, sum_by_map}
 use Rattle.mu_machine.proofs.clauses.clauses_of.Goals as goal
 
-pub branches_of-made-requires-clause-within : goal.branches_of-made-requires-clause-within
-branches_of-made-requires-clause-within c =
+pub branches_of-requires-clause-within : goal.branches_of-requires-clause-within
+branches_of-requires-clause-within c =
     rw c.deref.ensures.value
     (omega (
       arith,
@@ -27,13 +29,15 @@ returns-in_err-made-clause-err c =
     let size = λ (b : FlatClause). clause_forms (flat_clause b) in
     let whole = sum_by_map flat_clause clause_forms c.args.clauses.now in
     let own = rw c.deref.ensures.value at c.in_err-made.ensures.err in
-    refused_turn c.args.units.p c.args.units.f c.args.forms.now size c.args.first c.args.clauses.now c.loop-clause.clause-index c.clause-item.result c.loop-clause.next
-    c.loop-clause-test.true c.clause-item.is c.loop-clause.invariant.place (omega (arith, c.requires.within, whole)) c.loop-clause.invariant.none _ _ whole own
+    let p = err_from_is_err_and c.from_residual.result c.from_residual.ensures.1 in
+    rw (p.1, p.2)
+    (refused_turn c.args.units.p c.args.units.f c.args.forms.now size c.args.first c.args.clauses.now c.loop-clause.clause-index c.clause-item.result c.loop-clause.next
+    c.loop-clause-test.true c.clause-item.is c.loop-clause.invariant.place (omega (arith, c.requires.within, whole)) c.loop-clause.invariant.none _ _ whole own)
 
 pub loop-clause-preserved : goal.loop-clause-preserved
 loop-clause-preserved c =
     let size = λ (b : FlatClause). clause_forms (flat_clause b) in
-    let make = λ k (b : FlatClause). clause_of c.args.units.p c.args.units.f c.args.forms.now k (flat_clause b) in
+    let make = λ (k : ℕ) (b : FlatClause). clause_of c.args.units.p c.args.units.f c.args.forms.now k (flat_clause b) in
     let whole = sum_by_map flat_clause clause_forms c.args.clauses.now in
     let x = c.clause-item.result in
     let i = c.loop-clause.clause-index in
@@ -43,7 +47,8 @@ loop-clause-preserved c =
     record {
       so_far = c.in_ok-push.ensures.items
           ∙ placed_turn size make c.args.first c.args.clauses.now i x c.loop-clause.all.items c.loop-clause.next _ c.loop-clause-test.true c.clause-item.is
-          c.loop-clause.invariant.so_far c.loop-clause.invariant.place ?;
+          c.loop-clause.invariant.so_far c.loop-clause.invariant.place
+          (clause_made c.args.units.p c.args.units.f c.args.forms.now c.loop-clause.next (flat_clause x) c.new.result (c.new.ensures ∙ branches));
       place = next ∙ place_turn size c.args.first c.args.clauses.now i x c.loop-clause.next c.loop-clause-test.true c.clause-item.is c.loop-clause.invariant.place;
       none = none_turn c.args.units.p c.args.units.f c.args.forms.now size c.args.first c.args.clauses.now i x c.loop-clause.next c.loop-clause-test.true c.clause-item.is
           c.loop-clause.invariant.place (omega (arith, c.requires.within, whole)) c.loop-clause.invariant.none none;

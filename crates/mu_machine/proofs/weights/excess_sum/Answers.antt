@@ -1,8 +1,11 @@
-use Rattle.std.proofs.Common.{◌≡◌, ◌+◌, ◌^◌, ◌≤◌, ◌<◌, false, length, ℤ, pos, ◌-ℤ◌, ◌*ℤ◌, sym, ◌∙◌, subst, arith, below_more}
+use Rattle.std.proofs.Common.{◌≡◌, ◌+◌, ◌^◌, ◌≤◌, ◌<◌, false, List, length, ℤ, pos, ◌+ℤ◌, ◌-ℤ◌, ◌*ℤ◌, sym, ◌∙◌, ap, subst, arith, below_more}
 use Rattle.std.proofs.lemmas.Int.{ints, to_z-of_z}
 use Rattle.std.proofs.lemmas.List.{get_or_read}
 use Rattle.std.specs.Int.RustNames.{unsigned_abs, FitsSigned}
 use Rattle.mu_num.specs.Sizes.{passes}
+use Rattle.mu_num.specs.Rounding.{nearest_of}
+use Rattle.qss_machine.specs.declared.parts.Entry.{Entry}
+use Rattle.qss_machine.specs.declared.parts.Product.{Product}
 use Rattle.qss_machine.specs.Numbers.{int_at, size}
 use Rattle.qss_machine.specs.Slopes.{coefficient_of, mode_coefficient, products_of}
 use Rattle.qss_machine.proofs.Distinct.{coefficient_small}
@@ -11,7 +14,7 @@ use Rattle.qss_machine.proofs.Loops.{below_step}
 use Rattle.qss_machine.proofs.ModeTests.{fits_false, fits_true}
 use Rattle.mu_machine.proofs.weights.excess_sum.Goals as goal
 use mir.Syntax.{w64, w128}
-use mir.Val.{to_z}
+use mir.Val.{to_z, of_z}
 
 pub product_sums-requires-clause-few : goal.product_sums-requires-clause-few
 product_sums-requires-clause-few c =
@@ -38,7 +41,7 @@ returns-in_default-clause-none c =
     let at = get_or_read sums i now inside c.index.ensures (pos 0) in
     let small : unsigned_abs now ≤ 2 ^ 111 = subst (λ (z : ℤ). unsigned_abs z ≤ 2 ^ 111) (sym at) (c.in_ok-sums.ensures.bound i h) in
     let fits : FitsSigned w128 now = omega (arith, ints) in
-    let is : now ≡ products_of row.products n values i = at ∙ c.in_ok-sums.ensures.sums i h in
+    let is : now ≡ products_of row.products n values i = at ∙ c.in_ok-sums.ensures.sums i h ∙ ap (λ (ps : List Product). products_of ps n values i) c.as_slice.ensures in
     fits_false n i (mode_coefficient c.args.level_bits n row values) h (rw (c.as_slice-entries.ensures, to_z-of_z w128 now fits, is) at c.in_default.ensures.none)
 
 pub loop-state-preserved : goal.loop-state-preserved
@@ -55,11 +58,16 @@ loop-state-preserved c =
     let at = get_or_read sums i now inside c.index.ensures (pos 0) in
     let small : unsigned_abs now ≤ 2 ^ 111 = subst (λ (z : ℤ). unsigned_abs z ≤ 2 ^ 111) (sym at) (c.in_ok-sums.ensures.bound i h) in
     let fits : FitsSigned w128 now = omega (arith, ints) in
-    let is : now ≡ products_of row.products n values i = at ∙ c.in_ok-sums.ensures.sums i h in
+    let is : now ≡ products_of row.products n values i = at ∙ c.in_ok-sums.ensures.sums i h ∙ ap (λ (ps : List Product). products_of ps n values i) c.as_slice.ensures in
     let held = int_at levels i in
     let level : unsigned_abs held ≤ 2 ^ 43 = c.requires.levels i (pos 0) h in
     let held_fits : FitsSigned w64 held = omega (arith, ints) in
-    let value = rw (c.as_slice-entries.ensures, to_z-of_z w128 now fits, is, to_z-of_z w64 held held_fits) at c.in-Some.ensures.value in
+    let V : List Entry → ℤ → ℤ → ℤ = λ es z l. (size (coefficient_of es i +ℤ nearest_of z (pos (2 ^ c.args.level_bits))) -ℤ size (coefficient_of es i)) *ℤ size l in
+    let value : c.in-Some.more ≡ V row.entries (products_of row.products n values i) held =
+    c.in-Some.ensures.value
+    ∙ ap (λ (es : List Entry). V es (to_z w128 (of_z w128 now)) (to_z w64 (of_z w64 held))) c.as_slice-entries.ensures
+    ∙ ap (λ (z : ℤ). V row.entries z (to_z w64 (of_z w64 held))) (to_z-of_z w128 now fits ∙ is)
+    ∙ ap (λ (z : ℤ). V row.entries (products_of row.products n values i) z) (to_z-of_z w64 held held_fits) in
     let fitting = rw (c.as_slice-entries.ensures, to_z-of_z w128 now fits, is) at c.in-Some.ensures.fits in
     let turn = below_step (λ i. (size (mode_coefficient c.args.level_bits n row values i) -ℤ size (coefficient_of row.entries i)) *ℤ size (int_at levels i))
     i n (to_z w128 c.loop-state.total-bits) c.in-Some.more (2 ^ 88) c.loop-state.invariant.so_far c.loop-state.invariant.bound value c.in-Some.ensures.bound h (omega (arith, c.requires.few)) in
