@@ -17,3 +17,4 @@ pub mod OneMachine
 pub mod Phases
 pub mod VariableLaws
 pub mod Branches
+pub mod Assembled

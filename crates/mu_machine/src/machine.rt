@@ -20,7 +20,6 @@ use std::alloc::Global;
 
 /// The machine of a flat model, its forms and its settings: each number is rounded once. Where a limit is passed, the
 /// first fault in the order of the refusals is answered.
-#[tactic(none)]
 pub fn to_machine(
     alloc: Global,
     f: &Forms,
@@ -48,7 +47,6 @@ pub fn to_machine(
 }
 
 // The machine of these parts.
-#[tactic(none)]
 fn assembled(
     units: Units,
     states: Vec<StateInfo>,
