@@ -1,5 +1,5 @@
 -- The lists that the code has made are those of a flat model's machine.
-use Rattle.std.proofs.Common.{◌≡◌, ℕ, ◌+◌, List, length, take, map, ℤ, pos, sym, ◌∙◌, ap, subst, None}
+use Rattle.std.proofs.Common.{◌≡◌, ℕ, List, length, take, map, ℤ, pos, sym, ◌∙◌, ap, subst, None}
 use Rattle.std.specs.Prelude.{All}
 use Rattle.mu_forms.specs.declared.form.ExactForm.{ExactForm}
 use Rattle.mu_tree.specs.declared.flat.Settings.{Settings}

@@ -1,10 +1,9 @@
 -- Where no check fails, the numbers are those of a machine.
-use Rattle.std.proofs.Common.{◌≡◌, ℕ, ◌+◌, ◌^◌, ◌≤◌, ◌<◌, Bool, true, false, not, ◌&&◌, ◌||◌, ◌-◌, List, [], ◌∷◌, length, get_or, take, drop, map, ℤ, pos, ◌≤ℤ◌, refl, sym, ◌∙◌, ap, subst, arith, inl, inr}
+use Rattle.std.proofs.Common.{◌≡◌, ℕ, ◌+◌, ◌^◌, ◌≤◌, ◌<◌, Bool, true, false, not, ◌&&◌, ◌-◌, List, [], length, get_or, drop, map, ℤ, pos, ◌≤ℤ◌, sym, ◌∙◌, ap, subst, arith, inl, inr}
 use Rattle.std.proofs.lemmas.Int.{ints}
 use Rattle.std.proofs.lemmas.Bool.{and_parts, and_from, or_cases, le-leb, lt-ltb}
-use Rattle.std.proofs.lemmas.Bool.Decides.{nat_tests}
-use Rattle.std.proofs.lemmas.List.{length-map, length-take-le, length-drop, get_or-drop, get_or_default}
-use Rattle.std.proofs.lemmas.List.Elements.{All-map, All-weaker}
+use Rattle.std.proofs.lemmas.List.{length-map, length-drop, get_or-drop}
+use Rattle.std.proofs.lemmas.List.Elements.{All-map}
 use Rattle.std.specs.Int.RustNames.{int_le}
 use Rattle.std.specs.Prelude.{All, IsTrue, sum_by, nat_lt, nat_le}
 use Rattle.std.specs.List.Sorted.{IsNonDecreasing}
@@ -16,13 +15,12 @@ use Rattle.mu_tree.specs.FlatModels.{rank, IsFlatAction, IsFlatBranch, IsFlatCla
 use Rattle.qss_machine.specs.declared.parts.SlopeRow.{SlopeRow}
 use Rattle.qss_machine.specs.declared.parts.StateInfo.{StateInfo}
 use Rattle.qss_machine.specs.declared.parts.DiscreteInfo.{DiscreteInfo}
-use Rattle.qss_machine.specs.declared.parts.Action.{Action}
 use Rattle.qss_machine.specs.declared.parts.BranchInfo.{BranchInfo}
 use Rattle.qss_machine.specs.declared.parts.ClauseInfo.{ClauseInfo}
-use Rattle.qss_machine.specs.Limits.{IsRow, IsForm, IsAction, IsBranch, IsClause, AreClauses, AreRows, AreVariables, IsState, has_target, item_count, level_below}
+use Rattle.qss_machine.specs.Limits.{IsRow, IsForm, IsAction, IsBranch, IsClause, AreClauses, AreRows, AreVariables, IsState, level_below}
 use Rattle.qss_machine.specs.Slopes.{mode_fits, weight_of}
 use Rattle.mu_machine.specs.Rounded.{rounded, rounded_down, rounded_row, rounded_form, rounded_state, rounded_discrete}
-use Rattle.mu_machine.specs.Places.{state_count, discrete_count, states_of, discretes_of, branch_forms, clause_forms, form_at, action_of, actions_of, branch_of, clause_of, clauses_of}
+use Rattle.mu_machine.specs.Places.{state_count, discrete_count, branch_forms, clause_forms, form_at, action_of, branch_of, clause_of, clauses_of}
 use Rattle.mu_machine.specs.Checks.{is_start, is_value, is_quantum, start_level, row_fits, row_starts, form_fits}
 use Rattle.mu_machine.specs.Machines.{AreNamed, IsRightSide}
 use Rattle.mu_machine.proofs.Turns.{map_twice}

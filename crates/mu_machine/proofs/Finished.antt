@@ -1,5 +1,5 @@
 -- Finished forms are laid out as a machine wants them.
-use Rattle.std.proofs.Common.{◌≡◌, ℕ, ◌+◌, ◌*◌, ◌≤◌, ◌<◌, Bool, true, false, List, length, get_or, map, refl, sym, ◌∙◌, ap, subst, arith, Some}
+use Rattle.std.proofs.Common.{◌≡◌, ℕ, ◌+◌, ◌*◌, ◌≤◌, ◌<◌, true, List, length, get_or, map, refl, sym, ◌∙◌, ap, subst, arith, Some}
 use Rattle.std.proofs.Math.Nat.{mul-le-mul_right}
 use Rattle.std.proofs.lemmas.List.{get_or-map, length-map, get_or_default}
 use Rattle.std.proofs.lemmas.List.Elements.{All-from_recursion}
@@ -10,7 +10,6 @@ use Rattle.std.specs.Cmp.{ranked}
 use Rattle.std.specs.declared.cmp.Ordering.{Ordering}
 use Rattle.std.specs.declared.cmp.Ordering.TheVariants.{Less, Equal, Greater}
 use Rattle.std.specs.List.Sorted.{IsStrictlySortedBy, IsStrictlyIncreasing}
-use Rattle.std.specs.Map.{keys_of}
 use Rattle.mu_num.specs.Fraction.{Fraction}
 use Rattle.mu_forms.specs.declared.form.ExactEntry.{ExactEntry}
 use Rattle.mu_forms.specs.declared.form.ExactProduct.{ExactProduct}
@@ -20,7 +19,7 @@ use Rattle.mu_forms.specs.AffineForm.{none, is_nonzero}
 use Rattle.mu_forms.specs.Rows.{named, paired, pair_cmp, value_at, IsRising}
 use Rattle.mu_forms.specs.Forms.{IsCoefficient, AreFinished, IsFinished}
 use Rattle.mu_forms.proofs.Rows.{IsKeyOrder, nat_order, pair_order, found, entry_at}
-use Rattle.mu_machine.specs.Machines.{AreNamed, ArePaired, IsRightSide}
+use Rattle.mu_machine.specs.Machines.{AreNamed, IsRightSide}
 use Rattle.mu_machine.proofs.Turns.{map_twice}
 
 -- what holds of each key whose value is not 0 holds of each entry of a finished list

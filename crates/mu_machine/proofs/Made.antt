@@ -1,21 +1,17 @@
 -- Where no phase fails, the numbers of a flat model and its forms are those of a machine.
-use Rattle.std.proofs.Common.{◌≡◌, ℕ, ◌+◌, ◌-◌, ◌^◌, ◌≤◌, ◌<◌, true, List, length, take, drop, map, ℤ, pos, refl, sym, ◌∙◌, ap, subst, arith, None}
+use Rattle.std.proofs.Common.{◌≡◌, ℕ, ◌+◌, ◌^◌, ◌≤◌, true, List, length, take, drop, map, pos, refl, sym, ◌∙◌, subst, arith}
 use Rattle.std.proofs.lemmas.List.{length-map, length-take-le, length-drop}
-use Rattle.std.specs.Prelude.{All, sum_by}
+use Rattle.std.specs.Prelude.{All}
 use Rattle.mu_forms.specs.declared.form.ExactForm.{ExactForm}
 use Rattle.mu_tree.specs.declared.flat.Settings.{Settings}
 use Rattle.mu_tree.specs.FlatExpression.{FlatVariable, FlatModelTree}
 use Rattle.mu_tree.specs.FlatModels.{IsFlatModel}
-use Rattle.qss_machine.specs.declared.parts.StateInfo.{StateInfo}
-use Rattle.qss_machine.specs.declared.parts.DiscreteInfo.{DiscreteInfo}
-use Rattle.qss_machine.specs.declared.parts.SlopeRow.{SlopeRow}
-use Rattle.qss_machine.specs.declared.parts.ClauseInfo.{ClauseInfo}
 use Rattle.qss_machine.specs.Limits.{AreVariables, AreRows, AreClauses}
 use Rattle.mu_machine.specs.declared.fault.MachineErr.TheVariants.{Start, Quantum, Coefficient}
 use Rattle.mu_machine.specs.Rounded.{rounded, rounded_row, rounded_form, rounded_state, rounded_discrete}
-use Rattle.mu_machine.specs.Places.{state_count, discrete_count, states_of, discretes_of, clause_forms, clauses_of}
+use Rattle.mu_machine.specs.Places.{state_count, discrete_count, states_of, discretes_of, clauses_of}
 use Rattle.mu_machine.specs.Checks.{is_start, is_value, is_quantum, start_level, row_fits, row_starts, form_fits}
-use Rattle.mu_machine.specs.Machines.{AreNamed, IsRightSide, AreFormsFor}
+use Rattle.mu_machine.specs.Machines.{IsRightSide, AreFormsFor}
 use Rattle.mu_machine.proofs.Failing.{checks_hold}
 use Rattle.mu_machine.proofs.InOrder.{counts_fit}
 use Rattle.mu_machine.proofs.Assembly.{variables_are, rows_are, clauses_are}

@@ -1,16 +1,15 @@
 -- A flat model without a fault has one machine.
-use Rattle.std.proofs.Common.{◌≡◌, ℕ, ◌+◌, ◌<◌, List, map, take, ℤ, pos, refl, sym, ◌∙◌, ap, None}
+use Rattle.std.proofs.Common.{◌≡◌, ℕ, ◌<◌, List, map, take, pos, refl, sym, ◌∙◌, ap, None}
 use Rattle.std.specs.Int.RustNames.{unsigned_abs}
 use Rattle.mu_forms.specs.declared.form.ExactForm.{ExactForm}
 use Rattle.mu_tree.specs.declared.flat.Settings.{Settings}
-use Rattle.mu_tree.specs.FlatExpression.{FlatVariable, FlatModelTree}
+use Rattle.mu_tree.specs.FlatExpression.{FlatModelTree}
 use Rattle.mu_tree.specs.FlatModels.{IsFlatModel}
 use Rattle.qss_machine.specs.declared.system.Machine.{Machine}
-use Rattle.qss_machine.specs.SameData.{HaveSameData}
 use Rattle.qss_machine.proofs.Fields.{Parts, IsSound, machine_of, same_machine}
 use Rattle.mu_machine.specs.Rounded.{rounded_row, rounded_state, rounded_discrete}
 use Rattle.mu_machine.specs.Places.{state_count, states_of, discretes_of, clauses_of}
-use Rattle.mu_machine.specs.Checks.{bits_of, last_of, machine_fault, machine_checks}
+use Rattle.mu_machine.specs.Checks.{bits_of, last_of, machine_fault}
 use Rattle.mu_machine.specs.Machines.{AreFormsFor, IsMachineOf}
 use Rattle.mu_machine.proofs.Made.{made_variables, made_rows, made_clauses}
 use Rattle.mu_machine.proofs.UnitLaws.{are_units}

@@ -1,14 +1,13 @@
 -- What the code's own checks say of all checks.
-use Rattle.std.proofs.Common.{◌≡◌, ℕ, ◌+◌, List, ◌++◌, length, take, drop, map, ℤ, refl, sym, ◌∙◌, ap, subst, None}
-use Rattle.std.specs.Prelude.{sum_by}
+use Rattle.std.proofs.Common.{◌≡◌, ℕ, ◌+◌, List, ◌++◌, length, take, map, ℤ, sym, ◌∙◌, ap, subst, None}
 use Rattle.mu_forms.specs.declared.form.ExactForm.{ExactForm}
 use Rattle.mu_tree.specs.declared.flat.FlatVar.{FlatVar}
 use Rattle.mu_tree.specs.declared.flat.Settings.{Settings}
-use Rattle.mu_tree.specs.FlatExpression.{FlatVariable, FlatModelTree, flat_variable}
+use Rattle.mu_tree.specs.FlatExpression.{FlatModelTree, flat_variable}
 use Rattle.mu_machine.specs.declared.fault.MachineErr.{MachineErr}
 use Rattle.mu_machine.specs.declared.fault.MachineErr.TheVariants.{Start, Quantum, Coefficient}
 use Rattle.mu_machine.specs.Rounded.{rounded, rounded_row}
-use Rattle.mu_machine.specs.Places.{state_count, states_of, discretes_of, clause_forms}
+use Rattle.mu_machine.specs.Places.{state_count, states_of, discretes_of}
 use Rattle.mu_machine.specs.Checks.{Check, first_failed, checks, IsRefusal, bits_of, setting_checks, is_start, is_value, is_quantum, start_level, row_fits, row_starts, form_checks, machine_checks}
 use Rattle.mu_machine.proofs.Whole.{
   all_checks,

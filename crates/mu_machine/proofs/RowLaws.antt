@@ -1,5 +1,5 @@
 -- Rounded right sides and forms that fit are within the limits of a machine.
-use Rattle.std.proofs.Common.{◌≡◌, ◌≢◌, ℕ, ◌+◌, ◌*◌, ◌^◌, ◌≤◌, ◌<◌, Bool, true, false, not, ◌&&◌, List, [], ◌∷◌, length, get_or, map, ℤ, pos, refl, sym, ◌∙◌, ap, arith, add-one}
+use Rattle.std.proofs.Common.{◌≡◌, ◌≢◌, ℕ, ◌+◌, ◌*◌, ◌^◌, ◌≤◌, ◌<◌, Bool, true, not, ◌&&◌, List, length, get_or, map, ℤ, pos, arith}
 use Rattle.std.proofs.lemmas.Int.{ints}
 use Rattle.std.proofs.lemmas.Bool.{and_parts}
 use Rattle.std.proofs.lemmas.Bool.Decides.{nat_tests}
@@ -11,16 +11,13 @@ use Rattle.std.specs.Int.RustNames.{unsigned_abs}
 use Rattle.std.specs.List.{list_all, filter}
 use Rattle.std.specs.List.Sorted.{IsStrictlyIncreasing}
 use Rattle.std.specs.Prelude.{All, AllPairs, nat_le, sum_by}
-use Rattle.mu_num.specs.Fraction.{whole}
 use Rattle.mu_num.specs.Sizes.{IsWithin, passes}
 use Rattle.mu_forms.specs.declared.form.ExactEntry.{ExactEntry}
 use Rattle.mu_forms.specs.declared.form.ExactProduct.{ExactProduct}
 use Rattle.mu_forms.specs.declared.form.ExactForm.{ExactForm}
 use Rattle.qss_machine.specs.declared.parts.Entry.{Entry}
 use Rattle.qss_machine.specs.declared.parts.Product.{Product}
-use Rattle.qss_machine.specs.declared.parts.SlopeRow.{SlopeRow}
-use Rattle.qss_machine.specs.declared.parts.Form.{Form}
-use Rattle.qss_machine.specs.Limits.{AreEntries, AreProducts, IsRow, IsBounded, IsForm}
+use Rattle.qss_machine.specs.Limits.{AreEntries, AreProducts, IsRow, IsForm}
 use Rattle.mu_machine.specs.Rounded.{is_some_number, entry_of, product_of, rounded_entries, rounded_products, rounded_row, rounded_form}
 use Rattle.mu_machine.specs.Checks.{row_fits, form_fits}
 use Rattle.mu_machine.specs.Machines.{AreNamed, ArePaired, IsRightSide}

@@ -1,6 +1,6 @@
 -- The checks of the code's lists are those of a flat model.
-use Rattle.std.proofs.Common.{◌≡◌, ℕ, ◌+◌, ◌-◌, ◌≤◌, List, length, take, drop, map, ℤ, refl, sym, ◌∙◌, ap, arith}
-use Rattle.std.proofs.lemmas.List.{take-map, drop-map, length-map, length-take-le, length-drop}
+use Rattle.std.proofs.Common.{◌≡◌, ℕ, ◌+◌, ◌≤◌, List, length, take, drop, map, ℤ, sym, ◌∙◌, ap, arith}
+use Rattle.std.proofs.lemmas.List.{take-map, drop-map, length-map}
 use Rattle.mu_forms.specs.declared.form.ExactForm.{ExactForm}
 use Rattle.mu_tree.specs.declared.flat.FlatVar.{FlatVar}
 use Rattle.mu_tree.specs.declared.flat.Settings.{Settings}

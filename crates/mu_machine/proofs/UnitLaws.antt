@@ -1,5 +1,5 @@
 -- What accepted settings say of the units of a machine.
-use Rattle.std.proofs.Common.{◌≡◌, ℕ, ◌+◌, ◌^◌, ◌≤◌, ◌<◌, Bool, true, false, ◌&&◌, List, [], ◌∷◌, ℤ, pos, negsuc, ◌*ℤ◌, ◌≤ℤ◌, ◌<ℤ◌, refl, sym, ◌∙◌, ap, subst, arith, None, lit≤}
+use Rattle.std.proofs.Common.{◌≡◌, ℕ, ◌+◌, ◌^◌, ◌≤◌, ◌<◌, Bool, true, ◌&&◌, List, [], ◌∷◌, ℤ, pos, negsuc, ◌*ℤ◌, ◌≤ℤ◌, ◌<ℤ◌, arith, None}
 use Rattle.std.proofs.Math.IntN.{*ℤ-zero}
 use Rattle.std.proofs.lemmas.Int.{ints}
 use Rattle.std.proofs.lemmas.Bool.{and_parts, leb-true}
@@ -14,7 +14,6 @@ use Rattle.mu_num.proofs.Tests.{int_lt-true}
 use Rattle.mu_tree.specs.declared.flat.Settings.{Settings}
 use Rattle.mu_tree.specs.declared.tree.SettingName.TheVariants.{StartTime, StopTime, CoefBits, TickBits, LevelBits}
 use Rattle.qss_machine.specs.Limits.{HasUnits}
-use Rattle.mu_machine.specs.declared.fault.MachineErr.{MachineErr}
 use Rattle.mu_machine.specs.declared.fault.MachineErr.TheVariants.{Setting}
 use Rattle.mu_machine.specs.Rounded.{rounded_up}
 use Rattle.mu_machine.specs.Checks.{Check, first_failed, is_bits, bits_of, last_of, setting_checks}

@@ -1,14 +1,13 @@
 -- All checks, phase by phase.
-use Rattle.std.proofs.Common.{◌≡◌, ℕ, ◌+◌, ◌-◌, ◌≤◌, List, ◌++◌, length, take, drop, map, refl, sym, ◌∙◌, ap, arith, None}
+use Rattle.std.proofs.Common.{◌≡◌, ℕ, ◌+◌, List, ◌++◌, length, take, drop, map, ◌∙◌, ap, arith, None}
 use Rattle.std.proofs.lemmas.List.{take_all, length-drop}
-use Rattle.std.specs.Prelude.{sum_by}
 use Rattle.mu_forms.specs.declared.form.ExactForm.{ExactForm}
 use Rattle.mu_tree.specs.declared.flat.Settings.{Settings}
 use Rattle.mu_tree.specs.FlatExpression.{FlatVariable, FlatModelTree}
 use Rattle.mu_machine.specs.declared.fault.MachineErr.{MachineErr}
 use Rattle.mu_machine.specs.declared.fault.MachineErr.TheVariants.{Start, Quantum, Coefficient}
 use Rattle.mu_machine.specs.Rounded.{rounded, rounded_row, rounded_form}
-use Rattle.mu_machine.specs.Places.{state_count, states_of, discretes_of, clause_forms}
+use Rattle.mu_machine.specs.Places.{state_count, states_of, discretes_of}
 use Rattle.mu_machine.specs.Checks.{Check, first_failed, checks, IsRefusal, bits_of, setting_checks, is_start, is_value, is_quantum, start_level, row_fits, row_starts, form_fits, start_checks, quantum_checks, coefficient_checks, form_checks, machine_checks}
 use Rattle.mu_machine.proofs.Failing.{refused_before, refused_after, none_failed, none_first, none_others}
 

@@ -15,7 +15,7 @@ use Rattle.qss_machine.specs.Slopes.{mode_fits, weight_of}
 use Rattle.mu_machine.specs.declared.fault.MachineErr.{MachineErr}
 use Rattle.mu_machine.specs.declared.fault.MachineErr.TheVariants.{Setting, Start, Quantum, Coefficient, Memory}
 use Rattle.mu_machine.specs.Rounded.{rounded, rounded_down, rounded_up, rounded_row, rounded_form}
-use Rattle.mu_machine.specs.Places.{state_count, discrete_count, states_of, discretes_of}
+use Rattle.mu_machine.specs.Places.{state_count, states_of, discretes_of}
 
 -- a check, with the fault that is answered where it fails
 pub record Check : Type 0 where

@@ -1,7 +1,6 @@
 -- The machine of a flat model, its forms and its settings.
-use Rattle.std.specs.Prelude.{ℕ, ◌≡◌, ◌≢◌, ◌+◌, ◌*◌, ◌<◌, ◌≤◌, List, map, length, take, drop, pos, All, sum_by, None}
+use Rattle.std.specs.Prelude.{ℕ, ◌≡◌, ◌+◌, ◌*◌, ◌<◌, ◌≤◌, List, map, length, take, drop, pos, All, sum_by, None}
 use Rattle.std.specs.List.Sorted.{IsStrictlyIncreasing}
-use Rattle.mu_num.specs.Fraction.{Fraction}
 use Rattle.mu_forms.specs.declared.form.ExactEntry.{ExactEntry}
 use Rattle.mu_forms.specs.declared.form.ExactProduct.{ExactProduct}
 use Rattle.mu_forms.specs.declared.form.ExactForm.{ExactForm}

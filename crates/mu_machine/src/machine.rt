@@ -1,6 +1,6 @@
 // The machine of exact forms, a flat model and settings.
 
-ghost use Rattle.std.specs.Prelude.{◌≡◌, ◌+◌, ◌^◌, ◌≤◌, [], length, map, pos, IfOk, IfErr};
+ghost use Rattle.std.specs.Prelude.{◌≡◌, ◌+◌, ◌^◌, length, pos, IfOk, IfErr};
 ghost use Rattle.qss_machine.specs.Limits.{AreVariables, AreRows, AreClauses};
 ghost use Rattle.mu_tree.specs.FlatExpression.{flat_model};
 ghost use Rattle.mu_tree.specs.FlatModels.{IsFlatModel};

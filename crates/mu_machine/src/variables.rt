@@ -1,6 +1,6 @@
 // States and discrete variables in the units of a machine.
 
-ghost use Rattle.std.specs.Prelude.{◌≡◌, ◌+◌, ◌<◌, ◌≤◌, true, false, None, length, map, All, IfOk, IfErr, IfNone, IfSome, pos};
+ghost use Rattle.std.specs.Prelude.{◌≡◌, ◌+◌, ◌<◌, ◌≤◌, true, false, None, length, map, All, IfOk, IfErr, IfNone, IfSome};
 ghost use Rattle.mu_num.specs.Sizes.{IsWithin};
 ghost use Rattle.mu_tree.specs.FlatExpression.{flat_variable};
 ghost use Rattle.mu_machine.specs.Rounded.{rounded, rounded_down, rounded_state, rounded_discrete};

@@ -1,10 +1,10 @@
 // What right sides weigh at the start.
 
-ghost use Rattle.std.specs.Prelude.{◌≡◌, ℕ, ◌+◌, ◌-◌, ◌*◌, ◌^◌, ◌<◌, ◌≤◌, ◌++◌, ◌&&◌, not, true, false, length, All, IfOk, IfNone, IfSome, pos, ◌+ℤ◌, ◌-ℤ◌, ◌*ℤ◌, unsigned_abs, slice_set, ◌==◌, if◌then◌else◌};
+ghost use Rattle.std.specs.Prelude.{◌≡◌, ℕ, ◌+◌, ◌-◌, ◌*◌, ◌^◌, ◌<◌, ◌≤◌, ◌&&◌, not, true, false, length, All, IfOk, IfNone, IfSome, pos, ◌+ℤ◌, ◌-ℤ◌, ◌*ℤ◌, unsigned_abs, slice_set, ◌==◌};
 ghost use Rattle.mu_num.specs.Rounding.{nearest_of};
 ghost use Rattle.mu_num.specs.Sizes.{IsWithin, passes};
 ghost use Rattle.qss_machine.specs.Limits.{IsRow};
-ghost use Rattle.qss_machine.specs.Numbers.{int_at, size, sum_below, sum_over};
+ghost use Rattle.qss_machine.specs.Numbers.{int_at, size, sum_below};
 ghost use Rattle.qss_machine.specs.Slopes.{coefficient_of, mode_coefficient, mode_fits, products_of, weight_of};
 
 use crate::numbers::{passes, unit};

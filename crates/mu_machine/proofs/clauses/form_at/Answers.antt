@@ -1,4 +1,4 @@
-use Rattle.std.proofs.Common.{◌≡◌, [], sym, ◌∙◌, ap, pos}
+use Rattle.std.proofs.Common.{[], ◌∙◌, ap, pos}
 use Rattle.std.proofs.lemmas.List.{get_or_read}
 use Rattle.mu_num.specs.Fraction.{whole}
 use Rattle.mu_forms.specs.declared.form.ExactForm.{ExactForm}

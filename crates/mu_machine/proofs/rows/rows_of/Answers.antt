@@ -1,4 +1,4 @@
-use Rattle.std.proofs.Common.{◌≡◌, ◌+◌, ◌∙◌, ap, arith}
+use Rattle.std.proofs.Common.{◌+◌, ◌∙◌, arith}
 use Rattle.mu_machine.specs.declared.fault.MachineErr.TheVariants.{Coefficient}
 use Rattle.mu_machine.specs.Rounded.{rounded_row}
 use Rattle.mu_machine.specs.Checks.{row_fits}

@@ -1,8 +1,7 @@
-use Rattle.std.proofs.Common.{◌≡◌, ◌+◌, ◌^◌, ◌≤◌, ℤ, sym, ◌∙◌, subst, arith}
+use Rattle.std.proofs.Common.{◌+◌, ◌^◌, ◌≤◌, sym, ◌∙◌, subst, arith}
 use Rattle.std.proofs.lemmas.Int.{ints, to_z-of_z}
 use Rattle.std.proofs.lemmas.List.Elements.{All-push}
 use Rattle.std.specs.Int.RustNames.{unsigned_abs, FitsSigned}
-use Rattle.std.specs.Prelude.{All}
 use Rattle.mu_num.specs.Sizes.{IsWithin}
 use Rattle.mu_tree.specs.declared.flat.FlatVar.{FlatVar}
 use Rattle.mu_machine.specs.declared.fault.MachineErr.TheVariants.{Start}

@@ -1,9 +1,9 @@
-use Rattle.std.proofs.Common.{◌≡◌, ◌+◌, ◌^◌, ◌≤◌, ◌++◌, length, ◌+ℤ◌, ◌-ℤ◌, ◌*ℤ◌, not, ◌&&◌, sym, ◌∙◌, ap, arith}
+use Rattle.std.proofs.Common.{◌≡◌, ◌+◌, ◌^◌, ◌≤◌, ◌++◌, length, ◌+ℤ◌, ◌*ℤ◌, not, ◌&&◌, sym, ◌∙◌, ap, arith}
 use Rattle.std.proofs.lemmas.Int.{ints, to_z-of_z}
 use Rattle.std.specs.Int.RustNames.{unsigned_abs, FitsSigned}
 use Rattle.mu_num.specs.Sizes.{passes}
 use Rattle.qss_machine.specs.Numbers.{int_at, size, sum_below}
-use Rattle.qss_machine.specs.Slopes.{coefficient_of, mode_coefficient, weight_of}
+use Rattle.qss_machine.specs.Slopes.{coefficient_of, weight_of}
 use Rattle.qss_machine.proofs.Few.{entries_few}
 use Rattle.qss_machine.proofs.WeightLaws.{sizes_sum-entries, weight_parts}
 use Rattle.mu_machine.proofs.weights.is_light.Goals as goal
