@@ -2,12 +2,13 @@
 use Rattle.std.proofs.Common.{◌≡◌, ℕ, ◌+◌, List, ◌++◌, length, take, map, ℤ, sym, ◌∙◌, ap, subst, None}
 use Rattle.mu_forms.specs.declared.form.ExactForm.{ExactForm}
 use Rattle.mu_tree.specs.declared.flat.FlatVar.{FlatVar}
+use Rattle.mu_tree.specs.declared.flat.FlatModel.{FlatModel}
 use Rattle.mu_tree.specs.declared.flat.Settings.{Settings}
-use Rattle.mu_tree.specs.FlatExpression.{FlatModelTree, flat_variable}
+use Rattle.mu_tree.specs.FlatExpression.{FlatModelTree, flat_model, flat_variable}
 use Rattle.mu_machine.specs.declared.fault.MachineErr.{MachineErr}
 use Rattle.mu_machine.specs.declared.fault.MachineErr.TheVariants.{Start, Quantum, Coefficient}
 use Rattle.mu_machine.specs.Rounded.{rounded, rounded_row}
-use Rattle.mu_machine.specs.Places.{state_count, states_of, discretes_of}
+use Rattle.mu_machine.specs.Places.{state_count, discrete_count, states_of, discretes_of}
 use Rattle.mu_machine.specs.Checks.{Check, first_failed, checks, IsRefusal, bits_of, setting_checks, is_start, is_value, is_quantum, start_level, row_fits, row_starts, form_checks, machine_checks}
 use Rattle.mu_machine.proofs.Whole.{
   all_checks,
@@ -48,6 +49,39 @@ pub record IsStarted (forms : List ExactForm) (m : FlatModelTree) (p k f : ℕ) 
   pub rights_are : rights ≡ take (state_count m.vars) forms
   pub starts_pass : first_failed (checks (λ (v : FlatVar). is_start p k f v.start) Start 0 states) ≡ None
   pub values_pass : first_failed (checks (λ (v : FlatVar). is_value f v.start) Start first discretes) ≡ None
+
+-- the code reads the variables of a flat model
+module _ (x : FlatModel) (vars states discretes : List FlatVar) (behind : vars ≡ x.vars.items) where
+  pub states_counted : length states ≡ state_count (map flat_variable vars) → length states ≡ state_count (flat_model x).vars
+  states_counted e = e ∙ ap (λ (vs : List FlatVar). state_count (map flat_variable vs)) behind
+
+  pub discretes_counted : length discretes ≡ discrete_count (map flat_variable vars) → length discretes ≡ discrete_count (flat_model x).vars
+  discretes_counted e = e ∙ ap (λ (vs : List FlatVar). discrete_count (map flat_variable vs)) behind
+
+  pub read_is : (s : Settings) (p k f : ℕ) → map flat_variable states ≡ states_of (map flat_variable vars) → map flat_variable discretes ≡ discretes_of (map flat_variable vars) →
+      first_failed (setting_checks s) ≡ None → (p ≡ bits_of s.coef_bits) × (k ≡ bits_of s.tick_bits) × (f ≡ bits_of s.level_bits) → IsRead (flat_model x) s p k f states discretes
+  read_is s p k f kept apart none bits = record {
+    settings_pass = none;
+    coefficient_bits = bits.0;
+    tick_bits = bits.1;
+    level_bits = bits.2;
+    of_states = kept ∙ ap (λ (vs : List FlatVar). states_of (map flat_variable vs)) behind;
+    of_discretes = apart ∙ ap (λ (vs : List FlatVar). discretes_of (map flat_variable vs)) behind;
+  }
+
+-- and the first forms
+pub started_is : (forms all : List ExactForm) (m : FlatModelTree) (p k f : ℕ) (states discretes : List FlatVar) (levels numbers : List ℤ) → all ≡ forms → length states ≡ state_count m.vars →
+    levels ≡ map (λ (v : FlatVar). start_level p k f v.start) states → numbers ≡ map (λ (v : FlatVar). rounded f v.start) discretes →
+    first_failed (checks (λ (v : FlatVar). is_start p k f v.start) Start 0 states) ≡ None → first_failed (checks (λ (v : FlatVar). is_value f v.start) Start (length states) discretes) ≡ None →
+    IsStarted forms m p k f states discretes (length states) levels numbers (take (length states) all)
+started_is forms all m p k f states discretes levels numbers same first same_levels same_numbers starts values = record {
+  first_is = first;
+  levels_are = same_levels;
+  numbers_are = same_numbers;
+  rights_are = ap (take (length states)) same ∙ ap (λ (n : ℕ). take n forms) first;
+  starts_pass = starts;
+  values_pass = values;
+}
 
 module _ (forms : List ExactForm) (m : FlatModelTree) (s : Settings) (p k f : ℕ) (states discretes : List FlatVar) (read : IsRead m s p k f states discretes) where
   in_all : (fault : MachineErr) → IsRefusal (all_checks forms m s p k f) fault → IsRefusal (machine_checks forms m s) fault

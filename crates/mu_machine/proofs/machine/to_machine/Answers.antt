@@ -13,7 +13,7 @@ use Rattle.mu_machine.specs.Checks.{Check, IsRefusal, bits_of, first_failed, for
 use Rattle.mu_machine.proofs.Assembled.{right_sides_for, variables_for, rows_for, clauses_for, machine_is, HasParts}
 use Rattle.mu_machine.proofs.InOrder.{counts_fit}
 use Rattle.mu_machine.proofs.Made.{made_variables, made_rows, made_clauses}
-use Rattle.mu_machine.proofs.Phases.{IsRead, IsStarted, starts_refused, values_refused, weights_refused, quanta_refused, rows_refused, items_refused, all_pass, no_fault}
+use Rattle.mu_machine.proofs.Phases.{IsRead, IsStarted, discretes_counted, read_is, started_is, starts_refused, states_counted, values_refused, weights_refused, quanta_refused, rows_refused, items_refused, all_pass, no_fault}
 use Rattle.mu_machine.proofs.Seen.{states_made, discretes_made}
 use Rattle.mu_machine.proofs.Whole.{refused_settings, PhasesPass}
 use Rattle.mu_machine.proofs.machine.to_machine.Goals as goal
@@ -29,15 +29,15 @@ pub slice_bounds-rights-end : goal.slice_bounds-rights-end
 slice_bounds-rights-end c =
     let m = flat_model c.args.m.now in
     let states = c.kinds_of-kinds.result.states.now in
-    let first_is : length states ≡ state_count m.vars = c.kinds_of-kinds.ensures.state_count ∙ ap (λ (vs : List FlatVar). state_count (map flat_variable vs)) c.deref.ensures.value in
-    sym (length-take-le (length states) c.as_slice-forms.result.now (omega (arith, first_is, c.requires.forms.one_each, ap length c.as_slice-forms.ensures)))
+    let first_here = states_counted c.args.m.now c.deref.result.now states c.kinds_of-kinds.result.discretes.now c.deref.ensures.value c.kinds_of-kinds.ensures.state_count in
+    sym (length-take-le (length states) c.as_slice-forms.result.now (omega (arith, first_here, c.requires.forms.one_each, ap length c.as_slice-forms.ensures)))
 
 pub levels_of-requires : goal.levels_of-requires
 levels_of-requires c =
     let m = flat_model c.args.m.now in
     let states = c.kinds_of-kinds.result.states.now in
-    let first_is : length states ≡ state_count m.vars = c.kinds_of-kinds.ensures.state_count ∙ ap (λ (vs : List FlatVar). state_count (map flat_variable vs)) c.deref.ensures.value in
-    record { few = omega (arith, first_is, counts_fit m.vars, c.requires.model.variables) }
+    let first_here = states_counted c.args.m.now c.deref.result.now states c.kinds_of-kinds.result.discretes.now c.deref.ensures.value c.kinds_of-kinds.ensures.state_count in
+    record { few = omega (arith, first_here, counts_fit m.vars, c.requires.model.variables) }
 
 pub returns-in_err-levels-clause-refused : goal.returns-in_err-levels-clause-refused
 returns-in_err-levels-clause-refused c =
@@ -47,14 +47,8 @@ returns-in_err-levels-clause-refused c =
     let s = c.args.s.now in
     let states = c.kinds_of-kinds.result.states.now in
     let discretes = c.kinds_of-kinds.result.discretes.now in
-    let read : IsRead m s u.p u.k u.f states discretes = record {
-      settings_pass = c.in_ok-units.ensures.ok;
-      coefficient_bits = c.in_ok-units.ensures.bits.0;
-      tick_bits = c.in_ok-units.ensures.bits.1;
-      level_bits = c.in_ok-units.ensures.bits.2;
-      of_states = c.kinds_of-kinds.ensures.states ∙ ap (λ (vs : List FlatVar). states_of (map flat_variable vs)) c.deref.ensures.value;
-      of_discretes = c.kinds_of-kinds.ensures.discretes ∙ ap (λ (vs : List FlatVar). discretes_of (map flat_variable vs)) c.deref.ensures.value;
-    } in
+    let read : IsRead m s u.p u.k u.f states discretes =
+    read_is c.args.m.now c.deref.result.now states discretes c.deref.ensures.value s u.p u.k u.f c.kinds_of-kinds.ensures.states c.kinds_of-kinds.ensures.discretes c.in_ok-units.ensures.ok c.in_ok-units.ensures.bits in
     let p = err_from_is_err_and c.from_residual-in_err-levels.result c.from_residual-in_err-levels.ensures.1 in
     rw (p.1, p.2)
     (starts_refused forms m s u.p u.k u.f states discretes read _ c.in_err-levels.ensures.err)
@@ -64,9 +58,9 @@ values_of-requires c =
     let m = flat_model c.args.m.now in
     let states = c.kinds_of-kinds.result.states.now in
     let discretes = c.kinds_of-kinds.result.discretes.now in
-    let first_is : length states ≡ state_count m.vars = c.kinds_of-kinds.ensures.state_count ∙ ap (λ (vs : List FlatVar). state_count (map flat_variable vs)) c.deref.ensures.value in
-    let count_is : length discretes ≡ discrete_count m.vars = c.kinds_of-kinds.ensures.discrete_count ∙ ap (λ (vs : List FlatVar). discrete_count (map flat_variable vs)) c.deref.ensures.value in
-    record { few = omega (arith, first_is, count_is, counts_fit m.vars, c.requires.model.variables) }
+    let first_here = states_counted c.args.m.now c.deref.result.now states discretes c.deref.ensures.value c.kinds_of-kinds.ensures.state_count in
+    let count_here = discretes_counted c.args.m.now c.deref.result.now states discretes c.deref.ensures.value c.kinds_of-kinds.ensures.discrete_count in
+    record { few = omega (arith, first_here, count_here, counts_fit m.vars, c.requires.model.variables) }
 
 pub returns-in_err-values-clause-refused : goal.returns-in_err-values-clause-refused
 returns-in_err-values-clause-refused c =
@@ -76,18 +70,12 @@ returns-in_err-values-clause-refused c =
     let s = c.args.s.now in
     let states = c.kinds_of-kinds.result.states.now in
     let discretes = c.kinds_of-kinds.result.discretes.now in
-    let read : IsRead m s u.p u.k u.f states discretes = record {
-      settings_pass = c.in_ok-units.ensures.ok;
-      coefficient_bits = c.in_ok-units.ensures.bits.0;
-      tick_bits = c.in_ok-units.ensures.bits.1;
-      level_bits = c.in_ok-units.ensures.bits.2;
-      of_states = c.kinds_of-kinds.ensures.states ∙ ap (λ (vs : List FlatVar). states_of (map flat_variable vs)) c.deref.ensures.value;
-      of_discretes = c.kinds_of-kinds.ensures.discretes ∙ ap (λ (vs : List FlatVar). discretes_of (map flat_variable vs)) c.deref.ensures.value;
-    } in
-    let first_is : length states ≡ state_count m.vars = c.kinds_of-kinds.ensures.state_count ∙ ap (λ (vs : List FlatVar). state_count (map flat_variable vs)) c.deref.ensures.value in
+    let read : IsRead m s u.p u.k u.f states discretes =
+    read_is c.args.m.now c.deref.result.now states discretes c.deref.ensures.value s u.p u.k u.f c.kinds_of-kinds.ensures.states c.kinds_of-kinds.ensures.discretes c.in_ok-units.ensures.ok c.in_ok-units.ensures.bits in
+    let first_here = states_counted c.args.m.now c.deref.result.now states discretes c.deref.ensures.value c.kinds_of-kinds.ensures.state_count in
     let p = err_from_is_err_and c.from_residual-in_err-values.result c.from_residual-in_err-values.ensures.1 in
     rw (p.1, p.2)
-    (values_refused forms m s u.p u.k u.f states discretes read (length states) _ first_is c.in_ok-levels.ensures.ok c.in_err-values.ensures.err)
+    (values_refused forms m s u.p u.k u.f states discretes read (length states) _ first_here c.in_ok-levels.ensures.ok c.in_err-values.ensures.err)
 
 pub check_starts-requires-clause-few : goal.check_starts-requires-clause-few
 check_starts-requires-clause-few c =
@@ -95,24 +83,24 @@ check_starts-requires-clause-few c =
     let m = flat_model c.args.m.now in
     let states = c.kinds_of-kinds.result.states.now in
     let discretes = c.kinds_of-kinds.result.discretes.now in
-    let first_is : length states ≡ state_count m.vars = c.kinds_of-kinds.ensures.state_count ∙ ap (λ (vs : List FlatVar). state_count (map flat_variable vs)) c.deref.ensures.value in
-    let count_is : length discretes ≡ discrete_count m.vars = c.kinds_of-kinds.ensures.discrete_count ∙ ap (λ (vs : List FlatVar). discrete_count (map flat_variable vs)) c.deref.ensures.value in
+    let first_here = states_counted c.args.m.now c.deref.result.now states discretes c.deref.ensures.value c.kinds_of-kinds.ensures.state_count in
+    let count_here = discretes_counted c.args.m.now c.deref.result.now states discretes c.deref.ensures.value c.kinds_of-kinds.ensures.discrete_count in
     let long_levels : length c.deref-2.result.now ≡ length states =
     ap length (c.deref-2.ensures.value ∙ c.in_ok-levels.ensures.levels) ∙ length-map states (λ (v : FlatVar). start_level u.p u.k u.f v.start) in
     let long_numbers : length c.deref-3.result.now ≡ length discretes =
     ap length (c.deref-3.ensures.value ∙ c.in_ok-values.ensures.values) ∙ length-map discretes (λ (v : FlatVar). rounded u.f v.start) in
-    omega (arith, long_levels, long_numbers, first_is, count_is, counts_fit m.vars, c.requires.model.variables)
+    omega (arith, long_levels, long_numbers, first_here, count_here, counts_fit m.vars, c.requires.model.variables)
 
 pub check_starts-requires-clause-one_each : goal.check_starts-requires-clause-one_each
 check_starts-requires-clause-one_each c =
     let u = c.in_ok-units.units in
     let m = flat_model c.args.m.now in
     let states = c.kinds_of-kinds.result.states.now in
-    let first_is : length states ≡ state_count m.vars = c.kinds_of-kinds.ensures.state_count ∙ ap (λ (vs : List FlatVar). state_count (map flat_variable vs)) c.deref.ensures.value in
+    let first_here = states_counted c.args.m.now c.deref.result.now states c.kinds_of-kinds.result.discretes.now c.deref.ensures.value c.kinds_of-kinds.ensures.state_count in
     let long_levels : length c.deref-2.result.now ≡ length states =
     ap length (c.deref-2.ensures.value ∙ c.in_ok-levels.ensures.levels) ∙ length-map states (λ (v : FlatVar). start_level u.p u.k u.f v.start) in
     let all = c.as_slice-forms.result.now in
-    let taken = length-take-le (length states) all (omega (arith, first_is, c.requires.forms.one_each, ap length c.as_slice-forms.ensures)) in
+    let taken = length-take-le (length states) all (omega (arith, first_here, c.requires.forms.one_each, ap length c.as_slice-forms.ensures)) in
     omega (arith, taken, long_levels)
 
 pub check_starts-requires-clause-forms : goal.check_starts-requires-clause-forms
@@ -121,14 +109,14 @@ check_starts-requires-clause-forms c =
     let m = flat_model c.args.m.now in
     let states = c.kinds_of-kinds.result.states.now in
     let discretes = c.kinds_of-kinds.result.discretes.now in
-    let first_is : length states ≡ state_count m.vars = c.kinds_of-kinds.ensures.state_count ∙ ap (λ (vs : List FlatVar). state_count (map flat_variable vs)) c.deref.ensures.value in
-    let count_is : length discretes ≡ discrete_count m.vars = c.kinds_of-kinds.ensures.discrete_count ∙ ap (λ (vs : List FlatVar). discrete_count (map flat_variable vs)) c.deref.ensures.value in
+    let first_here = states_counted c.args.m.now c.deref.result.now states discretes c.deref.ensures.value c.kinds_of-kinds.ensures.state_count in
+    let count_here = discretes_counted c.args.m.now c.deref.result.now states discretes c.deref.ensures.value c.kinds_of-kinds.ensures.discrete_count in
     let long_levels : length c.deref-2.result.now ≡ length states =
     ap length (c.deref-2.ensures.value ∙ c.in_ok-levels.ensures.levels) ∙ length-map states (λ (v : FlatVar). start_level u.p u.k u.f v.start) in
     let long_numbers : length c.deref-3.result.now ≡ length discretes =
     ap length (c.deref-3.ensures.value ∙ c.in_ok-values.ensures.values) ∙ length-map discretes (λ (v : FlatVar). rounded u.f v.start) in
     right_sides_for (state_count m.vars) (discrete_count m.vars) (length c.deref-2.result.now) (length c.deref-3.result.now) (take (length states) c.as_slice-forms.result.now)
-    (take (state_count m.vars) c.args.f.now.forms) (long_levels ∙ first_is) (long_numbers ∙ count_is) (ap (take (length states)) c.as_slice-forms.ensures ∙ ap (λ (n : ℕ). take n c.args.f.now.forms) first_is)
+    (take (state_count m.vars) c.args.f.now.forms) (long_levels ∙ first_here) (long_numbers ∙ count_here) (ap (take (length states)) c.as_slice-forms.ensures ∙ ap (λ (n : ℕ). take n c.args.f.now.forms) first_here)
     c.requires.forms.of_states
 
 pub check_starts-requires-clause-levels : goal.check_starts-requires-clause-levels
@@ -147,27 +135,16 @@ returns-in_err-check_starts-clause-refused c =
     let s = c.args.s.now in
     let states = c.kinds_of-kinds.result.states.now in
     let discretes = c.kinds_of-kinds.result.discretes.now in
-    let read : IsRead m s u.p u.k u.f states discretes = record {
-      settings_pass = c.in_ok-units.ensures.ok;
-      coefficient_bits = c.in_ok-units.ensures.bits.0;
-      tick_bits = c.in_ok-units.ensures.bits.1;
-      level_bits = c.in_ok-units.ensures.bits.2;
-      of_states = c.kinds_of-kinds.ensures.states ∙ ap (λ (vs : List FlatVar). states_of (map flat_variable vs)) c.deref.ensures.value;
-      of_discretes = c.kinds_of-kinds.ensures.discretes ∙ ap (λ (vs : List FlatVar). discretes_of (map flat_variable vs)) c.deref.ensures.value;
-    } in
-    let first_is : length states ≡ state_count m.vars = c.kinds_of-kinds.ensures.state_count ∙ ap (λ (vs : List FlatVar). state_count (map flat_variable vs)) c.deref.ensures.value in
+    let read : IsRead m s u.p u.k u.f states discretes =
+    read_is c.args.m.now c.deref.result.now states discretes c.deref.ensures.value s u.p u.k u.f c.kinds_of-kinds.ensures.states c.kinds_of-kinds.ensures.discretes c.in_ok-units.ensures.ok c.in_ok-units.ensures.bits in
+    let first_here = states_counted c.args.m.now c.deref.result.now states discretes c.deref.ensures.value c.kinds_of-kinds.ensures.state_count in
     let first = length states in
     let levels = c.deref-2.result.now in
     let numbers = c.deref-3.result.now in
     let rights = take first c.as_slice-forms.result.now in
-    let started : IsStarted forms m u.p u.k u.f states discretes first levels numbers rights = record {
-      first_is = first_is;
-      levels_are = c.deref-2.ensures.value ∙ c.in_ok-levels.ensures.levels;
-      numbers_are = c.deref-3.ensures.value ∙ c.in_ok-values.ensures.values;
-      rights_are = ap (take first) c.as_slice-forms.ensures ∙ ap (λ (n : ℕ). take n forms) first_is;
-      starts_pass = c.in_ok-levels.ensures.ok;
-      values_pass = c.in_ok-values.ensures.ok;
-    } in
+    let started : IsStarted forms m u.p u.k u.f states discretes first levels numbers rights =
+    started_is forms c.as_slice-forms.result.now m u.p u.k u.f states discretes levels numbers c.as_slice-forms.ensures first_here (c.deref-2.ensures.value ∙ c.in_ok-levels.ensures.levels)
+    (c.deref-3.ensures.value ∙ c.in_ok-values.ensures.values) c.in_ok-levels.ensures.ok c.in_ok-values.ensures.ok in
     let p = err_from_is_err_and c.from_residual-in_err-check_starts.result c.from_residual-in_err-check_starts.ensures.1 in
     rw (p.1, p.2)
     (weights_refused forms m s u.p u.k u.f states discretes read first levels numbers rights started _ c.in_err-check_starts.ensures.err)
@@ -176,8 +153,8 @@ pub states_of-requires : goal.states_of-requires
 states_of-requires c =
     let m = flat_model c.args.m.now in
     let states = c.kinds_of-kinds.result.states.now in
-    let first_is : length states ≡ state_count m.vars = c.kinds_of-kinds.ensures.state_count ∙ ap (λ (vs : List FlatVar). state_count (map flat_variable vs)) c.deref.ensures.value in
-    record { few = omega (arith, first_is, counts_fit m.vars, c.requires.model.variables) }
+    let first_here = states_counted c.args.m.now c.deref.result.now states c.kinds_of-kinds.result.discretes.now c.deref.ensures.value c.kinds_of-kinds.ensures.state_count in
+    record { few = omega (arith, first_here, counts_fit m.vars, c.requires.model.variables) }
 
 pub returns-in_err-states-clause-refused : goal.returns-in_err-states-clause-refused
 returns-in_err-states-clause-refused c =
@@ -187,27 +164,16 @@ returns-in_err-states-clause-refused c =
     let s = c.args.s.now in
     let states = c.kinds_of-kinds.result.states.now in
     let discretes = c.kinds_of-kinds.result.discretes.now in
-    let read : IsRead m s u.p u.k u.f states discretes = record {
-      settings_pass = c.in_ok-units.ensures.ok;
-      coefficient_bits = c.in_ok-units.ensures.bits.0;
-      tick_bits = c.in_ok-units.ensures.bits.1;
-      level_bits = c.in_ok-units.ensures.bits.2;
-      of_states = c.kinds_of-kinds.ensures.states ∙ ap (λ (vs : List FlatVar). states_of (map flat_variable vs)) c.deref.ensures.value;
-      of_discretes = c.kinds_of-kinds.ensures.discretes ∙ ap (λ (vs : List FlatVar). discretes_of (map flat_variable vs)) c.deref.ensures.value;
-    } in
-    let first_is : length states ≡ state_count m.vars = c.kinds_of-kinds.ensures.state_count ∙ ap (λ (vs : List FlatVar). state_count (map flat_variable vs)) c.deref.ensures.value in
+    let read : IsRead m s u.p u.k u.f states discretes =
+    read_is c.args.m.now c.deref.result.now states discretes c.deref.ensures.value s u.p u.k u.f c.kinds_of-kinds.ensures.states c.kinds_of-kinds.ensures.discretes c.in_ok-units.ensures.ok c.in_ok-units.ensures.bits in
+    let first_here = states_counted c.args.m.now c.deref.result.now states discretes c.deref.ensures.value c.kinds_of-kinds.ensures.state_count in
     let first = length states in
     let levels = c.deref-2.result.now in
     let numbers = c.deref-3.result.now in
     let rights = take first c.as_slice-forms.result.now in
-    let started : IsStarted forms m u.p u.k u.f states discretes first levels numbers rights = record {
-      first_is = first_is;
-      levels_are = c.deref-2.ensures.value ∙ c.in_ok-levels.ensures.levels;
-      numbers_are = c.deref-3.ensures.value ∙ c.in_ok-values.ensures.values;
-      rights_are = ap (take first) c.as_slice-forms.ensures ∙ ap (λ (n : ℕ). take n forms) first_is;
-      starts_pass = c.in_ok-levels.ensures.ok;
-      values_pass = c.in_ok-values.ensures.ok;
-    } in
+    let started : IsStarted forms m u.p u.k u.f states discretes first levels numbers rights =
+    started_is forms c.as_slice-forms.result.now m u.p u.k u.f states discretes levels numbers c.as_slice-forms.ensures first_here (c.deref-2.ensures.value ∙ c.in_ok-levels.ensures.levels)
+    (c.deref-3.ensures.value ∙ c.in_ok-values.ensures.values) c.in_ok-levels.ensures.ok c.in_ok-values.ensures.ok in
     let p = err_from_is_err_and c.from_residual-in_err-states.result c.from_residual-in_err-states.ensures.1 in
     rw (p.1, p.2)
     (quanta_refused forms m s u.p u.k u.f states discretes read first levels numbers rights started _ c.in_ok-check_starts.ensures.ok c.in_err-states.ensures.err)
@@ -220,10 +186,10 @@ pub rows_of-requires : goal.rows_of-requires
 rows_of-requires c =
     let m = flat_model c.args.m.now in
     let states = c.kinds_of-kinds.result.states.now in
-    let first_is : length states ≡ state_count m.vars = c.kinds_of-kinds.ensures.state_count ∙ ap (λ (vs : List FlatVar). state_count (map flat_variable vs)) c.deref.ensures.value in
+    let first_here = states_counted c.args.m.now c.deref.result.now states c.kinds_of-kinds.result.discretes.now c.deref.ensures.value c.kinds_of-kinds.ensures.state_count in
     let all = c.as_slice-forms.result.now in
-    let taken = length-take-le (length states) all (omega (arith, first_is, c.requires.forms.one_each, ap length c.as_slice-forms.ensures)) in
-    record { few = omega (arith, taken, first_is, counts_fit m.vars, c.requires.model.variables) }
+    let taken = length-take-le (length states) all (omega (arith, first_here, c.requires.forms.one_each, ap length c.as_slice-forms.ensures)) in
+    record { few = omega (arith, taken, first_here, counts_fit m.vars, c.requires.model.variables) }
 
 pub returns-in_err-rows-clause-refused : goal.returns-in_err-rows-clause-refused
 returns-in_err-rows-clause-refused c =
@@ -233,27 +199,16 @@ returns-in_err-rows-clause-refused c =
     let s = c.args.s.now in
     let states = c.kinds_of-kinds.result.states.now in
     let discretes = c.kinds_of-kinds.result.discretes.now in
-    let read : IsRead m s u.p u.k u.f states discretes = record {
-      settings_pass = c.in_ok-units.ensures.ok;
-      coefficient_bits = c.in_ok-units.ensures.bits.0;
-      tick_bits = c.in_ok-units.ensures.bits.1;
-      level_bits = c.in_ok-units.ensures.bits.2;
-      of_states = c.kinds_of-kinds.ensures.states ∙ ap (λ (vs : List FlatVar). states_of (map flat_variable vs)) c.deref.ensures.value;
-      of_discretes = c.kinds_of-kinds.ensures.discretes ∙ ap (λ (vs : List FlatVar). discretes_of (map flat_variable vs)) c.deref.ensures.value;
-    } in
-    let first_is : length states ≡ state_count m.vars = c.kinds_of-kinds.ensures.state_count ∙ ap (λ (vs : List FlatVar). state_count (map flat_variable vs)) c.deref.ensures.value in
+    let read : IsRead m s u.p u.k u.f states discretes =
+    read_is c.args.m.now c.deref.result.now states discretes c.deref.ensures.value s u.p u.k u.f c.kinds_of-kinds.ensures.states c.kinds_of-kinds.ensures.discretes c.in_ok-units.ensures.ok c.in_ok-units.ensures.bits in
+    let first_here = states_counted c.args.m.now c.deref.result.now states discretes c.deref.ensures.value c.kinds_of-kinds.ensures.state_count in
     let first = length states in
     let levels = c.deref-2.result.now in
     let numbers = c.deref-3.result.now in
     let rights = take first c.as_slice-forms.result.now in
-    let started : IsStarted forms m u.p u.k u.f states discretes first levels numbers rights = record {
-      first_is = first_is;
-      levels_are = c.deref-2.ensures.value ∙ c.in_ok-levels.ensures.levels;
-      numbers_are = c.deref-3.ensures.value ∙ c.in_ok-values.ensures.values;
-      rights_are = ap (take first) c.as_slice-forms.ensures ∙ ap (λ (n : ℕ). take n forms) first_is;
-      starts_pass = c.in_ok-levels.ensures.ok;
-      values_pass = c.in_ok-values.ensures.ok;
-    } in
+    let started : IsStarted forms m u.p u.k u.f states discretes first levels numbers rights =
+    started_is forms c.as_slice-forms.result.now m u.p u.k u.f states discretes levels numbers c.as_slice-forms.ensures first_here (c.deref-2.ensures.value ∙ c.in_ok-levels.ensures.levels)
+    (c.deref-3.ensures.value ∙ c.in_ok-values.ensures.values) c.in_ok-levels.ensures.ok c.in_ok-values.ensures.ok in
     let p = err_from_is_err_and c.from_residual-in_err-rows.result c.from_residual-in_err-rows.ensures.1 in
     rw (p.1, p.2)
     (rows_refused forms m s u.p u.k u.f states discretes read first levels numbers rights started _ c.in_ok-check_starts.ensures.ok c.in_ok-states.ensures.ok c.in_err-rows.ensures.err)
@@ -267,10 +222,10 @@ pub clauses_of-requires-clause-within : goal.clauses_of-requires-clause-within
 clauses_of-requires-clause-within c =
     let m = flat_model c.args.m.now in
     let states = c.kinds_of-kinds.result.states.now in
-    let first_is : length states ≡ state_count m.vars = c.kinds_of-kinds.ensures.state_count ∙ ap (λ (vs : List FlatVar). state_count (map flat_variable vs)) c.deref.ensures.value in
+    let first_here = states_counted c.args.m.now c.deref.result.now states c.kinds_of-kinds.result.discretes.now c.deref.ensures.value c.kinds_of-kinds.ensures.state_count in
     let read : sum_by clause_forms (map flat_clause c.deref-5.result.now) ≡ sum_by clause_forms m.clauses =
     ap (λ (cs : List FlatClause). sum_by clause_forms (map flat_clause cs)) c.deref-5.ensures.value in
-    omega (arith, read, first_is, c.requires.forms.one_each, ap length c.as_slice-forms.ensures)
+    omega (arith, read, first_here, c.requires.forms.one_each, ap length c.as_slice-forms.ensures)
 
 pub returns-in_err-clauses-clause-refused : goal.returns-in_err-clauses-clause-refused
 returns-in_err-clauses-clause-refused c =
@@ -280,27 +235,16 @@ returns-in_err-clauses-clause-refused c =
     let s = c.args.s.now in
     let states = c.kinds_of-kinds.result.states.now in
     let discretes = c.kinds_of-kinds.result.discretes.now in
-    let read : IsRead m s u.p u.k u.f states discretes = record {
-      settings_pass = c.in_ok-units.ensures.ok;
-      coefficient_bits = c.in_ok-units.ensures.bits.0;
-      tick_bits = c.in_ok-units.ensures.bits.1;
-      level_bits = c.in_ok-units.ensures.bits.2;
-      of_states = c.kinds_of-kinds.ensures.states ∙ ap (λ (vs : List FlatVar). states_of (map flat_variable vs)) c.deref.ensures.value;
-      of_discretes = c.kinds_of-kinds.ensures.discretes ∙ ap (λ (vs : List FlatVar). discretes_of (map flat_variable vs)) c.deref.ensures.value;
-    } in
-    let first_is : length states ≡ state_count m.vars = c.kinds_of-kinds.ensures.state_count ∙ ap (λ (vs : List FlatVar). state_count (map flat_variable vs)) c.deref.ensures.value in
+    let read : IsRead m s u.p u.k u.f states discretes =
+    read_is c.args.m.now c.deref.result.now states discretes c.deref.ensures.value s u.p u.k u.f c.kinds_of-kinds.ensures.states c.kinds_of-kinds.ensures.discretes c.in_ok-units.ensures.ok c.in_ok-units.ensures.bits in
+    let first_here = states_counted c.args.m.now c.deref.result.now states discretes c.deref.ensures.value c.kinds_of-kinds.ensures.state_count in
     let first = length states in
     let levels = c.deref-2.result.now in
     let numbers = c.deref-3.result.now in
     let rights = take first c.as_slice-forms.result.now in
-    let started : IsStarted forms m u.p u.k u.f states discretes first levels numbers rights = record {
-      first_is = first_is;
-      levels_are = c.deref-2.ensures.value ∙ c.in_ok-levels.ensures.levels;
-      numbers_are = c.deref-3.ensures.value ∙ c.in_ok-values.ensures.values;
-      rights_are = ap (take first) c.as_slice-forms.ensures ∙ ap (λ (n : ℕ). take n forms) first_is;
-      starts_pass = c.in_ok-levels.ensures.ok;
-      values_pass = c.in_ok-values.ensures.ok;
-    } in
+    let started : IsStarted forms m u.p u.k u.f states discretes first levels numbers rights =
+    started_is forms c.as_slice-forms.result.now m u.p u.k u.f states discretes levels numbers c.as_slice-forms.ensures first_here (c.deref-2.ensures.value ∙ c.in_ok-levels.ensures.levels)
+    (c.deref-3.ensures.value ∙ c.in_ok-values.ensures.values) c.in_ok-levels.ensures.ok c.in_ok-values.ensures.ok in
     let count = sum_by clause_forms m.clauses in
     let seen : form_checks u.p u.f c.as_slice-forms.result.now first (sum_by clause_forms (map flat_clause c.deref-5.result.now)) ≡ form_checks u.p u.f forms first count =
     ap (λ (xs : List ExactForm). form_checks u.p u.f xs first (sum_by clause_forms (map flat_clause c.deref-5.result.now))) c.as_slice-forms.ensures
@@ -318,27 +262,16 @@ assembled-requires-clause-variables c =
     let s = c.args.s.now in
     let states = c.kinds_of-kinds.result.states.now in
     let discretes = c.kinds_of-kinds.result.discretes.now in
-    let read : IsRead m s u.p u.k u.f states discretes = record {
-      settings_pass = c.in_ok-units.ensures.ok;
-      coefficient_bits = c.in_ok-units.ensures.bits.0;
-      tick_bits = c.in_ok-units.ensures.bits.1;
-      level_bits = c.in_ok-units.ensures.bits.2;
-      of_states = c.kinds_of-kinds.ensures.states ∙ ap (λ (vs : List FlatVar). states_of (map flat_variable vs)) c.deref.ensures.value;
-      of_discretes = c.kinds_of-kinds.ensures.discretes ∙ ap (λ (vs : List FlatVar). discretes_of (map flat_variable vs)) c.deref.ensures.value;
-    } in
-    let first_is : length states ≡ state_count m.vars = c.kinds_of-kinds.ensures.state_count ∙ ap (λ (vs : List FlatVar). state_count (map flat_variable vs)) c.deref.ensures.value in
+    let read : IsRead m s u.p u.k u.f states discretes =
+    read_is c.args.m.now c.deref.result.now states discretes c.deref.ensures.value s u.p u.k u.f c.kinds_of-kinds.ensures.states c.kinds_of-kinds.ensures.discretes c.in_ok-units.ensures.ok c.in_ok-units.ensures.bits in
+    let first_here = states_counted c.args.m.now c.deref.result.now states discretes c.deref.ensures.value c.kinds_of-kinds.ensures.state_count in
     let first = length states in
     let levels = c.deref-2.result.now in
     let numbers = c.deref-3.result.now in
     let rights = take first c.as_slice-forms.result.now in
-    let started : IsStarted forms m u.p u.k u.f states discretes first levels numbers rights = record {
-      first_is = first_is;
-      levels_are = c.deref-2.ensures.value ∙ c.in_ok-levels.ensures.levels;
-      numbers_are = c.deref-3.ensures.value ∙ c.in_ok-values.ensures.values;
-      rights_are = ap (take first) c.as_slice-forms.ensures ∙ ap (λ (n : ℕ). take n forms) first_is;
-      starts_pass = c.in_ok-levels.ensures.ok;
-      values_pass = c.in_ok-values.ensures.ok;
-    } in
+    let started : IsStarted forms m u.p u.k u.f states discretes first levels numbers rights =
+    started_is forms c.as_slice-forms.result.now m u.p u.k u.f states discretes levels numbers c.as_slice-forms.ensures first_here (c.deref-2.ensures.value ∙ c.in_ok-levels.ensures.levels)
+    (c.deref-3.ensures.value ∙ c.in_ok-values.ensures.values) c.in_ok-levels.ensures.ok c.in_ok-values.ensures.ok in
     let count = sum_by clause_forms m.clauses in
     let seen : form_checks u.p u.f c.as_slice-forms.result.now first (sum_by clause_forms (map flat_clause c.deref-5.result.now)) ≡ form_checks u.p u.f forms first count =
     ap (λ (xs : List ExactForm). form_checks u.p u.f xs first (sum_by clause_forms (map flat_clause c.deref-5.result.now))) c.as_slice-forms.ensures
@@ -359,27 +292,16 @@ assembled-requires-clause-rows c =
     let s = c.args.s.now in
     let states = c.kinds_of-kinds.result.states.now in
     let discretes = c.kinds_of-kinds.result.discretes.now in
-    let read : IsRead m s u.p u.k u.f states discretes = record {
-      settings_pass = c.in_ok-units.ensures.ok;
-      coefficient_bits = c.in_ok-units.ensures.bits.0;
-      tick_bits = c.in_ok-units.ensures.bits.1;
-      level_bits = c.in_ok-units.ensures.bits.2;
-      of_states = c.kinds_of-kinds.ensures.states ∙ ap (λ (vs : List FlatVar). states_of (map flat_variable vs)) c.deref.ensures.value;
-      of_discretes = c.kinds_of-kinds.ensures.discretes ∙ ap (λ (vs : List FlatVar). discretes_of (map flat_variable vs)) c.deref.ensures.value;
-    } in
-    let first_is : length states ≡ state_count m.vars = c.kinds_of-kinds.ensures.state_count ∙ ap (λ (vs : List FlatVar). state_count (map flat_variable vs)) c.deref.ensures.value in
+    let read : IsRead m s u.p u.k u.f states discretes =
+    read_is c.args.m.now c.deref.result.now states discretes c.deref.ensures.value s u.p u.k u.f c.kinds_of-kinds.ensures.states c.kinds_of-kinds.ensures.discretes c.in_ok-units.ensures.ok c.in_ok-units.ensures.bits in
+    let first_here = states_counted c.args.m.now c.deref.result.now states discretes c.deref.ensures.value c.kinds_of-kinds.ensures.state_count in
     let first = length states in
     let levels = c.deref-2.result.now in
     let numbers = c.deref-3.result.now in
     let rights = take first c.as_slice-forms.result.now in
-    let started : IsStarted forms m u.p u.k u.f states discretes first levels numbers rights = record {
-      first_is = first_is;
-      levels_are = c.deref-2.ensures.value ∙ c.in_ok-levels.ensures.levels;
-      numbers_are = c.deref-3.ensures.value ∙ c.in_ok-values.ensures.values;
-      rights_are = ap (take first) c.as_slice-forms.ensures ∙ ap (λ (n : ℕ). take n forms) first_is;
-      starts_pass = c.in_ok-levels.ensures.ok;
-      values_pass = c.in_ok-values.ensures.ok;
-    } in
+    let started : IsStarted forms m u.p u.k u.f states discretes first levels numbers rights =
+    started_is forms c.as_slice-forms.result.now m u.p u.k u.f states discretes levels numbers c.as_slice-forms.ensures first_here (c.deref-2.ensures.value ∙ c.in_ok-levels.ensures.levels)
+    (c.deref-3.ensures.value ∙ c.in_ok-values.ensures.values) c.in_ok-levels.ensures.ok c.in_ok-values.ensures.ok in
     let count = sum_by clause_forms m.clauses in
     let seen : form_checks u.p u.f c.as_slice-forms.result.now first (sum_by clause_forms (map flat_clause c.deref-5.result.now)) ≡ form_checks u.p u.f forms first count =
     ap (λ (xs : List ExactForm). form_checks u.p u.f xs first (sum_by clause_forms (map flat_clause c.deref-5.result.now))) c.as_slice-forms.ensures
@@ -402,27 +324,16 @@ assembled-requires-clause-clauses c =
     let s = c.args.s.now in
     let states = c.kinds_of-kinds.result.states.now in
     let discretes = c.kinds_of-kinds.result.discretes.now in
-    let read : IsRead m s u.p u.k u.f states discretes = record {
-      settings_pass = c.in_ok-units.ensures.ok;
-      coefficient_bits = c.in_ok-units.ensures.bits.0;
-      tick_bits = c.in_ok-units.ensures.bits.1;
-      level_bits = c.in_ok-units.ensures.bits.2;
-      of_states = c.kinds_of-kinds.ensures.states ∙ ap (λ (vs : List FlatVar). states_of (map flat_variable vs)) c.deref.ensures.value;
-      of_discretes = c.kinds_of-kinds.ensures.discretes ∙ ap (λ (vs : List FlatVar). discretes_of (map flat_variable vs)) c.deref.ensures.value;
-    } in
-    let first_is : length states ≡ state_count m.vars = c.kinds_of-kinds.ensures.state_count ∙ ap (λ (vs : List FlatVar). state_count (map flat_variable vs)) c.deref.ensures.value in
+    let read : IsRead m s u.p u.k u.f states discretes =
+    read_is c.args.m.now c.deref.result.now states discretes c.deref.ensures.value s u.p u.k u.f c.kinds_of-kinds.ensures.states c.kinds_of-kinds.ensures.discretes c.in_ok-units.ensures.ok c.in_ok-units.ensures.bits in
+    let first_here = states_counted c.args.m.now c.deref.result.now states discretes c.deref.ensures.value c.kinds_of-kinds.ensures.state_count in
     let first = length states in
     let levels = c.deref-2.result.now in
     let numbers = c.deref-3.result.now in
     let rights = take first c.as_slice-forms.result.now in
-    let started : IsStarted forms m u.p u.k u.f states discretes first levels numbers rights = record {
-      first_is = first_is;
-      levels_are = c.deref-2.ensures.value ∙ c.in_ok-levels.ensures.levels;
-      numbers_are = c.deref-3.ensures.value ∙ c.in_ok-values.ensures.values;
-      rights_are = ap (take first) c.as_slice-forms.ensures ∙ ap (λ (n : ℕ). take n forms) first_is;
-      starts_pass = c.in_ok-levels.ensures.ok;
-      values_pass = c.in_ok-values.ensures.ok;
-    } in
+    let started : IsStarted forms m u.p u.k u.f states discretes first levels numbers rights =
+    started_is forms c.as_slice-forms.result.now m u.p u.k u.f states discretes levels numbers c.as_slice-forms.ensures first_here (c.deref-2.ensures.value ∙ c.in_ok-levels.ensures.levels)
+    (c.deref-3.ensures.value ∙ c.in_ok-values.ensures.values) c.in_ok-levels.ensures.ok c.in_ok-values.ensures.ok in
     let count = sum_by clause_forms m.clauses in
     let seen : form_checks u.p u.f c.as_slice-forms.result.now first (sum_by clause_forms (map flat_clause c.deref-5.result.now)) ≡ form_checks u.p u.f forms first count =
     ap (λ (xs : List ExactForm). form_checks u.p u.f xs first (sum_by clause_forms (map flat_clause c.deref-5.result.now))) c.as_slice-forms.ensures
@@ -436,7 +347,7 @@ assembled-requires-clause-clauses c =
     c.in_ok-clauses.ensures.clauses
     ∙ ap (λ (xs : List ExactForm). clauses_of u.p u.f xs first (map flat_clause c.deref-5.result.now)) c.as_slice-forms.ensures
     ∙ ap (λ (cs : List FlatClause). clauses_of u.p u.f forms first (map flat_clause cs)) c.deref-5.ensures.value
-    ∙ ap (λ (n : ℕ). clauses_of u.p u.f forms n m.clauses) first_is in
+    ∙ ap (λ (n : ℕ). clauses_of u.p u.f forms n m.clauses) first_here in
     clauses_for u.f (pos (2 ^ (u.p + u.k))) c.in_ok-states.states.items (map (rounded_state u.p u.k u.f) (states_of m.vars)) c.in_ok-discretes.discretes.items (map (rounded_discrete u.f) (discretes_of m.vars))
     own_states own_discretes
     c.in_ok-clauses.clauses.items (clauses_of u.p u.f forms (state_count m.vars) m.clauses) own_clauses (made_clauses forms m s u.p u.k u.f c.requires.model c.requires.forms pass)
@@ -449,27 +360,16 @@ returns-clause-machine c =
     let s = c.args.s.now in
     let states = c.kinds_of-kinds.result.states.now in
     let discretes = c.kinds_of-kinds.result.discretes.now in
-    let read : IsRead m s u.p u.k u.f states discretes = record {
-      settings_pass = c.in_ok-units.ensures.ok;
-      coefficient_bits = c.in_ok-units.ensures.bits.0;
-      tick_bits = c.in_ok-units.ensures.bits.1;
-      level_bits = c.in_ok-units.ensures.bits.2;
-      of_states = c.kinds_of-kinds.ensures.states ∙ ap (λ (vs : List FlatVar). states_of (map flat_variable vs)) c.deref.ensures.value;
-      of_discretes = c.kinds_of-kinds.ensures.discretes ∙ ap (λ (vs : List FlatVar). discretes_of (map flat_variable vs)) c.deref.ensures.value;
-    } in
-    let first_is : length states ≡ state_count m.vars = c.kinds_of-kinds.ensures.state_count ∙ ap (λ (vs : List FlatVar). state_count (map flat_variable vs)) c.deref.ensures.value in
+    let read : IsRead m s u.p u.k u.f states discretes =
+    read_is c.args.m.now c.deref.result.now states discretes c.deref.ensures.value s u.p u.k u.f c.kinds_of-kinds.ensures.states c.kinds_of-kinds.ensures.discretes c.in_ok-units.ensures.ok c.in_ok-units.ensures.bits in
+    let first_here = states_counted c.args.m.now c.deref.result.now states discretes c.deref.ensures.value c.kinds_of-kinds.ensures.state_count in
     let first = length states in
     let levels = c.deref-2.result.now in
     let numbers = c.deref-3.result.now in
     let rights = take first c.as_slice-forms.result.now in
-    let started : IsStarted forms m u.p u.k u.f states discretes first levels numbers rights = record {
-      first_is = first_is;
-      levels_are = c.deref-2.ensures.value ∙ c.in_ok-levels.ensures.levels;
-      numbers_are = c.deref-3.ensures.value ∙ c.in_ok-values.ensures.values;
-      rights_are = ap (take first) c.as_slice-forms.ensures ∙ ap (λ (n : ℕ). take n forms) first_is;
-      starts_pass = c.in_ok-levels.ensures.ok;
-      values_pass = c.in_ok-values.ensures.ok;
-    } in
+    let started : IsStarted forms m u.p u.k u.f states discretes first levels numbers rights =
+    started_is forms c.as_slice-forms.result.now m u.p u.k u.f states discretes levels numbers c.as_slice-forms.ensures first_here (c.deref-2.ensures.value ∙ c.in_ok-levels.ensures.levels)
+    (c.deref-3.ensures.value ∙ c.in_ok-values.ensures.values) c.in_ok-levels.ensures.ok c.in_ok-values.ensures.ok in
     let count = sum_by clause_forms m.clauses in
     let seen : form_checks u.p u.f c.as_slice-forms.result.now first (sum_by clause_forms (map flat_clause c.deref-5.result.now)) ≡ form_checks u.p u.f forms first count =
     ap (λ (xs : List ExactForm). form_checks u.p u.f xs first (sum_by clause_forms (map flat_clause c.deref-5.result.now))) c.as_slice-forms.ensures
@@ -484,7 +384,7 @@ returns-clause-machine c =
     c.in_ok-clauses.ensures.clauses
     ∙ ap (λ (xs : List ExactForm). clauses_of u.p u.f xs first (map flat_clause c.deref-5.result.now)) c.as_slice-forms.ensures
     ∙ ap (λ (cs : List FlatClause). clauses_of u.p u.f forms first (map flat_clause cs)) c.deref-5.ensures.value
-    ∙ ap (λ (n : ℕ). clauses_of u.p u.f forms n m.clauses) first_is in
+    ∙ ap (λ (n : ℕ). clauses_of u.p u.f forms n m.clauses) first_here in
     let parts : HasParts forms m u.p u.k u.f u.last c.assembled.result = record {
       same_p = c.assembled.ensures.units.0;
       same_k = c.assembled.ensures.units.1;
