@@ -2,28 +2,13 @@
 
 ghost use Rattle.std.specs.Prelude.{◌≡◌, [], ◌∷◌, pos, negsuc, IfOk};
 
+use crate::lists::{none, one};
 use cert_check::{Verdict, check, scope};
 use cert_text::{CertErr, read_certificate, write_certificate};
 use mu_io::{Items, Name};
 use qss_machine::{Entry, Machine, SlopeRow, StateInfo};
 use std::alloc::{AllocError, Global};
 use std::test::Fail;
-
-// One item.
-fn one<T: Drop>(alloc: Global, item: T) -> Result<Items<T>, AllocError>
-    ensures { IfOk result (λ items. items ≡ item ∷ []) }
-{
-    let mut items = Vec::new(alloc);
-    items.push(item)?;
-    Ok(Items::new(items))
-}
-
-// No items.
-fn none<T>(alloc: Global) -> Items<T>
-    ensures { result ≡ [] }
-{
-    Items::new(Vec::new(alloc))
-}
 
 // A state that starts at 262144 and has the quantum 4.
 fn states(alloc: Global) -> Result<Items<StateInfo>, AllocError>
@@ -52,7 +37,7 @@ fn rows(alloc: Global) -> Result<Items<SlopeRow>, AllocError>
 }
 
 // Decay by 256/4096 of the level in a tick, with the quantum 4.
-fn decay(alloc: Global) -> Result<Machine, AllocError> {
+pub(crate) fn decay(alloc: Global) -> Result<Machine, AllocError> {
     let states = states(alloc)?;
     let rows = rows(alloc)?;
     Ok(Machine {
@@ -138,7 +123,7 @@ const MIDDLE: &[u8] =
     b"P,1\np,1\nmu,128\nlambda,384\nh1,1\nG1,0\nh2,1\nG2,0\nc,0\nR,4096\nZ,64\nS,5\nsigmaR,41472\nC,432\nsigmaC,165888\n";
 
 // A text: the line of the form, the lines between, and the last lines.
-fn text(alloc: Global, form: &[u8], last: &[u8]) -> Result<Vec<u8>, AllocError> {
+pub(crate) fn text(alloc: Global, form: &[u8], last: &[u8]) -> Result<Vec<u8>, AllocError> {
     let mut text = form.to_vec(alloc)?;
     text.extend_from_slice(MIDDLE)?;
     text.extend_from_slice(last)?;

@@ -4,14 +4,24 @@
 #[cfg(test)]
 mod agendas;
 #[cfg(test)]
+mod answers;
+#[cfg(test)]
+mod certificate_lines;
+#[cfg(test)]
 mod certificates;
 #[cfg(test)]
 mod checks;
 #[cfg(test)]
 mod crossings;
 #[cfg(test)]
+mod lists;
+#[cfg(test)]
 mod machines;
 #[cfg(test)]
 mod matrices;
 #[cfg(test)]
+mod plays;
+#[cfg(test)]
 mod quanta;
+#[cfg(test)]
+mod rows;
