@@ -1,6 +1,6 @@
 -- When a form is in range, and when one of its numbers is not.
-use Rattle.std.proofs.Common.{◌≡◌, ◌≢◌, ◌∙◌, ◌<◌, ◌≤◌, ◌+◌, ℕ, refl, sym, ap, subst, arith, inl, inr, Bool, true, false, add-suc, suc-add}
-use Rattle.std.specs.Prelude.{not, ◌&&◌, ◌||◌, if◌then◌else◌, Result, Ok, Err}
+use Rattle.std.proofs.Common.{◌≡◌, ◌∙◌, ◌<◌, ◌≤◌, ◌+◌, ℕ, refl, ap, arith, inl, inr, Bool, true, false}
+use Rattle.std.specs.Prelude.{not, ◌&&◌, ◌||◌, Ok, Err}
 use Prim.Native.Nat.{zero, suc}
 use Rattle.std.proofs.Math.Path.{fun_ext}
 use Rattle.std.proofs.lemmas.Bool.{cases_Bool, cases_eq}
@@ -10,7 +10,7 @@ use Rattle.mu_num.specs.Fraction.{Fraction, lowest, checked, is_small}
 use Rattle.mu_forms.specs.declared.form.Sizes.{Sizes}
 use Rattle.mu_forms.specs.AffineForm.{AffineForm, any_from, is_in_range, lowest_form, checked_form}
 use Rattle.mu_forms.specs.Forms.{IsName, IsPair}
-use Rattle.mu_forms.proofs.Fractions.{Passed, passed, Failed, failed}
+use Rattle.mu_forms.proofs.Fractions.{passed, failed}
 
 -- a test that passes nowhere
 pub any_from-none : (start count : ℕ) (test : ℕ → Bool) → ((k : ℕ) → start ≤ k → k < start + count → test k ≡ false) → any_from start count test ≡ false

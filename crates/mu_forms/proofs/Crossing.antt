@@ -1,6 +1,6 @@
 -- The product of a form of states and a form of discrete variables.
-use Rattle.std.proofs.Common.{◌≡◌, ◌≢◌, ◌∙◌, ◌<◌, ◌≤◌, ◌+◌, ℕ, List, [], ◌∷◌, length, map, refl, sym, ap, subst, arith, inl, inr, Bool, true, false}
-use Rattle.std.specs.Prelude.{Option, Some, None, unwrap_or, slice_get, Result, Ok, Err, if◌then◌else◌, pos, ◌*ℤ◌, All}
+use Rattle.std.proofs.Common.{◌≡◌, ◌∙◌, ◌<◌, ◌≤◌, ◌+◌, ℕ, List, [], ◌∷◌, map, refl, sym, ap, subst, arith, inl, inr, Bool, true, false}
+use Rattle.std.specs.Prelude.{Option, Some, None, unwrap_or, Result, Ok, Err, if◌then◌else◌, pos}
 use Rattle.std.specs.Ordering.{nat_cmp, is_eq}
 use Rattle.std.specs.declared.cmp.Ordering.{Ordering}
 use Rattle.std.specs.declared.cmp.Ordering.TheVariants.{Less, Equal, Greater}
@@ -10,19 +10,19 @@ use Rattle.std.specs.Map.{lookup}
 use Rattle.std.proofs.lemmas.Bool.{cases_Bool, cases_lt, false≢true}
 use Rattle.std.proofs.lemmas.Bool.Decides.{nat_tests}
 use Rattle.mu_num.specs.declared.NumErr.{NumErr}
-use Rattle.mu_num.specs.Fraction.{Fraction, IsReduced, product, sum, checked, lowest}
+use Rattle.mu_num.specs.Fraction.{Fraction, product, sum, checked, lowest}
 use Rattle.mu_forms.specs.declared.form.Sizes.{Sizes}
 use Rattle.mu_forms.specs.declared.form.Place.{Place}
 use Rattle.mu_forms.specs.declared.form.ExactForm.{ExactForm}
 use Rattle.mu_forms.specs.declared.sum.RunningForm.{RunningForm}
-use Rattle.mu_forms.specs.AffineForm.{AffineForm, none, is_nonzero, is_pair, product_form, checked_form}
-use Rattle.mu_forms.specs.Rows.{named, paired, pair_cmp, value_at, AreReduced}
-use Rattle.mu_forms.specs.Forms.{form_meaning, sum_meaning, IsName, IsPair, IsOver, IsFinished, IsReducedSum}
+use Rattle.mu_forms.specs.AffineForm.{none, is_nonzero, is_pair, product_form, checked_form}
+use Rattle.mu_forms.specs.Rows.{named, paired, pair_cmp, value_at}
+use Rattle.mu_forms.specs.Forms.{form_meaning, sum_meaning, IsPair, IsOver, IsFinished, IsReducedSum}
 use Rattle.mu_forms.specs.Kinds.{IsOfStates, IsOfDiscretes}
-use Rattle.mu_forms.specs.Setting.{IsSet, SetsAll, IsPairSet, IsCrossed, ListFails, TableFails, CrossFails, OfStates, OfDiscretes, OfPairs, OfConstants}
+use Rattle.mu_forms.specs.Setting.{IsSet, IsPairSet, IsCrossed, ListFails, TableFails, CrossFails, OfStates, OfDiscretes, OfPairs, OfConstants}
 use Rattle.mu_forms.proofs.Fractions.{positive_product, product-comm, lowest-zero, lowest-zero_sum, lowest-sum_zero, checked_same, checked-reduced, IsReduced-none, IsReduced-checked, zero_num}
-use Rattle.mu_forms.proofs.Rows.{nat_order, pair_order, found}
-use Rattle.mu_forms.proofs.Checks.{PassesAs, checked_form-passes, name_fails, pair_fails, constant_fails}
+use Rattle.mu_forms.proofs.Rows.{nat_order, found}
+use Rattle.mu_forms.proofs.Checks.{checked_form-passes, name_fails, pair_fails, constant_fails}
 use Rattle.mu_forms.proofs.Sums.{AreReduced-finished, each_at}
 use Rattle.mu_forms.proofs.Showing.{each_key}
 use Rattle.mu_forms.proofs.Products.{product_zero_left, product_zero_right, sum_zeros}

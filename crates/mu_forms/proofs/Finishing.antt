@@ -1,7 +1,7 @@
 -- A running sum without its zeros.
-use Rattle.std.proofs.Common.{◌≡◌, ◌∙◌, ◌<◌, ℕ, List, [], ◌∷◌, map, refl, sym, ap, subst, arith, inl, inr, Bool, true, false, cond}
+use Rattle.std.proofs.Common.{◌≡◌, ◌∙◌, ℕ, List, [], ◌∷◌, map, refl, sym, ap, subst, true, false, cond}
 use Rattle.std.specs.Prelude.{Option, Some, None, unwrap_or, slice_get}
-use Rattle.std.specs.Ordering.{nat_cmp, eq_by_cmp}
+use Rattle.std.specs.Ordering.{nat_cmp}
 use Rattle.std.specs.declared.cmp.Ordering.{Ordering}
 use Rattle.std.specs.declared.cmp.Ordering.TheVariants.{Less}
 use Rattle.std.specs.List.{AllByRecursion, filter}
@@ -11,14 +11,14 @@ use Rattle.std.specs.Map.{lookup, keys_of}
 use Prim.Native.Nat.{zero, suc}
 use Rattle.std.proofs.Math.Path.{fun_ext}
 use Rattle.std.proofs.lemmas.Cmp.{eq_by_cmp_equiv}
-use Rattle.std.proofs.lemmas.Map.Keys.{IsDistinct-from_sorted, sorted_head, sorted_tail}
+use Rattle.std.proofs.lemmas.Map.Keys.{IsDistinct-from_sorted}
 use Rattle.std.proofs.lemmas.Map.Entries.{lookup-filter-values, option_filter}
 use Rattle.mu_num.specs.Fraction.{Fraction, IsReduced}
 use Rattle.mu_forms.specs.declared.form.ExactForm.{ExactForm}
 use Rattle.mu_forms.specs.declared.sum.RunningForm.{RunningForm}
 use Rattle.mu_forms.specs.AffineForm.{none, is_nonzero}
 use Rattle.mu_forms.specs.Rows.{named, paired, pair_cmp, value_at, IsRising, AreReduced}
-use Rattle.mu_forms.specs.Forms.{form_meaning, sum_meaning, IsCoefficient, AreFinished, IsCanonical, IsReducedSum, Finishes}
+use Rattle.mu_forms.specs.Forms.{form_meaning, sum_meaning, IsCoefficient, AreFinished, IsReducedSum, Finishes}
 use Rattle.mu_forms.proofs.Fractions.{reduced_zero}
 use Rattle.mu_forms.proofs.Rows.{IsKeyOrder, nat_order, pair_order, found}
 

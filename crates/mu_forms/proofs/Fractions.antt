@@ -1,15 +1,15 @@
 -- Fractions whose values are 0, and lowest terms.
-use Rattle.std.proofs.Common.{◌≡◌, ◌≢◌, ℕ, ◌+◌, ◌*◌, ◌<◌, ◌≤◌, refl, sym, ◌∙◌, ap, subst, arith, inl, inr, ◌^◌}
-use Rattle.std.specs.Prelude.{ℤ, pos, negsuc, ◌*ℤ◌, ◌+ℤ◌, ◌-ℤ◌, unsigned_abs, nat_eq, if◌then◌else◌, Bool, true, false, not, ◌&&◌, Result, Ok, Err}
-use Rattle.std.proofs.Math.Nat.{mul_comm, eq-one_of_dvd-one, zero-mul, mul-zero, mul-pos}
-use Rattle.std.proofs.Math.IntN.{zero-*ℤ, *ℤ_comm, *ℤ-zero, *ℤ-one}
-use Rattle.std.proofs.lemmas.Bool.{eqb-true, cases_lt}
+use Rattle.std.proofs.Common.{◌≡◌, ℕ, ◌*◌, ◌<◌, ◌≤◌, refl, sym, ◌∙◌, ap, subst, arith, inl, inr, ◌^◌}
+use Rattle.std.specs.Prelude.{ℤ, pos, negsuc, ◌*ℤ◌, ◌+ℤ◌, ◌-ℤ◌, unsigned_abs, if◌then◌else◌, Bool, true, false, Result, Ok, Err}
+use Rattle.std.proofs.Math.Nat.{mul_comm, eq-one_of_dvd-one, zero-mul, mul-pos}
+use Rattle.std.proofs.Math.IntN.{zero-*ℤ, *ℤ_comm}
+use Rattle.std.proofs.lemmas.Bool.{cases_lt}
 use Rattle.std.proofs.lemmas.Bool.Decides.{nat_tests}
 use Rattle.std.proofs.lemmas.Int.{unsigned_abs-mul, ints}
 use Rattle.mu_num.specs.declared.NumErr.{NumErr}
 use Rattle.mu_num.specs.declared.NumErr.TheVariants.{Range}
-use Rattle.mu_num.specs.Fraction.{Fraction, IsSameValue, IsReduced, sum, difference, product, quotient, sign, whole, lowest, checked, is_small}
-use Rattle.mu_num.proofs.Integers.{mul_assoc, mul_swap}
+use Rattle.mu_num.specs.Fraction.{Fraction, IsSameValue, IsReduced, sum, difference, product, lowest, checked, is_small}
+use Rattle.mu_num.proofs.Integers.{mul_assoc}
 use Rattle.mu_num.proofs.Lowest.{lowest_is, lowest_only, lowest_terms, AreLowestTerms}
 use Rattle.mu_forms.specs.AffineForm.{none, is_nonzero}
 

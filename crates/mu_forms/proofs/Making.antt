@@ -1,20 +1,17 @@
 -- Forms of single parts are finished.
-use Rattle.std.proofs.Common.{◌≡◌, ◌∙◌, ◌<◌, ℕ, List, [], ◌∷◌, refl, sym, ap, subst, arith, Bool, true, false, map}
-use Rattle.std.specs.Prelude.{nat_eq, if◌then◌else◌, pos}
+use Rattle.std.proofs.Common.{◌≡◌, ◌∙◌, ℕ, [], ◌∷◌, refl, ap, subst, arith, true, false, map}
+use Rattle.std.specs.Prelude.{pos}
 use Rattle.std.specs.Ordering.{nat_cmp}
 use Rattle.std.specs.List.Sorted.{IsStrictlySortedBy}
-use Rattle.std.specs.Map.{keys_of}
 use Rattle.std.specs.declared.cmp.Ordering.{Ordering}
-use Rattle.std.proofs.Math.Path.{fun_ext}
-use Rattle.mu_num.specs.Fraction.{Fraction, IsReduced, whole}
+use Rattle.mu_num.specs.Fraction.{IsReduced, whole}
 use Rattle.mu_num.proofs.Powers.{whole_is_reduced}
 use Rattle.mu_forms.specs.declared.form.Place.{Place}
 use Rattle.mu_forms.specs.declared.form.ExactEntry.{ExactEntry}
 use Rattle.mu_forms.specs.declared.form.ExactForm.{ExactForm}
-use Rattle.mu_forms.specs.AffineForm.{none, is_nonzero, name_form}
-use Rattle.mu_forms.specs.Rows.{named, paired, pair_cmp, value_at}
-use Rattle.mu_forms.specs.Forms.{form_meaning, MayStand, IsPair, IsOver, IsCoefficient, AreFinished, IsCanonical, IsFinished}
-use Rattle.mu_forms.proofs.Fractions.{IsReduced-none}
+use Rattle.mu_forms.specs.AffineForm.{is_nonzero}
+use Rattle.mu_forms.specs.Rows.{named, pair_cmp, value_at}
+use Rattle.mu_forms.specs.Forms.{form_meaning, MayStand, AreFinished, IsFinished}
 use Rattle.mu_forms.proofs.Rows.{nat_order}
 use Rattle.mu_forms.proofs.Showing.{key_of_nonzero}
 

@@ -1,28 +1,27 @@
 -- What products, quotients and powers of forms are, by the kinds of their parts.
-use Rattle.std.proofs.Common.{◌≡◌, ◌≢◌, ◌∙◌, ◌<◌, ◌≤◌, ◌+◌, ℕ, List, [], ◌∷◌, refl, sym, ap, subst, arith, inl, inr, Bool, true, false, map}
-use Rattle.std.specs.Prelude.{Result, Ok, Err, not, ◌&&◌, ◌||◌, if◌then◌else◌, ℤ, pos, ◌*ℤ◌, ◌+ℤ◌}
+use Rattle.std.proofs.Common.{◌≡◌, ◌∙◌, ◌<◌, ◌+◌, ℕ, refl, sym, ap, arith, inl, inr, true, false, map}
+use Rattle.std.specs.Prelude.{Result, Ok, Err, not, ◌&&◌, if◌then◌else◌, pos, ◌*ℤ◌}
 use Rattle.std.proofs.Math.Path.{fun_ext}
-use Rattle.std.proofs.Math.IntN.{zero-*ℤ, *ℤ-zero}
+use Rattle.std.proofs.Math.IntN.{*ℤ-zero}
 use Rattle.std.proofs.lemmas.Bool.{cases_Bool}
 use Rattle.mu_num.specs.declared.NumErr.{NumErr}
 use Rattle.mu_num.specs.declared.NumErr.TheVariants.{ZeroDivisor, Range}
-use Rattle.mu_num.specs.Fraction.{Fraction, IsReduced, product, quotient, sum, power, checked, lowest, is_small}
-use Rattle.mu_forms.specs.declared.fault.AffineErr.{AffineErr}
+use Rattle.mu_num.specs.Fraction.{Fraction, product, power, checked, lowest, is_small}
 use Rattle.mu_forms.specs.declared.fault.AffineErr.TheVariants.{NotAffine, ConstFault}
 use Rattle.mu_forms.specs.declared.form.Sizes.{Sizes}
 use Rattle.mu_forms.specs.declared.form.Place.{Place}
 use Rattle.mu_forms.specs.declared.form.ExactForm.{ExactForm}
-use Rattle.mu_forms.specs.AffineForm.{AffineForm, none, is_nonzero, constant_form, has_coefficient, has_pairs, has_states_alone, has_discretes_alone, may_multiply, is_pair, product_form, quotient_form, any_from, lowest_form, checked_form}
+use Rattle.mu_forms.specs.AffineForm.{AffineForm, none, is_nonzero, constant_form, any_from, lowest_form, checked_form}
 use Rattle.mu_forms.specs.Forms.{form_meaning, IsFinished}
-use Rattle.mu_forms.specs.Kinds.{IsConstant, IsOfStates, IsOfDiscretes}
+use Rattle.mu_forms.specs.Kinds.{IsConstant}
 use Rattle.mu_forms.specs.Scaling.{scaled_form}
-use Rattle.mu_forms.specs.Parts.{placed, kept, then_form, multiply_forms, raise_form}
-use Rattle.mu_forms.proofs.Fractions.{sum-comm, product-comm, lowest-zero, lowest-zero_sum, lowest-sum_zero, zero_num, zero_from_num, positive_product, IsReduced-none, checked_same, checked-reduced}
-use Rattle.mu_forms.proofs.Checks.{PassesAs, checked_form-passes}
+use Rattle.mu_forms.specs.Parts.{placed, multiply_forms, raise_form}
+use Rattle.mu_forms.proofs.Fractions.{lowest-zero, zero_num, positive_product, IsReduced-none, checked_same, checked-reduced}
+use Rattle.mu_forms.proofs.Checks.{checked_form-passes}
 use Rattle.std.specs.Ordering.{nat_cmp}
 use Rattle.mu_forms.specs.Rows.{named, paired, pair_cmp}
 use Rattle.mu_forms.proofs.Sums.{AreReduced-finished}
-use Rattle.mu_forms.proofs.Showing.{constant_shows, variable_shows, no_products}
+use Rattle.mu_forms.proofs.Showing.{constant_shows, variable_shows}
 
 -- a form is checked by the lowest terms of its numbers
 abbrev ranged : Sizes → AffineForm → Result AffineForm NumErr

@@ -1,16 +1,14 @@
 -- Products of forms.
-use Rattle.std.proofs.Common.{◌≡◌, ◌≢◌, ◌∙◌, ◌<◌, ◌≤◌, ◌+◌, ◌*◌, ℕ, List, [], ◌∷◌, refl, sym, ap, subst, arith, inl, inr, Bool, true, false, map, length, get_or}
-use Rattle.std.specs.Prelude.{Result, Ok, Err, not, ◌&&◌, ◌||◌, ◌⊎◌, if◌then◌else◌, ℤ, pos, ◌*ℤ◌, ◌+ℤ◌, unsigned_abs, Some, slice_get, nat_lt, nat_le}
+use Rattle.std.proofs.Common.{◌≡◌, ◌∙◌, ◌<◌, ◌≤◌, ◌+◌, ℕ, List, [], ◌∷◌, refl, sym, ap, subst, arith, inl, inr, Bool, true, false, map, length, get_or}
+use Rattle.std.specs.Prelude.{Ok, Err, not, ◌&&◌, ◌||◌, if◌then◌else◌, pos, ◌*ℤ◌, ◌+ℤ◌, Some, slice_get}
 use Rattle.std.specs.Ordering.{nat_cmp}
 use Rattle.std.proofs.Math.Path.{fun_ext}
 use Rattle.std.proofs.Math.IntN.{zero-*ℤ, *ℤ-zero}
 use Rattle.std.proofs.lemmas.Bool.{cases_Bool}
 use Rattle.std.proofs.lemmas.Bool.Decides.{nat_tests}
 use Rattle.std.proofs.lemmas.Int.{unsigned_abs-mul, ints}
-use Rattle.mu_num.specs.declared.NumErr.{NumErr}
-use Rattle.mu_num.specs.Fraction.{Fraction, IsReduced, product, sum, checked, lowest}
-use Rattle.mu_forms.specs.declared.fault.AffineErr.{AffineErr}
-use Rattle.mu_forms.specs.declared.fault.AffineErr.TheVariants.{NotAffine, ConstFault}
+use Rattle.mu_num.specs.Fraction.{Fraction, product, sum, lowest}
+use Rattle.mu_forms.specs.declared.fault.AffineErr.TheVariants.{NotAffine}
 use Rattle.mu_forms.specs.declared.form.Sizes.{Sizes}
 use Rattle.mu_forms.specs.declared.form.Place.{Place}
 use Rattle.mu_forms.specs.declared.form.ExactEntry.{ExactEntry}

@@ -1,6 +1,6 @@
 -- Coefficients under keys: what joining a list to a row leaves.
-use Rattle.std.proofs.Common.{◌≡◌, ◌≢◌, ◌∙◌, ◌<◌, ◌+◌, ℕ, List, [], ◌∷◌, ◌++◌, length, get_or, take, map, refl, sym, ap, subst, arith, inl, inr, add-one, cond, Bool, true, false}
-use Rattle.std.specs.Prelude.{if◌then◌else◌, Option, Some, None, unwrap_or, IsSome, Result, Ok, Err}
+use Rattle.std.proofs.Common.{◌≡◌, ◌∙◌, ◌<◌, ◌+◌, ℕ, List, [], ◌∷◌, ◌++◌, length, get_or, take, map, refl, sym, ap, subst, arith, add-one, cond, Bool, true, false}
+use Rattle.std.specs.Prelude.{if◌then◌else◌, Some, None, unwrap_or, Ok, Err}
 use Rattle.std.specs.List.{slice_get, AllByRecursion}
 use Rattle.std.specs.List.Sorted.{IsStrictlySortedBy}
 use Rattle.std.specs.declared.cmp.Ordering.{Ordering}
@@ -13,13 +13,12 @@ use Prim.Native.Nat.{zero, suc}
 use Rattle.std.proofs.Math.Seq.{take-suc}
 use Rattle.std.proofs.lemmas.List.{take-map, map-append}
 use Rattle.std.proofs.lemmas.Cmp.{nat_cmp_total}
-use Rattle.std.proofs.lemmas.Option.{slice_get-get_or}
 use Rattle.std.proofs.lemmas.Map.Keys.{sorted_head, sorted_tail}
 use Rattle.mu_num.specs.declared.NumErr.{NumErr}
-use Rattle.mu_num.specs.Fraction.{Fraction, IsReduced, sum, difference, checked, lowest}
+use Rattle.mu_num.specs.Fraction.{Fraction, IsReduced, sum, difference, checked}
 use Rattle.mu_forms.specs.AffineForm.{none}
 use Rattle.mu_forms.specs.Rows.{value_at, joined, ChangesAt, JoinsAll, SomeFails, IsRising, AreReduced, pair_cmp}
-use Rattle.mu_forms.proofs.Fractions.{lowest-sum_zero, lowest-difference_zero, checked_same, checked-reduced, Passed, passed, lowest-reduced}
+use Rattle.mu_forms.proofs.Fractions.{lowest-sum_zero, lowest-difference_zero, checked_same, checked-reduced}
 
 -- an order of keys in which only equal keys are level
 pub record IsKeyOrder {K : Type 0} (R : K → K → Ordering) : Type 0 where

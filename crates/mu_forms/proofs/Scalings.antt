@@ -1,28 +1,28 @@
 -- Forms that are multiplied or divided by a number other than 0.
-use Rattle.std.proofs.Common.{◌≡◌, ◌∙◌, ◌<◌, ◌+◌, ◌*◌, ℕ, List, [], ◌∷◌, ◌++◌, length, get_or, take, map, cond, refl, sym, ap, subst, arith, inl, inr, Bool, true, false}
-use Rattle.std.specs.Prelude.{Option, Some, None, unwrap_or, Result, Ok, Err, slice_get, ℤ, pos, negsuc, ◌*ℤ◌, unsigned_abs}
+use Rattle.std.proofs.Common.{◌≡◌, ◌∙◌, ◌<◌, ◌+◌, ℕ, List, [], ◌∷◌, ◌++◌, length, get_or, take, map, cond, refl, sym, ap, subst, arith, inl, inr, Bool, true, false}
+use Rattle.std.specs.Prelude.{Some, unwrap_or, Ok, Err, ℤ, pos, negsuc, ◌*ℤ◌, unsigned_abs}
 use Rattle.std.specs.Ordering.{nat_cmp}
 use Rattle.std.specs.declared.cmp.Ordering.{Ordering}
-use Rattle.std.specs.List.{AllByRecursion, AllZip}
+use Rattle.std.specs.List.{AllByRecursion}
 use Rattle.std.specs.List.Sorted.{IsStrictlySortedBy}
 use Rattle.std.specs.BTreeMap.{is_at}
 use Rattle.std.specs.Map.{lookup, keys_of}
 use Rattle.std.proofs.Math.IntN.{zero-*ℤ}
 use Rattle.std.proofs.lemmas.Bool.{cases_Bool}
-use Rattle.std.proofs.lemmas.Int.{unsigned_abs-mul, ints}
+use Rattle.std.proofs.lemmas.Int.{unsigned_abs-mul}
 use Rattle.std.proofs.lemmas.List.{map-append}
 use Rattle.std.proofs.lemmas.List.Elements.{AllZip-push}
 use Rattle.mu_num.specs.declared.NumErr.{NumErr}
-use Rattle.mu_num.specs.Fraction.{Fraction, IsReduced, product, quotient, sign, checked, lowest}
+use Rattle.mu_num.specs.Fraction.{Fraction, sign, checked, lowest}
 use Rattle.mu_forms.specs.declared.form.Place.{Place}
 use Rattle.mu_forms.specs.declared.form.ExactForm.{ExactForm}
-use Rattle.mu_forms.specs.AffineForm.{AffineForm, none, is_nonzero, checked_form}
-use Rattle.mu_forms.specs.Rows.{named, paired, pair_cmp, value_at, IsRising, AreReduced}
-use Rattle.mu_forms.specs.Forms.{form_meaning, MayStand, IsPair, IsOver, IsCoefficient, AreFinished, IsCanonical, IsFinished}
+use Rattle.mu_forms.specs.AffineForm.{none, is_nonzero}
+use Rattle.mu_forms.specs.Rows.{named, paired, pair_cmp, value_at, AreReduced}
+use Rattle.mu_forms.specs.Forms.{form_meaning, MayStand, IsPair, IsCoefficient, AreFinished, IsFinished}
 use Rattle.mu_forms.specs.Scaling.{scaled, Scales, ScaleFails, scaled_form, IsCheckedAnswer}
-use Rattle.mu_forms.proofs.Fractions.{positive_product, IsReduced-checked, Passed, passed, lowest-zero, zero_num, nonzero_size, nonzero_from_size, nonzero-lowest, checked_same, checked-reduced, IsReduced-none}
-use Rattle.mu_forms.proofs.Rows.{IsKeyOrder, nat_order, pair_order, found, entry_at, entries_more}
-use Rattle.mu_forms.proofs.Checks.{PassesAs, checked_form-passes, name_fails, pair_fails, time_fails, constant_fails}
+use Rattle.mu_forms.proofs.Fractions.{positive_product, IsReduced-checked, passed, lowest-zero, zero_num, nonzero_size, nonzero_from_size, nonzero-lowest, checked_same, checked-reduced, IsReduced-none}
+use Rattle.mu_forms.proofs.Rows.{nat_order, pair_order, found, entry_at, entries_more}
+use Rattle.mu_forms.proofs.Checks.{PassesAs, checked_form-passes, name_fails, pair_fails}
 use Rattle.mu_forms.proofs.Sums.{AreReduced-finished, nonzero_at}
 
 -- one more entry was scaled

@@ -1,6 +1,6 @@
 -- Coefficients that are set, each once.
-use Rattle.std.proofs.Common.{◌≡◌, ◌≢◌, ◌∙◌, ◌<◌, ◌≤◌, ◌+◌, ℕ, List, [], ◌∷◌, ◌++◌, length, get_or, take, map, cond, refl, sym, ap, subst, arith, inl, inr, Bool, true, false}
-use Rattle.std.specs.Prelude.{Option, Some, None, unwrap_or, slice_get, Result, Ok, Err, if◌then◌else◌}
+use Rattle.std.proofs.Common.{◌≡◌, ◌∙◌, ◌<◌, ◌+◌, ℕ, List, [], ◌∷◌, ◌++◌, length, get_or, take, map, cond, refl, sym, ap, subst, false}
+use Rattle.std.specs.Prelude.{Some, None, slice_get, Ok, if◌then◌else◌}
 use Rattle.std.specs.Ordering.{nat_cmp, ordering_then, is_eq, ordering_reverse}
 use Rattle.std.specs.declared.cmp.Ordering.{Ordering}
 use Rattle.std.specs.declared.cmp.Ordering.TheVariants.{Less, Equal, Greater}
@@ -10,14 +10,12 @@ use Rattle.std.specs.BTreeMap.{is_at}
 use Rattle.std.specs.Map.{lookup, keys_of}
 use Prim.Native.Nat.{zero, suc}
 use Rattle.std.proofs.lemmas.List.{take-map}
-use Rattle.std.proofs.lemmas.Map.Keys.{sorted_head, sorted_tail}
 use Rattle.mu_num.specs.declared.NumErr.{NumErr}
 use Rattle.mu_num.specs.Fraction.{Fraction, product, checked}
 use Rattle.mu_forms.specs.declared.form.ExactEntry.{ExactEntry}
-use Rattle.mu_forms.specs.AffineForm.{none}
 use Rattle.mu_forms.specs.Rows.{named, pair_cmp, value_at, ChangesAt, IsRising}
-use Rattle.mu_forms.specs.Setting.{beside, IsSet, SetsAll, SetsList, IsPairSet, SetsTable, ListFails, TableFails}
-use Rattle.mu_forms.proofs.Rows.{IsKeyOrder, nat_order, pair_order, level_self, lookup_push, lookup_kept, unseen, entry_at, entries_more}
+use Rattle.mu_forms.specs.Setting.{beside, IsSet, SetsAll, IsPairSet, SetsTable, ListFails, TableFails}
+use Rattle.mu_forms.proofs.Rows.{IsKeyOrder, nat_order, level_self, lookup_push, lookup_kept, unseen, entry_at, entries_more}
 
 -- what is level one way is level the other way
 reversed : (r : Ordering) → is_eq r ≡ false → is_eq (ordering_reverse r) ≡ false

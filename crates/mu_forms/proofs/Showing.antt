@@ -1,12 +1,10 @@
 -- The tests of a form's coefficients, by the lists of a finished form.
-use Rattle.std.proofs.Common.{◌≡◌, ◌≢◌, ◌∙◌, ◌<◌, ◌≤◌, ◌+◌, ℕ, List, [], ◌∷◌, length, get_or, map, cond, refl, sym, ap, subst, arith, inl, inr, Bool, true, false}
-use Rattle.std.specs.Prelude.{Option, Some, None, unwrap_or, slice_get, not, ◌&&◌, ◌||◌, ◌⊎◌, All}
-use Rattle.std.specs.Ordering.{nat_cmp, is_eq}
+use Rattle.std.proofs.Common.{◌≡◌, ◌<◌, ◌≤◌, ◌+◌, ℕ, List, [], ◌∷◌, length, get_or, map, refl, sym, subst, arith, inl, inr, Bool, true, false}
+use Rattle.std.specs.Prelude.{Some, slice_get, not, ◌||◌, ◌⊎◌, All}
+use Rattle.std.specs.Ordering.{nat_cmp}
 use Rattle.std.specs.declared.cmp.Ordering.{Ordering}
 use Rattle.std.specs.declared.cmp.Ordering.TheVariants.{Less, Equal, Greater}
 use Rattle.std.specs.List.{AllByRecursion}
-use Rattle.std.specs.BTreeMap.{is_at}
-use Rattle.std.specs.Map.{lookup}
 use Prim.Native.Nat.{zero, suc}
 use Rattle.std.proofs.lemmas.Bool.{cases_Bool, cases_lt}
 use Rattle.std.proofs.lemmas.List.{get_or_default}
@@ -15,9 +13,9 @@ use Rattle.mu_forms.specs.declared.form.Sizes.{Sizes}
 use Rattle.mu_forms.specs.declared.form.Place.{Place}
 use Rattle.mu_forms.specs.declared.form.ExactEntry.{ExactEntry}
 use Rattle.mu_forms.specs.declared.form.ExactForm.{ExactForm}
-use Rattle.mu_forms.specs.AffineForm.{AffineForm, none, is_nonzero, any_from, has_states, has_discretes, has_previous, has_pairs, has_coefficient, has_states_alone, has_discretes_alone}
+use Rattle.mu_forms.specs.AffineForm.{AffineForm, is_nonzero, any_from, has_states, has_discretes, has_previous, has_pairs, has_coefficient, has_states_alone, has_discretes_alone}
 use Rattle.mu_forms.specs.Rows.{named, paired, pair_cmp, value_at}
-use Rattle.mu_forms.specs.Forms.{form_meaning, IsName, IsPair, IsOver, AreFinished, IsFinished}
+use Rattle.mu_forms.specs.Forms.{form_meaning, IsName, IsPair, IsFinished}
 use Rattle.mu_forms.specs.Kinds.{IsConstant, IsOfStates, IsOfDiscretes}
 use Rattle.mu_forms.proofs.Rows.{IsKeyOrder, nat_order, pair_order, entry_at}
 use Rattle.mu_forms.proofs.Checks.{any_from-none, any_from-some}

@@ -1,6 +1,6 @@
 -- A form that joins a running sum.
 use Rattle.std.proofs.Common.{◌≡◌, ◌∙◌, ◌<◌, ℕ, List, [], ◌∷◌, cond, map, refl, sym, ap, subst, arith, inl, inr, Bool, true, false}
-use Rattle.std.specs.Prelude.{Option, Some, None, unwrap_or, Result, Ok, Err, slice_get, ℤ, pos, ◌+ℤ◌, ◌-ℤ◌, ◌*ℤ◌}
+use Rattle.std.specs.Prelude.{Some, unwrap_or, Ok, Err, slice_get, pos, ◌*ℤ◌}
 use Rattle.std.specs.Ordering.{nat_cmp}
 use Rattle.std.specs.declared.cmp.Ordering.{Ordering}
 use Rattle.std.specs.List.{AllByRecursion}
@@ -11,14 +11,13 @@ use Rattle.std.proofs.Math.IntN.{zero-*ℤ}
 use Rattle.std.proofs.lemmas.Bool.{cases_Bool}
 use Rattle.std.proofs.lemmas.Int.{ints}
 use Rattle.mu_num.specs.declared.NumErr.{NumErr}
-use Rattle.mu_num.specs.Fraction.{Fraction, IsReduced, sum, difference, checked, lowest}
-use Rattle.mu_forms.specs.declared.form.Sizes.{Sizes}
+use Rattle.mu_num.specs.Fraction.{Fraction, IsReduced, checked, lowest}
 use Rattle.mu_forms.specs.declared.form.ExactForm.{ExactForm}
 use Rattle.mu_forms.specs.declared.sum.RunningForm.{RunningForm}
-use Rattle.mu_forms.specs.AffineForm.{AffineForm, none, is_nonzero, combined, checked_form}
-use Rattle.mu_forms.specs.Rows.{named, paired, pair_cmp, value_at, joined, JoinsAll, SomeFails, IsRising, AreReduced}
-use Rattle.mu_forms.specs.Forms.{form_meaning, sum_meaning, MayStand, IsPair, IsOver, IsCoefficient, AreFinished, IsCanonical, IsReducedSum, JoinsForm}
-use Rattle.mu_forms.proofs.Fractions.{positive_product, IsReduced-checked, IsReduced-none, Passed, passed, lowest-zero, zero_num, zero_from_num}
+use Rattle.mu_forms.specs.AffineForm.{none, is_nonzero, combined}
+use Rattle.mu_forms.specs.Rows.{named, paired, pair_cmp, value_at, joined, JoinsAll, SomeFails, AreReduced}
+use Rattle.mu_forms.specs.Forms.{form_meaning, sum_meaning, MayStand, IsPair, IsCoefficient, AreFinished, IsCanonical, IsReducedSum, JoinsForm}
+use Rattle.mu_forms.proofs.Fractions.{positive_product, IsReduced-checked, IsReduced-none, passed, lowest-zero, zero_num}
 use Rattle.mu_forms.proofs.Rows.{IsKeyOrder, nat_order, pair_order, found}
 use Rattle.mu_forms.proofs.Checks.{PassesAs, checked_form-passes, name_fails, pair_fails, time_fails, constant_fails}
 

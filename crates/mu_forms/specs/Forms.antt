@@ -1,5 +1,5 @@
 -- What exact forms mean, and when they are finished.
-use Rattle.std.specs.Prelude.{ℕ, Bool, true, false, ◌≡◌, ◌<◌, ◌≤◌, ◌+◌, List, map, Result, Ok, Err}
+use Rattle.std.specs.Prelude.{ℕ, Bool, true, ◌≡◌, ◌<◌, ◌≤◌, ◌+◌, List, map, Result, Ok, Err}
 use Rattle.std.specs.Ordering.{nat_cmp}
 use Rattle.std.specs.declared.cmp.Ordering.{Ordering}
 use Rattle.std.specs.List.{AllByRecursion}
@@ -9,7 +9,7 @@ use Rattle.mu_forms.specs.declared.form.Sizes.{Sizes}
 use Rattle.mu_forms.specs.declared.form.Place.{Place}
 use Rattle.mu_forms.specs.declared.form.ExactForm.{ExactForm}
 use Rattle.mu_forms.specs.declared.sum.RunningForm.{RunningForm}
-use Rattle.mu_forms.specs.AffineForm.{AffineForm, none, is_nonzero, combined, checked_form}
+use Rattle.mu_forms.specs.AffineForm.{AffineForm, is_nonzero, combined, checked_form}
 use Rattle.mu_forms.specs.Rows.{named, paired, pair_cmp, value_at, joined, IsRising, AreReduced}
 
 -- the form whose coefficients these lists have

@@ -1,5 +1,5 @@
 -- Kinds of exact forms, as the lists show them.
-use Rattle.std.specs.Prelude.{ℕ, ◌≡◌, ◌<◌, ◌≤◌, ◌+◌, false, [], List}
+use Rattle.std.specs.Prelude.{◌≡◌, ◌<◌, ◌≤◌, ◌+◌, false, []}
 use Rattle.std.specs.List.{All}
 use Rattle.mu_forms.specs.declared.form.Sizes.{Sizes}
 use Rattle.mu_forms.specs.declared.form.ExactForm.{ExactForm}

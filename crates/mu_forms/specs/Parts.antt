@@ -2,7 +2,7 @@
 use Rattle.std.specs.Prelude.{ℕ, Bool, true, false, not, ◌&&◌, ◌≡◌, if◌then◌else◌, Result, Ok, Err}
 use Rattle.mu_num.specs.declared.NumErr.{NumErr}
 use Rattle.mu_num.specs.declared.NumErr.TheVariants.{ZeroDivisor}
-use Rattle.mu_num.specs.Fraction.{Fraction, sum, difference, power, checked}
+use Rattle.mu_num.specs.Fraction.{Fraction, power, checked}
 use Rattle.mu_forms.specs.declared.fault.AffineErr.{AffineErr}
 use Rattle.mu_forms.specs.declared.fault.AffineErr.TheVariants.{NotAffine, TimeHere, ConstFault, TooDense, Memory}
 use Rattle.mu_forms.specs.declared.form.Place.{Place}

@@ -8,7 +8,7 @@ use Rattle.mu_num.specs.Fraction.{Fraction, product, quotient, checked}
 use Rattle.mu_forms.specs.declared.form.Place.{Place}
 use Rattle.mu_forms.specs.declared.form.ExactForm.{ExactForm}
 use Rattle.mu_forms.specs.AffineForm.{AffineForm, checked_form}
-use Rattle.mu_forms.specs.Forms.{form_meaning, IsFinished, IsOver}
+use Rattle.mu_forms.specs.Forms.{form_meaning, IsFinished}
 
 -- the product of two fractions, or their quotient
 abbrev pub scaled : (divide : Bool) → Fraction → Fraction → Fraction

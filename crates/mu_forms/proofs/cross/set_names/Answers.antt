@@ -1,9 +1,8 @@
 use Rattle.std.proofs.Common.{sym}
 use Rattle.std.specs.Ordering.{nat_cmp}
-use Rattle.mu_forms.specs.Rows.{named, pair_cmp}
-use Rattle.mu_forms.specs.Setting.{beside}
-use Rattle.mu_forms.proofs.Rows.{nat_order, pair_order, entry_at}
-use Rattle.mu_forms.proofs.Settings.{entry_set, IsRising-beside}
+use Rattle.mu_forms.specs.Rows.{named}
+use Rattle.mu_forms.proofs.Rows.{nat_order, entry_at}
+use Rattle.mu_forms.proofs.Settings.{entry_set}
 use Rattle.mu_forms.proofs.cross.set_names.Goals as goal
 
 pub returns-in-Err : goal.returns-in-Err

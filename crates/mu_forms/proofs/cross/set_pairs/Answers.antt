@@ -1,8 +1,7 @@
 use Rattle.std.proofs.Common.{sym}
-use Rattle.std.specs.Ordering.{nat_cmp}
-use Rattle.mu_forms.specs.Rows.{named, pair_cmp}
+use Rattle.mu_forms.specs.Rows.{pair_cmp}
 use Rattle.mu_forms.specs.Setting.{beside}
-use Rattle.mu_forms.proofs.Rows.{nat_order, pair_order, entry_at}
+use Rattle.mu_forms.proofs.Rows.{pair_order, entry_at}
 use Rattle.mu_forms.proofs.Settings.{entry_set, IsRising-beside}
 use Rattle.mu_forms.proofs.cross.set_pairs.Goals as goal
 

@@ -1,6 +1,3 @@
-use Rattle.mu_forms.specs.Rows.{named}
-use Rattle.mu_forms.specs.Setting.{beside, TableFails}
-use Rattle.mu_forms.proofs.Rows.{entry_at}
 use Rattle.mu_forms.proofs.Settings.{state_set, table_failed}
 use Rattle.mu_forms.proofs.cross.set_table.Goals as goal
 

@@ -1,4 +1,3 @@
-use Rattle.std.proofs.lemmas.Bool.{false≢true}
 use Rattle.std.proofs.Common.{refl, ap}
 use Rattle.mu_forms.specs.Parts.{placed}
 use Rattle.mu_forms.proofs.Multiplying.{form_times_zero}

@@ -1,6 +1,6 @@
 use Rattle.std.specs.Ordering.{nat_cmp}
-use Rattle.mu_forms.specs.Rows.{named, paired, pair_cmp}
-use Rattle.mu_forms.proofs.Rows.{JoinsAll-none, entry_joined, entry_failed, nat_order, pair_order}
+use Rattle.mu_forms.specs.Rows.{named}
+use Rattle.mu_forms.proofs.Rows.{JoinsAll-none, entry_joined, entry_failed, nat_order}
 use Rattle.mu_forms.proofs.row.join_names.Goals as goal
 
 pub loop-entry-init : goal.loop-entry-init

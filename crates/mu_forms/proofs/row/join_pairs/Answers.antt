@@ -1,6 +1,5 @@
-use Rattle.std.specs.Ordering.{nat_cmp}
-use Rattle.mu_forms.specs.Rows.{named, paired, pair_cmp}
-use Rattle.mu_forms.proofs.Rows.{JoinsAll-none, entry_joined, entry_failed, nat_order, pair_order}
+use Rattle.mu_forms.specs.Rows.{paired, pair_cmp}
+use Rattle.mu_forms.proofs.Rows.{JoinsAll-none, entry_joined, entry_failed, pair_order}
 use Rattle.mu_forms.proofs.row.join_pairs.Goals as goal
 
 pub loop-product-init : goal.loop-product-init

@@ -1,4 +1,4 @@
-use Rattle.std.proofs.Common.{sym, ap, map}
+use Rattle.std.proofs.Common.{sym}
 use Rattle.mu_forms.specs.declared.form.ExactForm.{ExactForm}
 use Rattle.mu_forms.proofs.Checks.{time_fails, constant_fails}
 use Rattle.mu_forms.proofs.Scalings.{form_scaled, form_unscaled_names, form_unscaled_pairs}

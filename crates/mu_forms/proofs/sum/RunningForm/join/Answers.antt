@@ -1,7 +1,5 @@
-use Rattle.std.proofs.Common.{sym, ap, subst, map}
-use Rattle.std.specs.Ordering.{nat_cmp}
+use Rattle.std.proofs.Common.{sym}
 use Rattle.mu_forms.specs.declared.sum.RunningForm.{RunningForm}
-use Rattle.mu_forms.specs.Rows.{named, paired, pair_cmp, JoinsAll, SomeFails}
 use Rattle.mu_forms.proofs.Sums.{form_joined, form_failed_names, form_failed_pairs, form_failed_time, form_failed_constant}
 use Rattle.mu_forms.proofs.sum.RunningForm.join.Goals as goal
 

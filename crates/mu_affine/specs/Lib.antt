@@ -1,0 +1,5 @@
+pub mod FormOf
+pub mod Solution
+pub mod Normal
+pub mod Kept
+pub mod Walks

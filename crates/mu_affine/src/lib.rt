@@ -1,0 +1,4 @@
+//! The affine forms of a flat model.
+#![tactic(auto)]
+
+mod walk;
