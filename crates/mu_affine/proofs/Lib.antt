@@ -1,1 +1,4 @@
 pub mod Walking
+pub mod Left
+pub mod Starting
+pub mod Bridges

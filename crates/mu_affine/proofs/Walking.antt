@@ -9,10 +9,11 @@ use Rattle.mu_tree.specs.FlatExpression.{Variable, FlatExpression, FlatTerms, no
 use Rattle.mu_forms.specs.declared.form.Place.{Place}
 use Rattle.mu_forms.specs.declared.form.ExactForm.{ExactForm}
 use Rattle.mu_forms.specs.declared.fault.AffineErr.{AffineErr}
-use Rattle.mu_forms.specs.declared.fault.AffineErr.TheVariants.{NotAffine}
+use Rattle.mu_forms.specs.declared.fault.AffineErr.TheVariants.{NotAffine, TimeHere, ConstFault, TooDense, Memory}
 use Rattle.mu_forms.specs.AffineForm.{AffineForm, constant_form, name_form, has_pairs, is_nonzero}
-use Rattle.mu_forms.specs.Forms.{form_meaning, MayStand, IsOver, IsFinished}
-use Rattle.mu_forms.specs.Parts.{kept, then_form, join_forms, multiply_forms}
+use Rattle.mu_forms.specs.declared.sum.RunningForm.{RunningForm}
+use Rattle.mu_forms.specs.Forms.{form_meaning, sum_meaning, MayStand, IsOver, IsFinished, Finishes}
+use Rattle.mu_forms.specs.Parts.{kept, then_form, join_forms, multiply_forms, IsAnswer}
 use Rattle.mu_forms.proofs.Checks.{and_false}
 use Rattle.mu_forms.proofs.Showing.{no_pairs, first_pair, has_pairs-none, not_true}
 use Rattle.mu_forms.proofs.Products.{kept_as_is}
@@ -122,3 +123,28 @@ pairs_left p f h some =
 pub empty_list : {A : Type 0} (xs : List A) → true ≡ (length xs == 0) → xs ≡ []
 empty_list [] h = refl
 empty_list (x ∷ xs) h = absurd (omega (arith, eqb-true (length (x ∷ xs)) 0 (sym h)))
+
+-- a fault that is passed on
+pub fault_passes : (p : Place) (x y : Result AffineForm AffineErr) (why : AffineErr) → ((fault : AffineErr) → x ≡ Err fault → y ≡ Err fault) → IsAnswer p x (Err why) → IsAnswer p y (Err why)
+fault_passes p x y (NotAffine at) f h = f (NotAffine at) h
+fault_passes p x y (TimeHere at) f h = f (TimeHere at) h
+fault_passes p x y (ConstFault at fault) f h = f (ConstFault at fault) h
+fault_passes p x y (TooDense count) f h = f (TooDense count) h
+fault_passes p x y Memory f h = tt
+
+-- where a form is expected, the only fault is want of memory
+pub only_memory : (p : Place) (x : Result AffineForm AffineErr) (f : AffineForm) (why : AffineErr) → x ≡ Ok f → IsAnswer p x (Err why) → why ≡ Memory
+only_memory p x f (NotAffine at) e h = absurd (cc)
+only_memory p x f (TimeHere at) e h = absurd (cc)
+only_memory p x f (ConstFault at fault) e h = absurd (cc)
+only_memory p x f (TooDense count) e h = absurd (cc)
+only_memory p x f Memory e h = refl
+
+-- want of memory may be the answer at any time
+pub memory_answer : (p : Place) (x : Result AffineForm AffineErr) (why : AffineErr) → why ≡ Memory → IsAnswer p x (Err why)
+memory_answer p x why e = subst (λ w. IsAnswer p x (Err w)) (sym e) tt
+
+-- a sum that was finished
+pub sum_answer : (p : Place) (x : Result AffineForm AffineErr) (r : RunningForm) (f : ExactForm) → Ok (sum_meaning r) ≡ x → IsOver p (sum_meaning r) → Finishes r f → IsAnswer p x (Ok f)
+sum_answer p x r f e over h =
+    (sym e ∙ ap Ok (sym h.meaning), record { canonical = h.canonical; over = subst (IsOver p) (sym h.meaning) over })

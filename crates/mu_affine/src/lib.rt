@@ -1,4 +1,5 @@
 //! The affine forms of a flat model.
 #![tactic(auto)]
 
+mod clause;
 mod walk;
