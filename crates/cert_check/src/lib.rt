@@ -20,6 +20,3 @@ pub use checker::check;
 pub use laws::{promises_are_kept, smaller_quanta_are_legitimate};
 pub use outside::{Outside, scope};
 pub use verdict::Verdict;
-
-#[cfg(test)]
-mod tests;

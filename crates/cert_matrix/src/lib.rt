@@ -10,6 +10,3 @@ pub use gram::{RowSides, Test, gram_row, gram_test};
 pub use matrix::{Matrix, quad};
 pub use ranged::RangedSum;
 pub use weighing::weigh;
-
-#[cfg(test)]
-mod tests;

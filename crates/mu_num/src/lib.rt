@@ -24,6 +24,3 @@ pub enum NumErr {
     /// A division by 0.
     ZeroDivisor,
 }
-
-#[cfg(test)]
-mod examples;

@@ -147,11 +147,12 @@ impl Ratio {
         self.num
     }
 
-    /// The denominator, above 0.
+    /// The denominator, above 0. The fraction is in lowest terms.
     pub fn den(self) -> i128
         ensures value { result ≡ pos self.den }
         ensures positive { 0 < self.den }
         ensures size { self.den ≤ 2 ^ 62 }
+        ensures reduced { IsReduced self }
     {
         self.den as i128
     }

@@ -4,7 +4,5 @@
 pub mod canonical;
 pub mod expr;
 pub mod flat;
-#[cfg(test)]
-mod tests;
 pub mod tree;
 mod write;

@@ -23,8 +23,7 @@ pub use parts::{
     StateInfo,
 };
 pub use rows::{Row, RowKind};
+pub use sums::{coefficient, term, value_at};
 pub use system::Machine;
 pub use uses::Uses;
-
-#[cfg(test)]
-mod examples;
+pub use weights::{entry_size, entry_weight};

@@ -7,8 +7,8 @@ ghost use Rattle.qss_machine.specs.Slopes.{weighted_sum, coefficient_of, product
 
 use crate::parts::{Entry, Product};
 
-// A coefficient times a level or a discrete value.
-fn term(coef: i64, value: i64) -> i128
+/// A coefficient times a level or a discrete value.
+pub fn term(coef: i64, value: i64) -> i128
     requires coef { IsWithin 44 coef }
     requires value { IsWithin 43 value }
     ensures value { result ≡ coef *ℤ value }
@@ -17,8 +17,8 @@ fn term(coef: i64, value: i64) -> i128
     i128::from(coef) * i128::from(value)
 }
 
-// The value at a place of two lists, one after the other.
-fn value_at(first: &[i64], second: &[i64], place: usize) -> i64
+/// The value at a place of two lists, one after the other: levels and then discrete values.
+pub fn value_at(first: &[i64], second: &[i64], place: usize) -> i64
     requires place { place < length first.now + length second.now }
     requires firsts { All (IsWithin 43) first.now }
     requires seconds { All (IsWithin 43) second.now }
@@ -44,8 +44,8 @@ fn coefficient_in(entry: Entry, var: u32) -> i128
     }
 }
 
-/// The coefficient of a variable.
-pub(crate) fn coefficient(entries: &[Entry], var: u32) -> i128
+/// The coefficient of a variable, 0 where no entry is of it.
+pub fn coefficient(entries: &[Entry], var: u32) -> i128
     requires few { length entries.now ≤ 2 ^ 32 }
     ensures value { result ≡ coefficient_of entries.now var }
     ensures bound { IsWithin 95 result }

@@ -12,8 +12,8 @@ use crate::parts::{Entry, SlopeRow};
 use crate::slopes::wide_term;
 use crate::sums::{coefficient, entry_term};
 
-// The size of an entry's coefficient times the value of its variable.
-fn entry_size(entry: Entry, first: &[i64], second: &[i64]) -> i128
+/// The size of an entry's coefficient times the value of its variable.
+pub fn entry_size(entry: Entry, first: &[i64], second: &[i64]) -> i128
     requires small { IsWithin 44 entry.coef }
     requires known { entry.var < length first.now + length second.now }
     requires firsts { All (IsWithin 43) first.now }
@@ -24,8 +24,8 @@ fn entry_size(entry: Entry, first: &[i64], second: &[i64]) -> i128
     entry_term(entry, first, second).abs()
 }
 
-// The sizes of all entries' coefficients times the values of their variables, added up.
-fn entry_weight(entries: &[Entry], first: &[i64], second: &[i64]) -> i128
+/// The sizes of all entries' coefficients times the values of their variables, added up.
+pub fn entry_weight(entries: &[Entry], first: &[i64], second: &[i64]) -> i128
     requires few { length entries.now ≤ 4096 }
     requires small { All (λ entry. IsWithin 44 entry.coef) entries.now }
     requires known { All (λ entry. entry.var < length first.now + length second.now) entries.now }

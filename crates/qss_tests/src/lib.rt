@@ -1,9 +1,17 @@
-//! Tests that cross crates: sources read as models and printed again, and texts of certificates.
+//! Tests of the crates of machines and certificates.
 #![tactic(auto)]
 
 #[cfg(test)]
+mod agendas;
+#[cfg(test)]
 mod certificates;
 #[cfg(test)]
-mod models;
+mod checks;
 #[cfg(test)]
-mod printed;
+mod crossings;
+#[cfg(test)]
+mod machines;
+#[cfg(test)]
+mod matrices;
+#[cfg(test)]
+mod quanta;

@@ -25,13 +25,6 @@ text_of (untold command) = None
 abbrev pub SomeRose : List (List ℕ) → (List ℕ → ℕ) → (List ℕ → ℕ) → Type 0
 SomeRose names before now = (name : List ℕ) × Contains names name × Rose (before name) (now name)
 
--- a sink had no fault until its last call, which kept what was written and failed
-pub record EndsByFault {K : Type 0} (written : K → Option (List ℕ)) (faults : K → ℕ) (old new : K) : Type 0 where
-  pub last : K
-  pub calm : faults last ≡ faults old
-  pub kept : Keeps (written last) (written new)
-  pub rose : Rose (faults last) (faults new)
-
 -- the line of a status that comes of a defined answer
 abbrev pub IsReplyLine : Reply → List ℕ → Type 0
 IsReplyLine (answered answer) line = Tells answer.line line

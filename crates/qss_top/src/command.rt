@@ -8,7 +8,7 @@ ghost use Rattle.qss_top.specs.Commands.{command_of};
 ghost use Rattle.qss_top.specs.OneState.{IsSingle, floor_run};
 ghost use Rattle.qss_top.specs.Outcomes.{IsOutcome, Meets, status_of};
 ghost use Rattle.qss_top.specs.Statuses.{leaves_out};
-ghost use Rattle.qss_top.specs.TopCall.{EndsByFault};
+ghost use Rattle.mu_io.specs.Sinks.{EndsByFault};
 ghost use Rattle.qss_top.specs.Words.{command_in, command_with, IsAnswerTo};
 
 use crate::machine::machine_of;

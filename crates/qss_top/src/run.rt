@@ -1,7 +1,7 @@
 // The run of a machine of one state without clauses, tick by tick.
 ghost use Rattle.std.specs.Prelude.{◌≡◌, ◌≢◌, ◌≤◌, ◌+◌, ◌^◌, ◌*ℤ◌, ◌+ℤ◌, ◌-ℤ◌, ◌≤ℤ◌, ◌<ℤ◌, ℕ, Err, Ok, pos, [], ◌∷◌, unsigned_abs, int_lt, true, false, if◌then◌else◌, IfSome, IfOk, OnOk, OnErr, MatchOption};
 ghost use Rattle.std.specs.Io.KnownBytes.{Appends};
-ghost use Rattle.mu_io.specs.Sinks.{AppendsPrefix};
+ghost use Rattle.mu_io.specs.Sinks.{AppendsPrefix, EndsByFault};
 ghost use Rattle.mu_num.specs.Levels.{floor_level};
 ghost use Rattle.mu_num.specs.Sizes.{IsWithin, passes};
 ghost use Rattle.qss_machine.specs.Limits.{level_below};
@@ -10,7 +10,6 @@ ghost use Rattle.qss_machine.specs.Numbers.{int_at};
 ghost use Rattle.qss_machine.specs.Ticks.{is_near, step, start_world};
 ghost use Rattle.qss_machine.specs.Runs.{run_by, run_rows};
 ghost use Rattle.qss_rows.specs.Lines.{line_of, lines_of};
-ghost use Rattle.qss_top.specs.TopCall.{EndsByFault};
 ghost use Rattle.qss_top.specs.OneState as Spec;
 
 use mu_io::{Sink, WriteErr, write_all};

@@ -1,11 +1,11 @@
 // The top call.
 ghost use Rattle.std.specs.Prelude.{◌≡◌, ◌≢◌, ◌≤◌, ◌↔◌, [], true, List, ℕ, map, Some, None, IfSome, Contains};
 ghost use Rattle.mu_io.specs.Faults.{Rose};
-ghost use Rattle.mu_io.specs.Sinks.{AppendsPrefix};
+ghost use Rattle.mu_io.specs.Sinks.{AppendsPrefix, EndsByFault};
 ghost use Rattle.qss_top.specs.Answers.{Told, IsTold};
 ghost use Rattle.qss_top.specs.Commands.{command_of};
 ghost use Rattle.qss_top.specs.Statuses.{leaves_out};
-ghost use Rattle.qss_top.specs.TopCall.{IsReplied, text_of, SomeRose, EndsByFault, ReportsStatus};
+ghost use Rattle.qss_top.specs.TopCall.{IsReplied, text_of, SomeRose, ReportsStatus};
 
 use crate::Status;
 use crate::command::answer;

@@ -4,7 +4,7 @@ ghost use Rattle.std.specs.Prelude.{◌≡◌, ◌≤◌, [], ◌∷◌, pos, ne
 ghost use Rattle.qss_machine.specs.Machines.{state_count};
 ghost use Rattle.cert_check.specs.Limits.{IsNumber, IsVector, IsSquareTable};
 
-use crate::{Certificate, Outside, Verdict, check, scope};
+use cert_check::{Certificate, Outside, Verdict, check, scope};
 use cert_matrix::Matrix;
 use mu_io::{Items, Name};
 use qss_machine::{Entry, Machine, SlopeRow, StateInfo};

@@ -1,14 +1,14 @@
 // Copies, and the canonical text of each construct.
 
-use crate::canonical::write_model;
-use crate::expr::{Expr, Factor, Ref, Term};
-use crate::flat::{
+use mu_io::Name;
+use mu_num::Ratio;
+use mu_tree::canonical::write_model;
+use mu_tree::expr::{Expr, Factor, Ref, Term};
+use mu_tree::flat::{
     FlatBranch, FlatClause, FlatEquation, FlatExpr, FlatFactor, FlatModel, FlatRole, FlatStatement,
     FlatTerm, FlatVar, Settings,
 };
-use crate::tree::{Decl, Equation, Model, Prefix, Rel, SettingItem, SettingName};
-use mu_io::Name;
-use mu_num::Ratio;
+use mu_tree::tree::{Decl, Equation, Model, Prefix, Rel, SettingItem, SettingName};
 use std::alloc::{AllocError, Global};
 use std::test::Fail;
 

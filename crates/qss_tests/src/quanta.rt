@@ -2,8 +2,8 @@ ghost use Rattle.std.specs.Prelude.{Some};
 ghost use Rattle.qss_quant.specs.declared.rule.Rule.TheVariants.{Floor};
 ghost use Rattle.qss_quant.specs.Rules.{IsAsked, IsAnswer};
 
-use crate::{Integrator, Quantizer, Rule};
 use mu_num::floor_div;
+use qss_quant::{Integrator, Quantizer, Rule};
 use std::prelude::HostRuntime;
 
 // The greatest level at most the state.

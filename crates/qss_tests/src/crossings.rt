@@ -1,4 +1,4 @@
-use crate::Detector;
+use qss_cross::Detector;
 use qss_machine::Rel;
 use std::prelude::HostRuntime;
 

@@ -2,8 +2,10 @@
 
 ghost use Rattle.std.specs.Prelude.{◌≡◌, [], ◌∷◌, pos, negsuc, IfOk, length};
 
-use crate::{ClauseInfo, DiscreteInfo, Entry, Form, Machine, Product, SlopeRow, StateInfo, Uses};
 use mu_io::{Items, Name};
+use qss_machine::{
+    ClauseInfo, DiscreteInfo, Entry, Form, Machine, Product, SlopeRow, StateInfo, Uses,
+};
 use std::alloc::{AllocError, Global};
 use std::test::Fail;
 

@@ -1,7 +1,7 @@
 // The table of tokens and faults.
 
-use crate::lex::{LexErr, lex};
-use crate::token::{Kind, Mark, Token, Word};
+use mu_lexer::lex::{LexErr, lex};
+use mu_lexer::token::{Kind, Mark, Token, Word};
 use std::alloc::Global;
 use std::process::Abort;
 use std::test::Fail;

@@ -1,6 +1,6 @@
 ghost use Rattle.std.specs.Prelude.{◌≡◌, length};
 
-use crate::{Matrix, RangedSum, Test, gram_row, gram_test, quad, weigh};
+use cert_matrix::{Matrix, RangedSum, Test, gram_row, gram_test, quad, weigh};
 use std::test::Fail;
 
 /// The matrix with the rows (a, b) and (c, d).

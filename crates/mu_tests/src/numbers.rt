@@ -1,6 +1,6 @@
 // Outside examples.
 
-use crate::{
+use mu_num::{
     NumErr, Ratio, ceil_div, decimal, first_past, first_tick, floor_div, near_div, nearest,
     root_up, tick_later,
 };
