@@ -2,3 +2,8 @@ pub mod Walking
 pub mod Left
 pub mod Starting
 pub mod Bridges
+pub mod Counts
+pub mod Steps
+pub mod InOrder
+pub mod Equations
+pub mod KeptForms

@@ -3,3 +3,4 @@ pub mod Solution
 pub mod Normal
 pub mod Kept
 pub mod Walks
+pub mod Takings

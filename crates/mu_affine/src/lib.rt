@@ -2,4 +2,9 @@
 #![tactic(auto)]
 
 mod clause;
+mod counting;
+mod keeping;
+pub mod normal;
+mod sides;
+mod solving;
 mod walk;
