@@ -14,7 +14,7 @@ use Rattle.mu_affine.specs.Normal.{right_side}
 use Rattle.mu_affine.specs.Takings.{side_at, AreFirsts}
 
 -- past the last equation there is no right side
-past_side : (es : List FlatEquationTree) (i : ℕ) → length es ≤ i → side_at es i ≡ Constant none 0
+pub past_side : (es : List FlatEquationTree) (i : ℕ) → length es ≤ i → side_at es i ≡ Constant none 0
 past_side es i h = rw (slice_get_past es i h) refl
 
 -- nothing is left of a list after its length
@@ -41,7 +41,7 @@ pub no_firsts : (es : List FlatEquation) (variables n : ℕ) (firsts : List ℕ)
     → (v : ℕ) → v < length firsts → side_at (map flat_equation es) (get_or firsts v 0) ≡ right_side (map flat_equation (drop n es)) v
 no_firsts es variables n firsts made whole v h =
     let here : get_or firsts v 0 ≡ length es = replicated variables firsts made v h in
-    past_side (map flat_equation es) (get_or firsts v 0) (omega (arith, here, length-map flat_equation es)) ∙ sym (ap (λ xs. right_side (map flat_equation xs) v) (drop_whole es n whole))
+    past_side (map flat_equation es) (get_or firsts v 0) (omega (arith, here, length-map es flat_equation)) ∙ sym (ap (λ xs. right_side (map flat_equation xs) v) (drop_whole es n whole))
   where
     each_same : (k : ℕ) (x : ℕ) (v : ℕ) → v < length (replicate k x) → get_or (replicate k x) v 0 ≡ x
     each_same zero x v h = absurd (omega arith)
@@ -57,10 +57,10 @@ one_equation : (es : List FlatEquation) (i : ℕ) (e : FlatEquation) (v : ℕ) �
 one_equation es i e v h is = rw (add-one, drop-cons es i e h, ← is) refl
 
 -- one equation more, from the last one down
-pub first_more : (es : List FlatEquation) (i : ℕ) (e : FlatEquation) (firsts : List ℕ) → i < length es → e ≡ get_or es i e
-    → ((v : ℕ) → v < length firsts → side_at (map flat_equation es) (get_or firsts v 0) ≡ right_side (map flat_equation (drop (i + 1) es)) v)
+pub first_more : (es : List FlatEquation) (i j : ℕ) (e : FlatEquation) (firsts : List ℕ) → j ≡ i + 1 → i < length es → e ≡ get_or es i e
+    → ((v : ℕ) → v < length firsts → side_at (map flat_equation es) (get_or firsts v 0) ≡ right_side (map flat_equation (drop j es)) v)
     → (v : ℕ) → v < length firsts → side_at (map flat_equation es) (get_or (set firsts e.target i) v 0) ≡ right_side (map flat_equation (drop i es)) v
-first_more es i e firsts h is before v within =
+first_more es i j e firsts next h is before v within =
     elim (cases_eq v e.target) [
       | inl same ↦
           let there : get_or (set firsts e.target i) v 0 ≡ i = ap (get_or (set firsts e.target i) v) refl ∙ written firsts e.target v i same within in
@@ -70,7 +70,7 @@ first_more es i e firsts h is before v within =
       | inr other ↦
           let there : get_or (set firsts e.target i) v 0 ≡ get_or firsts v 0 = unwritten firsts e.target v i other in
           let test : nat_eq e.target v ≡ false = grind (arith, nat_tests) in
-          ap (side_at (map flat_equation es)) there ∙ before v within ∙ sym (one_equation es i e v h is ∙ ap (λ b. if b then flat_expression e.value else right_side (map flat_equation (drop (i + 1) es)) v) test)
+          ap (side_at (map flat_equation es)) there ∙ before v within ∙ ap (λ k. right_side (map flat_equation (drop k es)) v) next ∙ sym (one_equation es i e v h is ∙ ap (λ b. if b then flat_expression e.value else right_side (map flat_equation (drop (i + 1) es)) v) test)
     ]
   where
     written : (xs : List ℕ) (k v i : ℕ) → v ≡ k → v < length xs → get_or (set xs k i) v 0 ≡ i
@@ -86,3 +86,14 @@ first_more es i e firsts h is before v within =
     unwritten (x ∷ xs) zero (suc v) i other = refl
     unwritten (x ∷ xs) (suc k) zero i other = refl
     unwritten (x ∷ xs) (suc k) (suc v) i other = unwritten xs k v i (λ same. other (ap (λ n. suc n) same))
+
+-- what is left of a list with one element written
+pub within_set : {A : Type 0} (xs : List A) (k : ℕ) (x : A) (v : ℕ) → v < length (set xs k x) → v < length xs
+within_set [] k x v h = h
+within_set (y ∷ ys) zero x v h = h
+within_set (y ∷ ys) (suc k) x zero h = omega arith
+within_set (y ∷ ys) (suc k) x (suc v) h = let rest = within_set ys k x v (omega arith) in omega (arith, rest)
+
+-- a variable without an equation has the right side 0
+pub no_side : (es : List FlatEquation) (firsts : List ℕ) (v : ℕ) → AreFirsts (map flat_equation es) firsts → v < length firsts → length es ≤ get_or firsts v 0 → right_side (map flat_equation es) v ≡ Constant none 0
+no_side es firsts v are h past = sym (are v h) ∙ past_side (map flat_equation es) (get_or firsts v 0) (omega (arith, length-map es flat_equation))

@@ -6,7 +6,8 @@ use Rattle.std.proofs.Math.Path.{fun_ext}
 use Rattle.std.proofs.lemmas.Bool.{cases_eq}
 use Rattle.std.proofs.lemmas.Bool.Decides.{nat_tests}
 use Rattle.std.proofs.lemmas.Option.{slice_get-get_or, slice_get_within}
-use Rattle.mu_tree.specs.FlatExpression.{FlatModelTree}
+use Rattle.mu_tree.specs.declared.flat.FlatEquation.{FlatEquation}
+use Rattle.mu_tree.specs.FlatExpression.{FlatModelTree, flat_equation}
 use Rattle.mu_forms.specs.declared.fault.AffineErr.{AffineErr}
 use Rattle.mu_forms.specs.declared.form.Sizes.{Sizes}
 use Rattle.mu_forms.specs.declared.form.ExactForm.{ExactForm}
@@ -17,7 +18,7 @@ use Rattle.mu_affine.specs.FormOf.{form_of}
 use Rattle.mu_affine.specs.Solution.{sizes_of, equation_context}
 use Rattle.mu_affine.specs.Normal.{Taken, then_take, counted, right_side, solve, solve_all, nothing_taken}
 use Rattle.mu_affine.specs.Walks.{forms_in, AreSolved}
-use Rattle.mu_affine.specs.Takings.{IsFaultOf, of_equations, AreZeros, solved_so_far, IsSolved}
+use Rattle.mu_affine.specs.Takings.{IsFaultOf, of_equations, IsZero, AreZeros, solved_so_far, IsSolved}
 use Rattle.mu_affine.proofs.Steps.{after, fault_then, fault_after, fault_same, vars_from}
 
 -- what holds of all elements holds of one
@@ -73,7 +74,7 @@ zeros_are forms zeros = fun_ext (λ v. by_form v (slice_get forms v) refl)
   where
     by_form : (v : ℕ) (r : Option ExactForm) → slice_get forms v ≡ r → forms_in forms v ≡ constant_form none
     by_form v None e = rw e refl
-    by_form v (Some f) e = let zero_there = one_of_all _ forms v f zeros e in rw e zero_there.0
+    by_form v (Some f) e = let zero_there = one_of_all IsZero forms v f zeros e in rw e zero_there.0
 
 -- nothing is solved yet
 pub nothing_solved : (s : CountedForms) → AreZeros s.forms.items → s.count ≡ 0 → nothing_taken ≡ solved_so_far s
@@ -83,10 +84,17 @@ nothing_solved s zeros none_counted =
 
 pub zeros_solved : (n : Sizes) (s : CountedForms) (variables : ℕ) → AreZeros s.forms.items → length s.forms.items ≡ variables → s.count ≡ 0 → IsSolved n variables s
 zeros_solved n s variables zeros one_each none_counted = record {
-  finished = λ v f there. (one_of_all _ s.forms.items v f zeros there).1 (of_equations n);
+  finished = λ v f there. (one_of_all IsZero s.forms.items v f zeros there).1 (of_equations n);
   one_each = one_each;
   few = omega (arith, none_counted);
 }
+
+-- a right side over equal lists
+pub part_along : (n : Sizes) (xs ys : List ExactForm) (es ds : List FlatEquation) (v : ℕ) → xs ≡ ys → es ≡ ds
+    → form_of (equation_context n (forms_in xs)) (right_side (map flat_equation es) v) ≡ form_of (equation_context n (forms_in ys)) (right_side (map flat_equation ds) v)
+part_along n xs ys es ds v same_forms same_equations =
+    ap (λ zs. form_of (equation_context n (forms_in zs)) (right_side (map flat_equation es) v)) same_forms
+    ∙ ap (λ zs. form_of (equation_context n (forms_in ys)) (right_side (map flat_equation zs) v)) same_equations
 
 -- what follows the form of a variable
 abbrev after_form : FlatModelTree → ℕ → Taken → AffineForm → Result Taken AffineErr

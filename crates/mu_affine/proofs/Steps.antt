@@ -1,6 +1,7 @@
 -- Steps that follow each other, and their faults.
 use Rattle.std.proofs.Common.{◌≡◌, ◌∙◌, ◌<◌, ◌+◌, ℕ, List, [], ◌∷◌, ◌++◌, length, drop, get_or, map, add-one, refl, sym, ap}
 use Rattle.std.specs.Prelude.{Result, Ok, Err}
+use Prim.Native.Nat.{suc}
 use Rattle.std.proofs.Math.Seq.{drop-cons}
 use Rattle.mu_tree.specs.declared.flat.FlatStatement.{FlatStatement}
 use Rattle.mu_tree.specs.declared.flat.FlatBranch.{FlatBranch}
@@ -76,20 +77,24 @@ fault_after r next a fault is h = fault_along (next a) (then_take r next) fault 
 pub fault_same : {A : Type 0} (r s : Result A AffineErr) (fault : AffineErr) → r ≡ s → IsFaultOf r fault → IsFaultOf s fault
 fault_same r s fault same h = fault_along r s fault (λ e failed. sym same ∙ failed) h
 
+-- what is left of a list from a place on
+drop_from : {A : Type 0} (xs : List A) (i : ℕ) (d : A) → i < length xs → d ≡ get_or xs i d → drop i xs ≡ d ∷ drop (i + 1) xs
+drop_from xs i d h is = rw (add-one i, drop-cons xs i d h) (ap (λ x. x ∷ drop (suc i) xs) (sym is))
+
 -- the variables of an order from a place on
 pub vars_from : (m : FlatModelTree) (vs : List ℕ) (i d : ℕ) (t : Taken) → i < length vs → d ≡ get_or vs i d → solve_all m (drop i vs) t ≡ then_take (solve m d t) (solve_all m (drop (i + 1) vs))
-vars_from m vs i d t h is = rw (add-one, drop-cons vs i d h, ← is) refl
+vars_from m vs i d t h is = ap (λ ys. solve_all m ys t) (drop_from vs i d h is)
 
 -- statements, branches and clauses from a place on
 pub actions_from : (n : Sizes) (xs : List FlatStatement) (i : ℕ) (d : FlatStatement) (t : Taken) → i < length xs → d ≡ get_or xs i d
     → keep_actions n (map flat_action (drop i xs)) t ≡ then_take (keep n (action_form (clause_context n t.solved) (flat_action d)) t) (keep_actions n (map flat_action (drop (i + 1) xs)))
-actions_from n xs i d t h is = rw (add-one, drop-cons xs i d h, ← is) refl
+actions_from n xs i d t h is = ap (λ ys. keep_actions n (map flat_action ys) t) (drop_from xs i d h is)
 
 pub branches_from : (n : Sizes) (xs : List FlatBranch) (i : ℕ) (d : FlatBranch) (t : Taken) → i < length xs → d ≡ get_or xs i d
     → keep_branches n (map flat_branch (drop i xs)) t
     ≡ then_take (keep n (condition_form (clause_context n t.solved) (flat_branch d)) t) (λ u. then_take (keep_actions n (flat_branch d).body u) (keep_branches n (map flat_branch (drop (i + 1) xs))))
-branches_from n xs i d t h is = rw (add-one, drop-cons xs i d h, ← is) refl
+branches_from n xs i d t h is = ap (λ ys. keep_branches n (map flat_branch ys) t) (drop_from xs i d h is)
 
 pub clauses_from : (n : Sizes) (xs : List FlatClause) (i : ℕ) (d : FlatClause) (t : Taken) → i < length xs → d ≡ get_or xs i d
     → keep_clauses n (map flat_clause (drop i xs)) t ≡ then_take (keep_branches n (flat_clause d) t) (keep_clauses n (map flat_clause (drop (i + 1) xs)))
-clauses_from n xs i d t h is = rw (add-one, drop-cons xs i d h, ← is) refl
+clauses_from n xs i d t h is = ap (λ ys. keep_clauses n (map flat_clause ys) t) (drop_from xs i d h is)

@@ -43,9 +43,13 @@ side_at equations i = side_in (slice_get equations i)
 abbrev pub AreFirsts : List FlatEquationTree → List ℕ → Type 0
 AreFirsts equations firsts = (v : ℕ) → v < length firsts → side_at equations (slice_index_or firsts v 0) ≡ right_side equations v
 
+-- a form that is 0
+abbrev pub IsZero : ExactForm → Type 0
+IsZero f = (form_meaning f ≡ constant_form none) × ((p : Place) → IsFinished p f)
+
 -- each form is 0
 abbrev pub AreZeros : List ExactForm → Type 0
-AreZeros forms = All (λ f. (form_meaning f ≡ constant_form none) × ((p : Place) → IsFinished p f)) forms
+AreZeros forms = All IsZero forms
 
 -- what is taken when the forms of some algebraic variables are known
 abbrev pub solved_so_far : CountedForms → Taken

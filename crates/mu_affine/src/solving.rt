@@ -21,7 +21,7 @@ fn zeros(alloc: Global, count: usize) -> Result<Vec<ExactForm>, AllocError>
     ensures one_each { IfOk result (λ forms. length forms.items ≡ count) }
 {
     let mut forms = Vec::new(alloc);
-    for _ in 0..count {
+    for _made in 0..count {
         forms.push(ExactForm::constant(alloc, Ratio::whole(0)))?;
     }
     Ok(forms)
