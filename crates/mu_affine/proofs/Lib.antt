@@ -1,4 +1,4 @@
 pub mod Walking
 pub mod Left
-pub mod Starting
+pub mod Conditions
 pub mod Bridges

@@ -5,7 +5,7 @@ use Rattle.std.proofs.lemmas.Bool.{cases_Bool, false≢true, eqb-true}
 use Rattle.std.proofs.lemmas.Bool.Decides.{nat_tests}
 use Rattle.std.proofs.lemmas.Option.{slice_get-get_or}
 use Rattle.mu_num.specs.Fraction.{Fraction}
-use Rattle.mu_tree.specs.FlatExpression.{Variable, FlatExpression, FlatTerms, no_terms, term, FlatFactors, no_factors, factor}
+use Rattle.mu_tree.specs.FlatExpression.{Variable, Power, FlatExpression, FlatTerms, no_terms, term, FlatFactors, no_factors, factor}
 use Rattle.mu_forms.specs.declared.form.Place.{Place}
 use Rattle.mu_forms.specs.declared.form.ExactForm.{ExactForm}
 use Rattle.mu_forms.specs.declared.fault.AffineErr.{AffineErr}
@@ -13,7 +13,7 @@ use Rattle.mu_forms.specs.declared.fault.AffineErr.TheVariants.{NotAffine, TimeH
 use Rattle.mu_forms.specs.AffineForm.{AffineForm, constant_form, name_form, has_pairs, is_nonzero}
 use Rattle.mu_forms.specs.declared.sum.RunningForm.{RunningForm}
 use Rattle.mu_forms.specs.Forms.{form_meaning, sum_meaning, MayStand, IsOver, IsFinished, Finishes}
-use Rattle.mu_forms.specs.Parts.{kept, then_form, join_forms, multiply_forms, IsAnswer}
+use Rattle.mu_forms.specs.Parts.{kept, then_form, join_forms, multiply_forms, raise_form, IsAnswer}
 use Rattle.mu_forms.proofs.Checks.{and_false}
 use Rattle.mu_forms.proofs.Showing.{no_pairs, first_pair, has_pairs-none, not_true}
 use Rattle.mu_forms.proofs.Products.{kept_as_is}
@@ -148,3 +148,14 @@ memory_answer p x why e = subst (λ w. IsAnswer p x (Err w)) (sym e) tt
 pub sum_answer : (p : Place) (x : Result AffineForm AffineErr) (r : RunningForm) (f : ExactForm) → Ok (sum_meaning r) ≡ x → IsOver p (sum_meaning r) → Finishes r f → IsAnswer p x (Ok f)
 sum_answer p x r f e over h =
     (sym e ∙ ap Ok (sym h.meaning), record { canonical = h.canonical; over = subst (IsOver p) (sym h.meaning) over })
+
+-- the answer for what an expression says
+pub said : (p : Place) (c : Context) (x y : FlatExpression) (r : Result ExactForm AffineErr) → y ≡ x → IsAnswer p (form_of c x) r → IsAnswer p (form_of c y) r
+said p c x y r e h = subst (λ z. IsAnswer p (form_of c z) r) (sym e) h
+
+-- a power of a base that has a form, and of one that has none
+pub power_is : (c : Context) (e : FlatExpression) (exp at : ℕ) (f : AffineForm) → form_of c e ≡ Ok f → form_of c (Power e exp at) ≡ raise_form c.place exp at f
+power_is c e exp at f h = rw h refl
+
+pub power_fault : (c : Context) (e : FlatExpression) (exp at : ℕ) (fault : AffineErr) → form_of c e ≡ Err fault → form_of c (Power e exp at) ≡ Err fault
+power_fault c e exp at fault h = rw h refl

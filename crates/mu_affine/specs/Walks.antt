@@ -55,9 +55,3 @@ JoinsTerm p minus at old new f (Err fault) = IsAnswer p (join_forms p minus at (
 abbrev pub IsNumberedAction : Place → (variables : ℕ) → FlatAction → Type 0
 IsNumberedAction p n (Assign v e) = IsNumbered p n e
 IsNumberedAction p n (Restart v e) = IsNumbered p n e
-
--- a running sum that is a form so far
-pub record StartsWith (p : Place) (f : ExactForm) (r : RunningForm) : Type 0 where
-  pub meaning : sum_meaning r ≡ form_meaning f
-  pub reduced : IsReducedSum r
-  pub over : IsOver p (sum_meaning r)
