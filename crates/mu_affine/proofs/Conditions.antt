@@ -9,10 +9,7 @@ use Rattle.mu_forms.specs.AffineForm.{AffineForm, none, constant_form, combined}
 use Rattle.mu_forms.specs.Rows.{named, paired, pair_cmp, joined, AreReduced}
 use Rattle.mu_forms.specs.Forms.{form_meaning, IsFinished}
 use Rattle.mu_forms.specs.Parts.{placed, join_forms}
-use Rattle.mu_tree.specs.FlatExpression.{FlatBranchTree}
 use Rattle.mu_forms.specs.declared.fault.AffineErr.{AffineErr}
-use Rattle.mu_affine.specs.FormOf.{Context, form_of}
-use Rattle.mu_affine.specs.Normal.{condition_form}
 use Rattle.mu_forms.proofs.Fractions.{checked_same, checked-reduced, lowest-zero_sum}
 use Rattle.mu_forms.proofs.Checks.{PassesAs, checked_form-passes}
 use Rattle.mu_forms.proofs.Sums.{AreReduced-finished}
@@ -33,16 +30,11 @@ joins_nothing p at f h constant =
 -- what joins a sum of no forms first is the sum
 pub sum_begins : (p : Place) (at : ℕ) (f : ExactForm) (empty new : AffineForm) → IsFinished p f → IsReduced f.constant → empty ≡ constant_form none → join_forms p false at empty (form_meaning f) ≡ Ok new → new ≡ form_meaning f
 sum_begins p at f empty new h constant is joins =
-    let same : Ok (form_meaning f) ≡ Ok new = sym (joins_nothing p at f h constant) ∙ sym (ap (λ e. join_forms p false at e (form_meaning f)) is) ∙ joins in
+    let same : Ok (form_meaning f) ≡ Ok new = sym (joins_nothing p at f h constant) ∙ sym (ap (λ (e : AffineForm). join_forms p false at e (form_meaning f)) is) ∙ joins in
     cc
 
--- a side that has a fault
-pub left_fault : (c : Context) (b : FlatBranchTree) (fault : AffineErr) → form_of c b.left ≡ Err fault → condition_form c b ≡ Err fault
-left_fault c b fault h = rw h refl
-
-pub right_fault : (c : Context) (b : FlatBranchTree) (l : AffineForm) (fault : AffineErr) → form_of c b.left ≡ Ok l → form_of c b.right ≡ Err fault → condition_form c b ≡ Err fault
-right_fault c b l fault h k = rw (h, k) refl
-
--- both sides have forms
-pub condition_is : (c : Context) (b : FlatBranchTree) (l r : AffineForm) → form_of c b.left ≡ Ok l → form_of c b.right ≡ Ok r → condition_form c b ≡ join_forms c.place true b.at l r
-condition_is c b l r h k = rw (h, k) refl
+-- and it can't fail
+pub never_fails : (p : Place) (at : ℕ) (f : ExactForm) (empty : AffineForm) (fault : AffineErr) → IsFinished p f → IsReduced f.constant → empty ≡ constant_form none → join_forms p false at empty (form_meaning f) ≡ Err fault → ⊥
+never_fails p at f empty fault h constant is fails =
+    let both : Ok (form_meaning f) ≡ Err fault = sym (joins_nothing p at f h constant) ∙ sym (ap (λ (e : AffineForm). join_forms p false at e (form_meaning f)) is) ∙ fails in
+    cc
