@@ -1,5 +1,5 @@
 -- The form of a condition: a sum that begins with the left side, from which the right side is taken.
-use Rattle.std.proofs.Common.{◌≡◌, ◌∙◌, ℕ, refl, sym, ap, subst, arith, true, false, map}
+use Rattle.std.proofs.Common.{◌≡◌, ◌∙◌, ℕ, refl, sym, ap, arith, false, map}
 use Rattle.std.specs.Prelude.{Ok, Err}
 use Rattle.std.specs.Ordering.{nat_cmp}
 use Rattle.mu_num.specs.Fraction.{Fraction, IsReduced, sum, checked}

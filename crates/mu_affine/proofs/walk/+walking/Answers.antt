@@ -1,8 +1,8 @@
-use Rattle.std.proofs.Common.{◌≡◌, ◌∙◌, ◌+◌, ◌<◌, ℕ, List, ap, sym, subst, map, length, drop, arith, rules}
+use Rattle.std.proofs.Common.{◌≡◌, ◌∙◌, List, ap, sym, subst, map, length, rules}
 use Rattle.std.specs.Prelude.{Result, Ok, Err, pos}
 use Rattle.std.proofs.lemmas.List.{at_drop_all}
 use Rattle.std.proofs.lemmas.Result.{err_from_is_err_and}
-use Rattle.mu_num.specs.Fraction.{Fraction, whole}
+use Rattle.mu_num.specs.Fraction.{whole}
 use Rattle.mu_tree.specs.FlatExpression.{FlatExpression, flat_expression, flat_signed, flat_scaled, flat_terms_of, flat_factors_of}
 use Rattle.mu_tree.specs.FlatExpression as tree
 use Rattle.mu_tree.specs.declared.flat.FlatExpr.{FlatExpr, the_lemmas}
@@ -13,7 +13,7 @@ use Rattle.mu_forms.specs.AffineForm.{AffineForm, constant_form, none}
 use Rattle.mu_forms.specs.Forms.{form_meaning, sum_meaning, IsOver}
 use Rattle.mu_forms.specs.Parts.{IsAnswer, join_forms, multiply_forms}
 use Rattle.mu_affine.specs.FormOf.{Context, form_of, sum_form, product_of}
-use Rattle.mu_affine.specs.Walks.{context_of, IsNumbered, AreNumbered, AreNumberedFactors}
+use Rattle.mu_affine.specs.Walks.{context_of, IsNumbered}
 use Rattle.mu_affine.proofs.Walking.{IsOver-constant, fault_passes, sum_answer, said, power_is, power_fault}
 use Rattle.mu_affine.proofs.Left.{terms_left, factors_left, sum_more, sum_fails_at, sum_join_fails_at, terms_numbered_at, product_more, product_fails_at, product_part_fails_at, factors_numbered_at}
 use Rattle.mu_affine.proofs.walk.+walking.Goals as goal
@@ -218,6 +218,7 @@ product_of-returns-in_err-total t c =
 
 pub product_of-returns : goal.product_of-returns
 product_of-returns t c =
-    let x : Context = context_of c.args.place c.args.solved.now in
-    (sym c.loop-factor.invariant.rest ∙ at_drop_all (λ (fs : List FlatFactor). product_of x (Ok (form_meaning c.loop-factor.total)) (flat_factors_of (map flat_scaled fs))) c.args.factors.now c.loop-factor.factor-index c.loop-factor-test.false,
-    c.loop-factor.invariant.finished)
+    let x : Context = context_of c.args.place c.args.solved.now in (
+      sym c.loop-factor.invariant.rest ∙ at_drop_all (λ (fs : List FlatFactor). product_of x (Ok (form_meaning c.loop-factor.total)) (flat_factors_of (map flat_scaled fs))) c.args.factors.now c.loop-factor.factor-index c.loop-factor-test.false,
+      c.loop-factor.invariant.finished,
+    )
