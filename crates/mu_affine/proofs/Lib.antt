@@ -1,6 +1,6 @@
 pub mod Walking
 pub mod Left
-pub mod Starting
+pub mod Conditions
 pub mod Bridges
 pub mod Counts
 pub mod Steps

@@ -1,11 +1,11 @@
 -- The walk of an expression, part by part.
-use Rattle.std.proofs.Common.{◌≡◌, ◌∙◌, ◌<◌, ◌≤◌, ◌+◌, ℕ, List, [], ◌∷◌, length, get_or, drop, map, refl, sym, ap, subst, arith, inl, inr, Bool, true, false, add-one}
-use Rattle.std.specs.Prelude.{Some, None, slice_get, Result, Ok, Err, not, ◌&&◌, nat_lt, ◌==◌, if◌then◌else◌, ◌⊎◌}
+use Rattle.std.proofs.Common.{◌≡◌, ◌∙◌, ◌<◌, ◌≤◌, ◌+◌, ℕ, List, [], ◌∷◌, length, get_or, refl, sym, ap, subst, arith, inl, inr, Bool, true, false}
+use Rattle.std.specs.Prelude.{Some, slice_get, Result, Ok, Err, not, ◌&&◌, nat_lt, ◌==◌, ◌⊎◌}
 use Rattle.std.proofs.lemmas.Bool.{cases_Bool, false≢true, eqb-true}
 use Rattle.std.proofs.lemmas.Bool.Decides.{nat_tests}
 use Rattle.std.proofs.lemmas.Option.{slice_get-get_or}
 use Rattle.mu_num.specs.Fraction.{Fraction}
-use Rattle.mu_tree.specs.FlatExpression.{Variable, FlatExpression, FlatTerms, no_terms, term, FlatFactors, no_factors, factor}
+use Rattle.mu_tree.specs.FlatExpression.{Variable, Power, FlatExpression, FlatTerms, no_terms, term, FlatFactors, no_factors, factor}
 use Rattle.mu_forms.specs.declared.form.Place.{Place}
 use Rattle.mu_forms.specs.declared.form.ExactForm.{ExactForm}
 use Rattle.mu_forms.specs.declared.fault.AffineErr.{AffineErr}
@@ -13,12 +13,11 @@ use Rattle.mu_forms.specs.declared.fault.AffineErr.TheVariants.{NotAffine, TimeH
 use Rattle.mu_forms.specs.AffineForm.{AffineForm, constant_form, name_form, has_pairs, is_nonzero}
 use Rattle.mu_forms.specs.declared.sum.RunningForm.{RunningForm}
 use Rattle.mu_forms.specs.Forms.{form_meaning, sum_meaning, MayStand, IsOver, IsFinished, Finishes}
-use Rattle.mu_forms.specs.Parts.{kept, then_form, join_forms, multiply_forms, IsAnswer}
+use Rattle.mu_forms.specs.Parts.{join_forms, multiply_forms, raise_form, IsAnswer}
 use Rattle.mu_forms.proofs.Checks.{and_false}
-use Rattle.mu_forms.proofs.Showing.{no_pairs, first_pair, has_pairs-none, not_true}
-use Rattle.mu_forms.proofs.Products.{kept_as_is}
+use Rattle.mu_forms.proofs.Showing.{no_pairs, first_pair, has_pairs-none}
 use Rattle.mu_affine.specs.FormOf.{Context, form_of, sum_form, product_of}
-use Rattle.mu_affine.specs.Walks.{context_of, forms_in, AreSolved}
+use Rattle.mu_affine.specs.Walks.{context_of, forms_in}
 
 -- a state or a discrete variable is a name
 pub name_is : (p : Place) (solved : List ExactForm) (v at : ℕ) → v < p.sizes.states + p.sizes.discretes → form_of (context_of p solved) (Variable v at) ≡ Ok (name_form v)
@@ -132,19 +131,18 @@ fault_passes p x y (ConstFault at fault) f h = f (ConstFault at fault) h
 fault_passes p x y (TooDense count) f h = f (TooDense count) h
 fault_passes p x y Memory f h = tt
 
--- where a form is expected, the only fault is want of memory
-pub only_memory : (p : Place) (x : Result AffineForm AffineErr) (f : AffineForm) (why : AffineErr) → x ≡ Ok f → IsAnswer p x (Err why) → why ≡ Memory
-only_memory p x f (NotAffine at) e h = absurd (cc)
-only_memory p x f (TimeHere at) e h = absurd (cc)
-only_memory p x f (ConstFault at fault) e h = absurd (cc)
-only_memory p x f (TooDense count) e h = absurd (cc)
-only_memory p x f Memory e h = refl
-
--- want of memory may be the answer at any time
-pub memory_answer : (p : Place) (x : Result AffineForm AffineErr) (why : AffineErr) → why ≡ Memory → IsAnswer p x (Err why)
-memory_answer p x why e = subst (λ w. IsAnswer p x (Err w)) (sym e) tt
-
 -- a sum that was finished
 pub sum_answer : (p : Place) (x : Result AffineForm AffineErr) (r : RunningForm) (f : ExactForm) → Ok (sum_meaning r) ≡ x → IsOver p (sum_meaning r) → Finishes r f → IsAnswer p x (Ok f)
 sum_answer p x r f e over h =
     (sym e ∙ ap Ok (sym h.meaning), record { canonical = h.canonical; over = subst (IsOver p) (sym h.meaning) over })
+
+-- the answer for what an expression says
+pub said : (p : Place) (c : Context) (x y : FlatExpression) (r : Result ExactForm AffineErr) → y ≡ x → IsAnswer p (form_of c x) r → IsAnswer p (form_of c y) r
+said p c x y r e h = subst (λ z. IsAnswer p (form_of c z) r) (sym e) h
+
+-- a power of a base that has a form, and of one that has none
+pub power_is : (c : Context) (e : FlatExpression) (exp at : ℕ) (f : AffineForm) → form_of c e ≡ Ok f → form_of c (Power e exp at) ≡ raise_form c.place exp at f
+power_is c e exp at f h = rw h refl
+
+pub power_fault : (c : Context) (e : FlatExpression) (exp at : ℕ) (fault : AffineErr) → form_of c e ≡ Err fault → form_of c (Power e exp at) ≡ Err fault
+power_fault c e exp at fault h = rw h refl

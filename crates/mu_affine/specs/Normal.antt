@@ -1,6 +1,6 @@
 -- The forms of a flat model in their sequence, or the first fault: the algebraic variables in their order, the states by
 -- number, and then clause by clause each branch's condition and its statements.
-use Rattle.std.specs.Prelude.{ℕ, true, false, ◌+◌, ◌^◌, nat_eq, nat_lt, if◌then◌else◌, List, [], ◌∷◌, ◌++◌, Result, Ok, Err}
+use Rattle.std.specs.Prelude.{ℕ, ◌+◌, ◌^◌, nat_eq, nat_lt, if◌then◌else◌, List, [], ◌∷◌, ◌++◌, Result, Ok, Err}
 use Prim.Native.Nat.{zero, suc}
 use Rattle.mu_num.specs.Fraction.{difference}
 use Rattle.mu_tree.specs.FlatExpression.{FlatExpression, Constant, FlatEquationTree, FlatAction, Assign, Restart, FlatBranchTree, FlatModelTree}

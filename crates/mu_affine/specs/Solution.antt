@@ -1,5 +1,5 @@
 -- Solutions of a flat model: no order of the variables occurs in them.
-use Rattle.std.specs.Prelude.{ℕ, true, false, ◌≡◌, nat_eq, ◌+◌, if◌then◌else◌, List, [], ◌∷◌, Contains, Ok}
+use Rattle.std.specs.Prelude.{ℕ, true, false, ◌≡◌, ◌+◌, List, [], ◌∷◌, Contains, Ok}
 use Rattle.mu_tree.specs.declared.flat.FlatRole.{FlatRole}
 use Rattle.mu_tree.specs.declared.flat.FlatRole.TheVariants.{State, Discrete, Algebraic}
 use Rattle.mu_tree.specs.FlatExpression.{FlatVariable, FlatEquationTree, FlatModelTree}

@@ -1,5 +1,5 @@
 -- What the walk of an expression is given.
-use Rattle.std.specs.Prelude.{ℕ, Bool, true, false, ◌≡◌, ◌<◌, ◌≤◌, ◌+◌, List, length, slice_get, Option, Some, None, Result, Ok, Err}
+use Rattle.std.specs.Prelude.{ℕ, Bool, true, false, ◌≡◌, ◌<◌, ◌+◌, List, slice_get, Option, Some, None, Result, Ok, Err}
 use Rattle.mu_forms.specs.declared.form.Place.{Place}
 use Rattle.mu_forms.specs.declared.form.ExactForm.{ExactForm}
 use Rattle.mu_forms.specs.declared.sum.RunningForm.{RunningForm}
@@ -55,9 +55,3 @@ JoinsTerm p minus at old new f (Err fault) = IsAnswer p (join_forms p minus at (
 abbrev pub IsNumberedAction : Place → (variables : ℕ) → FlatAction → Type 0
 IsNumberedAction p n (Assign v e) = IsNumbered p n e
 IsNumberedAction p n (Restart v e) = IsNumbered p n e
-
--- a running sum that is a form so far
-pub record StartsWith (p : Place) (f : ExactForm) (r : RunningForm) : Type 0 where
-  pub meaning : sum_meaning r ≡ form_meaning f
-  pub reduced : IsReducedSum r
-  pub over : IsOver p (sum_meaning r)

@@ -1,53 +1,35 @@
 // The forms of conditions and statements.
 
-ghost use Rattle.std.specs.Prelude.{◌≡◌, ◌<◌, ◌+◌, ◌^◌, true, length, IfOk, IfErr};
+ghost use Rattle.std.specs.Prelude.{◌<◌, ◌+◌, ◌^◌, true, length};
 ghost use Rattle.mu_tree.specs.FlatExpression.{flat_expression, flat_branch, flat_action};
-ghost use Rattle.mu_forms.specs.declared.fault.AffineErr.TheVariants.{Memory};
 ghost use Rattle.mu_forms.specs.Forms.{form_meaning, IsFinished};
 ghost use Rattle.mu_forms.specs.Parts.{join_forms, IsAnswer};
 ghost use Rattle.mu_affine.specs.Normal.{condition_form, action_form};
-ghost use Rattle.mu_affine.specs.Walks.{context_of, AreSolved, IsNumbered, IsNumberedAction, StartsWith};
+ghost use Rattle.mu_affine.specs.Walks.{context_of, AreSolved, IsNumbered, IsNumberedAction};
 
 use crate::walk::{form_of, join_term};
 use mu_forms::fault::AffineErr;
 use mu_forms::form::{ExactForm, Place};
 use mu_forms::sum::RunningForm;
-use mu_num::Ratio;
 use mu_tree::flat::{FlatBranch, FlatStatement};
 use std::alloc::Global;
-
-// A sum that is a form so far.
-fn started(
-    alloc: Global,
-    place: Place,
-    at: u32,
-    mut form: ExactForm,
-) -> Result<RunningForm, AffineErr>
-    requires { IsFinished place form }
-    ensures ok { IfOk result (StartsWith place form) }
-    ensures err { IfErr result (λ fault. fault ≡ Memory) }
-{
-    let constant = form.constant;
-    form.constant = Ratio::whole(0);
-    let mut total = RunningForm::new(alloc);
-    join_term(place, &mut total, false, at, &form)?;
-    total.constant = constant;
-    Ok(total)
-}
 
 // The difference of two forms.
 fn difference(
     alloc: Global,
     place: Place,
     at: u32,
-    left: ExactForm,
+    left: &ExactForm,
     right: &ExactForm,
 ) -> Result<ExactForm, AffineErr>
-    requires left { IsFinished place left }
+    requires left { IsFinished place left.now }
     requires right { IsFinished place right.now }
-    ensures { IsAnswer place (join_forms place true at (form_meaning left) (form_meaning right.now)) result }
+    ensures { IsAnswer place (join_forms place true at (form_meaning left.now) (form_meaning right.now)) result }
 {
-    let mut total = started(alloc, place, at, left)?;
+    // Its clauses say that the constant is in lowest terms.
+    let _ = left.constant.den();
+    let mut total = RunningForm::new(alloc);
+    join_term(place, &mut total, false, at, left)?;
     join_term(place, &mut total, true, at, right)?;
     let form = total.finish(alloc)?;
     Ok(form)
@@ -69,7 +51,7 @@ pub(crate) fn condition_form(
 {
     let left = form_of(alloc, place, solved, &branch.left)?;
     let right = form_of(alloc, place, solved, &branch.right)?;
-    difference(alloc, place, branch.at, left, &right)
+    difference(alloc, place, branch.at, &left, &right)
 }
 
 /// The form of what a statement writes, at a place.

@@ -106,7 +106,6 @@ fn take_factor(
 
 /// The form of an expression at a place, where these are the forms of the algebraic variables.
 #[cycle(walking)]
-#[tactic(none)]
 pub(crate) fn form_of(
     alloc: Global,
     place: Place,
@@ -134,7 +133,6 @@ pub(crate) fn form_of(
 
 // The form of a sum, term by term.
 #[cycle(walking)]
-#[tactic(none)]
 fn sum_of(
     alloc: Global,
     place: Place,
@@ -157,7 +155,6 @@ fn sum_of(
 
 // The form of a product, factor by factor.
 #[cycle(walking)]
-#[tactic(none)]
 fn product_of(
     alloc: Global,
     place: Place,

@@ -1,7 +1,6 @@
-use Rattle.std.proofs.Common.{◌≡◌, ◌∙◌, refl, sym, ap, subst, inl, inr, [], true, length}
+use Rattle.std.proofs.Common.{◌≡◌, ◌∙◌, sym, ap, subst, inl, inr, [], true, length}
 use Rattle.std.specs.Prelude.{Ok, ◌⊎◌, ◌==◌}
 use Rattle.std.proofs.lemmas.Bool.{false≢true}
-use Rattle.std.proofs.lemmas.Option.{slice_get-get_or}
 use Rattle.mu_forms.specs.Forms.{form_meaning, IsFinished}
 use Rattle.mu_forms.proofs.Showing.{not_true, not_false}
 use Rattle.mu_affine.proofs.Walking.{name_is, MayStand-below, algebraic_is, algebraic_refused, finished_anywhere, place_at, fits_place, pairs_left, empty_list}
@@ -28,6 +27,7 @@ returns c =
       | else-not-place-via-then-not-place+else-not-is_empty w ↦ inr (sym w.as_slice.ensures ∙ empty_list w.as_slice.result.now w.if-not-is_empty.ensures)
       | else-not-place-via-else-not-place w ↦ inl (not_false c.args.place.in_equation w.if-not-place.false)
     ] in
-    let same : c.in_ok-copy.copy ≡ f = c.in_ok-copy.ensures in
-    (algebraic_is c.args.place c.args.solved.now c.args.var c.args.at f c.if-var-place.false there (fits_place c.args.place f fits) ∙ ap (λ x. Ok (form_meaning x)) (sym same),
-    subst (IsFinished c.args.place) (sym same) (finished_anywhere c.args.place f (c.requires.solved c.args.var f there) fits))
+    let same : c.in_ok-copy.copy ≡ f = c.in_ok-copy.ensures in (
+      algebraic_is c.args.place c.args.solved.now c.args.var c.args.at f c.if-var-place.false there (fits_place c.args.place f fits) ∙ ap (λ x. Ok (form_meaning x)) (sym same),
+      subst (IsFinished c.args.place) (sym same) (finished_anywhere c.args.place f (c.requires.solved c.args.var f there) fits),
+    )
