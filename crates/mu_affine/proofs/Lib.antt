@@ -7,3 +7,4 @@ pub mod Steps
 pub mod InOrder
 pub mod Equations
 pub mod KeptForms
+pub mod Solutions

@@ -4,6 +4,7 @@
 mod clause;
 mod counting;
 mod keeping;
+pub mod laws;
 pub mod normal;
 mod sides;
 mod solving;
