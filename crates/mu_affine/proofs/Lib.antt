@@ -8,3 +8,5 @@ pub mod InOrder
 pub mod Equations
 pub mod KeptForms
 pub mod Solutions
+pub mod Finished
+pub mod Whole
