@@ -1,9 +1,12 @@
 -- The forms of a flat model as a whole: what the parts are given, and what they answer together.
-use Rattle.std.proofs.Common.{◌≡◌, ◌∙◌, ◌<◌, ◌≤◌, ◌+◌, ◌^◌, ℕ, List, [], ◌∷◌, ◌++◌, length, map, refl, sym, ap, subst, arith}
+use Rattle.std.proofs.Common.{◌≡◌, ◌∙◌, ◌<◌, ◌≤◌, ◌+◌, ◌^◌, ℕ, List, [], ◌∷◌, ◌++◌, length, map, refl, sym, ap, ap₂, subst, arith}
 use Rattle.std.specs.Prelude.{Some, slice_get, All, Result, Ok, Err}
 use Rattle.std.proofs.lemmas.Option.{slice_get_within}
 use Rattle.std.proofs.lemmas.List.Elements.{All-nil, All-cons, All-weaker}
-use Rattle.mu_tree.specs.FlatExpression.{FlatVariable, FlatEquationTree, FlatAction, FlatBranchTree, FlatModelTree}
+use Rattle.std.proofs.lemmas.List.{length-map}
+use Rattle.mu_tree.specs.declared.flat.FlatModel.{FlatModel}
+use Rattle.mu_tree.specs.declared.flat.FlatRole.TheVariants.{State, Discrete}
+use Rattle.mu_tree.specs.FlatExpression.{flat_model, flat_variable, FlatVariable, FlatEquationTree, FlatAction, FlatBranchTree, FlatModelTree}
 use Rattle.mu_tree.specs.FlatModels.{IsFlatEquation, IsFlatAction, IsFlatBranch, IsFlatClause, IsFlatModel}
 use Rattle.mu_causal.specs.Causality.{Follow, IsOrder}
 use Rattle.mu_causal.specs.Dependencies.{IsAlgebraic, DependsOn}
@@ -14,13 +17,29 @@ use Rattle.mu_forms.specs.declared.form.Forms.{Forms}
 use Rattle.mu_forms.specs.AffineForm.{AffineForm}
 use Rattle.mu_forms.specs.Forms.{form_meaning, IsFinished}
 use Rattle.mu_affine.specs.declared.counting.CountedForms.{CountedForms}
-use Rattle.mu_affine.specs.Solution.{sizes_of}
+use Rattle.mu_affine.specs.Solution.{count_of_role, sizes_of}
 use Rattle.mu_affine.specs.Normal.{Taken, then_take, solve_all, nothing_taken, keep_states, keep_clauses, forms_of}
 use Rattle.mu_affine.specs.Kept.{equation_place, clause_place, AreForms, IsAffineFault}
 use Rattle.mu_affine.specs.Walks.{forms_in, IsNumbered, IsNumberedAction}
 use Rattle.mu_affine.specs.Takings.{IsFaultOf, of_equations, of_clauses, solved_so_far, kept_so_far, IsKept, IsNumberedBranch}
-use Rattle.mu_affine.proofs.Bridges.{equation_numbered, left_numbered, right_numbered, action_numbered}
+use Rattle.mu_affine.proofs.Bridges.{sizes_fit, sizes_within, equation_numbered, left_numbered, right_numbered, action_numbered}
 use Rattle.mu_affine.proofs.Steps.{after, fault_then, fault_after, fault_same, whole_fault}
+
+-- the sizes, one by one
+pub sizes_same : (m : FlatModelTree) (n : Sizes) → n.states ≡ count_of_role State m.vars → n.discretes ≡ count_of_role Discrete m.vars → n ≡ sizes_of m
+sizes_same m n states discretes = ap₂ (λ (s d : ℕ). let z : Sizes = record { states = s; discretes = d } in z) states discretes
+
+-- they fit
+pub sizes_small : (m : FlatModelTree) (n : Sizes) → n ≡ sizes_of m → IsFlatModel m → n.states + n.discretes + n.discretes < 2 ^ 32
+sizes_small m n sizes flat = subst (λ (z : Sizes). z.states + z.discretes + z.discretes < 2 ^ 32) (sym sizes) (sizes_fit m flat)
+
+-- there are at least as many variables as states
+pub states_few : (m : FlatModelTree) (n : Sizes) (variables : ℕ) → n ≡ sizes_of m → variables ≡ length m.vars → n.states ≤ variables
+states_few m n variables sizes count = subst (λ (z : Sizes). z.states ≤ variables) (sym sizes) (omega (arith, sizes_within m, count))
+
+-- a list with one element for each variable
+pub one_for_each : {A : Type 0} (m : FlatModel) (xs ys : List A) (variables : ℕ) → xs ≡ ys → length ys ≡ variables → variables ≡ length m.vars.items → length xs ≡ length (flat_model m).vars
+one_for_each m xs ys variables same one_each count = ap length same ∙ one_each ∙ count ∙ sym (length-map m.vars.items flat_variable)
 
 -- equations are for variables
 pub targets_within : (m : FlatModelTree) → IsFlatModel m → All (λ e. e.target < length m.vars) m.equations
