@@ -1,6 +1,6 @@
 -- How many coefficients a finished form has.
-use Rattle.std.proofs.Common.{◌≡◌, ◌∙◌, ◌<◌, ◌≤◌, ◌+◌, ◌^◌, ℕ, List, [], ◌∷◌, length, map, refl, sym, ap, subst, cond, arith, inl, inr, Bool, true, false}
-use Rattle.std.specs.Prelude.{Some, None, unwrap_or, ◌≢◌, nat_lt, if◌then◌else◌, Result, Ok, Err}
+use Rattle.std.proofs.Common.{◌≡◌, ◌∙◌, ◌<◌, ◌≤◌, ◌+◌, ◌^◌, ℕ, List, [], ◌∷◌, length, map, refl, sym, ap, cond, arith, inl, inr, Bool, true, false}
+use Rattle.std.specs.Prelude.{Some, unwrap_or, ◌≢◌, nat_lt, if◌then◌else◌, Ok, Err}
 use Rattle.std.specs.Ordering.{nat_cmp, is_eq}
 use Rattle.std.specs.declared.cmp.Ordering.{Ordering}
 use Rattle.std.specs.declared.cmp.Ordering.TheVariants.{Less, Equal, Greater}
@@ -9,7 +9,7 @@ use Rattle.std.specs.BTreeMap.{is_at}
 use Rattle.std.specs.Map.{lookup, keys_of}
 use Prim.Native.Nat.{zero, suc}
 use Rattle.std.proofs.Math.Path.{fun_ext}
-use Rattle.std.proofs.lemmas.Bool.{cases_Bool, cases_eq, cases_lt, false≢true}
+use Rattle.std.proofs.lemmas.Bool.{cases_eq, cases_lt, false≢true}
 use Rattle.std.proofs.lemmas.Bool.Decides.{nat_tests}
 use Rattle.std.proofs.lemmas.List.{length-map}
 use Rattle.std.proofs.lemmas.Map.Keys.{sorted_head, sorted_tail}
@@ -21,13 +21,13 @@ use Rattle.mu_forms.specs.declared.form.Place.{Place}
 use Rattle.mu_forms.specs.declared.form.ExactForm.{ExactForm}
 use Rattle.mu_forms.specs.AffineForm.{none, is_nonzero, count_from, sum_from, coefficient_count}
 use Rattle.mu_forms.specs.Rows.{named, paired, pair_cmp, value_at}
-use Rattle.mu_forms.specs.Forms.{form_meaning, IsPair, IsCoefficient, AreFinished, IsFinished}
+use Rattle.mu_forms.specs.Forms.{form_meaning, IsPair, AreFinished, IsFinished}
 use Rattle.mu_forms.proofs.Rows.{IsKeyOrder, nat_order, pair_order, level_self}
 use Rattle.mu_affine.specs.Normal.{counted}
 use Rattle.mu_affine.specs.Takings.{with_more}
 
 -- a number that counts a test
-abbrev one_if : Bool → ℕ
+abbrev pub one_if : Bool → ℕ
 one_if b = if b then 1 else 0
 
 -- no number passes
@@ -152,8 +152,8 @@ pairs_counted n (c ∷ cs) h within =
     let shows : is_nonzero (value_at pair_cmp (c ∷ cs) (s, d)) ≡ true = head_shows pair_cmp pair_order c cs h in
     let pair : IsPair n s d = within s d shows in
     let row : row_count n (c ∷ cs) s ≡ suc (row_count n cs s) =
-        count_one n.states n.discretes d (λ e. is_nonzero (value_at pair_cmp (c ∷ cs) (s, e))) (λ e. is_nonzero (value_at pair_cmp cs (s, e))) pair.1 pair.2 shows (tail_hides pair_cmp c cs h)
-        (λ e other. ap is_nonzero (tail_value pair_cmp pair_order c cs (s, e) (λ same. other (ap (λ (q : ℕ × ℕ). q.1) same)))) in
+    count_one n.states n.discretes d (λ e. is_nonzero (value_at pair_cmp (c ∷ cs) (s, e))) (λ e. is_nonzero (value_at pair_cmp cs (s, e))) pair.1 pair.2 shows (tail_hides pair_cmp c cs h)
+    (λ e other. ap is_nonzero (tail_value pair_cmp pair_order c cs (s, e) (λ same. other (ap (λ (q : ℕ × ℕ). q.1) same)))) in
     sum_one 0 n.states s (row_count n (c ∷ cs)) (row_count n cs) (omega arith) (omega (arith, pair.0)) row
     (λ r other. ap (count_from n.states n.discretes) (fun_ext (λ e. ap is_nonzero (tail_value pair_cmp pair_order c cs (r, e) (λ same. other (ap (λ (q : ℕ × ℕ). q.0) same))))))
     ∙ ap (λ k. suc k) (pairs_counted n cs (tail_finished pair_cmp c cs h) (λ r e later. within r e (tail_shows pair_cmp pair_order c cs h (r, e) later)))
@@ -162,9 +162,9 @@ pairs_counted n (c ∷ cs) h within =
 pub form_counted : (p : Place) (f : ExactForm) → IsFinished p f → coefficient_count p.sizes (form_meaning f) ≡ length f.entries + length f.products + one_if (is_nonzero f.time)
 form_counted p f h =
     let names : count_from 0 (p.sizes.states + p.sizes.discretes + p.sizes.discretes) (λ v. is_nonzero (value_at nat_cmp (map named f.entries) v)) ≡ length f.entries =
-        names_counted (p.sizes.states + p.sizes.discretes + p.sizes.discretes) (map named f.entries) h.canonical.names (λ v shows. (h.over.names v shows).0) ∙ length-map f.entries named in
+    names_counted (p.sizes.states + p.sizes.discretes + p.sizes.discretes) (map named f.entries) h.canonical.names (λ v shows. (h.over.names v shows).0) ∙ length-map f.entries named in
     let pairs : sum_from 0 p.sizes.states (row_count p.sizes (map paired f.products)) ≡ length f.products =
-        pairs_counted p.sizes (map paired f.products) h.canonical.pairs (λ s d shows. (h.over.pairs s d shows).0) ∙ length-map f.products paired in
+    pairs_counted p.sizes (map paired f.products) h.canonical.pairs (λ s d shows. (h.over.pairs s d shows).0) ∙ length-map f.products paired in
     ap (λ k. k + sum_from 0 p.sizes.states (row_count p.sizes (map paired f.products)) + one_if (is_nonzero f.time)) names
     ∙ ap (λ k. length f.entries + k + one_if (is_nonzero f.time)) pairs
 

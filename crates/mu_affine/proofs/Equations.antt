@@ -1,14 +1,14 @@
 -- The right sides of equations by their variables.
-use Rattle.std.proofs.Common.{◌≡◌, ◌∙◌, ◌<◌, ◌≤◌, ◌+◌, ℕ, List, [], ◌∷◌, length, get_or, drop, map, set, replicate, add-one, refl, sym, ap, subst, arith, inl, inr, Bool, true, false}
-use Rattle.std.specs.Prelude.{Option, Some, None, slice_get, ◌≢◌, All, nat_eq, if◌then◌else◌}
+use Rattle.std.proofs.Common.{◌≡◌, ◌∙◌, ◌<◌, ◌≤◌, ◌+◌, ℕ, List, [], ◌∷◌, length, get_or, drop, map, set, replicate, add-one, refl, sym, ap, subst, arith, inl, inr, true, false}
+use Rattle.std.specs.Prelude.{Some, slice_get, ◌≢◌, All, nat_eq, if◌then◌else◌}
 use Prim.Native.Nat.{zero, suc}
 use Rattle.std.proofs.Math.Seq.{drop-cons}
 use Rattle.std.proofs.lemmas.Bool.{cases_eq}
 use Rattle.std.proofs.lemmas.Bool.Decides.{nat_tests}
-use Rattle.std.proofs.lemmas.List.{length-map, get_or-set_same, get_or-set_other, get_or-replicate}
-use Rattle.std.proofs.lemmas.Option.{slice_get_past, slice_get-get_or}
+use Rattle.std.proofs.lemmas.List.{length-map}
+use Rattle.std.proofs.lemmas.Option.{slice_get_past}
 use Rattle.mu_tree.specs.declared.flat.FlatEquation.{FlatEquation}
-use Rattle.mu_tree.specs.FlatExpression.{FlatExpression, Constant, FlatEquationTree, flat_equation, flat_expression}
+use Rattle.mu_tree.specs.FlatExpression.{Constant, FlatEquationTree, flat_equation, flat_expression}
 use Rattle.mu_forms.specs.AffineForm.{none}
 use Rattle.mu_affine.specs.Normal.{right_side}
 use Rattle.mu_affine.specs.Takings.{side_at, AreFirsts}

@@ -1,6 +1,6 @@
 -- What the forms of a flat model have in common: how many there are, and which names stand in each.
 use Rattle.std.proofs.Common.{◌≡◌, ◌∙◌, ◌<◌, ◌≤◌, ◌+◌, ◌*◌, ℕ, List, [], ◌∷◌, ◌++◌, length, get_or, take, drop, map, refl, sym, ap, subst, arith, inl, inr, Bool, true, false}
-use Rattle.std.specs.Prelude.{Option, Some, None, slice_get, slice_index, ◌⊎◌, All, sum_by, count_by, nat_eq, if◌then◌else◌, Result, Ok, Err}
+use Rattle.std.specs.Prelude.{Some, slice_get, ◌⊎◌, All, sum_by, count_by, nat_eq, if◌then◌else◌, Result, Ok, Err}
 use Rattle.std.specs.List.{AllByRecursion}
 use Rattle.std.specs.List.Sorted.{IsStrictlySortedBy, IsStrictlyIncreasing}
 use Rattle.std.specs.Ordering.{nat_cmp, ordering_then}
@@ -32,15 +32,16 @@ use Rattle.mu_forms.proofs.Rows.{nat_order, pair_order, entry_at}
 use Rattle.mu_forms.proofs.Sums.{nonzero_at}
 use Rattle.mu_affine.specs.FormOf.{form_of}
 use Rattle.mu_affine.specs.Solution.{count_of_role, sizes_of, equation_context, clause_context}
-use Rattle.mu_affine.specs.Normal.{Taken, then_take, counted, right_side, solve, solve_all, keep, keep_states, condition_form, action_form, keep_actions, keep_branches, keep_clauses, nothing_taken, forms_of}
+use Rattle.mu_affine.specs.Normal.{Taken, then_take, counted, right_side, solve, solve_all, keep, keep_states, condition_form, action_form, keep_actions, keep_branches, keep_clauses, nothing_taken}
 use Rattle.mu_affine.specs.Kept.{equation_place, clause_place, AreForms}
+use Rattle.mu_affine.proofs.Counts.{one_if}
 
 -- the names of a finished form may stand at its place
 name_stands : (p : Place) (f : ExactForm) → IsFinished p f → All (λ e. MayStand p e.var) f.entries
 name_stands p f finished k d within =
     let e : ExactEntry = get_or f.entries k d in
     let nonzero : is_nonzero ((form_meaning f).coefficient e.var) ≡ true =
-        nonzero_at nat_cmp nat_order (map named f.entries) k (named e) finished.canonical.names (entry_at named f.entries k e within (get_or_default f.entries k d e within)) in
+    nonzero_at nat_cmp nat_order (map named f.entries) k (named e) finished.canonical.names (entry_at named f.entries k e within (get_or_default f.entries k d e within)) in
     finished.over.names e.var nonzero
 
 -- they are those of states, discrete variables and previous values
@@ -56,7 +57,7 @@ pair_stands : (p : Place) (f : ExactForm) → IsFinished p f → All (λ e. IsPa
 pair_stands p f finished k d within =
     let e : ExactProduct = get_or f.products k d in
     let nonzero : is_nonzero ((form_meaning f).paired e.state e.discrete) ≡ true =
-        nonzero_at pair_cmp pair_order (map paired f.products) k (paired e) finished.canonical.pairs (entry_at paired f.products k e within (get_or_default f.products k d e within)) in
+    nonzero_at pair_cmp pair_order (map paired f.products) k (paired e) finished.canonical.pairs (entry_at paired f.products k e within (get_or_default f.products k d e within)) in
     (finished.over.pairs e.state e.discrete nonzero).0
 
 pub pair_states_known : (p : Place) (f : ExactForm) → IsFinished p f → All (λ e. e.state < p.sizes.states) f.products
@@ -220,19 +221,19 @@ forms_of_clauses m order f h k d within =
 pub states_counted : (test : FlatRole → Bool) → test State ≡ true → test Discrete ≡ false → test Algebraic ≡ false → (vars : List FlatVariable) → count_by (λ v. test v.role) vars ≡ count_of_role State vars
 states_counted test yes_state no_discrete no_algebraic [] = refl
 states_counted test yes_state no_discrete no_algebraic (v ∷ vs) =
-    sum_by-cons (λ (w : FlatVariable). if test w.role then 1 else 0) v vs ∙
-    elim v.role as (λ r. (if test r then 1 else 0) + count_by (λ v. test v.role) vs ≡ count_of_role State (record v { role = r } ∷ vs)) [
-      | State ↦ let here : (if test State then 1 else 0) ≡ 1 = ap (λ b. if b then 1 else 0) yes_state in omega (arith, here, states_counted test yes_state no_discrete no_algebraic vs)
-      | Discrete ↦ let here : (if test Discrete then 1 else 0) ≡ 0 = ap (λ b. if b then 1 else 0) no_discrete in omega (arith, here, states_counted test yes_state no_discrete no_algebraic vs)
-      | Algebraic ↦ let here : (if test Algebraic then 1 else 0) ≡ 0 = ap (λ b. if b then 1 else 0) no_algebraic in omega (arith, here, states_counted test yes_state no_discrete no_algebraic vs)
+    sum_by-cons (λ (w : FlatVariable). one_if (test w.role)) v vs ∙
+    elim v.role as (λ r. one_if (test r) + count_by (λ v. test v.role) vs ≡ count_of_role State (record v { role = r } ∷ vs)) [
+      | State ↦ let here : one_if (test State) ≡ 1 = ap one_if yes_state in omega (arith, here, states_counted test yes_state no_discrete no_algebraic vs)
+      | Discrete ↦ let here : one_if (test Discrete) ≡ 0 = ap one_if no_discrete in omega (arith, here, states_counted test yes_state no_discrete no_algebraic vs)
+      | Algebraic ↦ let here : one_if (test Algebraic) ≡ 0 = ap one_if no_algebraic in omega (arith, here, states_counted test yes_state no_discrete no_algebraic vs)
     ]
 
 pub discretes_counted : (test : FlatRole → Bool) → test State ≡ false → test Discrete ≡ true → test Algebraic ≡ false → (vars : List FlatVariable) → count_by (λ v. test v.role) vars ≡ count_of_role Discrete vars
 discretes_counted test no_state yes_discrete no_algebraic [] = refl
 discretes_counted test no_state yes_discrete no_algebraic (v ∷ vs) =
-    sum_by-cons (λ (w : FlatVariable). if test w.role then 1 else 0) v vs ∙
-    elim v.role as (λ r. (if test r then 1 else 0) + count_by (λ v. test v.role) vs ≡ count_of_role Discrete (record v { role = r } ∷ vs)) [
-      | State ↦ let here : (if test State then 1 else 0) ≡ 0 = ap (λ b. if b then 1 else 0) no_state in omega (arith, here, discretes_counted test no_state yes_discrete no_algebraic vs)
-      | Discrete ↦ let here : (if test Discrete then 1 else 0) ≡ 1 = ap (λ b. if b then 1 else 0) yes_discrete in omega (arith, here, discretes_counted test no_state yes_discrete no_algebraic vs)
-      | Algebraic ↦ let here : (if test Algebraic then 1 else 0) ≡ 0 = ap (λ b. if b then 1 else 0) no_algebraic in omega (arith, here, discretes_counted test no_state yes_discrete no_algebraic vs)
+    sum_by-cons (λ (w : FlatVariable). one_if (test w.role)) v vs ∙
+    elim v.role as (λ r. one_if (test r) + count_by (λ v. test v.role) vs ≡ count_of_role Discrete (record v { role = r } ∷ vs)) [
+      | State ↦ let here : one_if (test State) ≡ 0 = ap one_if no_state in omega (arith, here, discretes_counted test no_state yes_discrete no_algebraic vs)
+      | Discrete ↦ let here : one_if (test Discrete) ≡ 1 = ap one_if yes_discrete in omega (arith, here, discretes_counted test no_state yes_discrete no_algebraic vs)
+      | Algebraic ↦ let here : one_if (test Algebraic) ≡ 0 = ap one_if no_algebraic in omega (arith, here, discretes_counted test no_state yes_discrete no_algebraic vs)
     ]

@@ -1,5 +1,5 @@
 -- The forms of algebraic variables, one after another.
-use Rattle.std.proofs.Common.{◌≡◌, ◌∙◌, ◌<◌, ◌≤◌, ◌+◌, ◌^◌, ℕ, List, [], ◌∷◌, length, get_or, drop, map, set, refl, sym, ap, subst, arith, inl, inr, Bool, true, false}
+use Rattle.std.proofs.Common.{◌≡◌, ◌∙◌, ◌<◌, ◌≤◌, ◌+◌, ◌^◌, ℕ, List, [], ◌∷◌, length, get_or, drop, map, set, refl, sym, ap, subst, arith, inl, inr, true, false}
 use Rattle.std.specs.Prelude.{Option, Some, None, slice_get, ◌≢◌, All, nat_eq, if◌then◌else◌, Result, Ok, Err}
 use Prim.Native.Nat.{zero, suc}
 use Rattle.std.proofs.Math.Path.{fun_ext}
@@ -19,7 +19,7 @@ use Rattle.mu_affine.specs.Solution.{sizes_of, equation_context}
 use Rattle.mu_affine.specs.Normal.{Taken, then_take, counted, right_side, solve, solve_all, nothing_taken}
 use Rattle.mu_affine.specs.Walks.{forms_in, AreSolved}
 use Rattle.mu_affine.specs.Takings.{IsFaultOf, of_equations, IsZero, AreZeros, solved_so_far, IsSolved}
-use Rattle.mu_affine.proofs.Steps.{after, fault_then, fault_after, fault_same, vars_from}
+use Rattle.mu_affine.proofs.Steps.{after, fault_then, fault_same, vars_from}
 
 -- what holds of all elements holds of one
 pub one_of_all : {A : Type 0} (P : A → Type 0) (xs : List A) (i : ℕ) (x : A) → All P xs → slice_get xs i ≡ Some x → P x

@@ -1,22 +1,21 @@
 -- The solved forms of a flat model are a solution, and two solutions agree.
 use Rattle.std.proofs.Common.{◌≡◌, ◌∙◌, ◌<◌, ◌≤◌, ◌+◌, ℕ, List, [], ◌∷◌, ◌++◌, length, get_or, refl, sym, ap, subst, arith, inl, inr, Bool, true, false, append-nil, append_assoc}
-use Rattle.std.specs.Prelude.{Option, Some, None, slice_get, ◌≢◌, ◌⊎◌, All, Contains, nat_eq, nat_lt, if◌then◌else◌, Result, Ok, Err}
+use Rattle.std.specs.Prelude.{Option, Some, None, slice_get, ◌≢◌, ◌⊎◌, Contains, nat_eq, nat_lt, if◌then◌else◌, Result, Ok, Err}
 use Prim.Native.Nat.{zero, suc}
 use Rattle.std.proofs.lemmas.Bool.{cases_eq, cases_lt}
 use Rattle.std.proofs.lemmas.Bool.Decides.{nat_tests}
-use Rattle.std.proofs.lemmas.Option.{slice_get-get_or}
-use Rattle.std.proofs.lemmas.List.Elements.{All-contains, Contains-append_left, Contains-append_right, Contains-append_cases, Contains-push, Contains-push_cases}
+use Rattle.std.proofs.lemmas.List.Elements.{All-contains, Contains-append_left, Contains-append_right, Contains-append_cases, Contains-push_cases}
 use Rattle.mu_tree.specs.declared.flat.FlatRole.{FlatRole}
 use Rattle.mu_tree.specs.declared.flat.FlatRole.TheVariants.{State, Discrete, Algebraic}
 use Rattle.mu_tree.specs.FlatExpression.{FlatExpression, Constant, Variable, Previous, Now, Sum, Product, Power, FlatTerms, no_terms, term, FlatFactors, no_factors, factor, FlatVariable, FlatEquationTree, FlatAction, FlatBranchTree, FlatModelTree}
-use Rattle.mu_tree.specs.FlatModels.{HasRole, IsFlatExpression, AreFlatTerms, AreFlatFactors, IsFlatEquation, IsFlatModel, target_role}
-use Rattle.mu_causal.specs.Causality.{IsReady, IsNext, Follow, IsOrder}
+use Rattle.mu_tree.specs.FlatModels.{IsFlatExpression, AreFlatTerms, AreFlatFactors, IsFlatEquation, IsFlatModel, target_role}
+use Rattle.mu_causal.specs.Causality.{IsReady, Follow, IsOrder}
 use Rattle.mu_causal.specs.Dependencies.{names_of, names_of_terms, names_of_factors, IsAlgebraic, DependsOn, WantsEquation, wants_equation, numbers_from, AreCounted}
 use Rattle.mu_forms.specs.declared.fault.AffineErr.{AffineErr}
 use Rattle.mu_forms.specs.declared.form.Sizes.{Sizes}
 use Rattle.mu_forms.specs.AffineForm.{AffineForm}
 use Rattle.mu_forms.specs.Parts.{kept, then_form, join_forms, multiply_forms, raise_form}
-use Rattle.mu_affine.specs.FormOf.{Context, variable_form, form_of, sum_form, product_of}
+use Rattle.mu_affine.specs.FormOf.{variable_form, form_of, sum_form, product_of}
 use Rattle.mu_affine.specs.Solution.{sizes_of, equation_context, clause_context, IsSolution}
 use Rattle.mu_affine.specs.Normal.{Taken, then_take, counted, right_side, solve, solve_all, keep, keep_states, condition_form, action_form, keep_actions, keep_branches, keep_clauses, nothing_taken, forms_of}
 use Rattle.mu_affine.proofs.Bridges.{state_place, discrete_place}
@@ -331,7 +330,7 @@ agree_along m flat counted F G first second (u ∷ vs) listed follow same v ther
         let side : right_side m.equations u ≡ found.0.value = right_is m.equations 1 u one.0 found.0 one.1 found.1 found.2 in
         let der : found.0.der ≡ false = no_derivative m found.0 u (All-contains (IsFlatEquation m.vars) m.equations found.0 flat.equations found.1) found.2 ready.there in
         let forms : form_of (equation_context (sizes_of m) F) found.0.value ≡ form_of (equation_context (sizes_of m) G) found.0.value =
-            same_form (sizes_of m) F G found.0.value (λ w named high. same w (ready.ready w (named_depends m flat counted u ready.there w (subst (λ e. Contains (names_of e) w) (sym side) named) high))) in
+        same_form (sizes_of m) F G found.0.value (λ w named high. same w (ready.ready w (named_depends m flat counted u ready.there w (subst (λ e. Contains (names_of e) w) (sym side) named) high))) in
         let both : F found.0.target ≡ G found.0.target = same_ok (F found.0.target) (G found.0.target) (sym (first found.0 found.1 der) ∙ forms ∙ second found.0 found.1 der) in
         subst (λ k. F k ≡ G k) found.2 both
 

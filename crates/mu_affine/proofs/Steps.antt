@@ -1,22 +1,20 @@
 -- Steps that follow each other, and their faults.
-use Rattle.std.proofs.Common.{◌≡◌, ◌∙◌, ◌<◌, ◌+◌, ℕ, List, [], ◌∷◌, ◌++◌, length, drop, get_or, map, add-one, refl, sym, ap}
+use Rattle.std.proofs.Common.{◌≡◌, ◌∙◌, ◌<◌, ◌+◌, ℕ, List, ◌∷◌, length, drop, get_or, map, add-one, sym, ap}
 use Rattle.std.specs.Prelude.{Result, Ok, Err}
 use Prim.Native.Nat.{suc}
 use Rattle.std.proofs.Math.Seq.{drop-cons}
 use Rattle.mu_tree.specs.declared.flat.FlatStatement.{FlatStatement}
 use Rattle.mu_tree.specs.declared.flat.FlatBranch.{FlatBranch}
 use Rattle.mu_tree.specs.declared.flat.FlatClause.{FlatClause}
-use Rattle.mu_tree.specs.FlatExpression.{FlatModelTree, FlatAction, FlatBranchTree, flat_action, flat_branch, flat_clause}
+use Rattle.mu_tree.specs.FlatExpression.{FlatModelTree, flat_action, flat_branch, flat_clause}
 use Rattle.mu_forms.specs.declared.fault.AffineErr.{AffineErr}
 use Rattle.mu_forms.specs.declared.fault.AffineErr.TheVariants.{NotAffine, TimeHere, ConstFault, TooDense, Memory}
 use Rattle.mu_forms.specs.declared.form.Sizes.{Sizes}
 use Rattle.mu_forms.specs.declared.form.Place.{Place}
-use Rattle.mu_forms.specs.declared.form.ExactForm.{ExactForm}
 use Rattle.mu_forms.specs.AffineForm.{AffineForm}
-use Rattle.mu_forms.specs.Forms.{form_meaning}
 use Rattle.mu_forms.specs.Parts.{IsAnswer}
 use Rattle.mu_affine.specs.Solution.{clause_context}
-use Rattle.mu_affine.specs.Normal.{Taken, then_take, counted, keep, solve, solve_all, action_form, condition_form, keep_actions, keep_branches, keep_clauses}
+use Rattle.mu_affine.specs.Normal.{Taken, then_take, keep, solve, solve_all, action_form, condition_form, keep_actions, keep_branches, keep_clauses}
 use Rattle.mu_affine.specs.Kept.{IsAffineFault}
 use Rattle.mu_affine.specs.Normal.{forms_of}
 use Rattle.mu_affine.specs.Takings.{IsFaultOf}

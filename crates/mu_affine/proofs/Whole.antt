@@ -1,24 +1,23 @@
 -- The forms of a flat model as a whole: what the parts are given, and what they answer together.
-use Rattle.std.proofs.Common.{◌≡◌, ◌∙◌, ◌<◌, ◌≤◌, ◌+◌, ◌^◌, ℕ, List, [], ◌∷◌, ◌++◌, length, map, refl, sym, ap, ap₂, subst, arith}
-use Rattle.std.specs.Prelude.{Some, slice_get, All, Result, Ok, Err}
+use Rattle.std.proofs.Common.{◌≡◌, ◌∙◌, ◌<◌, ◌≤◌, ◌+◌, ◌^◌, ℕ, List, [], ◌∷◌, ◌++◌, length, map, sym, ap, ap₂, subst, arith}
+use Rattle.std.specs.Prelude.{slice_get, All, Result, Ok}
 use Rattle.std.proofs.lemmas.Option.{slice_get_within}
 use Rattle.std.proofs.lemmas.List.Elements.{All-nil, All-cons, All-weaker}
 use Rattle.std.proofs.lemmas.List.{length-map}
 use Rattle.mu_tree.specs.declared.flat.FlatModel.{FlatModel}
 use Rattle.mu_tree.specs.declared.flat.FlatRole.TheVariants.{State, Discrete}
-use Rattle.mu_tree.specs.FlatExpression.{flat_model, flat_variable, FlatVariable, FlatEquationTree, FlatAction, FlatBranchTree, FlatModelTree}
+use Rattle.mu_tree.specs.FlatExpression.{flat_model, flat_variable, FlatBranchTree, FlatModelTree}
 use Rattle.mu_tree.specs.FlatModels.{IsFlatEquation, IsFlatAction, IsFlatBranch, IsFlatClause, IsFlatModel}
 use Rattle.mu_causal.specs.Causality.{Follow, IsOrder}
 use Rattle.mu_causal.specs.Dependencies.{IsAlgebraic, DependsOn}
 use Rattle.mu_forms.specs.declared.fault.AffineErr.{AffineErr}
 use Rattle.mu_forms.specs.declared.form.Sizes.{Sizes}
-use Rattle.mu_forms.specs.declared.form.ExactForm.{ExactForm}
 use Rattle.mu_forms.specs.declared.form.Forms.{Forms}
 use Rattle.mu_forms.specs.AffineForm.{AffineForm}
 use Rattle.mu_forms.specs.Forms.{form_meaning, IsFinished}
 use Rattle.mu_affine.specs.declared.counting.CountedForms.{CountedForms}
 use Rattle.mu_affine.specs.Solution.{count_of_role, sizes_of}
-use Rattle.mu_affine.specs.Normal.{Taken, then_take, solve_all, nothing_taken, keep_states, keep_clauses, forms_of}
+use Rattle.mu_affine.specs.Normal.{Taken, then_take, solve_all, nothing_taken, keep_states, keep_clauses}
 use Rattle.mu_affine.specs.Kept.{equation_place, clause_place, AreForms, IsAffineFault}
 use Rattle.mu_affine.specs.Walks.{forms_in, IsNumbered, IsNumberedAction}
 use Rattle.mu_affine.specs.Takings.{IsFaultOf, of_equations, of_clauses, solved_so_far, kept_so_far, IsKept, IsNumberedBranch}

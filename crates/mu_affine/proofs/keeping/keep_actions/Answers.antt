@@ -1,5 +1,5 @@
-use Rattle.std.proofs.Common.{◌≡◌, ◌∙◌, ◌<◌, ◌≤◌, ◌^◌, ◌+◌, ℕ, List, length, drop, map, refl, sym, ap, subst, arith}
-use Rattle.std.specs.Prelude.{Result, Ok, Err}
+use Rattle.std.proofs.Common.{◌∙◌, length, map, sym}
+use Rattle.std.specs.Prelude.{Result}
 use Rattle.std.proofs.lemmas.Result.{err_from_is_err_and}
 use Rattle.mu_tree.specs.declared.flat.FlatStatement.{FlatStatement}
 use Rattle.mu_tree.specs.FlatExpression.{flat_action}
@@ -28,7 +28,7 @@ returns-in_err-form c =
     let old : CountedForms = c.loop-action.kept in
     let part : Result AffineForm AffineErr = action_part c.args.sizes c.args.solved.now d in
     rw (q.1, q.2) (action_fails c.args.sizes c.args.solved.now c.args.actions.now c.loop-action.action-index d old (keep_actions c.args.sizes (map flat_action c.args.actions.now) (kept_so_far c.args.solved.now c.args.kept.now)) fault c.loop-action-test.true c.action-item.is c.loop-action.invariant.rest
-      (keep_part_fault c.args.sizes part (kept_so_far c.args.solved.now old) fault (answer_fault (of_clauses c.args.sizes) part fault c.in_err-form.ensures)))
+    (keep_part_fault c.args.sizes part (kept_so_far c.args.solved.now old) fault (answer_fault (of_clauses c.args.sizes) part fault c.in_err-form.ensures)))
 
 pub returns-in_err-keep : goal.returns-in_err-keep
 returns-in_err-keep c =
@@ -39,7 +39,7 @@ returns-in_err-keep c =
     let f : ExactForm = c.in_ok-form.form in
     let part : Result AffineForm AffineErr = action_part c.args.sizes c.args.solved.now d in
     rw (q.1, q.2) (action_fails c.args.sizes c.args.solved.now c.args.actions.now c.loop-action.action-index d old (keep_actions c.args.sizes (map flat_action c.args.actions.now) (kept_so_far c.args.solved.now c.args.kept.now)) fault c.loop-action-test.true c.action-item.is c.loop-action.invariant.rest
-      (keep_count_fault c.args.sizes part (kept_so_far c.args.solved.now old) (form_meaning f) fault c.in_ok-form.ensures.0 (c.in_err-keep.ensures (of_clauses c.args.sizes) c.in_ok-form.ensures.1)))
+    (keep_count_fault c.args.sizes part (kept_so_far c.args.solved.now old) (form_meaning f) fault c.in_ok-form.ensures.0 (c.in_err-keep.ensures (of_clauses c.args.sizes) c.in_ok-form.ensures.1)))
 
 pub loop-action-preserved : goal.loop-action-preserved
 loop-action-preserved c =

@@ -1,5 +1,5 @@
-use Rattle.std.proofs.Common.{◌≡◌, ◌∙◌, ◌<◌, ◌≤◌, ◌^◌, ◌+◌, ℕ, List, length, drop, map, refl, sym, ap, subst, arith}
-use Rattle.std.specs.Prelude.{Result, Ok, Err, All}
+use Rattle.std.proofs.Common.{◌≡◌, ◌∙◌, length, map, sym, ap, subst}
+use Rattle.std.specs.Prelude.{Result, Ok, All}
 use Rattle.std.proofs.lemmas.Result.{err_from_is_err_and}
 use Rattle.mu_tree.specs.declared.flat.FlatBranch.{FlatBranch}
 use Rattle.mu_tree.specs.FlatExpression.{flat_action, flat_branch}
@@ -8,12 +8,12 @@ use Rattle.mu_forms.specs.declared.form.ExactForm.{ExactForm}
 use Rattle.mu_forms.specs.AffineForm.{AffineForm, coefficient_count}
 use Rattle.mu_forms.specs.Forms.{form_meaning}
 use Rattle.mu_affine.specs.declared.counting.CountedForms.{CountedForms}
-use Rattle.mu_affine.specs.Normal.{Taken, keep, keep_actions, keep_branches}
+use Rattle.mu_affine.specs.Normal.{keep_actions, keep_branches}
 use Rattle.mu_affine.specs.Walks.{IsNumberedAction}
-use Rattle.mu_affine.specs.Takings.{of_clauses, kept_so_far, IsKept, KeepsAll, IsNumberedBranch, IsFaultOf}
+use Rattle.mu_affine.specs.Takings.{of_clauses, kept_so_far, IsNumberedBranch, IsFaultOf}
 use Rattle.mu_affine.proofs.Counts.{counted_few}
 use Rattle.mu_affine.proofs.Equations.{mapped_one}
-use Rattle.mu_affine.proofs.Steps.{answer_fault, fault_same}
+use Rattle.mu_affine.proofs.Steps.{answer_fault}
 use Rattle.mu_affine.proofs.KeptForms.{one_kept, keep_part_fault, keep_count_fault, keep_done, condition_part, branch_more, condition_fails, body_fails}
 use Rattle.mu_affine.proofs.keeping.keep_branches.Goals as goal
 
@@ -44,7 +44,7 @@ returns-in_err-form c =
     let old : CountedForms = c.loop-branch.kept in
     let part : Result AffineForm AffineErr = condition_part c.args.sizes c.args.solved.now d in
     rw (q.1, q.2) (condition_fails c.args.sizes c.args.solved.now c.args.branches.now c.loop-branch.branch-index d old (keep_branches c.args.sizes (map flat_branch c.args.branches.now) (kept_so_far c.args.solved.now c.args.kept.now)) fault c.loop-branch-test.true c.branch-item.is c.loop-branch.invariant.rest
-      (keep_part_fault c.args.sizes part (kept_so_far c.args.solved.now old) fault (answer_fault (of_clauses c.args.sizes) part fault c.in_err-form.ensures)))
+    (keep_part_fault c.args.sizes part (kept_so_far c.args.solved.now old) fault (answer_fault (of_clauses c.args.sizes) part fault c.in_err-form.ensures)))
 
 pub returns-in_err-keep : goal.returns-in_err-keep
 returns-in_err-keep c =
@@ -55,7 +55,7 @@ returns-in_err-keep c =
     let f : ExactForm = c.in_ok-form.form in
     let part : Result AffineForm AffineErr = condition_part c.args.sizes c.args.solved.now d in
     rw (q.1, q.2) (condition_fails c.args.sizes c.args.solved.now c.args.branches.now c.loop-branch.branch-index d old (keep_branches c.args.sizes (map flat_branch c.args.branches.now) (kept_so_far c.args.solved.now c.args.kept.now)) fault c.loop-branch-test.true c.branch-item.is c.loop-branch.invariant.rest
-      (keep_count_fault c.args.sizes part (kept_so_far c.args.solved.now old) (form_meaning f) fault c.in_ok-form.ensures.0 (c.in_err-keep.ensures (of_clauses c.args.sizes) c.in_ok-form.ensures.1)))
+    (keep_count_fault c.args.sizes part (kept_so_far c.args.solved.now old) (form_meaning f) fault c.in_ok-form.ensures.0 (c.in_err-keep.ensures (of_clauses c.args.sizes) c.in_ok-form.ensures.1)))
 
 pub returns-in_err-keep_actions : goal.returns-in_err-keep_actions
 returns-in_err-keep_actions c =
@@ -68,9 +68,9 @@ returns-in_err-keep_actions c =
     let part : Result AffineForm AffineErr = condition_part c.args.sizes c.args.solved.now d in
     let kept = c.in_ok-keep.ensures (of_clauses c.args.sizes) c.in_ok-form.ensures.1 in
     let failed : IsFaultOf (keep_actions c.args.sizes (flat_branch d).body (kept_so_far c.args.solved.now between)) fault =
-        subst (λ xs. IsFaultOf (keep_actions c.args.sizes (map flat_action xs) (kept_so_far c.args.solved.now between)) fault) c.deref.ensures.value c.in_err-keep_actions.ensures in
+    subst (λ xs. IsFaultOf (keep_actions c.args.sizes (map flat_action xs) (kept_so_far c.args.solved.now between)) fault) c.deref.ensures.value c.in_err-keep_actions.ensures in
     rw (q.1, q.2) (body_fails c.args.sizes c.args.solved.now c.args.branches.now c.loop-branch.branch-index d old between (keep_branches c.args.sizes (map flat_branch c.args.branches.now) (kept_so_far c.args.solved.now c.args.kept.now)) fault c.loop-branch-test.true c.branch-item.is c.loop-branch.invariant.rest
-      (keep_done c.args.sizes c.args.solved.now part old between f c.in_ok-form.ensures.0 kept.0 kept.1) failed)
+    (keep_done c.args.sizes c.args.solved.now part old between f c.in_ok-form.ensures.0 kept.0 kept.1) failed)
 
 pub loop-branch-preserved : goal.loop-branch-preserved
 loop-branch-preserved c =
@@ -82,7 +82,7 @@ loop-branch-preserved c =
     let part : Result AffineForm AffineErr = condition_part c.args.sizes c.args.solved.now d in
     let kept = c.in_ok-keep.ensures (of_clauses c.args.sizes) c.in_ok-form.ensures.1 in
     let body : keep_actions c.args.sizes (flat_branch d).body (kept_so_far c.args.solved.now between) ≡ Ok (kept_so_far c.args.solved.now new) =
-        ap (λ xs. keep_actions c.args.sizes (map flat_action xs) (kept_so_far c.args.solved.now between)) (sym c.deref.ensures.value) ∙ c.in_ok-keep_actions.ensures.0 in
+    ap (λ xs. keep_actions c.args.sizes (map flat_action xs) (kept_so_far c.args.solved.now between)) (sym c.deref.ensures.value) ∙ c.in_ok-keep_actions.ensures.0 in
     record {
       rest = sym (branch_more c.args.sizes c.args.solved.now c.args.branches.now c.loop-branch.branch-index d old between new c.loop-branch-test.true c.branch-item.is (keep_done c.args.sizes c.args.solved.now part old between f c.in_ok-form.ensures.0 kept.0 kept.1) body) ∙ c.loop-branch.invariant.rest;
       kept = c.in_ok-keep_actions.ensures.1;

@@ -1,5 +1,5 @@
-use Rattle.std.proofs.Common.{◌≡◌, ◌∙◌, ◌<◌, ◌≤◌, ◌^◌, ◌+◌, ℕ, List, length, drop, map, refl, sym, ap, subst, arith}
-use Rattle.std.specs.Prelude.{Result, Ok, Err, All}
+use Rattle.std.proofs.Common.{◌≡◌, ◌∙◌, length, map, sym, ap, subst}
+use Rattle.std.specs.Prelude.{Ok, All}
 use Rattle.std.proofs.lemmas.Result.{err_from_is_err_and}
 use Rattle.mu_tree.specs.declared.flat.FlatClause.{FlatClause}
 use Rattle.mu_tree.specs.FlatExpression.{flat_branch, flat_clause}
@@ -23,7 +23,7 @@ returns-in_err-keep_branches c =
     let d : FlatClause = c.clause-item.result in
     let old : CountedForms = c.loop-clause.kept in
     let failed : IsFaultOf (keep_branches c.args.sizes (flat_clause d) (kept_so_far c.args.solved.now old)) fault =
-        subst (λ xs. IsFaultOf (keep_branches c.args.sizes (map flat_branch xs) (kept_so_far c.args.solved.now old)) fault) c.deref.ensures.value c.in_err-keep_branches.ensures in
+    subst (λ xs. IsFaultOf (keep_branches c.args.sizes (map flat_branch xs) (kept_so_far c.args.solved.now old)) fault) c.deref.ensures.value c.in_err-keep_branches.ensures in
     rw (q.1, q.2) (clause_fails c.args.sizes c.args.solved.now c.args.clauses.now c.loop-clause.clause-index d old (keep_clauses c.args.sizes (map flat_clause c.args.clauses.now) (kept_so_far c.args.solved.now c.args.kept.now)) fault c.loop-clause-test.true c.clause-item.is c.loop-clause.invariant.rest failed)
 
 pub loop-clause-preserved : goal.loop-clause-preserved
@@ -32,7 +32,7 @@ loop-clause-preserved c =
     let old : CountedForms = c.loop-clause.kept in
     let new : CountedForms = c.keep_branches.new.kept in
     let branches : keep_branches c.args.sizes (flat_clause d) (kept_so_far c.args.solved.now old) ≡ Ok (kept_so_far c.args.solved.now new) =
-        ap (λ xs. keep_branches c.args.sizes (map flat_branch xs) (kept_so_far c.args.solved.now old)) (sym c.deref.ensures.value) ∙ c.in_ok-keep_branches.ensures.0 in
+    ap (λ xs. keep_branches c.args.sizes (map flat_branch xs) (kept_so_far c.args.solved.now old)) (sym c.deref.ensures.value) ∙ c.in_ok-keep_branches.ensures.0 in
     record {
       rest = sym (clause_more c.args.sizes c.args.solved.now c.args.clauses.now c.loop-clause.clause-index d old new c.loop-clause-test.true c.clause-item.is branches) ∙ c.loop-clause.invariant.rest;
       kept = c.in_ok-keep_branches.ensures.1;

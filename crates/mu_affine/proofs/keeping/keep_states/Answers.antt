@@ -1,5 +1,5 @@
-use Rattle.std.proofs.Common.{◌≡◌, ◌∙◌, ◌<◌, ◌≤◌, ◌^◌, ◌+◌, ◌-◌, ℕ, List, [], ◌∷◌, ◌++◌, length, map, refl, sym, ap, subst, arith}
-use Rattle.std.specs.Prelude.{Result, Ok, Err}
+use Rattle.std.proofs.Common.{◌≡◌, ◌∙◌, ◌≤◌, ◌+◌, ℕ, length, map, refl, sym, ap, arith}
+use Rattle.std.specs.Prelude.{Result, Ok}
 use Rattle.std.proofs.lemmas.Result.{err_from_is_err_and}
 use Rattle.mu_tree.specs.FlatExpression.{flat_model, flat_equation}
 use Rattle.mu_forms.specs.declared.fault.AffineErr.{AffineErr}
@@ -36,7 +36,7 @@ returns-in_err-form c =
     let given : Result AffineForm AffineErr = form_of (equation_context c.args.sizes (forms_in c.args.solved.now)) (right_side (map flat_equation c.deref.result.now) v) in
     let same : given ≡ part = part_along c.args.sizes c.args.solved.now c.args.solved.now c.deref.result.now c.args.m.now.equations.items v refl c.deref.ensures.value in
     rw (q.1, q.2) (state_fails (flat_model c.args.m.now) c.args.sizes c.args.solved.now v old (keep_states (flat_model c.args.m.now) 0 c.args.sizes.states (kept_so_far c.args.solved.now c.args.kept.now)) fault c.requires.sizes c.loop-var-test.true c.loop-var.invariant.rest
-      (keep_part_fault c.args.sizes part (kept_so_far c.args.solved.now old) fault (fault_same given part fault same (answer_fault (of_equations c.args.sizes) given fault c.in_err-form.ensures))))
+    (keep_part_fault c.args.sizes part (kept_so_far c.args.solved.now old) fault (fault_same given part fault same (answer_fault (of_equations c.args.sizes) given fault c.in_err-form.ensures))))
 
 pub returns-in_err-keep : goal.returns-in_err-keep
 returns-in_err-keep c =
@@ -48,7 +48,7 @@ returns-in_err-keep c =
     let part : Result AffineForm AffineErr = state_part (flat_model c.args.m.now) c.args.sizes c.args.solved.now v in
     let is : part ≡ Ok (form_meaning f) = sym (part_along c.args.sizes c.args.solved.now c.args.solved.now c.deref.result.now c.args.m.now.equations.items v refl c.deref.ensures.value) ∙ c.in_ok-form.ensures.0 in
     rw (q.1, q.2) (state_fails (flat_model c.args.m.now) c.args.sizes c.args.solved.now v old (keep_states (flat_model c.args.m.now) 0 c.args.sizes.states (kept_so_far c.args.solved.now c.args.kept.now)) fault c.requires.sizes c.loop-var-test.true c.loop-var.invariant.rest
-      (keep_count_fault c.args.sizes part (kept_so_far c.args.solved.now old) (form_meaning f) fault is (c.in_err-keep.ensures (of_equations c.args.sizes) c.in_ok-form.ensures.1)))
+    (keep_count_fault c.args.sizes part (kept_so_far c.args.solved.now old) (form_meaning f) fault is (c.in_err-keep.ensures (of_equations c.args.sizes) c.in_ok-form.ensures.1)))
 
 pub loop-var-preserved : goal.loop-var-preserved
 loop-var-preserved c =
@@ -68,6 +68,7 @@ loop-var-preserved c =
 
 pub returns : goal.returns
 returns c =
-    let past : c.args.sizes.states ≤ c.loop-var.var = omega (arith, c.loop-var-test.false) in
-    (sym c.loop-var.invariant.rest ∙ states_end (flat_model c.args.m.now) c.args.sizes c.loop-var.var (kept_so_far c.args.solved.now c.loop-var.kept) past,
-    record { kept = c.loop-var.invariant.kept; past = omega (arith, past, c.loop-var.invariant.one_each); few = c.loop-var.invariant.few })
+    let past : c.args.sizes.states ≤ c.loop-var.var = omega (arith, c.loop-var-test.false) in (
+      sym c.loop-var.invariant.rest ∙ states_end (flat_model c.args.m.now) c.args.sizes c.loop-var.var (kept_so_far c.args.solved.now c.loop-var.kept) past,
+      record { kept = c.loop-var.invariant.kept; past = omega (arith, past, c.loop-var.invariant.one_each); few = c.loop-var.invariant.few },
+    )

@@ -1,4 +1,4 @@
-use Rattle.std.proofs.Common.{◌≡◌, ◌≤◌, ◌+◌, length, map, drop}
+use Rattle.std.proofs.Common.{◌≡◌, ◌≤◌, ◌+◌, map, drop}
 use Rattle.mu_tree.specs.declared.flat.FlatRole.TheVariants.{State, Discrete}
 use Rattle.mu_tree.specs.FlatExpression.{flat_variable}
 use Rattle.mu_affine.specs.Solution.{count_of_role}
