@@ -4,6 +4,10 @@
 #[cfg(test)]
 mod agendas;
 #[cfg(test)]
+mod answers;
+#[cfg(test)]
+mod certificate_lines;
+#[cfg(test)]
 mod certificates;
 #[cfg(test)]
 mod checks;
@@ -15,6 +19,8 @@ mod lists;
 mod machines;
 #[cfg(test)]
 mod matrices;
+#[cfg(test)]
+mod plays;
 #[cfg(test)]
 mod quanta;
 #[cfg(test)]
