@@ -1,14 +1,14 @@
--- How many forms a flat model has: one for each state, and one for each condition and statement.
+-- How many forms are kept by each step.
 use Rattle.std.proofs.Common.{◌≡◌, ◌∙◌, ap, sym, refl, arith, ℕ, zero, suc, ◌+◌, List, [], ◌∷◌, ◌++◌, length, Result, Ok, Err, length-append}
 use Rattle.std.specs.Prelude.{sum_by, nat_eq, if◌then◌else◌}
 use Rattle.std.proofs.lemmas.List.Sums.{sum_by-cons}
 use Rattle.mu_affine.specs.FormOf.{form_of}
-use Rattle.mu_affine.specs.Normal.{Taken, then_take, counted, solve, solve_all, keep, keep_states, condition_form, action_form, keep_actions, keep_branches, keep_clauses, right_side, nothing_taken, forms_of}
+use Rattle.mu_affine.specs.Normal.{Taken, then_take, counted, solve, solve_all, keep, keep_states, condition_form, action_form, keep_actions, keep_branches, right_side}
 use Rattle.mu_affine.specs.Solution.{sizes_of, equation_context, clause_context}
 use Rattle.mu_forms.specs.AffineForm.{AffineForm}
 use Rattle.mu_forms.specs.declared.fault.AffineErr.{AffineErr}
 use Rattle.mu_forms.specs.declared.form.Sizes.{Sizes}
-use Rattle.mu_machine.specs.Places.{branch_forms, clause_forms}
+use Rattle.mu_machine.specs.Places.{branch_forms}
 use Rattle.mu_tree.specs.FlatExpression.{FlatAction, FlatBranchTree, FlatModelTree}
 
 -- of two steps that succeed the first one does
@@ -67,21 +67,3 @@ keep_branches_length n (b ∷ bs) t u e =
     let body = keep_actions_length n b.body one.0 two.0 two.1 in
     let later = keep_branches_length n bs two.0 u two.2 in
     omega (arith, now, body, later, sum_by-cons branch_forms b bs)
-
-keep_clauses_length : (n : Sizes) (cs : List (List FlatBranchTree)) (t u : Taken) → keep_clauses n cs t ≡ Ok u → length u.kept ≡ length t.kept + sum_by clause_forms cs
-keep_clauses_length n [] t u e = let s = ap (λ (x : Taken). length x.kept) (made t u e) in omega (arith, s)
-keep_clauses_length n (bs ∷ cs) t u e =
-    let one = taken_of (keep_branches n bs t) (keep_clauses n cs) u e in
-    let now = keep_branches_length n bs t one.0 one.1 in
-    let later = keep_clauses_length n cs one.0 u one.2 in
-    omega (arith, now, later, sum_by-cons clause_forms bs cs)
-
--- the forms that are kept are as many as states, conditions and statements
-pub kept_length : (m : FlatModelTree) (order : List ℕ) (t : Taken) → forms_of m order ≡ Ok t → length t.kept ≡ (sizes_of m).states + sum_by clause_forms m.clauses
-kept_length m order t e =
-    let one = taken_of (solve_all m order nothing_taken) (λ t. then_take (keep_states m 0 (sizes_of m).states t) (keep_clauses (sizes_of m) m.clauses)) t e in
-    let two = taken_of (keep_states m 0 (sizes_of m).states one.0) (keep_clauses (sizes_of m) m.clauses) t one.2 in
-    let none = ap (λ (xs : List AffineForm). length xs) (solve_all_kept m order nothing_taken one.0 one.1) in
-    let states = keep_states_length m 0 (sizes_of m).states one.0 two.0 two.1 in
-    let clauses = keep_clauses_length (sizes_of m) m.clauses two.0 t two.2 in
-    omega (arith, none, states, clauses)
