@@ -1,5 +1,5 @@
 -- What a phase answers as its fault is a refusal of the source, or want of memory.
-use Rattle.std.proofs.Common.{◌≡◌, ap, sym, subst, refl, inl, inr, ◌⊎◌, ℕ, List, [], Err, Some, None}
+use Rattle.std.proofs.Common.{◌≡◌, ap, sym, subst, refl, inl, inr, ◌⊎◌, ℕ, List}
 use Rattle.mu_affine.specs.Kept.{AreForms, IsAffineFault}
 use Rattle.mu_forms.specs.declared.fault.AffineErr.{AffineErr}
 use Rattle.mu_forms.specs.declared.fault.AffineErr.TheVariants as forming
@@ -18,7 +18,6 @@ use Rattle.mu_lexer.specs.declared.lex.LexErr.TheVariants as lexing
 use Rattle.mu_lexer.specs.declared.token.Token.{Token}
 use Rattle.mu_machine.specs.Checks.{machine_checks, IsRefusal as IsLimit}
 use Rattle.mu_machine.specs.declared.fault.MachineErr.{MachineErr}
-use Rattle.mu_machine.specs.declared.fault.MachineErr.TheVariants as rounding
 use Rattle.mu_names.specs.Roles.{scope_of, IsRefusal}
 use Rattle.mu_names.specs.declared.fault.NameErr.{NameErr}
 use Rattle.mu_names.specs.declared.fault.NameErr.TheVariants as naming

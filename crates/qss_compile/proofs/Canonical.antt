@@ -1,8 +1,8 @@
 -- Finished forms that mean the same are the same.
-use Rattle.std.proofs.Common.{◌≡◌, ◌∙◌, ap, sym, subst, refl, inl, inr, ℕ, zero, suc, Bool, true, false, List, [], ◌∷◌, map, Ok, Some}
+use Rattle.std.proofs.Common.{◌≡◌, ◌∙◌, ap, sym, subst, refl, inl, inr, ℕ, suc, true, false, List, [], ◌∷◌, map, Ok, Some}
 use Rattle.std.specs.Prelude.{slice_get}
 use Rattle.std.proofs.lemmas.Bool.{cases_lt}
-use Rattle.std.specs.Ordering.{nat_cmp, is_eq, ordering_reverse}
+use Rattle.std.specs.Ordering.{is_eq, ordering_reverse}
 use Rattle.std.specs.declared.cmp.Ordering.{Ordering}
 use Rattle.std.specs.declared.cmp.Ordering.TheVariants.{Less, Equal, Greater}
 use Rattle.std.specs.BTreeMap.{is_at}
@@ -16,8 +16,8 @@ use Rattle.mu_affine.specs.Kept.{AreForms}
 use Rattle.mu_affine.specs.Normal.{Taken, forms_of}
 use Rattle.mu_affine.specs.Solution.{sizes_of}
 use Rattle.mu_forms.specs.AffineForm.{AffineForm, none, is_nonzero}
-use Rattle.mu_forms.specs.Forms.{form_meaning, IsCoefficient, AreFinished, IsCanonical}
-use Rattle.mu_forms.specs.Rows.{named, paired, pair_cmp, value_at, IsRising}
+use Rattle.mu_forms.specs.Forms.{form_meaning, IsCoefficient, IsCanonical}
+use Rattle.mu_forms.specs.Rows.{named, paired, value_at, IsRising}
 use Rattle.mu_forms.specs.declared.form.ExactEntry.{ExactEntry}
 use Rattle.mu_forms.specs.declared.form.ExactForm.{ExactForm}
 use Rattle.mu_forms.specs.declared.form.Forms.{Forms}

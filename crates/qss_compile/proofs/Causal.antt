@@ -2,7 +2,7 @@
 use Rattle.std.proofs.Common.{◌≡◌, ◌≢◌, ◌∙◌, ap, sym, subst, refl, arith, inl, inr, ◌⊎◌, ℕ, zero, suc, ◌<◌, true, false, Bool, List, [], ◌∷◌, length, Some, None}
 use Rattle.std.specs.declared.option.Option.{Option}
 use Rattle.std.specs.Prelude.{Contains, slice_get}
-use Rattle.std.proofs.lemmas.Bool.{cases_eq, cases_lt}
+use Rattle.std.proofs.lemmas.Bool.{cases_eq}
 use Rattle.std.proofs.lemmas.Option.{slice_get_within}
 use Rattle.mu_causal.specs.Causality.{IsOrder, IsCycle}
 use Rattle.mu_causal.specs.Dependencies.{names_of, IsAlgebraic, DependsOn, WantsEquation, wants_equation, equation_numbers, HasOneEquation, AreCounted, AreCountedBelow}

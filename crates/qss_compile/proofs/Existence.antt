@@ -34,7 +34,6 @@ use Rattle.qss_compile.specs.Causes.{of_lexer, of_parser, of_names, of_unrolling
 use Rattle.qss_compile.specs.Laws.{SourcesAreDecided}
 use Rattle.qss_compile.specs.Meanings.{LeadsTo, IsFirstRefusal, FlatSource, IsFlatOf, IsNotFlat, IsUnspelled, SpellsTree, FlatMeans, IsFlatRefused, TreeMeans, IsTreeRefused}
 use Rattle.qss_compile.specs.Phases.{LexerRefuses, Spells, ParserRefuses, AreFaultless, HasOrder, OrderRefuses, FormsRefuse, RoundingRefuses}
-use Rattle.qss_compile.specs.declared.fault.Refused.{Refused}
 use Rattle.qss_compile.proofs.Bridge.{forms_for}
 use Rattle.qss_compile.proofs.Causal.{order_decides}
 use Rattle.qss_compile.proofs.Deciding.{Decides, then_decides}

@@ -1,6 +1,6 @@
 -- Where the forms of a flat model are taken without a fault, there are exact forms of them.
-use Rattle.std.proofs.Common.{◌≡◌, ◌∙◌, ap, sym, subst, refl, arith, ℕ, zero, suc, ◌+◌, ◌<◌, ◌≤◌, Bool, true, false, List, [], ◌∷◌, ◌++◌, length, map, Result, Ok, Err, Some}
-use Rattle.std.specs.Prelude.{All, slice_get, nat_eq, nat_lt, if◌then◌else◌, ◌≢◌}
+use Rattle.std.proofs.Common.{◌≡◌, ◌∙◌, ap, sym, subst, refl, arith, ℕ, zero, suc, ◌+◌, ◌<◌, ◌≤◌, Bool, true, false, List, [], ◌∷◌, ◌++◌, length, map, Result, Ok, Some}
+use Rattle.std.specs.Prelude.{All, slice_get, nat_eq, nat_lt, if◌then◌else◌}
 use Rattle.std.proofs.lemmas.Bool.Decides.{nat_tests}
 use Rattle.mu_affine.proofs.Bridges.{equation_numbered, left_numbered, right_numbered, action_numbered}
 use Rattle.mu_affine.specs.FormOf.{form_of}
@@ -83,7 +83,7 @@ module _ (m : FlatModelTree) (flat : IsFlatModel m) where
       let two = taken_of (counted (sizes_of m) t.count one.0) (last one.0) u one.2 in
       let here : IsTidy (equation_place m) one.0 = side_tidy v t.solved good.solved one.0 one.1 in
       let new : AreTidy (sizes_of m) (λ w. if nat_eq w v then one.0 else t.solved w) =
-          λ w. elim (nat_eq w v) as (λ (b : Bool). IsTidy (equation_place m) (if b then one.0 else t.solved w)) [ true ↦ here | false ↦ good.solved w ] in
+      λ w. elim (nat_eq w v) as (λ (b : Bool). IsTidy (equation_place m) (if b then one.0 else t.solved w)) [ true ↦ here | false ↦ good.solved w ] in
       subst (IsGood m) (made _ u two.2) (record { solved = new; kept = good.kept })
 
   solve_all_good : (vs : List ℕ) (t u : Taken) → solve_all m vs t ≡ Ok u → IsGood m t → IsGood m u

@@ -15,7 +15,7 @@ use Rattle.mu_lexer.specs.declared.token.Kind.{Kind}
 use Rattle.mu_lexer.specs.declared.token.Kind.TheVariants as kind
 use Rattle.mu_lexer.specs.declared.token.Token.{Token}
 use Rattle.mu_lexer.specs.declared.token.TheConstants.{WORDS}
-use Rattle.mu_lexer.proofs.Places.{found_longest, found_none, size, size_within}
+use Rattle.mu_lexer.proofs.Places.{found_longest, found_none, size_within}
 use Rattle.mu_lexer.proofs.Progress.{Progress, start, over_blank, over_comment, over_token, finished, fault_here, no_tokens, no_error, only_error, error_at}
 use Rattle.mu_grammar.specs.Fronts.{IsToken}
 use Rattle.mu_grammar.specs.Symbols.{symbol_with, symbol_of, symbols}

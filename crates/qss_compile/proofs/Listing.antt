@@ -1,5 +1,5 @@
 -- A form whose coefficients are in lowest terms, and which is over a place, can be written down as an exact form.
-use Rattle.std.proofs.Common.{◌≡◌, ◌∙◌, ap, sym, subst, refl, arith, inl, inr, ◌⊎◌, ℕ, zero, suc, ◌+◌, ◌<◌, ◌≤◌, Bool, true, false, List, [], ◌∷◌, map}
+use Rattle.std.proofs.Common.{◌≡◌, ◌∙◌, ap, sym, subst, refl, arith, inl, inr, ◌⊎◌, ℕ, zero, suc, ◌+◌, ◌<◌, ◌≤◌, false, List, [], ◌∷◌, map}
 use Rattle.std.proofs.Math.Path.{fun_ext}
 use Rattle.std.proofs.lemmas.Bool.{cases_Bool, cases_eq}
 use Rattle.std.specs.List.{AllByRecursion, filter}
@@ -12,7 +12,7 @@ use Rattle.mu_forms.proofs.Finishing.{value_at-nonzeros, AreFinished-nonzeros}
 use Rattle.mu_forms.proofs.Fractions.{reduced_zero}
 use Rattle.mu_forms.proofs.Rows.{IsKeyOrder, level_self, nat_order, pair_order}
 use Rattle.mu_forms.specs.AffineForm.{AffineForm, none, is_nonzero}
-use Rattle.mu_forms.specs.Forms.{form_meaning, form_with, AreFinished, IsOver, IsFinished}
+use Rattle.mu_forms.specs.Forms.{form_meaning, AreFinished, IsOver, IsFinished}
 use Rattle.mu_forms.specs.Rows.{named, paired, pair_cmp, value_at, IsRising, AreReduced}
 use Rattle.mu_forms.specs.declared.form.ExactEntry.{ExactEntry}
 use Rattle.mu_forms.specs.declared.form.ExactForm.{ExactForm}
@@ -196,11 +196,11 @@ names_covered p f tidy v = elim (cases_Bool (is_nonzero (f.coefficient v))) [
 pairs_covered : (p : Place) (f : AffineForm) → IsTidy p f → (k : ℕ × ℕ) → IsIn k (pair_keys p) ⊎ (pair_value f k ≡ none)
 pairs_covered p f tidy k = elim (cases_Bool (is_nonzero (f.paired k.0 k.1))) [
   | inl some ↦
-    let low = (tidy.over.pairs k.0 k.1 some).0 in
-    let first = low.0 in
-    let second = low.1 in
-    let third = low.2 in
-    inl (in_rows (count_up p.sizes.states p.sizes.discretes) 0 p.sizes.states k.0 k.1 (omega arith) (omega (arith, first)) (counted_in p.sizes.states p.sizes.discretes k.1 second third))
+      let low = (tidy.over.pairs k.0 k.1 some).0 in
+      let first = low.0 in
+      let second = low.1 in
+      let third = low.2 in
+      inl (in_rows (count_up p.sizes.states p.sizes.discretes) 0 p.sizes.states k.0 k.1 (omega arith) (omega (arith, first)) (counted_in p.sizes.states p.sizes.discretes k.1 second third))
   | inr none_there ↦ inr (reduced_zero (f.paired k.0 k.1) (tidy.pairs k.0 k.1) none_there)
 ]
 
@@ -225,9 +225,9 @@ form_listed p f tidy =
     let name_reduced = tidy.names in
     let pair_reduced : (k : ℕ × ℕ) → IsReduced (pair_value f k) = λ k. tidy.pairs k.0 k.1 in
     let means : form_meaning (exact p f) ≡ f = same_form (form_meaning (exact p f)) f
-        (λ v. ap (λ xs. value_at nat_cmp xs v) of_names ∙ listed_value nat_cmp nat_order f.coefficient (name_keys p) names_sorted (names_covered p f tidy) name_reduced v)
-        (λ s d. ap (λ xs. value_at pair_cmp xs (s, d)) of_pairs ∙ listed_value pair_cmp pair_order (pair_value f) (pair_keys p) pairs_sorted (pairs_covered p f tidy) pair_reduced (s, d))
-        refl refl in (
+    (λ v. ap (λ xs. value_at nat_cmp xs v) of_names ∙ listed_value nat_cmp nat_order f.coefficient (name_keys p) names_sorted (names_covered p f tidy) name_reduced v)
+    (λ s d. ap (λ xs. value_at pair_cmp xs (s, d)) of_pairs ∙ listed_value pair_cmp pair_order (pair_value f) (pair_keys p) pairs_sorted (pairs_covered p f tidy) pair_reduced (s, d))
+    refl refl in (
       exact p f,
       means,
       record {

@@ -1,12 +1,11 @@
 -- Where variables can be told from others, and what needs what, there is an order or a cycle.
-use Rattle.std.proofs.Common.{◌≡◌, ◌∙◌, ◌⊎◌, ℕ, zero, suc, ◌+◌, ◌<◌, ◌≤◌, Bool, true, false, List, [], ◌∷◌, ◌++◌, length, get_or, set, take, drop, refl, sym, subst, arith, inl, inr}
+use Rattle.std.proofs.Common.{◌≡◌, ◌∙◌, ◌⊎◌, ℕ, zero, suc, ◌<◌, ◌≤◌, Bool, true, false, List, [], ◌∷◌, ◌++◌, length, get_or, set, take, drop, refl, subst, arith, inl, inr}
 use Rattle.std.specs.Prelude.{Contains}
 use Rattle.std.proofs.lemmas.Bool.{cases_Bool, cases_lt}
 use Rattle.std.proofs.lemmas.List.{get_or_default}
 use Rattle.std.proofs.Math.ListN.{length-set}
 use Rattle.mu_causal.specs.Causality.{IsReady, IsNext, Follow, IsOrder, IsCycle}
 use Rattle.mu_causal.specs.Marks.{IsMarked, IsUnmarked}
-use Rattle.mu_causal.specs.Rounds.{IsTurned}
 use Rattle.mu_causal.proofs.Listing.{unmarked_count, unmarked_count-set, not_both, Follow-push}
 use Rattle.mu_causal.proofs.Rounds.{Leads, IsRound, AreDistinct, Leads-push, round_from, distinct_drop, distinct_push, cycle_from_round, on_path_push, seen_push}
 

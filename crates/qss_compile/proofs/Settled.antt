@@ -12,8 +12,8 @@ use Rattle.mu_names.specs.declared.meaning.Meaning.{Meaning}
 use Rattle.mu_names.specs.declared.standing.Role.TheVariants.{State, Discrete, Algebraic, Parameter}
 use Rattle.mu_names.specs.declared.standing.Standing.{Standing}
 use Rattle.mu_names.specs.declared.standing.Standing.TheVariants.{Loop, Declared, Missing}
-use Rattle.mu_num.specs.Decimal.{Scaled, spelled, is_in_range, fraction_of, scaled_value, decimal_value}
-use Rattle.mu_num.specs.Fraction.{Fraction, whole, sum, difference, product, quotient, power, checked, checked_quotient, lowest, least_denominator, least_multiplier, is_small}
+use Rattle.mu_num.specs.Decimal.{spelled, is_in_range, fraction_of, scaled_value, decimal_value}
+use Rattle.mu_num.specs.Fraction.{Fraction, whole, sum, difference, product, quotient, power, checked, lowest, least_denominator, least_multiplier, is_small}
 use Rattle.mu_num.specs.declared.NumErr.{NumErr}
 use Rattle.mu_num.specs.declared.NumErr.TheVariants.{Range, ZeroDivisor}
 use Rattle.mu_tree.specs.Expression.{Expression, Number, Variable, Now, Previous, Sum, Product, Power, Reference, Whole, Element, Terms, no_terms, term, Factors, no_factors, factor}

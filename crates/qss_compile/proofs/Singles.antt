@@ -1,5 +1,5 @@
 -- Each phase gives at most one thing, or refuses for one cause, and not both.
-use Rattle.std.proofs.Common.{◌≡◌, ◌∙◌, ap, sym, subst, refl, arith, inl, inr, ◌⊎◌, ◌≢◌, ℕ, ◌<◌, ◌+◌, false, List, [], ◌∷◌, Result, Ok, Err, Some, None, zero}
+use Rattle.std.proofs.Common.{◌≡◌, ◌∙◌, ap, sym, subst, refl, arith, inl, inr, ◌⊎◌, ◌≢◌, ℕ, false, List, [], ◌∷◌, Result, Ok, Err, Some, None}
 use Rattle.std.specs.Prelude.{Contains}
 use Rattle.std.specs.declared.option.Option.{Option}
 use Rattle.std.proofs.lemmas.Bool.{cases_lt}
@@ -11,14 +11,12 @@ use Rattle.mu_causal.specs.declared.answer.CausalErr.TheVariants as ordering
 use Rattle.mu_causal.proofs.Cycles.{no_cycle}
 use Rattle.mu_causal.proofs.Orders.{one_order}
 use Rattle.mu_affine.specs.Kept.{AreForms}
-use Rattle.mu_affine.specs.Normal.{Taken, forms_of}
-use Rattle.mu_forms.specs.declared.fault.AffineErr.{AffineErr}
+use Rattle.mu_affine.specs.Normal.{forms_of}
 use Rattle.mu_forms.specs.declared.form.Forms.{Forms}
 use Rattle.mu_grammar.specs.Fronts.{JudgedOnce}
 use Rattle.mu_grammar.specs.ModelMachine.{model_machine}
 use Rattle.mu_grammar.specs.Models.{SpellsModel}
 use Rattle.mu_grammar.specs.Symbols.{symbols}
-use Rattle.mu_grammar.specs.declared.fault.ParseErr.{ParseErr}
 use Rattle.mu_grammar.proofs.Fronts.{unique}
 use Rattle.mu_grammar.proofs.Judged.{judged_once}
 use Rattle.mu_grammar.proofs.ModelDecides.{model_decides}
@@ -36,15 +34,13 @@ use Rattle.mu_names.specs.declared.fault.NameErr.TheVariants as naming
 use Rattle.mu_tree.specs.FlatExpression.{FlatModelTree}
 use Rattle.mu_tree.specs.ModelTree.{ModelTree}
 use Rattle.mu_unroll.specs.Unrolling.{unrolled}
-use Rattle.mu_unroll.specs.declared.fault.UnrollErr.{UnrollErr}
 use Rattle.mu_tree.specs.declared.flat.Settings.{Settings}
-use Rattle.qss_machine.specs.declared.system.Machine.{Machine}
 use Rattle.mu_machine.proofs.OneMachine.{one_machine}
 use Rattle.qss_compile.specs.Causes.{of_lexer, of_parser, of_names, of_unrolling, of_order, of_forms, of_rounding, without_names, with_names}
 use Rattle.qss_compile.specs.Laws.{AreAlike}
 use Rattle.qss_compile.specs.Meanings.{LeadsTo, IsFirstRefusal, FlatSource, IsFlatOf, IsNotFlat, IsUnspelled, SpellsTree, FlatMeans, IsFlatRefused, TreeMeans, IsTreeRefused, Means, IsRefused}
-use Rattle.qss_compile.specs.Phases.{LexerRefuses, Spells, ParserRefuses, NamesRefuse, UnrollingRefuses, HasOrder, OrderRefuses, FormsRefuse, RoundingRefuses}
-use Rattle.qss_compile.specs.declared.fault.ModelErr.TheVariants.{Names, Causal}
+use Rattle.qss_compile.specs.Phases.{LexerRefuses, Spells, ParserRefuses, NamesRefuse, HasOrder, OrderRefuses, FormsRefuse, RoundingRefuses}
+use Rattle.qss_compile.specs.declared.fault.ModelErr.TheVariants.{Names}
 use Rattle.qss_compile.specs.declared.fault.Refused.{Refused}
 use Rattle.qss_compile.proofs.Canonical.{one_forms}
 use Rattle.qss_compile.proofs.Deciding.{Single, then_single}

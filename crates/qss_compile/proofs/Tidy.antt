@@ -1,17 +1,17 @@
 -- The form of each expression of a flat model is over its place, with each coefficient in lowest terms.
-use Rattle.std.proofs.Common.{◌≡◌, ◌∙◌, ap, sym, subst, refl, arith, inl, inr, ◌⊎◌, ℕ, zero, suc, ◌+◌, ◌*◌, ◌<◌, ◌≤◌, Bool, true, false, List, Result, Ok, Err, ℤ, pos, ◌*ℤ◌}
+use Rattle.std.proofs.Common.{◌≡◌, ◌∙◌, ap, sym, subst, refl, arith, inl, inr, ◌⊎◌, ℕ, zero, suc, ◌+◌, ◌<◌, ◌≤◌, Bool, true, false, Result, Ok, Err, ℤ, pos, ◌*ℤ◌}
 use Rattle.std.specs.Prelude.{not, ◌&&◌, ◌^◌, if◌then◌else◌, nat_eq, nat_lt, nat_le, unsigned_abs}
 use Rattle.std.proofs.Math.IntN.{zero-*ℤ}
 use Rattle.std.proofs.Math.Nat.{eq-one_of_dvd-one}
 use Prim.Native.Nat.{◌∣◌}
-use Rattle.std.proofs.lemmas.Bool.{cases_Bool, cases_eq, cases_lt, and_parts}
+use Rattle.std.proofs.lemmas.Bool.{cases_Bool, and_parts}
 use Rattle.std.proofs.lemmas.Bool.Decides.{nat_tests}
 use Rattle.std.proofs.lemmas.Int.{ints}
 use Rattle.mu_affine.specs.FormOf.{Context, form_of, sum_form, product_of, variable_form}
 use Rattle.mu_affine.specs.Normal.{condition_form, action_form}
 use Rattle.mu_affine.specs.Walks.{IsNumbered, AreNumbered, AreNumberedFactors, IsNumberedAction}
 use Rattle.mu_forms.proofs.Checks.{any_from-some}
-use Rattle.mu_forms.proofs.Fractions.{IsReduced-none, zero_num, zero_from_num, lowest-zero, nonzero_from_size}
+use Rattle.mu_forms.proofs.Fractions.{IsReduced-none, zero_num, zero_from_num, lowest-zero}
 use Rattle.mu_forms.proofs.Making.{IsReduced-one}
 use Rattle.mu_forms.proofs.Products.{product_zero_left, product_zero_right, sum_zeros}
 use Rattle.mu_forms.proofs.Showing.{pair_shows}
@@ -111,9 +111,9 @@ all_small n f h =
     record {
       names = λ v low. affirmed (is_small (lowest (f.coefficient v))) (fails_at 0 (n.states + n.discretes + n.discretes) v (λ v. not (is_small (lowest (f.coefficient v)))) (negated large_name inner.0) (omega arith) (omega (arith, low)));
       pairs = λ s d p.
-        let first = p.0 in
-        affirmed (is_small (lowest (f.paired s d))) (fails_at n.states n.discretes d (λ d. not (is_small (lowest (f.paired s d))))
-        (fails_at 0 n.states s (λ s. any_from n.states n.discretes (λ d. not (is_small (lowest (f.paired s d))))) (negated large_pair inner.1) (omega arith) (omega (arith, first))) p.1 p.2);
+          let first = p.0 in
+          affirmed (is_small (lowest (f.paired s d))) (fails_at n.states n.discretes d (λ d. not (is_small (lowest (f.paired s d))))
+          (fails_at 0 n.states s (λ s. any_from n.states n.discretes (λ d. not (is_small (lowest (f.paired s d))))) (negated large_pair inner.1) (omega arith) (omega (arith, first))) p.1 p.2);
       time = middle.1;
     }
 

@@ -1,5 +1,5 @@
 -- A model that tokens spell has exponents of at most 8, and a branch in each clause.
-use Rattle.std.proofs.Common.{◌≡◌, ℕ, ◌-◌, ◌+◌, ◌<◌, ◌≤◌, Bool, true, false, List, [], ◌∷◌, ◌++◌, length, refl, arith, Some, None, nat_le, if◌then◌else◌}
+use Rattle.std.proofs.Common.{◌≡◌, ℕ, ◌-◌, ◌<◌, ◌≤◌, Bool, true, false, List, [], ◌∷◌, ◌++◌, length, refl, arith, Some, None, nat_le, if◌then◌else◌}
 use Rattle.std.specs.Prelude.{◌&&◌, All}
 use Rattle.std.proofs.lemmas.List.Elements.{All-nil, All-cons}
 use Rattle.mu_grammar.specs.Bodies.{IsBareEquation, derivative, algebraic, equation_kind, IsEquation, IsBareStatement, assign, restart, statement_kind, IsStatement, AreBranches, last_branch, branch_then, IsBareClause, when, clause_kind, IsClause}
@@ -9,9 +9,9 @@ use Rattle.mu_grammar.specs.Grammar.{Symbol, first_place, signed, scaled, sum_of
 use Rattle.mu_grammar.specs.Grammar as grammar
 use Rattle.mu_grammar.specs.Lists.{Runs, no_more, one_more, Listed, listed_end, listed_then}
 use Rattle.mu_grammar.specs.Loops.{Kind, IsItem, bare, loop, AreItems, no_items, item_then}
-use Rattle.mu_grammar.specs.Models.{Sections, sections, AddsEquation, adds_equation, AddsClause, adds_clause, AddsStart, adds_start, IsSection, equations, clauses, starts, SpellsModel, model}
-use Rattle.mu_tree.specs.Expression.{Expression, Signed, Scaled, Sum, Product, terms_of, factors_of}
-use Rattle.mu_tree.specs.ModelTree.{Condition, Range, EquationTree, EquationTrees, StatementTree, StatementTrees, BranchTree, ClauseTree, ClauseTrees, equations_of, statements_of, clauses_of, ModelTree}
+use Rattle.mu_grammar.specs.Models.{Sections, AddsEquation, adds_equation, AddsClause, adds_clause, AddsStart, adds_start, IsSection, equations, clauses, starts, SpellsModel, model}
+use Rattle.mu_tree.specs.Expression.{Expression, Signed, Scaled, Sum, terms_of, factors_of}
+use Rattle.mu_tree.specs.ModelTree.{Condition, Range, EquationTree, StatementTree, BranchTree, ClauseTree, equations_of, statements_of, clauses_of, ModelTree}
 use Rattle.mu_unroll.specs.WellFormed.{HasSmallPowers, HaveSmallPowersTerms, HaveSmallPowersFactors, EquationHas, EquationsHave, StatementHas, StatementsHave, BranchHas, ClauseHas, ClausesHave, IsWellFormed}
 
 both_true : (a b : Bool) → a && b ≡ true → (a ≡ true) × (b ≡ true)

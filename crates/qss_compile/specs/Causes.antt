@@ -1,5 +1,5 @@
 -- What a phase answers, as a refusal of the source.
-use Rattle.std.specs.Prelude.{ℕ, List, [], map, Bool, true, false}
+use Rattle.std.specs.Prelude.{[], map, Bool, true, false}
 use Rattle.mu_lexer.specs.declared.lex.LexErr.{LexErr}
 use Rattle.mu_lexer.specs.declared.lex.LexErr.TheVariants as lexing
 use Rattle.mu_grammar.specs.declared.fault.ParseErr.{ParseErr}

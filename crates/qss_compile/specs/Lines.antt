@@ -1,5 +1,5 @@
 -- The line on err of a refusal.
-use Rattle.std.specs.Prelude.{ℕ, ℤ, List, [], ◌∷◌, ◌++◌, map, codes, decimal, slice_index_or, flat_map}
+use Rattle.std.specs.Prelude.{ℕ, List, [], ◌∷◌, ◌++◌, map, codes, decimal, slice_index_or, flat_map}
 use Rattle.std.specs.Fmt.{signed_decimal}
 use Rattle.mu_forms.specs.declared.fault.AffineErr.{AffineErr}
 use Rattle.mu_forms.specs.declared.fault.AffineErr.TheVariants as forming

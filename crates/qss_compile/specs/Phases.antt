@@ -1,6 +1,5 @@
 -- Of each phase: what it gives, and why it refuses.
 use Rattle.std.specs.Prelude.{◌≡◌, ◌≢◌, ℕ, List, [], Ok, Err, Some}
-use Rattle.mu_affine.specs.Kept.{AreForms}
 use Rattle.mu_affine.specs.Normal.{forms_of}
 use Rattle.mu_forms.specs.declared.fault.AffineErr.{AffineErr}
 use Rattle.mu_causal.specs.Answers.{IsCausalFault}
