@@ -1,5 +1,4 @@
-//! Tests of the language's crates: numbers, files, tokens, sources read as models and printed again, and sources
-//! brought to machines or refused.
+//! Tests of the language's crates: numbers, files, tokens, sources read as models and printed again.
 #![tactic(auto)]
 
 #[cfg(test)]
@@ -12,7 +11,5 @@ mod numbers;
 mod printed;
 #[cfg(test)]
 mod shelves;
-#[cfg(test)]
-mod sources;
 #[cfg(test)]
 mod tokens;
