@@ -1,4 +1,4 @@
-//! Tests of the language's crates: numbers, files, tokens, sources read as models and printed again.
+//! Tests of the language's crates: numbers, files, tokens, sources read as models and printed again, models unrolled.
 #![tactic(auto)]
 
 #[cfg(test)]
@@ -13,3 +13,5 @@ mod printed;
 mod shelves;
 #[cfg(test)]
 mod tokens;
+#[cfg(test)]
+mod unrolling;

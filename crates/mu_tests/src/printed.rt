@@ -3,7 +3,7 @@
 use mu_lexer::lex::lex;
 use mu_parser::parse::parse;
 use mu_tree::canonical::write_model;
-use std::alloc::Global;
+use std::alloc::{AllocError, Global};
 use std::test::Fail;
 
 const SOURCES: [(&[u8], &[u8]); 4] = [
@@ -43,5 +43,39 @@ fn prints_models(rt: HostRuntime) -> Result<(), Fail> {
         assert_eq!(rt; printed(alloc, source)?.as_slice(), *text);
         assert_eq!(rt; printed(alloc, text)?.as_slice(), *text);
     }
+    Ok(())
+}
+
+// A text so many times.
+fn repeated(alloc: Global, text: &[u8], times: u32) -> Result<Vec<u8>, AllocError> {
+    let mut whole = Vec::new(alloc);
+    for _ in 0..times {
+        whole.extend_from_slice(text)?;
+    }
+    Ok(whole)
+}
+
+// A front, what stands in the middle, and an end.
+fn framed(alloc: Global, front: &[u8], middle: &[u8], end: &[u8]) -> Result<Vec<u8>, AllocError> {
+    let mut whole = Vec::from_slice(alloc, front)?;
+    whole.extend_from_slice(middle)?;
+    whole.extend_from_slice(end)?;
+    Ok(whole)
+}
+
+// A model of 149,793 equations, each of this text, with this end.
+fn long_model(alloc: Global, equation: &[u8], end: &[u8]) -> Result<Vec<u8>, AllocError> {
+    let equations = repeated(alloc, equation, 149793)?;
+    framed(alloc, b"model m equation ", &equations, end)
+}
+
+// A source of 2^20 bytes less two.
+#[test]
+fn prints_a_model_of_the_greatest_size(rt: HostRuntime) -> Result<(), Fail> {
+    let alloc = rt.alloc();
+    let source = long_model(alloc, b"x = 1; ", b"end m;")?;
+    assert_eq!(rt; source.len(), 1048574);
+    let text = long_model(alloc, b"x = 1 ;\n", b"end m ;\n")?;
+    assert!(rt; printed(alloc, &source)? == text);
     Ok(())
 }
