@@ -1,4 +1,4 @@
-//! Tests of the language's crates: numbers, files, tokens, sources read as models and printed again, models unrolled.
+//! Tests of the language's crates: numbers, files, tokens, sources read as models and printed again.
 #![tactic(auto)]
 
 #[cfg(test)]
@@ -13,5 +13,3 @@ mod printed;
 mod shelves;
 #[cfg(test)]
 mod tokens;
-#[cfg(test)]
-mod unrolling;
