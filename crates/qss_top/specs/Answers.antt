@@ -1,36 +1,53 @@
 -- What the words, with the files they name, define as the answer.
-use Rattle.std.specs.Prelude.{◌≡◌, ◌⊎◌, ℕ, ◌+◌, ◌^◌, List, [], ◌∷◌, ◌++◌, length, nat_lt, codes, decimal, Option, Some, None, IsSome, MatchBool}
+use Rattle.std.specs.Prelude.{◌≡◌, ◌⊎◌, ℕ, ◌+◌, ◌^◌, ◌≤◌, List, [], ◌∷◌, ◌++◌, length, nat_lt, codes, decimal, Option, Some, None, IsSome, MatchBool}
 use Rattle.mu_io.specs.Files.{Files, file_of}
 use Rattle.mu_tree.specs.Canonical.{canonical_text}
 use Rattle.mu_tree.specs.ModelTree.{ModelTree}
 use Rattle.qss_machine.specs.Runs.{Run}
 use Rattle.qss_machine.specs.declared.system.Machine.{Machine}
 use Rattle.qss_rows.specs.Lines.{name_of}
+use Rattle.qss_compile.specs.Lines as Refusals
+use Rattle.qss_compile.specs.Meanings.{SpellsTree, IsUnspelled, Means, IsRefused}
+use Rattle.qss_compile.specs.declared.fault.Refused.{Refused}
 use Rattle.qss_play.specs.Plays.{run_under, text_of as run_text}
 use Rattle.qss_top.specs.Commands.{RunOptions, Command, run_model, print_model, command_of, files_of}
-use Rattle.qss_top.specs.Meanings.{MeansAt}
-use Rattle.qss_top.specs.Trees.{SpellsTree, IsRefusedBy, phase_text}
+use Rattle.qss_top.specs.Shares.{IsShared}
 use Rattle.qss_top.specs.declared.status.Status.{Status}
 use Rattle.qss_top.specs.declared.status.Status.TheVariants as ends
-use Rattle.qss_top.specs.declared.tree.Refusal.{Refusal}
 
 -- what the line on err says of an answer
 pub data Line : Type 0 where
   quiet : Line
   usage : Line
   too_long : Line
-  no_form : Line
-  refused : Refusal → Line
+  refused : (bytes : List ℕ) → Line
   over : (name : List ℕ) → (tick : ℕ) → Line
+
+-- the line on how words are a command
+abbrev pub usage_line : List ℕ
+usage_line = codes "usage: qss VERB [WORD] [WORD] [--rule RULE] [--only NAME] [--relative N]\n"
+
+-- the line on a source of more than 2^20 bytes
+abbrev pub too_long_line : List ℕ
+too_long_line = codes "refused: top 1\n"
+
+-- the line on a run that overflows
+abbrev pub overflow_line : (name : List ℕ) → (tick : ℕ) → List ℕ
+overflow_line name tick = codes "overflow: " ++ name ++ codes " at tick " ++ decimal tick ++ codes "\n"
+
+-- the text is the line of a refusal of the source; a cycle may be named from any of its variables
+pub record TellsRefusal (bytes text : List ℕ) : Type 0 where
+  pub refusal : Refused
+  pub is : IsRefused bytes refusal
+  pub same : text ≡ Refusals.line_of refusal
 
 -- the text says that
 abbrev pub Tells : Line → List ℕ → Type 0
 Tells quiet text = text ≡ []
-Tells usage text = text ≡ codes "usage: qss VERB [WORD] [WORD] [--rule RULE] [--only NAME] [--relative N]\n"
-Tells too_long text = text ≡ codes "refused: top 1\n"
-Tells no_form text = text ≡ codes "refused: top 2\n"
-Tells (refused r) text = text ≡ codes "refused: " ++ phase_text r.phase ++ codes " " ++ decimal r.number ++ codes " " ++ decimal r.place ++ codes "\n"
-Tells (over name tick) text = text ≡ codes "overflow: " ++ name ++ codes " at tick " ++ decimal tick ++ codes "\n"
+Tells usage text = text ≡ usage_line
+Tells too_long text = text ≡ too_long_line
+Tells (refused bytes) text = TellsRefusal bytes text
+Tells (over name tick) text = text ≡ overflow_line name tick
 
 -- an answer: how the program ends, what out gains, and what the line on err says
 pub record Answer : Type 0 where
@@ -64,34 +81,42 @@ printed options m = answer_by (run_under options.rule m)
     answer_by : Run → Answer
     answer_by run = record { status = status_of_run run; out = run_text options.only m run; line = line_of_run m run }
 
--- the answer to `run` on a source that spells a model: refused where it means no machine with such quanta, else the run of its machine
-abbrev pub IsMeaningAnswer : RunOptions → List ℕ → Answer → Type 0
-IsMeaningAnswer options bytes answer =
-    (((m : Machine) → ¬ MeansAt options.share bytes m) × (answer ≡ refusal ends.ModelRefused no_form))
-    ⊎ ((m : Machine) × MeansAt options.share bytes m × (answer ≡ printed options m))
-
 -- the answer that prints a model
 abbrev pub printed_text : ModelTree → Answer
 printed_text tree = record { status = ends.Ok; out = canonical_text tree; line = quiet }
 
--- the answer to a source of at most 2^20 bytes: refused where it spells no model, else an answer to its model
-abbrev pub IsTreeAnswer : List ℕ → (ModelTree → Answer → Type 0) → Answer → Type 0
-IsTreeAnswer bytes IsAnswer answer =
-    ((r : Refusal) × IsRefusedBy bytes r × (answer ≡ refusal ends.ModelRefused (refused r)))
-    ⊎ ((tree : ModelTree) × SpellsTree bytes tree × IsAnswer tree answer)
+-- the answer that refuses a source: it has more than 2^20 bytes, or is refused for a reason of this kind
+abbrev pub IsRefusalFor : (List ℕ → Refused → Type 0) → List ℕ → Answer → Type 0
+IsRefusalFor Refuses bytes answer =
+    MatchBool (nat_lt (2 ^ 20) (length bytes)) (answer ≡ refusal ends.ModelRefused too_long) ((r : Refused) × Refuses bytes r × (answer ≡ refusal ends.ModelRefused (refused bytes)))
 
--- the answer to a source
-abbrev pub IsSourceAnswer : List ℕ → (ModelTree → Answer → Type 0) → Answer → Type 0
-IsSourceAnswer bytes IsAnswer answer =
-    MatchBool (nat_lt (2 ^ 20) (length bytes)) (answer ≡ refusal ends.ModelRefused too_long) (IsTreeAnswer bytes IsAnswer answer)
+-- the answer that refuses a source which means no machine
+abbrev pub IsSourceRefusal : List ℕ → Answer → Type 0
+IsSourceRefusal bytes answer = IsRefusalFor IsRefused bytes answer
 
--- the answer to `run` on a source
+-- the answer that refuses a source which spells no model
+abbrev pub IsTreeRefusal : List ℕ → Answer → Type 0
+IsTreeRefusal bytes answer = IsRefusalFor IsUnspelled bytes answer
+
+-- a source of at most 2^20 bytes means this machine, with quanta of at least this share of their levels
+pub record IsSourceMachine (share : ℕ) (bytes : List ℕ) (m : Machine) : Type 0 where
+  pub short : length bytes ≤ 2 ^ 20
+  pub plain : Machine
+  pub means : Means bytes plain
+  pub shared : IsShared share plain m
+
+-- a source of at most 2^20 bytes spells this model
+pub record IsSourceTree (bytes : List ℕ) (tree : ModelTree) : Type 0 where
+  pub short : length bytes ≤ 2 ^ 20
+  pub spelled : SpellsTree bytes tree
+
+-- the answer to `run` on a source: it is refused, or the run of its machine is printed
 abbrev pub IsRunAnswer : RunOptions → List ℕ → Answer → Type 0
-IsRunAnswer options bytes answer = IsSourceAnswer bytes (λ tree. IsMeaningAnswer options bytes) answer
+IsRunAnswer options bytes answer = IsSourceRefusal bytes answer ⊎ ((m : Machine) × IsSourceMachine options.share bytes m × (answer ≡ printed options m))
 
--- the answer to `print` on a source
+-- the answer to `print` on a source: it is refused, or its model is printed
 abbrev pub IsPrintAnswer : List ℕ → Answer → Type 0
-IsPrintAnswer bytes answer = IsSourceAnswer bytes (λ tree answer. answer ≡ printed_text tree) answer
+IsPrintAnswer bytes answer = IsTreeRefusal bytes answer ⊎ ((tree : ModelTree) × IsSourceTree bytes tree × (answer ≡ printed_text tree))
 
 -- what is replied: an answer; none, since a file is not on the shelf; or an answer to this command that cannot be named, since the shelf does not tell its files
 pub data Reply : Type 0 where

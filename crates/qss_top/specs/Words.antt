@@ -1,7 +1,6 @@
 -- Commands as the code reads them.
-use Rattle.std.specs.Prelude.{◌≡◌, ℕ, List, option_map}
-use Rattle.mu_tree.specs.ModelTree.{ModelTree}
-use Rattle.qss_top.specs.Answers.{Answer, IsMeaningAnswer, IsSourceAnswer, printed_text}
+use Rattle.std.specs.Prelude.{ℕ, List, option_map}
+use Rattle.qss_top.specs.Answers.{Answer, IsRunAnswer, IsPrintAnswer}
 use Rattle.qss_top.specs.Commands.{RunOptions, Command, run_model, print_model}
 use Rattle.qss_top.specs.Saying as Spec
 use Rattle.qss_top.specs.declared.command.Request.{Request}
@@ -35,11 +34,7 @@ command_with task.Print model = print_model model
 abbrev pub command_in : Request → Command
 command_in request = command_with request.task request.model.now
 
--- the answer to a source and its model
-abbrev pub IsAnswerTo : Task → List ℕ → ModelTree → Answer → Type 0
-IsAnswerTo (task.Run options) bytes tree answer = IsMeaningAnswer (options_in options) bytes answer
-IsAnswerTo task.Print bytes tree answer = answer ≡ printed_text tree
-
 -- the answer to the bytes of a model
 abbrev pub IsTaskAnswer : Task → List ℕ → Answer → Type 0
-IsTaskAnswer task bytes = IsSourceAnswer bytes (IsAnswerTo task bytes)
+IsTaskAnswer (task.Run options) bytes answer = IsRunAnswer (options_in options) bytes answer
+IsTaskAnswer task.Print bytes answer = IsPrintAnswer bytes answer

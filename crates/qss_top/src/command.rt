@@ -3,16 +3,15 @@ ghost use Rattle.std.specs.Prelude.{length, ◌≡◌, ◌≢◌, ◌≤◌, ◌
 ghost use Rattle.mu_io.specs.Faults.{OnlyCounts};
 ghost use Rattle.mu_io.specs.Sinks.{EndsByFault};
 ghost use Rattle.mu_tree.specs.ModelTree.{model};
-ghost use Rattle.qss_top.specs.Answers.{Answer, Told, IsMeaningAnswer, IsTreeAnswer, printed, printed_text, LeadsTo, IsTold};
+ghost use Rattle.qss_top.specs.Answers.{Answer, Told, IsRunAnswer, IsPrintAnswer, printed, printed_text, LeadsTo, IsTold};
 ghost use Rattle.qss_top.specs.Commands.{command_by, command_said, command_of, files_of};
 ghost use Rattle.qss_top.specs.Outcomes.{IsOutcome, Meets, Serves, status_of};
 ghost use Rattle.qss_top.specs.Statuses.{leaves_out};
-ghost use Rattle.qss_top.specs.Words.{command_in, command_with, options_in, said_in, IsAnswerTo};
+ghost use Rattle.qss_top.specs.Words.{command_in, command_with, options_in, said_in, IsTaskAnswer};
 
-use crate::machine::machine_of;
 use crate::options::Options;
 use crate::outcome::Outcome;
-use crate::tree::{TreeErr, read_model};
+use crate::source::{machine_of, model_of};
 use crate::values::{is_bare, options_said};
 use crate::words::Said;
 use mu_io::{Name, ReadErr, Shelf, Sink, WriteErr, read_all, write_all};
@@ -120,26 +119,10 @@ fn on_file<S: Shelf, O: Sink>(
     }
 }
 
-// Does this with the model that a source spells.
+// Does this with the model that a source spells, or with the machine that it means.
 fn on_source<O: Sink>(alloc: Global, task: Task, bytes: &[u8], out: &mut O) -> Outcome
     requires { length bytes.now ≤ 2 ^ 20 }
-    ensures outcome { (answer : Answer) → IsTreeAnswer bytes.now (IsAnswerTo task.entry bytes.now) answer → IsOutcome answer result (O.written out.old) (O.written out.new) (O.faults out.old) (O.faults out.new) }
-    ensures not_usage { result ≢ Outcome.Usage }
-    ensures not_read { result ≢ Outcome.ReadFault }
-    ensures untouched { leaves_out (status_of result) ≡ true → out.new ≡ out.old }
-    ensures calm { result ≢ Outcome.WriteFault → O.faults out.new ≡ O.faults out.old }
-    ensures last { result ≡ Outcome.WriteFault → EndsByFault O.written O.faults out.old out.new }
-{
-    match read_model(alloc, bytes) {
-        Ok(tree) => on_tree(alloc, task, bytes, &tree, out),
-        Err(TreeErr::Refused(refusal)) => Outcome::Refused(refusal),
-        Err(TreeErr::Memory) => Outcome::Memory,
-    }
-}
-
-// Does this with a source and its model.
-fn on_tree<O: Sink>(alloc: Global, task: Task, bytes: &[u8], tree: &Model, out: &mut O) -> Outcome
-    ensures outcome { (answer : Answer) → IsAnswerTo task.entry bytes.now (model tree.now) answer → IsOutcome answer result (O.written out.old) (O.written out.new) (O.faults out.old) (O.faults out.new) }
+    ensures outcome { (answer : Answer) → IsTaskAnswer task.entry bytes.now answer → IsOutcome answer result (O.written out.old) (O.written out.new) (O.faults out.old) (O.faults out.new) }
     ensures not_usage { result ≢ Outcome.Usage }
     ensures not_read { result ≢ Outcome.ReadFault }
     ensures untouched { leaves_out (status_of result) ≡ true → out.new ≡ out.old }
@@ -148,7 +131,23 @@ fn on_tree<O: Sink>(alloc: Global, task: Task, bytes: &[u8], tree: &Model, out: 
 {
     match task {
         Task::Run(options) => run_source(alloc, options, bytes, out),
-        Task::Print => print_model(alloc, tree, out),
+        Task::Print => print_source(alloc, bytes, out),
+    }
+}
+
+// Writes the canonical text of the model that a source spells.
+fn print_source<O: Sink>(alloc: Global, bytes: &[u8], out: &mut O) -> Outcome
+    requires { length bytes.now ≤ 2 ^ 20 }
+    ensures outcome { (answer : Answer) → IsPrintAnswer bytes.now answer → IsOutcome answer result (O.written out.old) (O.written out.new) (O.faults out.old) (O.faults out.new) }
+    ensures not_usage { result ≢ Outcome.Usage }
+    ensures not_read { result ≢ Outcome.ReadFault }
+    ensures untouched { leaves_out (status_of result) ≡ true → out.new ≡ out.old }
+    ensures calm { result ≢ Outcome.WriteFault → O.faults out.new ≡ O.faults out.old }
+    ensures last { result ≡ Outcome.WriteFault → EndsByFault O.written O.faults out.old out.new }
+{
+    match model_of(alloc, bytes) {
+        Ok(tree) => print_model(alloc, &tree, out),
+        Err(what) => what,
     }
 }
 
@@ -170,17 +169,17 @@ fn print_model<O: Sink>(alloc: Global, tree: &Model, out: &mut O) -> Outcome
 
 // Runs the machine that a source means.
 fn run_source<O: Sink>(alloc: Global, options: Options, bytes: &[u8], out: &mut O) -> Outcome
-    ensures outcome { (answer : Answer) → IsMeaningAnswer (options_in options.entry) bytes.now answer → IsOutcome answer result (O.written out.old) (O.written out.new) (O.faults out.old) (O.faults out.new) }
+    requires { length bytes.now ≤ 2 ^ 20 }
+    ensures outcome { (answer : Answer) → IsRunAnswer (options_in options.entry) bytes.now answer → IsOutcome answer result (O.written out.old) (O.written out.new) (O.faults out.old) (O.faults out.new) }
     ensures not_usage { result ≢ Outcome.Usage }
     ensures not_read { result ≢ Outcome.ReadFault }
     ensures untouched { leaves_out (status_of result) ≡ true → out.new ≡ out.old }
     ensures calm { result ≢ Outcome.WriteFault → O.faults out.new ≡ O.faults out.old }
     ensures last { result ≡ Outcome.WriteFault → EndsByFault O.written O.faults out.old out.new }
 {
-    match machine_of(alloc, bytes) {
-        Ok(Some(m)) => run_machine(alloc, options, m.with_relative(options.share), out),
-        Ok(None) => Outcome::NoForm,
-        Err(_) => Outcome::Memory,
+    match machine_of(alloc, options.share, bytes) {
+        Ok(m) => run_machine(alloc, options, m, out),
+        Err(what) => what,
     }
 }
 
