@@ -1,4 +1,2 @@
-pub mod ConditionViews
 pub mod ItemViews
 pub mod ModelViews
-pub mod Views

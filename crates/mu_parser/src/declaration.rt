@@ -18,15 +18,15 @@ ghost use Rattle.mu_grammar.specs.DeclarationMachine.{
   with_component,
 };
 ghost use Rattle.mu_grammar.specs.States.{begin};
-ghost use Rattle.mu_parser.specs.Views.{component_of, draft_of, effect_of, state_of, waiting_of};
+ghost use Rattle.mu_section.specs.Views.{component_of, draft_of, effect_of, state_of, waiting_of};
 ghost use Rattle.mu_grammar.specs.Symbols.{symbol_with};
 
-use crate::between::between;
-use crate::machine::Position;
-use crate::state::{Component, Draft, Effect, Place, State, Then, Waiting};
+use mu_expression::machine::Position;
 use mu_grammar::shape::Fixed;
 use mu_io::Name;
 use mu_lexer::token::{Kind, Mark, Word};
+use mu_section::between::between;
+use mu_section::state::{Component, Draft, Effect, Place, State, Then, Waiting};
 use mu_tree::tree::{Decl, Prefix};
 use std::alloc::{AllocError, Global};
 

@@ -22,12 +22,12 @@ ghost use Rattle.mu_grammar.specs.declared.shape.Shape.TheVariants as shapes;
 ghost use Rattle.mu_grammar.specs.Shapes.{shape_of};
 ghost use Rattle.mu_grammar.specs.States.{level, place_level, settings};
 ghost use Rattle.mu_parser.specs.ItemViews.{settings_of};
-ghost use Rattle.mu_parser.specs.Views.{component_of, draft_of, effect_of, owner_of, place_of, settled_of, state_of};
+ghost use Rattle.mu_section.specs.Views.{component_of, draft_of, effect_of, owner_of, place_of, settled_of, state_of};
 ghost use Rattle.mu_grammar.specs.Symbols.{symbol_with};
 
-use crate::state::{Component, Draft, Effect, Owner, Place, State, Then, Waiting};
 use mu_grammar::shape::{Bracket, Fixed, is_named};
 use mu_lexer::token::{Kind, Mark, Word};
+use mu_section::state::{Component, Draft, Effect, Owner, Place, State, Then, Waiting};
 use mu_tree::tree::{SettingItem, SettingName};
 use std::alloc::{AllocError, Global};
 

@@ -15,22 +15,22 @@ ghost use Rattle.mu_grammar.specs.ModelMachine.{
 ghost use Rattle.mu_grammar.specs.Shapes.{is_fixed};
 ghost use Rattle.mu_parser.specs.ModelViews.{next_of};
 ghost use Rattle.mu_parser.specs.ItemViews.{settings_of};
-ghost use Rattle.mu_parser.specs.Views.{draft_of, effect_of, state_of, then_of};
+ghost use Rattle.mu_section.specs.Views.{draft_of, effect_of, state_of, then_of};
 ghost use Rattle.mu_grammar.specs.Symbols.{symbol_with};
 
-use crate::body::{body_token, variable_token};
-use crate::clause::condition_token;
 use crate::declaration::{
     begin, component_token, follow_component, follow_modifications, follow_name, follow_size,
     follow_string, follow_title, head, import_token, type_token,
 };
 use crate::item::{begin_bare_mod, begin_first_item, begin_item, follow_item, skip_token};
-use crate::state::{Draft, Effect, State, Then};
 use crate::sum::sum_token;
-use crate::target::{follow_target, follow_target_name, target_token};
 use mu_grammar::shape::Fixed;
 use mu_io::Name;
 use mu_lexer::token::{Kind, Mark};
+use mu_section::body::{body_token, variable_token};
+use mu_section::clause::condition_token;
+use mu_section::state::{Draft, Effect, State, Then};
+use mu_section::target::{follow_target, follow_target_name, target_token};
 use mu_tree::tree::{Model, Prefix, SettingItem};
 use std::alloc::{AllocError, Global};
 

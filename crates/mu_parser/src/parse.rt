@@ -9,10 +9,10 @@ ghost use Rattle.mu_grammar.specs.Models.{SpellsModel};
 ghost use Rattle.mu_grammar.specs.Symbols.{symbols};
 
 use crate::model::{Next, advance};
-use crate::state::{State, Then};
 pub use mu_grammar::fault::ParseErr;
 use mu_grammar::shape::Fixed;
 use mu_lexer::token::Token;
+use mu_section::state::{State, Then};
 use mu_tree::tree::Model;
 use std::alloc::Global;
 

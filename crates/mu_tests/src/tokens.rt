@@ -29,7 +29,7 @@ fn kinds(
 }
 
 #[test]
-fn tokens(rt: HostRuntime) -> Result<(), Fail> {
+fn numbers(rt: HostRuntime) -> Result<(), Fail> {
     let alloc = rt.alloc();
     let number = Kind::Number;
     let ident = Kind::Ident;
@@ -64,7 +64,13 @@ fn tokens(rt: HostRuntime) -> Result<(), Fail> {
             (number, 10, 12),
             (Kind::Mark(Mark::Dot), 13, 14),
         ],
-    )?;
+    )
+}
+
+#[test]
+fn strings_and_words(rt: HostRuntime) -> Result<(), Fail> {
+    let alloc = rt.alloc();
+    let ident = Kind::Ident;
     kinds(
         &rt,
         alloc,
@@ -82,7 +88,12 @@ fn tokens(rt: HostRuntime) -> Result<(), Fail> {
             (ident, 17, 22),
             (Kind::Word(Word::While), 23, 28),
         ],
-    )?;
+    )
+}
+
+#[test]
+fn marks(rt: HostRuntime) -> Result<(), Fail> {
+    let alloc = rt.alloc();
     kinds(
         &rt,
         alloc,

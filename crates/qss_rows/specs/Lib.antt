@@ -1,3 +1,4 @@
 pub mod Lines
 pub mod Writers
 pub mod Held
+pub mod Filters

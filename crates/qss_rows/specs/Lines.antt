@@ -4,7 +4,7 @@ use Rattle.std.specs.Fmt.{signed_decimal}
 use Rattle.std.specs.List.{join_with_byte}
 use Rattle.csv.specs.Writing.{default_writer, needs_quotes, row_text}
 use Rattle.mu_num.specs.Sizes.{IsWithin}
-use Rattle.qss_machine.specs.Machines.{state_count}
+use Rattle.qss_machine.specs.Machines.{state_count, discrete_count}
 use Rattle.qss_machine.specs.declared.rows.Row.{Row}
 use Rattle.qss_machine.specs.declared.rows.RowKind.{RowKind}
 use Rattle.qss_machine.specs.declared.rows.RowKind.TheVariants as kind
@@ -32,6 +32,10 @@ prints_name _ = true
 -- the name of a variable; the states come first, then the discrete variables
 abbrev pub name_of : Machine → ℕ → List ℕ
 name_of m var = slice_index_or (map (λ s. s.name) m.states ++ map (λ d. d.name) m.discretes) var []
+
+-- the row's variable is one of the machine, where rows of its kind print a name
+abbrev pub HasVariable : Machine → Row → Type 0
+HasVariable m row = prints_name row.kind ≡ true → row.var < state_count m + discrete_count m
 
 -- of a branch that fired its clause's number and its own, both counted from 1
 abbrev pub firing_field : ℕ → ℕ → List ℕ

@@ -1,7 +1,6 @@
 //! The line of a row.
 
-ghost use Rattle.std.specs.Prelude.{◌≡◌, ◌+◌, ◌<◌, IfOk, true};
-ghost use Rattle.qss_machine.specs.Machines.{state_count, discrete_count};
+ghost use Rattle.std.specs.Prelude.{◌≡◌, IfOk};
 ghost use Rattle.qss_rows.specs.Lines as Spec;
 
 use crate::record::{add_row, new_writer};
@@ -17,7 +16,7 @@ pub fn header() -> &'static [u8]
 
 /// The line of a row of a machine. A `LineWriter` serves many rows at less cost.
 pub fn row_bytes(alloc: Global, r: &Row, m: &Machine) -> Result<Vec<u8>, AllocError>
-    requires { Spec.prints_name r.now.kind ≡ true → r.now.var < state_count m.now + discrete_count m.now }
+    requires { Spec.HasVariable m.now r.now }
     ensures { IfOk result (λ line. line.items ≡ Spec.line_of m.now r.now) }
 {
     let mut writer = new_writer(alloc);

@@ -1,6 +1,6 @@
 //! The records of rows, as `csv` writes them.
 
-ghost use Rattle.std.specs.Prelude.{◌≡◌, ◌+◌, ◌<◌, [], ◌∷◌, IfOk, OnOk, map, true, string_bytes};
+ghost use Rattle.std.specs.Prelude.{◌≡◌, ◌+◌, ◌<◌, [], ◌∷◌, IfOk, OnOk, map, string_bytes};
 ghost use Rattle.csv.specs.Writing.{default_writer, row_text};
 ghost use Rattle.qss_machine.specs.Machines.{state_count, discrete_count};
 ghost use Rattle.qss_rows.specs.Lines as Spec;
@@ -26,7 +26,7 @@ pub(crate) fn add_row(
     m: &Machine,
 ) -> Result<(), AllocError>
     requires between { IsBetween writer.old }
-    requires var { Spec.prints_name r.now.kind ≡ true → r.now.var < state_count m.now + discrete_count m.now }
+    requires var { Spec.HasVariable m.now r.now }
     ensures { OnOk result (Gains writer.old writer.new (Spec.line_of m.now r.now)) }
 {
     let is_state = (r.var as usize) < m.states.as_slice().len();
@@ -35,12 +35,12 @@ pub(crate) fn add_row(
             let name = firing_text(alloc, clause, branch)?;
             add_named(alloc, writer, *r, name.as_bytes(), is_state)
         }
-        _ => add_named(alloc, writer, *r, name(m, r.var), is_state),
+        _ => add_named(alloc, writer, *r, variable_name(m, r.var), is_state),
     }
 }
 
-// The name of a variable.
-fn name(m: &Machine, var: u32) -> &[u8]
+/// The name of a variable, by its number: the states come first, then the discrete variables.
+pub fn variable_name(m: &Machine, var: u32) -> &[u8]
     requires { var < state_count m.now + discrete_count m.now }
     ensures { result.now ≡ Spec.name_of m.now var }
 {

@@ -22,8 +22,7 @@ pub struct LineWriter {
 }
 
 impl LineWriter {
-    ghost use Rattle.std.specs.Prelude.{◌≡◌, ◌+◌, ◌<◌, [], OnOk, OnErr, true};
-    ghost use Rattle.qss_machine.specs.Machines.{state_count, discrete_count};
+    ghost use Rattle.std.specs.Prelude.{◌≡◌, [], OnOk, OnErr};
     ghost use Rattle.qss_rows.specs.Lines as Spec;
     ghost use Rattle.qss_rows.specs.Held.{line_in};
 
@@ -40,7 +39,7 @@ impl LineWriter {
 
     /// Makes the line of a row. After an error it holds no line.
     pub fn write(&mut self, r: &Row, m: &Machine) -> Result<(), AllocError>
-        requires { Spec.prints_name r.now.kind ≡ true → r.now.var < state_count m.now + discrete_count m.now }
+        requires { Spec.HasVariable m.now r.now }
         ensures ok { OnOk result (line_in self.new ≡ Spec.line_of m.now r.now) }
         ensures err { OnErr result (line_in self.new ≡ []) }
     {

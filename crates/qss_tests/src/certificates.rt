@@ -2,28 +2,13 @@
 
 ghost use Rattle.std.specs.Prelude.{◌≡◌, [], ◌∷◌, pos, negsuc, IfOk};
 
+use crate::lists::{none, one};
 use cert_check::{Verdict, check, scope};
 use cert_text::{CertErr, read_certificate, write_certificate};
 use mu_io::{Items, Name};
 use qss_machine::{Entry, Machine, SlopeRow, StateInfo};
 use std::alloc::{AllocError, Global};
 use std::test::Fail;
-
-// One item.
-fn one<T: Drop>(alloc: Global, item: T) -> Result<Items<T>, AllocError>
-    ensures { IfOk result (λ items. items ≡ item ∷ []) }
-{
-    let mut items = Vec::new(alloc);
-    items.push(item)?;
-    Ok(Items::new(items))
-}
-
-// No items.
-fn none<T>(alloc: Global) -> Items<T>
-    ensures { result ≡ [] }
-{
-    Items::new(Vec::new(alloc))
-}
 
 // A state that starts at 262144 and has the quantum 4.
 fn states(alloc: Global) -> Result<Items<StateInfo>, AllocError>

@@ -14,8 +14,16 @@ mod checks;
 #[cfg(test)]
 mod crossings;
 #[cfg(test)]
+mod lists;
+#[cfg(test)]
 mod machines;
 #[cfg(test)]
 mod matrices;
 #[cfg(test)]
+mod plays;
+#[cfg(test)]
 mod quanta;
+#[cfg(test)]
+mod rows;
+#[cfg(test)]
+mod top;

@@ -2,28 +2,13 @@
 
 ghost use Rattle.std.specs.Prelude.{◌≡◌, [], ◌∷◌, pos, negsuc, IfOk, length};
 
+use crate::lists::{none, one};
 use mu_io::{Items, Name};
 use qss_machine::{
     ClauseInfo, DiscreteInfo, Entry, Form, Machine, Product, SlopeRow, StateInfo, Uses,
 };
 use std::alloc::{AllocError, Global};
 use std::test::Fail;
-
-// One item.
-fn one<T: Drop>(alloc: Global, item: T) -> Result<Items<T>, AllocError>
-    ensures { IfOk result (λ items. items ≡ item ∷ []) }
-{
-    let mut items = Vec::new(alloc);
-    items.push(item)?;
-    Ok(Items::new(items))
-}
-
-// No items.
-fn none<T>(alloc: Global) -> Items<T>
-    ensures { result ≡ [] }
-{
-    Items::new(Vec::new(alloc))
-}
 
 // A state that starts at 1 and has the quantum 1.
 fn states(alloc: Global) -> Result<Items<StateInfo>, AllocError>

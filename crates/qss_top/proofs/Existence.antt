@@ -1,22 +1,21 @@
 -- Words and files define an answer.
-use Rattle.std.proofs.Common.{◌≡◌, ◌^◌, Bool, true, false, ℕ, List, [], ◌∷◌, length, pos, refl, inl, inr, None, Some, nat_lt, lit≤}
+use Rattle.std.proofs.Common.{◌≡◌, ◌⊎◌, ◌≤◌, ◌^◌, Bool, true, false, ℕ, List, [], ◌∷◌, length, pos, refl, inl, inr, None, Some, nat_lt, arith, lit≤}
 use Rattle.std.specs.declared.option.Option.{Option}
-use Rattle.std.specs.Prelude.{MatchBool}
+use Rattle.std.specs.Prelude.{MatchBool, nat_le}
+use Rattle.std.proofs.lemmas.Bool.Decides.{nat_tests}
 use Rattle.std.proofs.lemmas.List.Elements.{All-nil}
 use Rattle.mu_io.specs.Files.{Files, file_of}
-use Rattle.mu_num.specs.Levels.{floor_level}
 use Rattle.mu_tree.specs.ModelTree.{ModelTree}
-use Rattle.qss_machine.specs.Limits.{IsClause}
-use Rattle.qss_machine.specs.Runs.{run_by}
+use Rattle.qss_machine.specs.Limits.{IsClause, HasUnits}
 use Rattle.qss_machine.specs.declared.system.Machine.{Machine}
 use Rattle.qss_top.specs.FirstForm.{FirstForm, IsFirstForm}
-use Rattle.qss_top.specs.Meanings.{Means, entries_of}
+use Rattle.qss_top.specs.Meanings.{Means, MeansAt, entries_of}
 use Rattle.qss_top.specs.Reading.{parts_of, form_of, has_names}
 use Rattle.qss_top.specs.Scaling.{numbers_of, scaled_of, IsMachineBy}
 use Rattle.qss_top.specs.declared.numbers.Scaled.{Scaled}
 use Rattle.qss_top.specs.declared.source.TheConstants.{PIECES}
-use Rattle.qss_top.specs.Commands.{Command, run_model, print_model, command_of, files_of}
-use Rattle.qss_top.specs.Answers.{Answer, Told, refusal, refused as refused_line, printed, printed_text, no_form, too_long, usage, answered, absent, untold, IsMeaningAnswer, IsTreeAnswer, IsSourceAnswer, IsRunAnswer, IsPrintAnswer, Says, ReadsThen, LeadsTo, Defines}
+use Rattle.qss_top.specs.Commands.{RunOptions, Command, run_model, print_model, command_of, files_of}
+use Rattle.qss_top.specs.Answers.{Answer, Told, refusal, refused as refused_line, printed, printed_text, no_form, too_long, usage, answered, absent, untold, IsMeaningAnswer, IsTreeAnswer, IsRunAnswer, IsPrintAnswer, Says, ReadsThen, Reads, LeadsTo, Defines}
 use Rattle.qss_top.specs.Laws.{AnswersExist}
 use Rattle.qss_top.specs.declared.status.Status.TheVariants as ends
 use Rattle.qss_top.proofs.Sources.{no_parts, no_names, form_read}
@@ -54,26 +53,76 @@ made s n e = record {
   relative = refl;
 }
 
-refused : (bytes : List ℕ) → ((m : Machine) → ¬ Means bytes m) → (answer : Answer) × IsMeaningAnswer bytes answer
-refused bytes none = (refusal ends.ModelRefused no_form, inl (none, refl))
+-- the machine that a source means, if it means one
+abbrev Meaning : List ℕ → Type 0
+Meaning bytes = ((m : Machine) → ¬ Means bytes m) ⊎ ((m : Machine) × Means bytes m)
 
-meaning_scaled : (bytes : List ℕ) (s : FirstForm) (n : Option Scaled) → scaled_of (numbers_of s) ≡ n → IsFirstForm bytes s → (answer : Answer) × IsMeaningAnswer bytes answer
-meaning_scaled bytes s None e spelled = refused bytes (λ m. no_machine bytes s m spelled e)
-meaning_scaled bytes s (Some n) e spelled =
-    let m = machine_at s n e in
-    let means : Means bytes m = the_machine bytes s n m spelled e (made s n e) in
-    (printed m (run_by floor_level m), inr (m, means, refl))
+meaning_scaled : (bytes : List ℕ) (s : FirstForm) (n : Option Scaled) → scaled_of (numbers_of s) ≡ n → IsFirstForm bytes s → Meaning bytes
+meaning_scaled bytes s None e spelled = inl (λ m. no_machine bytes s m spelled e)
+meaning_scaled bytes s (Some n) e spelled = let m = machine_at s n e in inr (m, the_machine bytes s n m spelled e (made s n e))
 
-meaning_named : (bytes : List ℕ) (parts : List (List ℕ)) (b : Bool) → parts_of PIECES bytes ≡ Some parts → has_names parts ≡ b → (answer : Answer) × IsMeaningAnswer bytes answer
+meaning_named : (bytes : List ℕ) (parts : List (List ℕ)) (b : Bool) → parts_of PIECES bytes ≡ Some parts → has_names parts ≡ b → Meaning bytes
 meaning_named bytes parts true e named = let spelled = form_read bytes parts e named in meaning_scaled bytes (form_of parts) (scaled_of (numbers_of (form_of parts))) refl spelled
-meaning_named bytes parts false e bad = refused bytes (λ m means. no_names bytes parts e bad means.form means.spelled)
+meaning_named bytes parts false e bad = inl (λ m means. no_names bytes parts e bad means.form means.spelled)
 
-meaning_parts : (bytes : List ℕ) (parts : Option (List (List ℕ))) → parts_of PIECES bytes ≡ parts → (answer : Answer) × IsMeaningAnswer bytes answer
-meaning_parts bytes None e = refused bytes (λ m means. no_parts bytes e means.form means.spelled)
+meaning_parts : (bytes : List ℕ) (parts : Option (List (List ℕ))) → parts_of PIECES bytes ≡ parts → Meaning bytes
+meaning_parts bytes None e = inl (λ m means. no_parts bytes e means.form means.spelled)
 meaning_parts bytes (Some parts) e = meaning_named bytes parts (has_names parts) e refl
 
-meaning_answer : (bytes : List ℕ) → (answer : Answer) × IsMeaningAnswer bytes answer
-meaning_answer bytes = meaning_parts bytes (parts_of PIECES bytes) refl
+-- the same machine with another share
+units_shared : (m : Machine) (share : ℕ) → share ≤ 2048 → HasUnits m.p m.k m.f m.last share
+units_shared m share few =
+    let u : HasUnits m.p m.k m.f m.last m.relative = m.has_units in
+    record { coefficient_bits = u.coefficient_bits; tick_bits = u.tick_bits; unit_bits = u.unit_bits; level_bits = u.level_bits; state_bits = u.state_bits; last_tick = u.last_tick; share = few }
+
+abbrev shared : (m : Machine) (share : ℕ) → share ≤ 2048 → Machine
+shared m share few = record {
+  p = m.p;
+  k = m.k;
+  f = m.f;
+  last = m.last;
+  states = m.states;
+  discretes = m.discretes;
+  rows = m.rows;
+  clauses = m.clauses;
+  relative = share;
+  has_units = units_shared m share few;
+  has_variables = m.has_variables;
+  has_rows = m.has_rows;
+  has_clauses = m.has_clauses;
+}
+
+meaning_shared : (share : ℕ) (bytes : List ℕ) (m : Machine) (few : share ≤ 2048) → Means bytes m → MeansAt share bytes (shared m share few)
+meaning_shared share bytes m few means = record {
+  plain = m;
+  means = means;
+  coef_bits = refl;
+  tick_bits = refl;
+  level_bits = refl;
+  last = refl;
+  states = refl;
+  discretes = refl;
+  rows = refl;
+  clauses = refl;
+  relative = refl;
+}
+
+-- no machine has a share above 2048
+unshared : (share : ℕ) (bytes : List ℕ) (m : Machine) → nat_le share 2048 ≡ false → ¬ MeansAt share bytes m
+unshared share bytes m many at = let few = m.has_units.share in let is = at.relative in absurd (grind (arith, nat_tests))
+
+meaning_within : (options : RunOptions) (bytes : List ℕ) (m : Machine) (b : Bool) → nat_le options.share 2048 ≡ b → Means bytes m → (answer : Answer) × IsMeaningAnswer options bytes answer
+meaning_within options bytes m true e means =
+    let few : options.share ≤ 2048 = grind (arith, nat_tests) in
+    (printed options (shared m options.share few), inr (shared m options.share few, meaning_shared options.share bytes m few means, refl))
+meaning_within options bytes m false e means = (refusal ends.ModelRefused no_form, inl ((λ n. unshared options.share bytes n e), refl))
+
+meaning_by : (options : RunOptions) (bytes : List ℕ) → Meaning bytes → (answer : Answer) × IsMeaningAnswer options bytes answer
+meaning_by options bytes (inl none) = (refusal ends.ModelRefused no_form, inl ((λ m at. none at.plain at.means), refl))
+meaning_by options bytes (inr some) = meaning_within options bytes some.0 (nat_le options.share 2048) refl some.1
+
+meaning_answer : (options : RunOptions) (bytes : List ℕ) → (answer : Answer) × IsMeaningAnswer options bytes answer
+meaning_answer options bytes = meaning_by options bytes (meaning_parts bytes (parts_of PIECES bytes) refl)
 
 tree_answer : (bytes : List ℕ) (P : ModelTree → Answer → Type 0) → ((tree : ModelTree) → (answer : Answer) × P tree answer) → Read bytes → (answer : Answer) × IsTreeAnswer bytes P answer
 tree_answer bytes P some (inl found) = let answer = some found.0 in (answer.0, inr (found.0, found.1, answer.1))
@@ -84,8 +133,8 @@ source_answer : (bytes : List ℕ) (P : ModelTree → Answer → Type 0) → ((t
 source_answer bytes P some true e = (refusal ends.ModelRefused too_long, refl)
 source_answer bytes P some false e = tree_answer bytes P some (read_source bytes)
 
-pub run_answer : (bytes : List ℕ) → (answer : Answer) × IsRunAnswer bytes answer
-run_answer bytes = source_answer bytes (λ tree. IsMeaningAnswer bytes) (λ tree. meaning_answer bytes) (nat_lt (2 ^ 20) (length bytes)) refl
+pub run_answer : (options : RunOptions) (bytes : List ℕ) → (answer : Answer) × IsRunAnswer options bytes answer
+run_answer options bytes = source_answer bytes (λ tree. IsMeaningAnswer options bytes) (λ tree. meaning_answer options bytes) (nat_lt (2 ^ 20) (length bytes)) refl
 
 pub print_answer : (bytes : List ℕ) → (answer : Answer) × IsPrintAnswer bytes answer
 print_answer bytes = source_answer bytes (λ tree answer. answer ≡ printed_text tree) (λ tree. (printed_text tree, refl)) (nat_lt (2 ^ 20) (length bytes)) refl
@@ -96,9 +145,12 @@ read_told name Is some (Some bytes) =
     let answer = some bytes in
     (record { arrivals = name ∷ []; reply = answered answer.0 }, (record { arrivals = []; reply = answered answer.0 }, (answer.0, answer.1, refl), refl))
 
-command_told : (command : Command) (files : Files) → (told : Told) × LeadsTo command files told
-command_told (run_model model) files = read_told model IsRunAnswer run_answer (file_of files model)
-command_told (print_model model) files = read_told model IsPrintAnswer print_answer (file_of files model)
+file_told : (name : List ℕ) (Is : List ℕ → Answer → Type 0) → ((bytes : List ℕ) → (answer : Answer) × Is bytes answer) → (files : Files) → (told : Told) × Reads (Some files) name (λ bytes. Says (Is bytes)) told
+file_told name Is some files = let told = read_told name Is some (file_of files name) in (told.0, (file_of files name, refl, told.1))
+
+command_told : (command : Command) (files : Files) → (told : Told) × LeadsTo command (Some files) told
+command_told (run_model model options) files = file_told model (IsRunAnswer options) (run_answer options) files
+command_told (print_model model) files = file_told model IsPrintAnswer print_answer files
 
 all_told : (command : Option Command) (files : Option Files) → (told : Told) × Defines command files told
 all_told None files = (record { arrivals = []; reply = answered (refusal ends.Usage usage) }, (refusal ends.Usage usage, refl, refl))

@@ -3,10 +3,9 @@ pub mod Sources
 pub mod Sameness
 pub mod MachineLimits
 pub mod SourceReading
-pub mod OneStep
-pub mod RunLines
 pub mod TreeFacts
 pub mod Existence
 pub mod OutcomeFacts
+pub mod Serving
 pub mod Tellings
 pub mod TopFacts

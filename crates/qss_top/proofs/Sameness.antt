@@ -3,18 +3,15 @@ use Rattle.std.proofs.Common.{◌≡◌, ◌*◌, ◌^◌, ℕ, Bool, true, fals
 use Rattle.std.specs.declared.option.Option.{Option}
 use Rattle.std.specs.Prelude.{MatchBool}
 use Rattle.mu_io.specs.Files.{Files, file_of}
-use Rattle.mu_num.specs.Levels.{floor_level}
 use Rattle.mu_tree.specs.ModelTree.{ModelTree}
 use Rattle.qss_machine.specs.SameData.{HaveSameData}
 use Rattle.qss_machine.specs.declared.system.Machine.{Machine}
-use Rattle.qss_machine.specs.Runs.{run_by}
 use Rattle.qss_machine.proofs.Fields.{same_machine}
 use Rattle.qss_top.specs.FirstForm.{FirstForm}
-use Rattle.qss_top.specs.Meanings.{number_of, IsMachineOf}
-use Rattle.qss_top.specs.Commands.{Command, run_model, print_model, command_of}
-use Rattle.qss_top.specs.Answers.{Answer, Told, refusal, refused, printed, printed_text, IsMeaningAnswer, IsTreeAnswer, IsSourceAnswer, IsRunAnswer, IsPrintAnswer, answered, Says, ReadsThen, LeadsTo, Defines}
+use Rattle.qss_top.specs.Meanings.{number_of, IsMachineOf, MeansAt}
+use Rattle.qss_top.specs.Commands.{RunOptions, Command, run_model, print_model, command_of}
+use Rattle.qss_top.specs.Answers.{Answer, Told, refusal, refused, printed, printed_text, IsMeaningAnswer, IsTreeAnswer, IsSourceAnswer, IsRunAnswer, IsPrintAnswer, answered, Says, ReadsThen, Reads, LeadsTo, Defines}
 use Rattle.qss_top.specs.Laws.{MeaningsAreUnique, AnswersAreUnique}
-use Rattle.qss_top.specs.Trees.{SpellsTree, IsRefusedBy}
 use Rattle.qss_top.specs.declared.status.Status.TheVariants as ends
 use Rattle.qss_top.specs.declared.tree.Refusal.{Refusal}
 use Rattle.qss_top.proofs.Sources.{one_form}
@@ -43,11 +40,26 @@ same_meaning bytes m n first second =
     (same_data first.form m n first.machine
     (subst (λ (s : FirstForm). IsMachineOf s n) (one_form bytes second.form first.form second.spelled first.spelled) second.machine))
 
-pub one_meaning : (bytes : List ℕ) (a b : Answer) → IsMeaningAnswer bytes a → IsMeaningAnswer bytes b → a ≡ b
-one_meaning bytes a b (inl p) (inl q) = p.1 ∙ sym q.1
-one_meaning bytes a b (inl p) (inr q) = absurd (p.0 q.0 q.1)
-one_meaning bytes a b (inr p) (inl q) = absurd (q.0 p.0 p.1)
-one_meaning bytes a b (inr p) (inr q) = p.2 ∙ ap (λ (m : Machine). printed m (run_by floor_level m)) (same_meaning bytes p.0 q.0 p.1 q.1) ∙ sym q.2
+pub same_meaning_at : (share : ℕ) (bytes : List ℕ) (m n : Machine) → MeansAt share bytes m → MeansAt share bytes n → m ≡ n
+same_meaning_at share bytes m n a b =
+    let plain = same_meaning bytes a.plain b.plain a.means b.means in
+    same_machine m n (record {
+      coefficient_bits = a.coef_bits ∙ ap (λ (k : Machine). k.p) plain ∙ sym b.coef_bits;
+      tick_bits = a.tick_bits ∙ ap (λ (k : Machine). k.k) plain ∙ sym b.tick_bits;
+      level_bits = a.level_bits ∙ ap (λ (k : Machine). k.f) plain ∙ sym b.level_bits;
+      last_tick = a.last ∙ ap (λ (k : Machine). k.last) plain ∙ sym b.last;
+      same_states = a.states ∙ ap (λ (k : Machine). k.states) plain ∙ sym b.states;
+      same_discretes = a.discretes ∙ ap (λ (k : Machine). k.discretes) plain ∙ sym b.discretes;
+      same_rows = a.rows ∙ ap (λ (k : Machine). k.rows) plain ∙ sym b.rows;
+      same_clauses = a.clauses ∙ ap (λ (k : Machine). k.clauses) plain ∙ sym b.clauses;
+      share = a.relative ∙ sym b.relative;
+    })
+
+pub one_meaning : (options : RunOptions) (bytes : List ℕ) (a b : Answer) → IsMeaningAnswer options bytes a → IsMeaningAnswer options bytes b → a ≡ b
+one_meaning options bytes a b (inl p) (inl q) = p.1 ∙ sym q.1
+one_meaning options bytes a b (inl p) (inr q) = absurd (p.0 q.0 q.1)
+one_meaning options bytes a b (inr p) (inl q) = absurd (q.0 p.0 p.1)
+one_meaning options bytes a b (inr p) (inr q) = p.2 ∙ ap (printed options) (same_meaning_at options.share bytes p.0 q.0 p.1 q.1) ∙ sym q.2
 
 one_choice : (r a b : Answer) (P : Answer → Type 0) → (P a → P b → a ≡ b) → (c : Bool) → MatchBool c (a ≡ r) (P a) → MatchBool c (b ≡ r) (P b) → a ≡ b
 one_choice r a b P one true p q = p ∙ sym q
@@ -62,8 +74,8 @@ one_answer bytes P one a b (inr p) (inr q) = one p.0 a b p.2 (subst (λ (tree : 
 one_source : (bytes : List ℕ) (P : ModelTree → Answer → Type 0) → ((tree : ModelTree) (a b : Answer) → P tree a → P tree b → a ≡ b) → (a b : Answer) → IsSourceAnswer bytes P a → IsSourceAnswer bytes P b → a ≡ b
 one_source bytes P one a b p q = one_choice _ a b (IsTreeAnswer bytes P) (one_answer bytes P one a b) (nat_lt (2 ^ 20) (length bytes)) p q
 
-one_run : (bytes : List ℕ) (a b : Answer) → IsRunAnswer bytes a → IsRunAnswer bytes b → a ≡ b
-one_run bytes a b p q = one_source bytes (λ tree. IsMeaningAnswer bytes) (λ tree. one_meaning bytes) a b p q
+one_run : (options : RunOptions) (bytes : List ℕ) (a b : Answer) → IsRunAnswer options bytes a → IsRunAnswer options bytes b → a ≡ b
+one_run options bytes a b p q = one_source bytes (λ tree. IsMeaningAnswer options bytes) (λ tree. one_meaning options bytes) a b p q
 
 one_print : (bytes : List ℕ) (a b : Answer) → IsPrintAnswer bytes a → IsPrintAnswer bytes b → a ≡ b
 one_print bytes a b p q = one_source bytes (λ tree answer. answer ≡ printed_text tree) (λ tree c d e f. e ∙ sym f) a b p q
@@ -77,11 +89,17 @@ one_read name Leads one None s t p q = p ∙ sym q
 one_read name Leads one (Some bytes) s t p q =
     p.2 ∙ ap (λ (later : Told). record { arrivals = name ∷ later.arrivals; reply = later.reply }) (one bytes p.0 q.0 p.1 q.1) ∙ sym q.2
 
-one_command : (command : Command) (files : Files) (s t : Told) → LeadsTo command files s → LeadsTo command files t → s ≡ t
-one_command (run_model model) files s t p q =
-    one_read model (λ bytes. Says (IsRunAnswer bytes)) (λ bytes. one_says (IsRunAnswer bytes) (one_run bytes)) (file_of files model) s t p q
+one_file : (name : List ℕ) (Leads : List ℕ → Told → Type 0) → ((bytes : List ℕ) (s t : Told) → Leads bytes s → Leads bytes t → s ≡ t) → (files : Files) (s t : Told)
+    → Reads (Some files) name Leads s → Reads (Some files) name Leads t → s ≡ t
+one_file name Leads one files s t p q =
+    one_read name Leads one (file_of files name) s t
+    (subst (λ (found : Option (List ℕ)). ReadsThen name Leads found s) p.1 p.2) (subst (λ (found : Option (List ℕ)). ReadsThen name Leads found t) q.1 q.2)
+
+one_command : (command : Command) (files : Files) (s t : Told) → LeadsTo command (Some files) s → LeadsTo command (Some files) t → s ≡ t
+one_command (run_model model options) files s t p q =
+    one_file model (λ bytes. Says (IsRunAnswer options bytes)) (λ bytes. one_says (IsRunAnswer options bytes) (one_run options bytes)) files s t p q
 one_command (print_model model) files s t p q =
-    one_read model (λ bytes. Says (IsPrintAnswer bytes)) (λ bytes. one_says (IsPrintAnswer bytes) (one_print bytes)) (file_of files model) s t p q
+    one_file model (λ bytes. Says (IsPrintAnswer bytes)) (λ bytes. one_says (IsPrintAnswer bytes) (one_print bytes)) files s t p q
 
 one_told : (command : Option Command) (files : Option Files) (s t : Told) → Defines command files s → Defines command files t → s ≡ t
 one_told None files s t p q = one_says _ (λ a b e f. e ∙ sym f) s t p q

@@ -12,17 +12,16 @@ use Rattle.qss_top.specs.declared.status.Status.TheVariants as ends
 
 -- the status is that of the outcome, but for a line that found no memory
 abbrev pub IsStatus : Status → Outcome → Type 0
-IsStatus status what = (status ≡ status_of what) ⊎ ((status ≡ ends.Memory) × (takes_memory (status_of what) ≡ true))
+IsStatus status what = (status ≡ status_of what) ⊎ ((status ≡ ends.Memory) × (takes_memory what ≡ true))
 
-in_memory : (reply : Reply) (s : Status) (old new : Option (List ℕ)) → takes_memory s ≡ true → IsReplied reply s old new → IsReplied reply ends.Memory old new
-in_memory (answered answer) s old new m h = λ e. absurd (cc e)
-in_memory absent s old new m h = inr refl
-in_memory (untold command) s old new m h = λ e. absurd (cc e)
+in_memory : (reply : Reply) (old new : Option (List ℕ)) → IsReplied reply ends.Memory old new
+in_memory (answered answer) old new = λ e. absurd (cc e)
+in_memory absent old new = inr refl
+in_memory (untold command) old new = λ e. absurd (cc e)
 
 pub replied : (reply : Reply) (status : Status) (what : Outcome) (old new : Option (List ℕ)) → IsStatus status what → IsReplied reply (status_of what) old new → IsReplied reply status old new
 replied reply status what old new (inl e) h = subst (λ (s : Status). IsReplied reply s old new) (sym e) h
-replied reply status what old new (inr e) h =
-    subst (λ (s : Status). IsReplied reply s old new) (sym e.0) (in_memory reply (status_of what) old new e.1 h)
+replied reply status what old new (inr e) h = subst (λ (s : Status). IsReplied reply s old new) (sym e.0) (in_memory reply old new)
 
 pub defined_of : (status : Status) (what : Outcome) → IsStatus status what → is_defined status ≡ true → is_defined (status_of what) ≡ true
 defined_of status what (inl e) d = sym (ap is_defined e) ∙ d
@@ -94,25 +93,41 @@ pub usage_of : (status : Status) (what : Outcome) → IsStatus status what → s
 usage_of status what h e = usage_is what (sym e ∙ same_status status what h (λ m. absurd (cc (e, m))))
 
 -- the other way round
-pub status_by : (status : Status) (what : Outcome) → IsStatus status what → takes_memory (status_of what) ≢ true → status ≡ status_of what
+pub status_by : (status : Status) (what : Outcome) → IsStatus status what → takes_memory what ≢ true → status ≡ status_of what
 status_by status what (inl e) other = e
 status_by status what (inr e) other = absurd (other e.1)
 
 pub no_write : (status : Status) (what : Outcome) → IsStatus status what → status ≢ ends.WriteFault → what ≢ outcome.WriteFault
-no_write status what h other e = other (status_by status what h (λ o. absurd (cc (ap (λ (w : Outcome). takes_memory (status_of w)) e, o))) ∙ ap status_of e)
+no_write status what h other e = other (status_by status what h (λ o. absurd (cc (ap takes_memory e, o))) ∙ ap status_of e)
 
-tells_reply : (reply : Reply) (what : Outcome) (line : List ℕ) → HasLine reply (line_of what) → Tells (line_of what) line → IsReplyLine reply line
-tells_reply (answered answer) what line has tells = rw has at tells
-tells_reply absent what line has tells = tt
-tells_reply (untold command) what line has tells = (has.0, has.1, has.2, has.3, has.4, subst (λ (l : Line). Tells l line) has.5 tells)
+pub no_read : (status : Status) (what : Outcome) → IsStatus status what → status ≢ ends.ReadFault → what ≢ outcome.ReadFault
+no_read status what h other e = other (status_by status what h (λ o. absurd (cc (ap takes_memory e, o))) ∙ ap status_of e)
 
-pub line_is : (status : Status) (reply : Reply) (what : Outcome) (line : List ℕ) → (is_defined status ≡ true → HasLine reply (line_of what)) → IsReported status what line → IsLineOf status reply line
-line_is ends.Ok reply what line has h = h
-line_is ends.Rejected reply what line has h = tells_reply reply what line (has refl) h
-line_is ends.Usage reply what line has h = tells_reply reply what line (has refl) h
-line_is ends.ReadFault reply what line has h = h
-line_is ends.WriteFault reply what line has h = h
-line_is ends.ModelRefused reply what line has h = tells_reply reply what line (has refl) h
-line_is ends.Overflow reply what line has h = tells_reply reply what line (has refl) h
-line_is ends.CertRefused reply what line has h = tells_reply reply what line (has refl) h
-line_is ends.Memory reply what line has h = h
+-- a status that comes of a defined answer is that of the outcome
+same_defined : (status : Status) (what : Outcome) → IsStatus status what → is_defined status ≡ true → status ≡ status_of what
+same_defined status what (inl e) d = e
+same_defined status what (inr e) d = absurd (cc (ap is_defined e.0, d))
+
+tells_reply : (reply : Reply) (status : Status) (what : Outcome) (old new : Option (List ℕ)) (line : List ℕ) → status ≡ status_of what → HasLine reply (status_of what) old new (line_of what) → Tells (line_of what) line
+    → IsReplyLine reply status old new line
+tells_reply (answered answer) status what old new line same has tells = rw has at tells
+tells_reply absent status what old new line same has tells = tt
+tells_reply (untold command) status what old new line same has tells =
+    let such = has.4 in
+    (has.0, has.1, has.2, has.3, (same ∙ such.0, such.1, subst (λ (l : Line). Tells l line) such.2 tells))
+
+module _ (reply : Reply) (what : Outcome) (old new : Option (List ℕ)) (line : List ℕ) where
+  tells_defined : (status : Status) → IsStatus status what → is_defined status ≡ true → (is_defined status ≡ true → HasLine reply (status_of what) old new (line_of what)) → Tells (line_of what) line
+      → IsReplyLine reply status old new line
+  tells_defined status is d has tells = tells_reply reply status what old new line (same_defined status what is d) (has d) tells
+
+  pub line_is : (status : Status) → IsStatus status what → (is_defined status ≡ true → HasLine reply (status_of what) old new (line_of what)) → IsReported status what line → IsLineOf status reply old new line
+  line_is ends.Ok is has h = h
+  line_is ends.Rejected is has h = tells_defined ends.Rejected is refl has h
+  line_is ends.Usage is has h = tells_defined ends.Usage is refl has h
+  line_is ends.ReadFault is has h = h
+  line_is ends.WriteFault is has h = h
+  line_is ends.ModelRefused is has h = tells_defined ends.ModelRefused is refl has h
+  line_is ends.Overflow is has h = tells_defined ends.Overflow is refl has h
+  line_is ends.CertRefused is has h = tells_defined ends.CertRefused is refl has h
+  line_is ends.Memory is has h = h

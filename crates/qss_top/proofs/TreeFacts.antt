@@ -4,8 +4,8 @@ use Rattle.std.specs.declared.option.Option.{Option}
 use Rattle.std.specs.List.{All}
 use Rattle.std.proofs.lemmas.List.{drop-drop}
 use Rattle.std.proofs.lemmas.List.Elements.{All-nil, All-cons}
-use Rattle.mu_lexer.specs.Automaton.{kind_from, NoToken, LongestUpTo, BestUpTo, better, named, word_among, kind_named}
-use Rattle.mu_lexer.specs.Reading.{begins_blank, begins_slash, begins_quote, begins_comment, block_length, comment_length, line_length, Stands, StopsReading, Reads, stay as at_end, blank as over_space, comment as over_remark, token as over_word, AreTokens, IsFirstFault}
+use Rattle.mu_lexer.specs.Automaton.{kind_from, BestUpTo, better, named, word_among, kind_named}
+use Rattle.mu_lexer.specs.Reading.{begins_blank, begins_quote, begins_comment, comment_length, Stands, StopsReading, Reads, stay as at_end, blank as over_space, comment as over_remark, token as over_word, AreTokens, IsFirstFault}
 use Rattle.mu_lexer.specs.Spelling.{SpellsToken}
 use Rattle.mu_lexer.specs.declared.lex.LexErr.{LexErr}
 use Rattle.mu_lexer.specs.declared.lex.LexErr.TheVariants as lexing
@@ -16,7 +16,7 @@ use Rattle.mu_lexer.specs.declared.token.Kind.{Kind}
 use Rattle.mu_lexer.specs.declared.token.Kind.TheVariants as kind
 use Rattle.mu_lexer.specs.declared.token.Token.{Token}
 use Rattle.mu_lexer.specs.declared.token.TheConstants.{WORDS}
-use Rattle.mu_lexer.proofs.Places.{found_longest, found_none, size, size_within}
+use Rattle.mu_lexer.proofs.Places.{found_longest, found_none, size_within}
 use Rattle.mu_lexer.proofs.Progress.{Progress, start, over_blank, over_comment, over_token, finished, fault_here, no_tokens, no_error, only_error, error_at, one_list}
 use Rattle.mu_grammar.specs.Fronts.{IsToken, IsFault, IsReason, JudgedOnce}
 use Rattle.mu_grammar.specs.ModelMachine.{model_machine}
@@ -29,8 +29,7 @@ use Rattle.mu_grammar.proofs.Judged.{judged, judged_once}
 use Rattle.mu_grammar.proofs.ModelDecides.{model_decides}
 use Rattle.mu_tree.specs.ModelTree.{ModelTree}
 use Rattle.qss_top.specs.Laws.{SourcesAreJudged}
-use Rattle.qss_top.specs.Trees.{SpellsTree, LexerRefuses, ParserRefuses, IsRefusedBy, IsCause, err_of_lexer, err_of_parser}
-use Rattle.qss_top.specs.declared.tree.TreeErr.{TreeErr}
+use Rattle.qss_top.specs.Trees.{SpellsTree, ParserRefuses, IsRefusedBy, IsCause, err_of_lexer, err_of_parser}
 use Rattle.qss_top.specs.declared.tree.TreeErr.TheVariants as read
 use Rattle.qss_top.specs.declared.tree.Refusal.{Refusal}
 

@@ -1,14 +1,14 @@
 -- What the words, with the files they name, define as the answer.
-use Rattle.std.specs.Prelude.{◌≡◌, ◌⊎◌, ℕ, ◌+◌, ◌^◌, List, [], ◌∷◌, ◌++◌, length, nat_lt, codes, decimal, Option, Some, None, MatchBool}
+use Rattle.std.specs.Prelude.{◌≡◌, ◌⊎◌, ℕ, ◌+◌, ◌^◌, List, [], ◌∷◌, ◌++◌, length, nat_lt, codes, decimal, Option, Some, None, IsSome, MatchBool}
 use Rattle.mu_io.specs.Files.{Files, file_of}
-use Rattle.mu_num.specs.Levels.{floor_level}
 use Rattle.mu_tree.specs.Canonical.{canonical_text}
 use Rattle.mu_tree.specs.ModelTree.{ModelTree}
-use Rattle.qss_machine.specs.Runs.{Run, run_by, run_rows}
+use Rattle.qss_machine.specs.Runs.{Run}
 use Rattle.qss_machine.specs.declared.system.Machine.{Machine}
-use Rattle.qss_rows.specs.Lines.{header, name_of, lines_of}
-use Rattle.qss_top.specs.Commands.{Command, run_model, print_model, command_of, files_of}
-use Rattle.qss_top.specs.Meanings.{Means}
+use Rattle.qss_rows.specs.Lines.{name_of}
+use Rattle.qss_play.specs.Plays.{run_under, text_of as run_text}
+use Rattle.qss_top.specs.Commands.{RunOptions, Command, run_model, print_model, command_of, files_of}
+use Rattle.qss_top.specs.Meanings.{MeansAt}
 use Rattle.qss_top.specs.Trees.{SpellsTree, IsRefusedBy, phase_text}
 use Rattle.qss_top.specs.declared.status.Status.{Status}
 use Rattle.qss_top.specs.declared.status.Status.TheVariants as ends
@@ -26,7 +26,7 @@ pub data Line : Type 0 where
 -- the text says that
 abbrev pub Tells : Line → List ℕ → Type 0
 Tells quiet text = text ≡ []
-Tells usage text = text ≡ codes "usage: qss VERB [WORD] [WORD] [--rule RULE] [--only NAME]\n"
+Tells usage text = text ≡ codes "usage: qss VERB [WORD] [WORD] [--rule RULE] [--only NAME] [--relative N]\n"
 Tells too_long text = text ≡ codes "refused: top 1\n"
 Tells no_form text = text ≡ codes "refused: top 2\n"
 Tells (refused r) text = text ≡ codes "refused: " ++ phase_text r.phase ++ codes " " ++ decimal r.number ++ codes " " ++ decimal r.place ++ codes "\n"
@@ -57,15 +57,18 @@ line_of_run m run = line_by run.overflow
     line_by None = quiet
     line_by (Some var) = over (name_of m var) (length run.worlds + 1)
 
--- the answer that prints a run: the header and the line of each row
-abbrev pub printed : Machine → Run → Answer
-printed m run = record { status = status_of_run run; out = header ++ lines_of m (run_rows m run); line = line_of_run m run }
+-- the answer that prints the run of a machine by a rule: the header, and the line of each row that passes
+abbrev pub printed : RunOptions → Machine → Answer
+printed options m = answer_by (run_under options.rule m)
+  where
+    answer_by : Run → Answer
+    answer_by run = record { status = status_of_run run; out = run_text options.only m run; line = line_of_run m run }
 
--- the answer to `run` on a source that spells a model: refused where it means no machine, else the run of its machine by the rule `floor`
-abbrev pub IsMeaningAnswer : List ℕ → Answer → Type 0
-IsMeaningAnswer bytes answer =
-    (((m : Machine) → ¬ Means bytes m) × (answer ≡ refusal ends.ModelRefused no_form))
-    ⊎ ((m : Machine) × Means bytes m × (answer ≡ printed m (run_by floor_level m)))
+-- the answer to `run` on a source that spells a model: refused where it means no machine with such quanta, else the run of its machine
+abbrev pub IsMeaningAnswer : RunOptions → List ℕ → Answer → Type 0
+IsMeaningAnswer options bytes answer =
+    (((m : Machine) → ¬ MeansAt options.share bytes m) × (answer ≡ refusal ends.ModelRefused no_form))
+    ⊎ ((m : Machine) × MeansAt options.share bytes m × (answer ≡ printed options m))
 
 -- the answer that prints a model
 abbrev pub printed_text : ModelTree → Answer
@@ -83,8 +86,8 @@ IsSourceAnswer bytes IsAnswer answer =
     MatchBool (nat_lt (2 ^ 20) (length bytes)) (answer ≡ refusal ends.ModelRefused too_long) (IsTreeAnswer bytes IsAnswer answer)
 
 -- the answer to `run` on a source
-abbrev pub IsRunAnswer : List ℕ → Answer → Type 0
-IsRunAnswer bytes answer = IsSourceAnswer bytes (λ tree. IsMeaningAnswer bytes) answer
+abbrev pub IsRunAnswer : RunOptions → List ℕ → Answer → Type 0
+IsRunAnswer options bytes answer = IsSourceAnswer bytes (λ tree. IsMeaningAnswer options bytes) answer
 
 -- the answer to `print` on a source
 abbrev pub IsPrintAnswer : List ℕ → Answer → Type 0
@@ -110,22 +113,27 @@ abbrev pub ReadsThen : List ℕ → (List ℕ → Told → Type 0) → Option (L
 ReadsThen name Leads None told = told ≡ record { arrivals = name ∷ []; reply = absent }
 ReadsThen name Leads (Some bytes) told = (later : Told) × Leads bytes later × (told ≡ record { arrivals = name ∷ later.arrivals; reply = later.reply })
 
-abbrev pub Reads : Files → List ℕ → (List ℕ → Told → Type 0) → Told → Type 0
-Reads files name Leads told = ReadsThen name Leads (file_of files name) told
+-- what a read of a name may find: where files are told, the bytes that they have; else some bytes, which may be others at each read
+abbrev pub Finds : Option Files → List ℕ → Option (List ℕ) → Type 0
+Finds None name found = IsSome found
+Finds (Some files) name found = found ≡ file_of files name
 
--- a command on these files leads to what is told
-abbrev pub LeadsTo : Command → Files → Told → Type 0
-LeadsTo (run_model model) files told = Reads files model (λ bytes. Says (IsRunAnswer bytes)) told
+abbrev pub Reads : Option Files → List ℕ → (List ℕ → Told → Type 0) → Told → Type 0
+Reads files name Leads told = (found : Option (List ℕ)) × Finds files name found × ReadsThen name Leads found told
+
+-- a command leads to what is told, or may lead to it where no files are told
+abbrev pub LeadsTo : Command → Option Files → Told → Type 0
+LeadsTo (run_model model options) files told = Reads files model (λ bytes. Says (IsRunAnswer options bytes)) told
 LeadsTo (print_model model) files told = Reads files model (λ bytes. Says (IsPrintAnswer bytes)) told
 
--- on some files the answer to the command is such a one
+-- for some bytes that the command reads, the answer to it is such a one
 abbrev pub MayAnswer : Command → (Answer → Type 0) → Type 0
-MayAnswer command IsSuch = (files : Files) × (told : Told) × (answer : Answer) × LeadsTo command files told × (told.reply ≡ answered answer) × IsSuch answer
+MayAnswer command IsSuch = (told : Told) × (answer : Answer) × LeadsTo command None told × (told.reply ≡ answered answer) × IsSuch answer
 
 -- what the command leads to where the shelf may not tell its files
 abbrev pub LeadsFrom : Command → Option Files → Told → Type 0
 LeadsFrom command None told = told ≡ record { arrivals = files_of command; reply = untold command }
-LeadsFrom command (Some files) told = LeadsTo command files told
+LeadsFrom command (Some files) told = LeadsTo command (Some files) told
 
 -- what words and files define: words that are no command are answered so, whatever the files are
 abbrev pub Defines : Option Command → Option Files → Told → Type 0

@@ -1,6 +1,7 @@
 pub mod FirstForm
 pub mod Meanings
 pub mod Trees
+pub mod Saying
 pub mod Commands
 pub mod Words
 pub mod Answers
@@ -9,5 +10,4 @@ pub mod TopCall
 pub mod Laws
 pub mod Reading
 pub mod Scaling
-pub mod OneState
 pub mod Outcomes

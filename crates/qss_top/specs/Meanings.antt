@@ -40,3 +40,17 @@ pub record Means (bytes : List ℕ) (m : Machine) : Type 0 where
   pub form : FirstForm
   pub spelled : IsFirstForm bytes form
   pub machine : IsMachineOf form m
+
+-- the source means the machine with quanta of at least this share of their levels, in 4096ths
+pub record MeansAt (share : ℕ) (bytes : List ℕ) (m : Machine) : Type 0 where
+  pub plain : Machine
+  pub means : Means bytes plain
+  pub coef_bits : m.p ≡ plain.p
+  pub tick_bits : m.k ≡ plain.k
+  pub level_bits : m.f ≡ plain.f
+  pub last : m.last ≡ plain.last
+  pub states : m.states ≡ plain.states
+  pub discretes : m.discretes ≡ plain.discretes
+  pub rows : m.rows ≡ plain.rows
+  pub clauses : m.clauses ≡ plain.clauses
+  pub relative : m.relative ≡ share

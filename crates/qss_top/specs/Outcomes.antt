@@ -1,6 +1,7 @@
 -- What became of a command, and what it meets of what is told.
-use Rattle.std.specs.Prelude.{◌≡◌, ℕ, List, [], codes, Contains, Bool, true, false, Option, Some, IfSome}
+use Rattle.std.specs.Prelude.{◌≡◌, ℕ, List, [], codes, Contains, Bool, true, false, Option, Some, None, IfSome}
 use Rattle.std.specs.Io.KnownBytes.{Appends}
+use Rattle.mu_io.specs.Files.{Files}
 use Rattle.mu_io.specs.Sinks.{AppendsPrefix}
 use Rattle.qss_top.specs.Answers.{Answer, Line, quiet, usage, too_long, no_form, refused, over, Reply, answered, absent, untold, MayAnswer, Told, Tells}
 use Rattle.qss_top.specs.Statuses.{is_defined}
@@ -34,10 +35,10 @@ line_of (outcome.Refused r) = refused r
 line_of (outcome.Overflow name tick) = over name tick
 line_of outcome.Memory = quiet
 
--- whether a line of this status may be made in memory
-abbrev pub takes_memory : Status → Bool
-takes_memory ends.ModelRefused = true
-takes_memory ends.Overflow = true
+-- whether the line of an outcome is made in memory
+abbrev pub takes_memory : Outcome → Bool
+takes_memory (outcome.Refused r) = true
+takes_memory (outcome.Overflow name tick) = true
 takes_memory _ = false
 
 -- the outcome is that of the answer, or a write fault or want of memory, and no more than the answer's text was written
@@ -46,20 +47,27 @@ pub record IsOutcome (answer : Answer) (what : Outcome) (old new : Option (List 
   pub prefix : AppendsPrefix old new answer.out
   pub quiet : answer.out ≡ [] → now ≡ before
 
--- the line that an outcome has in a reply
-abbrev pub HasLine : Reply → Line → Type 0
-HasLine (answered answer) line = line ≡ answer.line
-HasLine absent line = Unit {0}
-HasLine (untold command) line = MayAnswer command (λ answer. line ≡ answer.line)
+-- the line that an outcome has in a reply, with its status and with what was written
+abbrev pub HasLine : Reply → Status → Option (List ℕ) → Option (List ℕ) → Line → Type 0
+HasLine (answered answer) status old new line = line ≡ answer.line
+HasLine absent status old new line = Unit {0}
+HasLine (untold command) status old new line = MayAnswer command (λ answer. (status ≡ answer.status) × Appends old new answer.out × (line ≡ answer.line))
 
 -- the outcome is one for what is told: its status, its line and what was written, and which counts rose
 pub record Meets (told : Told) (what : Outcome) (old new : Option (List ℕ)) (out_before out_now : ℕ) (before now : List ℕ → ℕ) : Type 0 where
   pub replied : IsReplied told.reply (status_of what) old new
-  pub line : is_defined (status_of what) ≡ true → HasLine told.reply (line_of what)
+  pub line : is_defined (status_of what) ≡ true → HasLine told.reply (status_of what) old new (line_of what)
   pub prefix : IfSome (text_of told.reply) (λ text. AppendsPrefix old new text)
   pub quiet : text_of told.reply ≡ Some [] → out_now ≡ out_before
   pub read_fault : what ≡ outcome.ReadFault → SomeRose told.arrivals before now
   pub others : (name : List ℕ) → ¬ Contains told.arrivals name → now name ≡ before name
+
+-- the outcome serves what is led to by files of these names: all that is led to where files are told, and else something that may be led to
+pub record Serves (files : Option Files) (names : List (List ℕ)) (Leads : Option Files → Told → Type 0) (what : Outcome) (old new : Option (List ℕ)) (out_before out_now : ℕ) (before now : List ℕ → ℕ) : Type 0 where
+  pub known : (fs : Files) → files ≡ Some fs → (told : Told) → Leads (Some fs) told → Meets told what old new out_before out_now before now
+  pub some : is_defined (status_of what) ≡ true → (told : Told) × (answer : Answer) × Leads None told × (told.reply ≡ answered answer) × IsOutcome answer what old new out_before out_now
+  pub read_fault : what ≡ outcome.ReadFault → SomeRose names before now
+  pub others : (name : List ℕ) → ¬ Contains names name → now name ≡ before name
 
 -- the line that is written of an outcome that ends with this status
 abbrev pub IsReported : Status → Outcome → List ℕ → Type 0

@@ -1,15 +1,15 @@
 -- What the top call does, for what its words and files define.
 use Rattle.std.specs.Prelude.{◌≡◌, ◌⊎◌, ℕ, true, List, [], codes, Contains, Option, Some, None}
-use Rattle.std.specs.Io.KnownBytes.{Appends, Keeps}
+use Rattle.std.specs.Io.KnownBytes.{Appends}
 use Rattle.mu_io.specs.Faults.{Rose}
 use Rattle.mu_io.specs.Sinks.{AppendsPrefix}
-use Rattle.qss_top.specs.Answers.{Answer, Reply, answered, absent, untold, MayAnswer, Tells}
+use Rattle.qss_top.specs.Answers.{Reply, answered, absent, untold, MayAnswer, Tells}
 use Rattle.qss_top.specs.Statuses.{is_defined}
 use Rattle.qss_top.specs.declared.status.Status.{Status}
 use Rattle.qss_top.specs.declared.status.Status.TheVariants as ends
 
 -- a status that comes of a defined answer is that of the answer, and out gains exactly its text; where a file is absent the status is a read fault or want of memory;
--- where the files are not told, status and text are those of the answer on some files
+-- where the files are not told, status and text are those of the answer for some bytes that are read
 abbrev pub IsReplied : Reply → Status → Option (List ℕ) → Option (List ℕ) → Type 0
 IsReplied (answered answer) status old new = is_defined status ≡ true → (status ≡ answer.status) × Appends old new answer.out
 IsReplied absent status old new = (status ≡ ends.ReadFault) ⊎ (status ≡ ends.Memory)
@@ -25,24 +25,26 @@ text_of (untold command) = None
 abbrev pub SomeRose : List (List ℕ) → (List ℕ → ℕ) → (List ℕ → ℕ) → Type 0
 SomeRose names before now = (name : List ℕ) × Contains names name × Rose (before name) (now name)
 
--- the line of a status that comes of a defined answer
-abbrev pub IsReplyLine : Reply → List ℕ → Type 0
-IsReplyLine (answered answer) line = Tells answer.line line
-IsReplyLine absent line = Unit {0}
-IsReplyLine (untold command) line = MayAnswer command (λ answer. Tells answer.line line)
+-- the line of a status that comes of a defined answer; where the files are not told, status, text and line are those of one answer
+abbrev pub IsReplyLine : Reply → Status → Option (List ℕ) → Option (List ℕ) → List ℕ → Type 0
+IsReplyLine (answered answer) status old new line = Tells answer.line line
+IsReplyLine absent status old new line = Unit {0}
+IsReplyLine (untold command) status old new line = MayAnswer command (λ answer. (status ≡ answer.status) × Appends old new answer.out × Tells answer.line line)
 
--- the line of a status
-abbrev pub IsLineOf : Status → Reply → List ℕ → Type 0
-IsLineOf ends.Ok reply line = line ≡ []
-IsLineOf ends.ReadFault reply line = line ≡ codes "read fault\n"
-IsLineOf ends.WriteFault reply line = line ≡ codes "write fault\n"
-IsLineOf ends.Memory reply line = line ≡ codes "out of memory\n"
-IsLineOf _ reply line = IsReplyLine reply line
+-- the line of a status, where out gained what it has now
+abbrev pub IsLineOf : Status → Reply → Option (List ℕ) → Option (List ℕ) → List ℕ → Type 0
+IsLineOf ends.Ok reply old new line = line ≡ []
+IsLineOf ends.ReadFault reply old new line = line ≡ codes "read fault\n"
+IsLineOf ends.WriteFault reply old new line = line ≡ codes "write fault\n"
+IsLineOf ends.Memory reply old new line = line ≡ codes "out of memory\n"
+IsLineOf status reply old new line = IsReplyLine reply status old new line
 
 -- a line is written, or a prefix of it and the count of faults has risen
 abbrev pub WritesLine : List ℕ → Option (List ℕ) → Option (List ℕ) → ℕ → ℕ → Type 0
 WritesLine line old new before now = Appends old new line ⊎ (AppendsPrefix old new line × Rose before now)
 
 -- the line of a status is written, or a prefix of it and the count of faults has risen
-abbrev pub ReportsStatus : Status → Reply → Option (List ℕ) → Option (List ℕ) → ℕ → ℕ → Type 0
-ReportsStatus status reply old new before now = (line : List ℕ) × IsLineOf status reply line × WritesLine line old new before now
+pub record ReportsStatus (status : Status) (reply : Reply) (out_old out_new err_old err_new : Option (List ℕ)) (before now : ℕ) : Type 0 where
+  pub line : List ℕ
+  pub own : IsLineOf status reply out_old out_new line
+  pub written : WritesLine line err_old err_new before now

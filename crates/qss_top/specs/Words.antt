@@ -1,24 +1,45 @@
 -- Commands as the code reads them.
-use Rattle.std.specs.Prelude.{◌≡◌, ℕ, List}
+use Rattle.std.specs.Prelude.{◌≡◌, ℕ, List, option_map}
 use Rattle.mu_tree.specs.ModelTree.{ModelTree}
-use Rattle.qss_top.specs.Answers.{Answer, IsMeaningAnswer, printed_text}
-use Rattle.qss_top.specs.Commands.{Command, run_model, print_model}
+use Rattle.qss_top.specs.Answers.{Answer, IsMeaningAnswer, IsSourceAnswer, printed_text}
+use Rattle.qss_top.specs.Commands.{RunOptions, Command, run_model, print_model}
+use Rattle.qss_top.specs.Saying as Spec
 use Rattle.qss_top.specs.declared.command.Request.{Request}
-use Rattle.qss_top.specs.declared.command.Request.TheVariants.{Run, Print}
 use Rattle.qss_top.specs.declared.command.Task.{Task}
 use Rattle.qss_top.specs.declared.command.Task.TheVariants as task
+use Rattle.qss_top.specs.declared.options.Options.{Options}
+use Rattle.qss_top.specs.declared.words.Said.{Said}
 
--- the command that a request is for
-abbrev pub command_in : Request → Command
-command_in (Run model) = run_model model.now
-command_in (Print model) = print_model model.now
+-- what is said, in words
+abbrev pub said_in : Said → Spec.Said
+said_in s = record {
+  verb = option_map (λ word. word.now) s.verb;
+  name = option_map (λ word. word.now) s.name;
+  rule = option_map (λ word. word.now) s.rule;
+  only = option_map (λ word. word.now) s.only;
+  relative = option_map (λ word. word.now) s.relative;
+  all_alone = s.all_alone;
+  awaited = s.awaited;
+}
+
+-- the options of a run
+abbrev pub options_in : Options → RunOptions
+options_in options = record { rule = options.rule; only = option_map (λ name. name.now) options.only; share = options.share }
 
 -- the command to do this with the model of this name
 abbrev pub command_with : Task → List ℕ → Command
-command_with task.Run model = run_model model
+command_with (task.Run options) model = run_model model (options_in options)
 command_with task.Print model = print_model model
+
+-- the command that a request is for
+abbrev pub command_in : Request → Command
+command_in request = command_with request.task request.model.now
 
 -- the answer to a source and its model
 abbrev pub IsAnswerTo : Task → List ℕ → ModelTree → Answer → Type 0
-IsAnswerTo task.Run bytes tree answer = IsMeaningAnswer bytes answer
+IsAnswerTo (task.Run options) bytes tree answer = IsMeaningAnswer (options_in options) bytes answer
 IsAnswerTo task.Print bytes tree answer = answer ≡ printed_text tree
+
+-- the answer to the bytes of a model
+abbrev pub IsTaskAnswer : Task → List ℕ → Answer → Type 0
+IsTaskAnswer task bytes = IsSourceAnswer bytes (IsAnswerTo task bytes)

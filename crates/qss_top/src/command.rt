@@ -1,53 +1,76 @@
 // The commands: what the words ask for, and what is done for it.
-ghost use Rattle.std.specs.Prelude.{length, ◌≡◌, ◌≢◌, ◌≤◌, ◌↔◌, ◌^◌, [], ◌∷◌, true, false, map, option_map, None, ℕ, List};
+ghost use Rattle.std.specs.Prelude.{length, ◌≡◌, ◌≢◌, ◌≤◌, ◌↔◌, ◌^◌, true, false, map, option_map, None, ℕ, List, IfOk};
 ghost use Rattle.mu_io.specs.Faults.{OnlyCounts};
-ghost use Rattle.mu_tree.specs.ModelTree.{model};
-ghost use Rattle.qss_rows.specs.Lines.{name_of};
-ghost use Rattle.qss_top.specs.Answers.{Answer, Told, IsMeaningAnswer, IsTreeAnswer, printed, printed_text, LeadsFrom, IsTold};
-ghost use Rattle.qss_top.specs.Commands.{command_of};
-ghost use Rattle.qss_top.specs.OneState.{IsSingle, floor_run};
-ghost use Rattle.qss_top.specs.Outcomes.{IsOutcome, Meets, status_of};
-ghost use Rattle.qss_top.specs.Statuses.{leaves_out};
 ghost use Rattle.mu_io.specs.Sinks.{EndsByFault};
-ghost use Rattle.qss_top.specs.Words.{command_in, command_with, IsAnswerTo};
+ghost use Rattle.mu_tree.specs.ModelTree.{model};
+ghost use Rattle.qss_top.specs.Answers.{Answer, Told, IsMeaningAnswer, IsTreeAnswer, printed, printed_text, LeadsTo, IsTold};
+ghost use Rattle.qss_top.specs.Commands.{command_by, command_said, command_of, files_of};
+ghost use Rattle.qss_top.specs.Outcomes.{IsOutcome, Meets, Serves, status_of};
+ghost use Rattle.qss_top.specs.Statuses.{leaves_out};
+ghost use Rattle.qss_top.specs.Words.{command_in, command_with, options_in, said_in, IsAnswerTo};
 
 use crate::machine::machine_of;
+use crate::options::Options;
 use crate::outcome::Outcome;
-use crate::run::{Stop, write_run};
 use crate::tree::{TreeErr, read_model};
+use crate::values::{is_bare, options_said};
+use crate::words::Said;
 use mu_io::{Name, ReadErr, Shelf, Sink, WriteErr, read_all, write_all};
 use mu_tree::canonical::write_model;
 use mu_tree::tree::Model;
 use qss_machine::Machine;
-use qss_rows::header;
-use std::alloc::Global;
+use qss_play::{Played, play};
+use std::alloc::{AllocError, Global};
 
 // The longest model that is read, in bytes.
 const MODEL_LIMIT: usize = 1 << 20;
 
-/// What the words ask for.
-#[derive(Clone, Copy, Debug)]
-pub enum Request<'a> {
-    Run { model: &'a str },
-    Print { model: &'a str },
-}
-
 /// What is done with a model.
 #[derive(Clone, Copy, Debug)]
-pub enum Task {
-    Run,
+pub enum Task<'a> {
+    Run(Options<'a>),
     Print,
+}
+
+/// What the words ask for: what is done with the model of a name.
+#[derive(Clone, Copy, Debug)]
+pub struct Request<'a> {
+    pub task: Task<'a>,
+    pub model: &'a str,
 }
 
 // What the words ask for, where they are a command.
 fn requested<'a>(words: &[&'a str]) -> Option<Request<'a>>
     ensures { option_map command_in result ≡ command_of (map (λ word. word.now) words.now) }
 {
-    match words {
-        [verb, model] if *verb == "run" => Some(Request::Run { model }),
-        [verb, model] if *verb == "print" => Some(Request::Print { model }),
+    let said = Said::of_words(words)?;
+    request_said(said)
+}
+
+// What is asked for, where no option is without a value.
+fn request_said<'a>(said: Said<'a>) -> Option<Request<'a>>
+    ensures { option_map command_in result ≡ command_said (said_in said.entry) }
+{
+    match (said.awaited, said.verb, said.name) {
+        (None, Some(verb), Some(model)) => request_by(verb, model, said),
         _ => None,
     }
+}
+
+// What a verb asks for with the model of a name.
+fn request_by<'a>(verb: &str, model: &'a str, said: Said<'a>) -> Option<Request<'a>>
+    ensures { option_map command_in result ≡ command_by verb.now model.now (said_in said.entry) }
+{
+    if verb == "run" {
+        let options = options_said(said)?;
+        let task = Task::Run(options);
+        return Some(Request { task, model });
+    }
+    if verb == "print" && is_bare(said) {
+        let task = Task::Print;
+        return Some(Request { task, model });
+    }
+    None
 }
 
 /// Does what the words ask for, and writes on out.
@@ -64,10 +87,10 @@ pub(crate) fn answer<S: Shelf, O: Sink>(
     ensures last { result ≡ Outcome.WriteFault → EndsByFault O.written O.faults out.old out.new }
     ensures files { S.files shelf.new ≡ S.files shelf.old }
     ensures later { (name : List ℕ) → S.faults shelf.old name ≤ S.faults shelf.new name }
+    ensures unharmed { result ≢ Outcome.ReadFault → (name : List ℕ) → S.faults shelf.new name ≡ S.faults shelf.old name }
 {
     match requested(words) {
-        Some(Request::Run { model }) => on_file(alloc, Task::Run, model, shelf, out),
-        Some(Request::Print { model }) => on_file(alloc, Task::Print, model, shelf, out),
+        Some(request) => on_file(alloc, request.task, request.model, shelf, out),
         None => Outcome::Usage,
     }
 }
@@ -80,13 +103,14 @@ fn on_file<S: Shelf, O: Sink>(
     shelf: &mut S,
     out: &mut O,
 ) -> Outcome
-    ensures meets { (told : Told) → LeadsFrom (command_with task model.now) (S.files shelf.old) told → Meets told result (O.written out.old) (O.written out.new) (O.faults out.old) (O.faults out.new) (S.faults shelf.old) (S.faults shelf.new) }
+    ensures serves { Serves (S.files shelf.old) (files_of (command_with task.entry model.now)) (LeadsTo (command_with task.entry model.now)) result (O.written out.old) (O.written out.new) (O.faults out.old) (O.faults out.new) (S.faults shelf.old) (S.faults shelf.new) }
     ensures not_usage { result ≢ Outcome.Usage }
     ensures untouched { leaves_out (status_of result) ≡ true → out.new ≡ out.old }
     ensures calm { result ≢ Outcome.WriteFault → O.faults out.new ≡ O.faults out.old }
     ensures last { result ≡ Outcome.WriteFault → EndsByFault O.written O.faults out.old out.new }
     ensures files { S.files shelf.new ≡ S.files shelf.old }
     ensures counts { OnlyCounts model.now (S.faults shelf.old) (S.faults shelf.new) }
+    ensures unharmed { result ≢ Outcome.ReadFault → (name : List ℕ) → S.faults shelf.new name ≡ S.faults shelf.old name }
 {
     match read_all(alloc, shelf, model, MODEL_LIMIT) {
         Ok(bytes) => on_source(alloc, task, &bytes, out),
@@ -99,7 +123,7 @@ fn on_file<S: Shelf, O: Sink>(
 // Does this with the model that a source spells.
 fn on_source<O: Sink>(alloc: Global, task: Task, bytes: &[u8], out: &mut O) -> Outcome
     requires { length bytes.now ≤ 2 ^ 20 }
-    ensures outcome { (answer : Answer) → IsTreeAnswer bytes.now (IsAnswerTo task bytes.now) answer → IsOutcome answer result (O.written out.old) (O.written out.new) (O.faults out.old) (O.faults out.new) }
+    ensures outcome { (answer : Answer) → IsTreeAnswer bytes.now (IsAnswerTo task.entry bytes.now) answer → IsOutcome answer result (O.written out.old) (O.written out.new) (O.faults out.old) (O.faults out.new) }
     ensures not_usage { result ≢ Outcome.Usage }
     ensures not_read { result ≢ Outcome.ReadFault }
     ensures untouched { leaves_out (status_of result) ≡ true → out.new ≡ out.old }
@@ -115,7 +139,7 @@ fn on_source<O: Sink>(alloc: Global, task: Task, bytes: &[u8], out: &mut O) -> O
 
 // Does this with a source and its model.
 fn on_tree<O: Sink>(alloc: Global, task: Task, bytes: &[u8], tree: &Model, out: &mut O) -> Outcome
-    ensures outcome { (answer : Answer) → IsAnswerTo task bytes.now (model tree.now) answer → IsOutcome answer result (O.written out.old) (O.written out.new) (O.faults out.old) (O.faults out.new) }
+    ensures outcome { (answer : Answer) → IsAnswerTo task.entry bytes.now (model tree.now) answer → IsOutcome answer result (O.written out.old) (O.written out.new) (O.faults out.old) (O.faults out.new) }
     ensures not_usage { result ≢ Outcome.Usage }
     ensures not_read { result ≢ Outcome.ReadFault }
     ensures untouched { leaves_out (status_of result) ≡ true → out.new ≡ out.old }
@@ -123,7 +147,7 @@ fn on_tree<O: Sink>(alloc: Global, task: Task, bytes: &[u8], tree: &Model, out: 
     ensures last { result ≡ Outcome.WriteFault → EndsByFault O.written O.faults out.old out.new }
 {
     match task {
-        Task::Run => run_source(alloc, bytes, out),
+        Task::Run(options) => run_source(alloc, options, bytes, out),
         Task::Print => print_model(alloc, tree, out),
     }
 }
@@ -145,8 +169,8 @@ fn print_model<O: Sink>(alloc: Global, tree: &Model, out: &mut O) -> Outcome
 }
 
 // Runs the machine that a source means.
-fn run_source<O: Sink>(alloc: Global, bytes: &[u8], out: &mut O) -> Outcome
-    ensures outcome { (answer : Answer) → IsMeaningAnswer bytes.now answer → IsOutcome answer result (O.written out.old) (O.written out.new) (O.faults out.old) (O.faults out.new) }
+fn run_source<O: Sink>(alloc: Global, options: Options, bytes: &[u8], out: &mut O) -> Outcome
+    ensures outcome { (answer : Answer) → IsMeaningAnswer (options_in options.entry) bytes.now answer → IsOutcome answer result (O.written out.old) (O.written out.new) (O.faults out.old) (O.faults out.new) }
     ensures not_usage { result ≢ Outcome.Usage }
     ensures not_read { result ≢ Outcome.ReadFault }
     ensures untouched { leaves_out (status_of result) ≡ true → out.new ≡ out.old }
@@ -154,39 +178,39 @@ fn run_source<O: Sink>(alloc: Global, bytes: &[u8], out: &mut O) -> Outcome
     ensures last { result ≡ Outcome.WriteFault → EndsByFault O.written O.faults out.old out.new }
 {
     match machine_of(alloc, bytes) {
-        Ok(Some(m)) => run_machine(alloc, &m, out),
+        Ok(Some(m)) => run_machine(alloc, options, m.with_relative(options.share), out),
         Ok(None) => Outcome::NoForm,
         Err(_) => Outcome::Memory,
     }
 }
 
-// The name of the only state.
-fn state_name(m: &Machine) -> &Name
-    requires { IsSingle m.now }
-    ensures { result.now ≡ name_of m.now 0 }
+// A name, where there is one.
+fn name_of(alloc: Global, name: Option<&[u8]>) -> Result<Option<Name>, AllocError>
+    ensures { IfOk result (λ copy. copy ≡ option_map (λ bytes. bytes.now) name.entry) }
 {
-    &m.states.as_slice()[0].name
+    match name {
+        Some(bytes) => {
+            let name = Name::new(alloc, bytes)?;
+            Ok(Some(name))
+        }
+        None => Ok(None),
+    }
 }
 
 // Runs a machine. The header and each row are written as they come, each by a write of its own.
-fn run_machine<O: Sink>(alloc: Global, m: &Machine, out: &mut O) -> Outcome
-    requires { IsSingle m.now }
-    ensures outcome { IsOutcome (printed m.now (floor_run m.now)) result (O.written out.old) (O.written out.new) (O.faults out.old) (O.faults out.new) }
+fn run_machine<O: Sink>(alloc: Global, options: Options, m: Machine, out: &mut O) -> Outcome
+    ensures outcome { IsOutcome (printed (options_in options.entry) m) result (O.written out.old) (O.written out.new) (O.faults out.old) (O.faults out.new) }
     ensures runs { leaves_out (status_of result) ≡ false }
     ensures calm { result ≢ Outcome.WriteFault → O.faults out.new ≡ O.faults out.old }
     ensures last { result ≡ Outcome.WriteFault → EndsByFault O.written O.faults out.old out.new }
 {
-    match write_all(out, header()) {
-        Ok(()) => {}
-        Err(WriteErr::Fault) => return Outcome::WriteFault,
-    }
-    match write_run(alloc, m, out) {
-        Ok(None) => Outcome::Done,
-        Ok(Some(tick)) => match state_name(m).copy(alloc) {
-            Ok(name) => Outcome::Overflow { name, tick },
-            Err(_) => Outcome::Memory,
+    match name_of(alloc, options.only) {
+        Ok(only) => match play(alloc, m, options.rule, only, out) {
+            Played::Ended => Outcome::Done,
+            Played::Overflowed { name, tick } => Outcome::Overflow { name, tick },
+            Played::Fault => Outcome::WriteFault,
+            Played::Memory => Outcome::Memory,
         },
-        Err(Stop::Fault) => Outcome::WriteFault,
-        Err(Stop::Memory) => Outcome::Memory,
+        Err(_) => Outcome::Memory,
     }
 }

@@ -2,19 +2,19 @@
 #![tactic(auto)]
 
 mod command;
+mod digits;
 mod laws;
 mod machine;
 mod numbers;
+mod options;
 mod outcome;
-mod run;
 mod source;
 mod status;
 mod top;
 mod tree;
+mod values;
+mod words;
 
 pub use laws::{answers_are_unique, answers_exist, meanings_are_unique, sources_are_judged};
 pub use status::Status;
 pub use top::qss_main;
-
-#[cfg(test)]
-mod tests;

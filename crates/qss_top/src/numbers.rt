@@ -1,10 +1,9 @@
 // The numbers of a source, and the same in the units of a machine.
 ghost use Rattle.std.specs.Prelude.{◌≡◌, ◌*◌, ◌^◌, ◌≤◌, ◌<◌, nat_le, Some, None, map, if◌then◌else◌};
-ghost use Rattle.qss_top.specs.FirstForm.{IsNumber};
-ghost use Rattle.qss_top.specs.Meanings.{number_of};
 ghost use Rattle.qss_top.specs.Reading.{form_of};
 ghost use Rattle.qss_top.specs.Scaling as Spec;
 
+use crate::digits::number;
 use crate::source::part;
 
 /// The numbers of a source, as they stand in it.
@@ -31,18 +30,6 @@ pub struct Scaled {
     pub start: i128,
     pub quantum: i64,
     pub coef: i64,
-}
-
-// The number that decimal digits write.
-fn number(digits: &[u8]) -> u64
-    requires { IsNumber digits.now }
-    ensures { result ≡ number_of digits.now }
-{
-    let mut number = 0;
-    for digit in digits {
-        number = number * 10 + u64::from(*digit - b'0');
-    }
-    number
 }
 
 /// The numbers among the parts of a source.

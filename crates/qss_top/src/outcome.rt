@@ -25,7 +25,7 @@ pub enum Outcome {
 
 /// Writes the line of an outcome. Where the memory for it is not found, that is told in its place.
 pub(crate) fn report<E: Sink>(alloc: Global, outcome: &Outcome, err: &mut E) -> Status
-    ensures status { (result ≡ Spec.status_of outcome.now) ⊎ ((result ≡ Status.Memory) × (Spec.takes_memory (Spec.status_of outcome.now) ≡ true)) }
+    ensures status { (result ≡ Spec.status_of outcome.now) ⊎ ((result ≡ Status.Memory) × (Spec.takes_memory outcome.now ≡ true)) }
     ensures silent { outcome.now ≡ Outcome.Done → err.new ≡ err.old }
     ensures line { (line : List ℕ) × Spec.IsReported result outcome.now line × WritesLine line (E.written err.old) (E.written err.new) (E.faults err.old) (E.faults err.new) }
     ensures later { E.faults err.old ≤ E.faults err.new }
@@ -34,7 +34,7 @@ pub(crate) fn report<E: Sink>(alloc: Global, outcome: &Outcome, err: &mut E) -> 
         Outcome::Done => Status::Ok,
         Outcome::Usage => tell(
             Status::Usage,
-            b"usage: qss VERB [WORD] [WORD] [--rule RULE] [--only NAME]\n",
+            b"usage: qss VERB [WORD] [WORD] [--rule RULE] [--only NAME] [--relative N]\n",
             err,
         ),
         Outcome::ReadFault => tell(Status::ReadFault, b"read fault\n", err),

@@ -36,6 +36,7 @@ pub fn qss_main<S: Shelf, O: Sink, E: Sink>(
     ensures others { (told : Told) → IsTold (map (λ word. word.now) words.now) (S.files shelf.old) told → (name : List ℕ) → ¬ Contains told.arrivals name → S.faults shelf.new name ≡ S.faults shelf.old name }
     ensures files { S.files shelf.new ≡ S.files shelf.old }
     ensures later { (name : List ℕ) → S.faults shelf.old name ≤ S.faults shelf.new name }
+    ensures unharmed { result ≢ Status.ReadFault → (name : List ℕ) → S.faults shelf.new name ≡ S.faults shelf.old name }
 
     // A write fault comes only of out, which is not written to afterwards, and no other status of one.
     ensures last { result ≡ Status.WriteFault → EndsByFault O.written O.faults out.old out.new }
@@ -44,7 +45,7 @@ pub fn qss_main<S: Shelf, O: Sink, E: Sink>(
 
     // The line of the status goes to err, or a prefix of it where err fails; nothing goes there
     // where all was read and written.
-    ensures line { (told : Told) → IsTold (map (λ word. word.now) words.now) (S.files shelf.old) told → ReportsStatus result told.reply (E.written err.old) (E.written err.new) (E.faults err.old) (E.faults err.new) }
+    ensures line { (told : Told) → IsTold (map (λ word. word.now) words.now) (S.files shelf.old) told → ReportsStatus result told.reply (O.written out.old) (O.written out.new) (E.written err.old) (E.written err.new) (E.faults err.old) (E.faults err.new) }
     ensures silent { result ≡ Status.Ok → err.new ≡ err.old }
     ensures later_err { E.faults err.old ≤ E.faults err.new }
 {

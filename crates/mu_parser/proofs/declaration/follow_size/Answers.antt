@@ -1,6 +1,6 @@
 use Rattle.std.proofs.Common.{◌≡◌, ℕ, List, sym, ◌∙◌}
 use Rattle.mu_grammar.specs.DeclarationMachine.{follow_modifications, follow_size}
-use Rattle.mu_parser.specs.Views.{component_of, effect_of}
+use Rattle.mu_section.specs.Views.{component_of, effect_of}
 use Rattle.mu_grammar.specs.Symbols.{symbol_with}
 use Rattle.mu_grammar.proofs.Follows.{if_ok_map, no_mods}
 use Rattle.mu_parser.proofs.declaration.follow_size.Goals as goal

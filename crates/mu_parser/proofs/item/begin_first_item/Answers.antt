@@ -1,7 +1,7 @@
 use Rattle.std.proofs.Common.{◌≡◌, ap, sym, ◌∙◌}
 use Rattle.mu_grammar.specs.Machines.{advances}
 use Rattle.mu_grammar.specs.DeclarationMachine.{begin_item, begin_first_item}
-use Rattle.mu_parser.specs.Views.{place_of, effect_of}
+use Rattle.mu_section.specs.Views.{place_of, effect_of}
 use Rattle.mu_grammar.specs.Symbols.{symbol_with}
 use Rattle.mu_grammar.proofs.Follows.{if_ok_map, closes_first, item_first}
 use Rattle.mu_parser.proofs.item.begin_first_item.Goals as goal

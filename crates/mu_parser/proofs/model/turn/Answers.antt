@@ -3,9 +3,9 @@ use Rattle.mu_lexer.specs.declared.token.Kind.{Kind}
 use Rattle.mu_grammar.specs.ModelMachine.{model_turn}
 use Rattle.mu_grammar.specs.Symbols.{symbol_with}
 use Rattle.mu_grammar.proofs.Follows.{if_ok_map}
-use Rattle.mu_parser.specs.declared.state.Effect.{Effect}
-use Rattle.mu_parser.specs.declared.state.State.{State}
-use Rattle.mu_parser.specs.Views.{effect_of, state_of}
+use Rattle.mu_section.specs.declared.state.Effect.{Effect}
+use Rattle.mu_section.specs.declared.state.State.{State}
+use Rattle.mu_section.specs.Views.{effect_of, state_of}
 use Rattle.mu_parser.proofs.model.turn.Goals as goal
 
 -- the effect is that of this token in this state

@@ -5,7 +5,7 @@ use Rattle.mu_grammar.specs.Machines.{go, done}
 use Rattle.mu_grammar.specs.ModelMachine.{model_machine}
 use Rattle.mu_grammar.specs.Models.{SpellsModel}
 use Rattle.mu_parser.specs.ModelViews.{next_of}
-use Rattle.mu_parser.specs.Views.{state_of}
+use Rattle.mu_section.specs.Views.{state_of}
 use Rattle.mu_grammar.proofs.Reading.{advanced, wrong_here, deep_here, cut_here, finishes_here}
 use Rattle.mu_grammar.proofs.ModelDecides.{model_decides}
 use Rattle.mu_parser.proofs.parse.parse.Goals as goal

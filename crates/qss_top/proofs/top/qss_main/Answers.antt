@@ -1,7 +1,6 @@
 use Rattle.std.proofs.Common.{ap, ◌∙◌}
 use Rattle.qss_top.specs.Outcomes.{status_of, takes_memory}
-use Rattle.qss_top.specs.declared.outcome.Outcome.{Outcome}
-use Rattle.qss_top.proofs.TopFacts.{replied, defined_of, leaves_of, read_of, write_of, done_of, usage_of, status_by, no_write, line_is}
+use Rattle.qss_top.proofs.TopFacts.{replied, defined_of, leaves_of, read_of, write_of, done_of, usage_of, status_by, no_write, no_read, line_is}
 use Rattle.qss_top.proofs.top.qss_main.Goals as goal
 
 pub returns-clause-replied : goal.returns-clause-replied
@@ -18,7 +17,7 @@ pub returns-clause-usage : goal.returns-clause-usage
 returns-clause-usage g c = (
   λ e. c.answer-outcome.ensures.usage.0 (usage_of c.report.result c.answer-outcome.result c.report.ensures.status e),
   λ none. let is = c.answer-outcome.ensures.usage.1 none in
-      status_by c.report.result c.answer-outcome.result c.report.ensures.status (λ o. absurd (cc (ap (λ (w : Outcome). takes_memory (status_of w)) is, o))) ∙ ap status_of is,
+      status_by c.report.result c.answer-outcome.result c.report.ensures.status (λ o. absurd (cc (ap takes_memory is, o))) ∙ ap status_of is,
 )
 
 pub returns-clause-read_fault : goal.returns-clause-read_fault
@@ -36,14 +35,17 @@ returns-clause-calm g c e = c.answer-outcome.ensures.calm (no_write c.report.res
 pub returns-clause-untouched : goal.returns-clause-untouched
 returns-clause-untouched g c e = c.answer-outcome.ensures.untouched (leaves_of c.report.result c.answer-outcome.result c.report.ensures.status e)
 
+pub returns-clause-unharmed : goal.returns-clause-unharmed
+returns-clause-unharmed g c e = c.answer-outcome.ensures.unharmed (no_read c.report.result c.answer-outcome.result c.report.ensures.status e)
+
 pub returns-clause-line : goal.returns-clause-line
 returns-clause-line g c told h =
-    let own = c.report.ensures.line in (
-      own.0,
-      line_is c.report.result told.reply c.answer-outcome.result own.0
-          (λ d. (c.answer-outcome.ensures.meets told h).line (defined_of c.report.result c.answer-outcome.result c.report.ensures.status d)) own.1,
-      own.2,
-    )
+    let own = c.report.ensures.line in record {
+      line = own.0;
+      own = line_is told.reply c.answer-outcome.result (g.O.Sink.written c.args.out.now) (g.O.Sink.written c.answer-outcome.new.out) own.0 c.report.result c.report.ensures.status
+          (λ d. (c.answer-outcome.ensures.meets told h).line (defined_of c.report.result c.answer-outcome.result c.report.ensures.status d)) own.1;
+      written = own.2;
+    }
 
 pub returns-clause-silent : goal.returns-clause-silent
 returns-clause-silent g c e = c.report.ensures.silent (done_of c.report.result c.answer-outcome.result c.report.ensures.status e)

@@ -1,0 +1,2 @@
+pub mod ConditionViews
+pub mod Views

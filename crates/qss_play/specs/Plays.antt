@@ -1,0 +1,42 @@
+-- The text of a run, and how it ends.
+use Rattle.std.specs.Prelude.{◌≡◌, ◌≢◌, ℕ, ◌+◌, Bool, true, false, List, ◌++◌, length, Option, Some, None}
+use Rattle.std.specs.Io.KnownBytes.{Appends}
+use Rattle.mu_io.specs.Sinks.{AppendsPrefix, EndsByFault}
+use Rattle.qss_machine.specs.Runs.{Run, run_by, run_rows}
+use Rattle.qss_machine.specs.declared.system.Machine.{Machine}
+use Rattle.qss_quant.specs.declared.rule.Rule.{Rule}
+use Rattle.qss_quant.specs.Rules.{level_by}
+use Rattle.qss_rows.specs.Filters.{lines_passed}
+use Rattle.qss_rows.specs.Lines.{header, name_of}
+use Rattle.qss_play.specs.declared.played.Played.{Played}
+use Rattle.qss_play.specs.declared.played.Played.TheVariants.{Ended, Overflowed, Fault, Memory}
+
+-- the run of a machine by a rule with a name
+abbrev pub run_under : Rule → Machine → Run
+run_under rule m = run_by (level_by rule) m
+
+-- the header, and the lines of the rows of a run that pass a filter
+abbrev pub text_of : Option (List ℕ) → Machine → Run → List ℕ
+text_of only m run = header ++ lines_passed only m (run_rows m run)
+
+-- the run ends so, at the last tick, or by the overflow of a variable of this name at this tick
+abbrev pub EndsSo : Machine → Run → Played → Type 0
+EndsSo m run Ended = run.overflow ≡ None
+EndsSo m run (Overflowed name tick) = (var : ℕ) × (run.overflow ≡ Some var) × (name ≡ name_of m var) × (tick ≡ length run.worlds + 1)
+EndsSo m run Fault = Unit {0}
+EndsSo m run Memory = Unit {0}
+
+-- whether all rows were written
+abbrev pub is_whole : Played → Bool
+is_whole Ended = true
+is_whole (Overflowed name tick) = true
+is_whole Fault = false
+is_whole Memory = false
+
+-- a call played a run: how it ended, and what became of the sink
+pub record IsPlayed {K : Type 0} (written : K → Option (List ℕ)) (faults : K → ℕ) (m : Machine) (run : Run) (only : Option (List ℕ)) (result : Played) (old new : K) : Type 0 where
+  pub end : EndsSo m run result
+  pub whole : is_whole result ≡ true → Appends (written old) (written new) (text_of only m run)
+  pub prefix : AppendsPrefix (written old) (written new) (text_of only m run)
+  pub calm : result ≢ Fault → faults new ≡ faults old
+  pub last : result ≡ Fault → EndsByFault written faults old new

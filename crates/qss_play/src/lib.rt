@@ -1,0 +1,11 @@
+//! Runs a machine by events, and writes its rows as they come.
+#![tactic(auto)]
+
+mod events;
+mod played;
+mod playing;
+mod rules;
+mod written;
+
+pub use played::Played;
+pub use playing::play;

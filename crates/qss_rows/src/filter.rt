@@ -1,0 +1,65 @@
+//! Filters of rows.
+
+ghost use Rattle.std.specs.Prelude.{◌≡◌};
+ghost use Rattle.qss_rows.specs.Filters as Spec;
+ghost use Rattle.qss_rows.specs.Lines.{HasVariable};
+
+use crate::record::variable_name;
+use mu_io::Name;
+use qss_machine::{Machine, Row, RowKind};
+use std::marker::Model;
+
+/// Passes the rows of one variable, of the elements of one array, or all rows.
+#[derive(Drop)]
+pub struct Filter {
+    only: Option<Name>,
+}
+
+impl Model for Filter {
+    ghost use Rattle.std.specs.Prelude.{List, Option, ℕ};
+
+    ghost Value = { Option (List ℕ) };
+
+    ghost view = { λ filter. filter.only };
+}
+
+impl Filter {
+    /// A filter that keeps this name and, where it is that of an array, the names of the elements. Without a name it keeps all.
+    pub fn new(only: Option<Name>) -> Filter
+        ensures { result ≡ only }
+    {
+        Filter { only }
+    }
+
+    /// Whether a row of a machine passes. Branches that fire and overflows always do. It takes no memory.
+    pub fn passes(&self, r: &Row, m: &Machine) -> bool
+        requires { HasVariable m.now r.now }
+        ensures { result ≡ Spec.passes self.now m.now r.now }
+    {
+        match r.kind {
+            RowKind::When { .. } => true,
+            RowKind::Overflow => true,
+            _ => self.keeps(variable_name(m, r.var)),
+        }
+    }
+
+    // Whether a name is kept.
+    fn keeps(&self, name: &[u8]) -> bool
+        ensures { result ≡ Spec.keeps self.now name.now }
+    {
+        match &self.only {
+            Some(only) => is_named(only.bytes(), name),
+            None => true,
+        }
+    }
+}
+
+// Whether a name is this one, or that of an element of its array.
+fn is_named(only: &[u8], name: &[u8]) -> bool
+    ensures { result ≡ Spec.is_named only.now name.now }
+{
+    match name.strip_prefix(only) {
+        Some(rest) => rest.is_empty() || rest[0] == b'[',
+        None => false,
+    }
+}

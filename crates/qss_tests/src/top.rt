@@ -1,0 +1,396 @@
+// Whole runs of the top call, with texts that were worked out by hand.
+use mu_io::{MemShelf, MemSink, Name};
+use qss_top::{Status, qss_main};
+use std::alloc::Global;
+use std::process::Abort;
+use std::test::Fail;
+
+const DECAY: &str =
+    "model decay Real x(start = 64); equation der(x) = -1*x; annotation(experiment(StopTime = 1, QSS_CoefBits = 8, QSS_TickBits = 4, QSS_LevelBits = 0, QSS_Quantum = 4)); end decay;";
+
+const STOPPED: &str =
+    "model decay Real x(start = 64); equation der(x) = -1*x; annotation(experiment(StopTime = 0, QSS_CoefBits = 8, QSS_TickBits = 4, QSS_LevelBits = 0, QSS_Quantum = 4)); end decay;\n";
+
+const GROWING: &str =
+    "model m Real x(start = 1); equation der(x) = -1000*x; annotation(experiment(StopTime = 10, QSS_CoefBits = 0, QSS_TickBits = 0, QSS_LevelBits = 0, QSS_Quantum = 1)); end m;";
+
+const FRACTIONS: &str =
+    "model decay Real x(start = 1); equation der(x) = -x; annotation(experiment(StopTime = 1, QSS_CoefBits = 8, QSS_TickBits = 4, QSS_LevelBits = 6, QSS_Quantum = 0.0625)); end decay;";
+
+const RESERVED: &str =
+    "model time Real x(start = 1); equation der(x) = -1*x; annotation(experiment(StopTime = 1, QSS_CoefBits = 0, QSS_TickBits = 0, QSS_LevelBits = 0, QSS_Quantum = 1)); end time;";
+
+const NO_QUANTUM: &str =
+    "model m Real x(start = 1); equation der(x) = -1*x; annotation(experiment(StopTime = 1, QSS_CoefBits = 0, QSS_TickBits = 0, QSS_LevelBits = 0, QSS_Quantum = 0)); end m;";
+
+const HEADER: &str = "tick,event,name,level,state\n";
+
+const DECAY_ROWS: &str =
+    "0,start,x,64,262144\n1,level,x,60,245760\n3,level,x,52,215040\n5,level,x,46,188416\n7,level,x,40,164864\n9,level,x,35,144384\n11,level,x,30,126464\n14,level,x,25,103424\n16,end,x,25,90624\n";
+
+const USAGE: &str = "usage: qss VERB [WORD] [WORD] [--rule RULE] [--only NAME] [--relative N]\n";
+
+// What a call of the top call is given, and the calls that are to fail.
+#[derive(Clone, Copy)]
+struct Setting<'a> {
+    words: &'a [&'a str],
+    source: &'a str,
+    room: usize,
+    shelf_fails: &'a [u32],
+    out_fails: &'a [u32],
+    err_fails: &'a [u32],
+}
+
+// The status, and what out and err hold.
+fn outcome(alloc: Global, setting: &Setting) -> Result<(Status, MemSink, MemSink), Fail> {
+    let mut files = Vec::new(alloc);
+    files.push((
+        Name::new(alloc, b"M")?,
+        setting.source.as_bytes().to_vec(alloc)?,
+    ))?;
+    let mut shelf = MemShelf::new(alloc, files, setting.shelf_fails.to_vec(alloc)?);
+    let mut out = MemSink::with_room(alloc, setting.room, setting.out_fails.to_vec(alloc)?)?;
+    let mut err = MemSink::with_room(alloc, 1000, setting.err_fails.to_vec(alloc)?)?;
+    let status = qss_main(alloc, setting.words, &mut shelf, &mut out, &mut err);
+    Ok((status, out, err))
+}
+
+fn run_of(source: &str) -> Setting<'_> {
+    Setting {
+        words: &["run", "M"],
+        source,
+        room: 1000,
+        shelf_fails: &[],
+        out_fails: &[],
+        err_fails: &[],
+    }
+}
+
+#[test]
+fn runs_print_their_rows(rt: HostRuntime) -> Result<(), Fail> {
+    let alloc = rt.alloc();
+    let cases = [
+        (DECAY, Status::Ok, DECAY_ROWS, ""),
+        (
+            STOPPED,
+            Status::Ok,
+            "0,start,x,64,262144\n0,end,x,64,262144\n",
+            "",
+        ),
+        (
+            GROWING,
+            Status::Overflow,
+            "0,start,x,1,1\n1,level,x,-999,-999\n2,level,x,998001,998001\n3,level,x,-997002999,-997002999\n4,level,x,996005996001,996005996001\n5,overflow,x,,\n",
+            "overflow: x at tick 5\n",
+        ),
+    ];
+    for (source, status, rows, line) in cases {
+        let (got, out, err) = outcome(alloc, &run_of(source))?;
+        assert_eq!(rt; got, status);
+        let text = format!(in alloc; "{}{}", HEADER, rows)?;
+        assert_eq!(rt; out.bytes(), text.as_bytes());
+        assert_eq!(rt; err.bytes(), line.as_bytes());
+    }
+    Ok(())
+}
+
+#[test]
+fn what_is_refused(rt: HostRuntime) -> Result<(), Fail> {
+    let alloc = rt.alloc();
+    let blanks = vec![in alloc; b' '; (1 << 20) + 1]?;
+    let long = String::from_utf8(blanks)?;
+    let cases: [(&[&str], &str, u8, &str); 14] = [
+        (&["run", "M"], FRACTIONS, 5, "refused: top 2\n"),
+        (&["run", "M"], RESERVED, 5, "refused: parse 1 1\n"),
+        (&["run", "M"], NO_QUANTUM, 5, "refused: top 2\n"),
+        (&["run", "M"], &long, 5, "refused: top 1\n"),
+        (&["print", "M"], RESERVED, 5, "refused: parse 1 1\n"),
+        (&["print", "M"], &long, 5, "refused: top 1\n"),
+        (&["run", "absent"], DECAY, 3, "read fault\n"),
+        (&["run", "--", "--only"], DECAY, 3, "read fault\n"),
+        (&["print", "absent"], DECAY, 3, "read fault\n"),
+        (&["run"], DECAY, 2, USAGE),
+        (&["print"], DECAY, 2, USAGE),
+        (&["run", "M", "M"], DECAY, 2, USAGE),
+        (&["walk", "M"], DECAY, 2, USAGE),
+        (&[], DECAY, 2, USAGE),
+    ];
+    for (words, source, code, line) in cases {
+        let setting = Setting {
+            words,
+            ..run_of(source)
+        };
+        let (got, out, err) = outcome(alloc, &setting)?;
+        assert_eq!(rt; got.code(), code);
+        assert_eq!(rt; out.bytes(), b"".as_slice());
+        assert_eq!(rt; err.bytes(), line.as_bytes());
+    }
+    Ok(())
+}
+
+#[test]
+fn words_that_are_no_command(rt: HostRuntime) -> Result<(), Fail> {
+    let alloc = rt.alloc();
+    let cases: [&[&str]; 15] = [
+        &["print", "M", "--rule", "floor"],
+        &["print", "M", "--relative=0"],
+        &["run", "M", "--rule", "ceil"],
+        &["run", "M", "--rule="],
+        &["run", "M", "--rule"],
+        &["run", "M", "--rule", "floor", "--rule", "floor"],
+        &["run", "M", "--only", "--rule"],
+        &["run", "M", "--only", "x", "--only=x"],
+        &["run", "M", "--relative", "2049"],
+        &["run", "M", "--relative", "00512"],
+        &["run", "M", "--relative", "+12"],
+        &["run", "M", "--relative", ""],
+        &["run", "M", "-x"],
+        &["run", "M", "--other", "x"],
+        &["--", "run", "M", "--only", "x"],
+    ];
+    for words in cases {
+        let setting = Setting {
+            words,
+            ..run_of(DECAY)
+        };
+        let (got, out, err) = outcome(alloc, &setting)?;
+        assert_eq!(rt; got, Status::Usage);
+        assert_eq!(rt; out.bytes(), b"".as_slice());
+        assert_eq!(rt; err.bytes(), USAGE.as_bytes());
+    }
+    Ok(())
+}
+
+const FINE: &str =
+    "model decay Real x(start = 64); equation der(x) = -1*x; annotation(experiment(StopTime = 1, QSS_CoefBits = 8, QSS_TickBits = 4, QSS_LevelBits = 0, QSS_Quantum = 1)); end decay;";
+
+const NEAR_ROWS: &str =
+    "0,start,x,64,262144\n1,level,x,60,245760\n3,level,x,52,215040\n5,level,x,46,188416\n7,level,x,40,164864\n9,level,x,35,144384\n11,level,x,31,126464\n13,level,x,27,110592\n16,level,x,22,89856\n16,end,x,22,89856\n";
+
+const INWARD_ROWS: &str =
+    "0,start,x,64,262144\n1,level,x,60,245760\n3,level,x,53,215040\n5,level,x,46,187904\n7,level,x,41,164352\n9,level,x,35,143360\n11,level,x,31,125440\n13,level,x,27,109568\n16,level,x,22,88832\n16,end,x,22,88832\n";
+
+const RELATIVE_ROWS: &str =
+    "0,start,x,64,262144\n2,level,x,56,229376\n4,level,x,49,200704\n6,level,x,42,175616\n9,level,x,35,143360\n11,level,x,30,125440\n13,level,x,26,110080\n16,level,x,22,90112\n16,end,x,22,90112\n";
+
+#[test]
+fn runs_with_options(rt: HostRuntime) -> Result<(), Fail> {
+    let alloc = rt.alloc();
+    let cases: [(&[&str], &str, &str); 9] = [
+        (&["run", "M", "--rule", "floor"], DECAY, DECAY_ROWS),
+        (&["--rule", "near", "run", "M"], DECAY, NEAR_ROWS),
+        (&["run", "--rule=inward", "M"], DECAY, INWARD_ROWS),
+        (&["run", "M", "--only", "x"], DECAY, DECAY_ROWS),
+        (&["run", "M", "--only", "y"], DECAY, ""),
+        (&["run", "--only=-", "--", "M"], DECAY, ""),
+        (&["run", "M", "--relative", "0"], DECAY, DECAY_ROWS),
+        (&["run", "M", "--relative=512"], FINE, RELATIVE_ROWS),
+        (
+            &[
+                "--only",
+                "x",
+                "--relative",
+                "0512",
+                "run",
+                "M",
+                "--rule=floor",
+            ],
+            FINE,
+            RELATIVE_ROWS,
+        ),
+    ];
+    for (words, source, rows) in cases {
+        let setting = Setting {
+            words,
+            ..run_of(source)
+        };
+        let (got, out, err) = outcome(alloc, &setting)?;
+        assert_eq!(rt; got, Status::Ok);
+        let text = format!(in alloc; "{}{}", HEADER, rows)?;
+        assert_eq!(rt; out.bytes(), text.as_bytes());
+        assert_eq!(rt; err.bytes(), b"".as_slice());
+    }
+    Ok(())
+}
+
+#[test]
+fn a_write_that_fails_ends_the_run(rt: HostRuntime) -> Result<(), Fail> {
+    let alloc = rt.alloc();
+    let text = format!(in alloc; "{}{}", HEADER, DECAY_ROWS)?;
+    let mut written = 0;
+    for (call, line) in text.lines().enumerate() {
+        let Ok(call) = u32::try_from(call) else {
+            break;
+        };
+        let setting = Setting {
+            out_fails: &[call],
+            ..run_of(DECAY)
+        };
+        let (got, out, err) = outcome(alloc, &setting)?;
+        assert_eq!(rt; got, Status::WriteFault);
+        assert_eq!(rt; Some(out.bytes()), text.as_bytes().get(..written));
+        assert_eq!(rt; err.bytes(), b"write fault\n".as_slice());
+        written = written.saturating_add(line.len()).saturating_add(1);
+    }
+    assert_eq!(rt; written, text.len());
+    let setting = Setting {
+        room: 40,
+        ..run_of(DECAY)
+    };
+    let (got, out, _) = outcome(alloc, &setting)?;
+    assert_eq!(rt; got, Status::WriteFault);
+    assert_eq!(rt; Some(out.bytes()), text.as_bytes().get(..40));
+    Ok(())
+}
+
+#[test]
+fn faults_of_the_shelf_and_of_err(rt: HostRuntime) -> Result<(), Fail> {
+    let alloc = rt.alloc();
+    let both: [&[&str]; 2] = [&["run", "M"], &["print", "M"]];
+    for words in both {
+        for call in 0..3u32 {
+            let setting = Setting {
+                words,
+                shelf_fails: &[call],
+                ..run_of(DECAY)
+            };
+            let (got, out, err) = outcome(alloc, &setting)?;
+            assert_eq!(rt; got, Status::ReadFault);
+            assert_eq!(rt; out.bytes(), b"".as_slice());
+            assert_eq!(rt; err.bytes(), b"read fault\n".as_slice());
+        }
+        let setting = Setting {
+            words,
+            err_fails: &[0],
+            ..run_of("model m $")
+        };
+        let (got, _, err) = outcome(alloc, &setting)?;
+        assert_eq!(rt; got, Status::ModelRefused);
+        assert_eq!(rt; err.bytes(), b"".as_slice());
+    }
+    let setting = Setting {
+        shelf_fails: &[3],
+        err_fails: &[0],
+        ..run_of(GROWING)
+    };
+    let (got, _, err) = outcome(alloc, &setting)?;
+    assert_eq!(rt; got, Status::Overflow);
+    assert_eq!(rt; err.bytes(), b"".as_slice());
+    Ok(())
+}
+
+const BALL: &str =
+    "model ball\n  import math;\n  Real y(start = 1), v(start = 0) \"speed\";\nequation\n  der(y) = v;\n  der(v) = -10;\nalgorithm\n  when y < 0 then\n    reinit(v, -0.25*v);\n  end when;\n  annotation(experiment(MMO_Description = \"ball\", MMO_Solver = QSS3, StartTime = 0.0, StopTime = 1.25, Tolerance = {1e-3}, QSS_CoefBits = 4, QSS_TickBits = 2, QSS_LevelBits = 2, QSS_Quantum = 0.25));\nend ball;";
+
+const BALL_TEXT: &str =
+    "model ball Real y ( start = 1 ) ;\nReal v ( start = 0 ) ;\nequation der ( y ) = v ;\nder ( v ) = - 10 ;\nalgorithm when y < 0 then reinit ( v , - 0.25 * v ) ;\nend when ;\nannotation ( experiment ( StartTime = 0.0 , StopTime = 1.25 , QSS_CoefBits = 4 , QSS_TickBits = 2 , QSS_LevelBits = 2 , QSS_Quantum = 0.25 ) ) ;\nend ball ;\n";
+
+// A source whose right side begins with so many brackets.
+fn brackets(alloc: Global, count: usize) -> Result<String, Fail> {
+    let mut text = b"model m Real x; equation der(x) = ".to_vec(alloc)?;
+    let open = vec![in alloc; b'('; count]?;
+    text.extend_from_slice(&open)?;
+    Ok(String::from_utf8(text)?)
+}
+
+// Status, out and err of both commands on a source that spells no model.
+fn assert_refused(rt: &impl Abort, alloc: Global, source: &str, line: &str) -> Result<(), Fail> {
+    let both: [&[&str]; 2] = [&["print", "M"], &["run", "M"]];
+    for words in both {
+        let setting = Setting {
+            words,
+            ..run_of(source)
+        };
+        let (got, out, err) = outcome(alloc, &setting)?;
+        assert_eq!(rt; got, Status::ModelRefused);
+        assert_eq!(rt; out.bytes(), b"".as_slice());
+        assert_eq!(rt; err.bytes(), line.as_bytes());
+    }
+    Ok(())
+}
+
+#[test]
+fn what_is_no_model(rt: HostRuntime) -> Result<(), Fail> {
+    let alloc = rt.alloc();
+    let cases = [
+        ("", "refused: parse 1 0\n"),
+        ("model m $", "refused: lex 1 8\n"),
+        ("model m /* x", "refused: lex 2 8\n"),
+        ("model m \"x", "refused: lex 3 8\n"),
+        ("model m Real x x", "refused: parse 1 4\n"),
+        ("model m m $", "refused: lex 1 10\n"),
+    ];
+    for (source, line) in cases {
+        assert_refused(&rt, alloc, source, line)?;
+    }
+    assert_refused(&rt, alloc, &brackets(alloc, 65)?, "refused: parse 2 75\n")?;
+    Ok(())
+}
+
+#[test]
+fn a_million_brackets_are_too_deep(rt: HostRuntime) -> Result<(), Fail> {
+    let alloc = rt.alloc();
+    let source = brackets(alloc, 1_000_000)?;
+    assert_refused(&rt, alloc, &source, "refused: parse 2 75\n")
+}
+
+#[test]
+fn how_models_are_printed(rt: HostRuntime) -> Result<(), Fail> {
+    let alloc = rt.alloc();
+    let cases = [
+        (
+            "model m Real x; equation der(x) = -(x); end m;",
+            "model m Real x ;\nequation der ( x ) = - x ;\nend m ;\n",
+        ),
+        (BALL, BALL_TEXT),
+        (BALL_TEXT, BALL_TEXT),
+    ];
+    for (source, text) in cases {
+        let setting = Setting {
+            words: &["print", "M"],
+            ..run_of(source)
+        };
+        let (got, out, err) = outcome(alloc, &setting)?;
+        assert_eq!(rt; got, Status::Ok);
+        assert_eq!(rt; out.bytes(), text.as_bytes());
+        assert_eq!(rt; err.bytes(), b"".as_slice());
+    }
+    Ok(())
+}
+
+#[test]
+fn a_write_that_fails_ends_the_print(rt: HostRuntime) -> Result<(), Fail> {
+    let alloc = rt.alloc();
+    let fails: [(&[u32], usize, usize); 3] = [(&[0], 1000, 0), (&[], 40, 40), (&[], 0, 0)];
+    for (out_fails, room, written) in fails {
+        let setting = Setting {
+            words: &["print", "M"],
+            out_fails,
+            room,
+            ..run_of(BALL)
+        };
+        let (got, out, err) = outcome(alloc, &setting)?;
+        assert_eq!(rt; got, Status::WriteFault);
+        assert_eq!(rt; Some(out.bytes()), BALL_TEXT.as_bytes().get(..written));
+        assert_eq!(rt; err.bytes(), b"write fault\n".as_slice());
+    }
+    Ok(())
+}
+
+#[test]
+fn a_model_that_is_cut_is_none(rt: HostRuntime) -> Result<(), Fail> {
+    let alloc = rt.alloc();
+    for end in 0..BALL.len() {
+        let Some(source) = BALL.get(..end) else {
+            break;
+        };
+        let setting = Setting {
+            words: &["print", "M"],
+            ..run_of(source)
+        };
+        let (got, out, _) = outcome(alloc, &setting)?;
+        assert_eq!(rt; got, Status::ModelRefused);
+        assert_eq!(rt; out.bytes(), b"".as_slice());
+    }
+    Ok(())
+}

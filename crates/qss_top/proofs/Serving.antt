@@ -1,0 +1,210 @@
+-- How the parts of a command serve what is told.
+use Rattle.std.proofs.Common.{◌≡◌, ◌≢◌, ◌⊎◌, ◌<◌, Bool, true, false, zero, suc, ℕ, List, [], ◌∷◌, length, refl, sym, ap, ◌∙◌, subst, arith, inl, inr, None, Some}
+use Rattle.std.specs.declared.option.Option.{Option}
+use Rattle.std.specs.Prelude.{IfSome, IsSomeAnd, Contains, bytes_eq}
+use Rattle.std.proofs.lemmas.Slice.Eq.{bytes_eq-Decides}
+use Rattle.mu_io.specs.Faults.{Rose, OnlyCounts}
+use Rattle.mu_io.specs.Files.{Files, file_of}
+use Rattle.mu_io.specs.Sinks.{AppendsPrefix}
+use Rattle.qss_top.specs.Answers.{Answer, Told, Reply, answered, absent, untold, Says, ReadsThen, Reads, LeadsTo, LeadsFrom, Defines}
+use Rattle.qss_top.specs.Commands.{Command, files_of}
+use Rattle.qss_top.specs.Outcomes.{IsOutcome, Meets, Serves, status_of}
+use Rattle.qss_top.specs.Statuses.{is_defined}
+use Rattle.qss_top.specs.TopCall.{IsReplied, text_of, SomeRose}
+use Rattle.qss_top.specs.declared.outcome.Outcome.{Outcome}
+use Rattle.qss_top.specs.declared.outcome.Outcome.TheVariants as outcome
+use Rattle.qss_top.specs.declared.status.Status.{Status}
+use Rattle.qss_top.specs.declared.status.Status.TheVariants as ends
+use Rattle.qss_top.proofs.OutcomeFacts.{no_prefix}
+
+some_text : (out : List ℕ) → Some out ≡ Some [] → out ≡ []
+some_text out e = cc
+
+-- ---- names
+
+first_of : (name : List ℕ) (names : List (List ℕ)) → Contains (name ∷ names) name
+first_of name names = (zero, omega arith, refl)
+
+later_of : (name other : List ℕ) (names : List (List ℕ)) → Contains names other → Contains (name ∷ names) other
+later_of name other names (k, within, here) = (suc k, omega arith, here)
+
+-- another name's count stays
+apart_first : (name other : List ℕ) (names : List (List ℕ)) (before now : List ℕ → ℕ) → OnlyCounts name before now → ¬ Contains (name ∷ names) other → now other ≡ before other
+apart_first name other names before now counts apart = counts.others other (λ e. apart (subst (λ (n : List ℕ). Contains (name ∷ names) n) (sym e) (first_of name names)))
+
+-- counts that change at one name alone, and not there, stay
+pub unchanged : (name : List ℕ) (before now : List ℕ → ℕ) → OnlyCounts name before now → now name ≡ before name → (other : List ℕ) → now other ≡ before other
+unchanged name before now counts calm other = by (bytes_eq other name) refl
+  where
+    by : (b : Bool) → bytes_eq other name ≡ b → now other ≡ before other
+    by true is = let same = (bytes_eq-Decides other name).0 is in ap now same ∙ calm ∙ ap before (sym same)
+    by false is = counts.others other (λ e. let wrong = (bytes_eq-Decides other name).1 e in absurd (cc))
+
+rose_earlier : (names : List (List ℕ)) (before mid now : List ℕ → ℕ) → ((other : List ℕ) → mid other ≡ before other) → SomeRose names mid now → SomeRose names before now
+rose_earlier names before mid now same rose = (rose.0, rose.1, subst (λ (n : ℕ). Rose n (now rose.0)) (same rose.0) rose.2)
+
+rose_among : (name : List ℕ) (names : List (List ℕ)) (before now : List ℕ → ℕ) → SomeRose names before now → SomeRose (name ∷ names) before now
+rose_among name names before now rose = (rose.0, later_of name rose.0 names rose.1, rose.2)
+
+-- ---- a whole command
+
+told_meets : (command : Command) (files : Option Files) (what : Outcome) (old new : Option (List ℕ)) (out_before out_now : ℕ) (before now : List ℕ → ℕ)
+    → Serves files (files_of command) (LeadsTo command) what old new out_before out_now before now → (told : Told) → LeadsFrom command files told → Meets told what old new out_before out_now before now
+told_meets command None what old new out_before out_now before now h told leads =
+    subst (λ (t : Told). Meets t what old new out_before out_now before now) (sym leads) (record {
+      replied = λ e. let p = h.some e in let d = p.4.defined e in (p.0, p.1, p.2, p.3, (d.0, d.2));
+      line = λ e. let p = h.some e in let d = p.4.defined e in (p.0, p.1, p.2, p.3, (d.0, d.2, d.1));
+      prefix = tt;
+      quiet = λ e. absurd (cc e);
+      read_fault = h.read_fault;
+      others = h.others;
+    })
+told_meets command (Some fs) what old new out_before out_now before now h told leads = h.known fs refl told leads
+
+-- the same for the command of some words
+pub command_meets : (command : Command) (found : Option Command) (files : Option Files) (what : Outcome) (old new : Option (List ℕ)) (out_before out_now : ℕ) (before now : List ℕ → ℕ)
+    → Some command ≡ found → Serves files (files_of command) (LeadsTo command) what old new out_before out_now before now → (told : Told) → Defines found files told → Meets told what old new out_before out_now before now
+command_meets command found files what old new out_before out_now before now is h told defines =
+    told_meets command files what old new out_before out_now before now h told (subst (λ (c : Option Command). Defines c files told) (sym is) defines)
+
+-- ---- an answer, where nothing more is read
+
+pub says_served : (files : Option Files) (Is : Answer → Type 0) (what : Outcome) (old new : Option (List ℕ)) (out_before out_now : ℕ) (before : List ℕ → ℕ)
+    → ((a : Answer) → Is a → IsOutcome a what old new out_before out_now) → (a : Answer) × Is a → what ≢ outcome.ReadFault → Serves files [] (λ fs. Says Is) what old new out_before out_now before before
+says_served files Is what old new out_before out_now before h a not_read = record {
+  known = λ fs e told leads. subst (λ (t : Told). Meets t what old new out_before out_now before before) (sym leads.2) (meets leads.0 (h leads.0 leads.1));
+  some = λ d. (record { arrivals = []; reply = answered a.0 }, a.0, (a.0, a.1, refl), refl, h a.0 a.1);
+  read_fault = λ e. absurd (not_read e);
+  others = λ name apart. refl;
+}
+  where
+    meets : (b : Answer) → IsOutcome b what old new out_before out_now → Meets (record { arrivals = []; reply = answered b }) what old new out_before out_now before before
+    meets b is = record {
+      replied = λ e. let d = is.defined e in (d.0, d.2);
+      line = λ e. (is.defined e).1;
+      prefix = is.prefix;
+      quiet = λ e. is.quiet (some_text b.out e);
+      read_fault = λ e. absurd (not_read e);
+      others = λ name apart. refl;
+    }
+
+-- ---- a file that is read
+
+module _ (name : List ℕ) (names : List (List ℕ)) (Leads : List ℕ → Option Files → Told → Type 0) (files : Option Files) where
+  -- what is told behind a read
+  abbrev behind : Told → Told
+  behind later = record { arrivals = name ∷ later.arrivals; reply = later.reply }
+
+  abbrev ReadsName : Option Files → Told → Type 0
+  ReadsName fs = Reads fs name (λ bytes. Leads bytes fs)
+
+  -- the bytes were found, and the rest of the command serves them
+  pub read_served : (bytes : List ℕ) (what : Outcome) (old new : Option (List ℕ)) (out_before out_now : ℕ) (before mid now : List ℕ → ℕ)
+      → OnlyCounts name before mid → mid name ≡ before name → IfSome files (λ fs. file_of fs name ≡ Some bytes)
+      → Serves files names (Leads bytes) what old new out_before out_now mid now → Serves files (name ∷ names) ReadsName what old new out_before out_now before now
+  read_served bytes what old new out_before out_now before mid now counts calm told h = record {
+    known = λ fs e t leads. by fs e t leads.0 leads.1 leads.2;
+    some = λ d. let p = h.some d in (behind p.0, p.1, (Some bytes, refl, (p.0, p.2, refl)), p.3, p.4);
+    read_fault = λ e. rose_among name names before now (rose_earlier names before mid now same (h.read_fault e));
+    others = λ other apart. h.others other (λ c. apart (later_of name other names c)) ∙ same other;
+  }
+    where
+      same : (other : List ℕ) → mid other ≡ before other
+      same = unchanged name before mid counts calm
+
+      stands : (fs : Files) → files ≡ Some fs → file_of fs name ≡ Some bytes
+      stands fs e = rw e at told
+
+      meets : (later : Told) → Meets later what old new out_before out_now mid now → Meets (behind later) what old new out_before out_now before now
+      meets later is = record {
+        replied = is.replied;
+        line = is.line;
+        prefix = is.prefix;
+        quiet = is.quiet;
+        read_fault = λ e. rose_among name later.arrivals before now (rose_earlier later.arrivals before mid now same (is.read_fault e));
+        others = λ other apart. is.others other (λ c. apart (later_of name other later.arrivals c)) ∙ same other;
+      }
+
+      by : (fs : Files) → files ≡ Some fs → (t : Told) (found : Option (List ℕ)) → found ≡ file_of fs name → ReadsThen name (λ bytes. Leads bytes (Some fs)) found t → Meets t what old new out_before out_now before now
+      by fs e t None is leads = absurd (let wrong = is ∙ stands fs e in cc)
+      by fs e t (Some b) is leads =
+          let one : b ≡ bytes = (let there = is ∙ stands fs e in cc) in
+          let later : Leads bytes (Some fs) leads.0 = subst (λ (x : List ℕ). Leads x (Some fs) leads.0) one leads.1 in
+          subst (λ (u : Told). Meets u what old new out_before out_now before now) (sym leads.2) (meets leads.0 (h.known fs e leads.0 later))
+
+  -- the name stands first among the arrivals
+  arrived : (t : Told) (L : List ℕ → Told → Type 0) (found : Option (List ℕ)) → ReadsThen name L found t → Contains t.arrivals name
+  arrived t L None leads = subst (λ (u : Told). Contains u.arrivals name) (sym leads) (first_of name [])
+  arrived t L (Some bytes) leads = subst (λ (u : Told). Contains u.arrivals name) (sym leads.2) (first_of name leads.0.arrivals)
+
+  -- a status that tells nothing of the answer
+  untelling : (reply : Reply) (status : Status) (old : Option (List ℕ)) → is_defined status ≡ false → (status ≡ ends.ReadFault) ⊎ (status ≡ ends.Memory) → IsReplied reply status old old
+  untelling (answered answer) status old e is = λ d. absurd (cc (e, d))
+  untelling absent status old e is = is
+  untelling (untold command) status old e is = λ d. absurd (cc (e, d))
+
+  unwritten : (reply : Reply) (old : Option (List ℕ)) → IfSome (text_of reply) (λ text. AppendsPrefix old old text)
+  unwritten (answered answer) old = no_prefix old answer.out
+  unwritten absent old = no_prefix old []
+  unwritten (untold command) old = tt
+
+  -- the file was not read
+  stopped : (what : Outcome) (old : Option (List ℕ)) (out_before : ℕ) (before now : List ℕ → ℕ) → OnlyCounts name before now → is_defined (status_of what) ≡ false
+      → (status_of what ≡ ends.ReadFault) ⊎ (status_of what ≡ ends.Memory) → (what ≡ outcome.ReadFault → Rose (before name) (now name)) → Serves files (name ∷ names) ReadsName what old old out_before out_before before now
+  stopped what old out_before before now counts silent is rose = record {
+    known = λ fs e t leads. let here = arrived t (λ bytes. Leads bytes (Some fs)) leads.0 leads.2 in record {
+      replied = untelling t.reply (status_of what) old silent is;
+      line = λ d. absurd (cc (silent, d));
+      prefix = unwritten t.reply old;
+      quiet = λ d. refl;
+      read_fault = λ d. (name, here, rose d);
+      others = λ other apart. counts.others other (λ same. apart (subst (λ (n : List ℕ). Contains t.arrivals n) (sym same) here));
+    };
+    some = λ d. absurd (cc (silent, d));
+    read_fault = λ d. (name, first_of name names, rose d);
+    others = λ other apart. apart_first name other names before now counts apart;
+  }
+
+  pub fault_served : (old : Option (List ℕ)) (out_before : ℕ) (before now : List ℕ → ℕ) → OnlyCounts name before now → Rose (before name) (now name)
+      → Serves files (name ∷ names) ReadsName outcome.ReadFault old old out_before out_before before now
+  fault_served old out_before before now counts rose = stopped outcome.ReadFault old out_before before now counts refl (inl refl) (λ e. rose)
+
+  pub memory_served : (old : Option (List ℕ)) (out_before : ℕ) (before now : List ℕ → ℕ) → OnlyCounts name before now → Serves files (name ∷ names) ReadsName outcome.Memory old old out_before out_before before now
+  memory_served old out_before before now counts = stopped outcome.Memory old out_before before now counts refl (inr refl) (λ e. absurd (cc e))
+
+  -- the file is too long: all that long bytes lead to is this answer
+  pub long_served : (limit : ℕ) (a : Answer) (what : Outcome) (old : Option (List ℕ)) (out_before : ℕ) (before now : List ℕ → ℕ) → OnlyCounts name before now → now name ≡ before name
+      → IfSome files (λ fs. IsSomeAnd (file_of fs name) (λ bytes. limit < length bytes))
+      → ((bytes : List ℕ) → limit < length bytes → (fs : Option Files) (t : Told) → Leads bytes fs t → t ≡ record { arrivals = []; reply = answered a })
+      → ((bytes : List ℕ) → limit < length bytes → Leads bytes None (record { arrivals = []; reply = answered a })) → (bytes : List ℕ) × (limit < length bytes)
+      → IsOutcome a what old old out_before out_before → what ≢ outcome.ReadFault → Serves files (name ∷ names) ReadsName what old old out_before out_before before now
+  long_served limit a what old out_before before now counts calm told only all long is not_read = record {
+    known = λ fs e t leads. by fs e t leads.0 leads.1 leads.2;
+    some = λ d. (record { arrivals = name ∷ []; reply = answered a }, a, (Some long.0, refl, (record { arrivals = []; reply = answered a }, all long.0 long.1, refl)), refl, is);
+    read_fault = λ d. absurd (not_read d);
+    others = λ other apart. same other;
+  }
+    where
+      same : (other : List ℕ) → now other ≡ before other
+      same = unchanged name before now counts calm
+
+      stands : (fs : Files) → files ≡ Some fs → IsSomeAnd (file_of fs name) (λ bytes. limit < length bytes)
+      stands fs e = rw e at told
+
+      meets : Meets (record { arrivals = name ∷ []; reply = answered a }) what old old out_before out_before before now
+      meets = record {
+        replied = λ d. let p = is.defined d in (p.0, p.2);
+        line = λ d. (is.defined d).1;
+        prefix = is.prefix;
+        quiet = λ d. refl;
+        read_fault = λ d. absurd (not_read d);
+        others = λ other apart. same other;
+      }
+
+      by : (fs : Files) → files ≡ Some fs → (t : Told) (found : Option (List ℕ)) → found ≡ file_of fs name → ReadsThen name (λ bytes. Leads bytes (Some fs)) found t → Meets t what old old out_before out_before before now
+      by fs e t None f leads = absurd (rw (sym f) at (stands fs e))
+      by fs e t (Some b) f leads =
+          let h : limit < length b = rw (sym f) at (stands fs e) in
+          let later = only b h (Some fs) leads.0 leads.1 in
+          let here : t ≡ record { arrivals = name ∷ []; reply = answered a } = leads.2 ∙ ap behind later in
+          subst (λ (u : Told). Meets u what old old out_before out_before before now) (sym here) meets
