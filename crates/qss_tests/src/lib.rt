@@ -10,6 +10,8 @@ mod certificate_lines;
 #[cfg(test)]
 mod certificates;
 #[cfg(test)]
+mod certifying;
+#[cfg(test)]
 mod checks;
 #[cfg(test)]
 mod crossings;

@@ -14,9 +14,17 @@ use Rattle.qss_top.specs.Reading.{parts_of, form_of, has_names}
 use Rattle.qss_top.specs.Scaling.{numbers_of, scaled_of, IsMachineBy}
 use Rattle.qss_top.specs.declared.numbers.Scaled.{Scaled}
 use Rattle.qss_top.specs.declared.source.TheConstants.{PIECES}
-use Rattle.qss_top.specs.Commands.{RunOptions, Command, run_model, print_model, command_of, files_of}
-use Rattle.qss_top.specs.Answers.{Answer, Told, refusal, refused as refused_line, printed, printed_text, no_form, too_long, usage, answered, absent, untold, IsMeaningAnswer, IsTreeAnswer, IsRunAnswer, IsPrintAnswer, Says, ReadsThen, Reads, LeadsTo, Defines}
+use Rattle.cert_check.specs.Scope.{IsInScope, IsOutsideBy}
+use Rattle.cert_check.specs.declared.outside.Outside.{Outside}
+use Rattle.cert_answer.specs.Answers as Certificates
+use Rattle.cert_answer.specs.Answers.{IsCertification, IsUpgrade}
+use Rattle.cert_answer.specs.declared.ending.CertificateRefusal.TheVariants as certs
+use Rattle.cert_answer.proofs.Sameness.{one_each}
+use Rattle.cert_answer.proofs.Scopes.{scope_of}
+use Rattle.qss_top.specs.Commands.{RunOptions, Command, run_model, print_model, certify_model, upgrade_model, command_of, files_of}
+use Rattle.qss_top.specs.Answers.{Answer, Told, refusal, refused as refused_line, printed, printed_text, no_form, too_long, usage, answered, absent, untold, IsMeaningAnswer, IsTreeAnswer, IsRunAnswer, IsPrintAnswer, Says, ReadsThen, Reads, LeadsTo, Defines, uncertifying, certificate_answer, Finds, InScope, ByMachine, ReadsBoth, IsSourceRefusal, IsSourceMachine}
 use Rattle.qss_top.specs.Laws.{AnswersExist}
+use Rattle.qss_top.specs.Trees.{SpellsTree}
 use Rattle.qss_top.specs.declared.status.Status.TheVariants as ends
 use Rattle.qss_top.proofs.Sources.{no_parts, no_names, form_read}
 use Rattle.qss_top.proofs.TreeFacts.{Read, read_source}
@@ -148,9 +156,85 @@ read_told name Is some (Some bytes) =
 file_told : (name : List ℕ) (Is : List ℕ → Answer → Type 0) → ((bytes : List ℕ) → (answer : Answer) × Is bytes answer) → (files : Files) → (told : Told) × Reads (Some files) name (λ bytes. Says (Is bytes)) told
 file_told name Is some files = let told = read_told name Is some (file_of files name) in (told.0, (file_of files name, refl, told.1))
 
+within : (share : ℕ) → nat_le share 2048 ≡ true → share ≤ 2048
+within share e = grind (arith, nat_tests)
+
+-- the machine that a source means with quanta of this share, if it means one
+meant_at : (share : ℕ) (bytes : List ℕ) → ((m : Machine) → ¬ MeansAt share bytes m) ⊎ ((m : Machine) × MeansAt share bytes m)
+meant_at share bytes = by (meaning_parts bytes (parts_of PIECES bytes) refl) (nat_le share 2048) refl
+  where
+    by : Meaning bytes → (b : Bool) → nat_le share 2048 ≡ b → ((m : Machine) → ¬ MeansAt share bytes m) ⊎ ((m : Machine) × MeansAt share bytes m)
+    by (inl none) b e = inl (λ m at. none at.plain at.means)
+    by (inr some) false e = inl (λ n. unshared share bytes n e)
+    by (inr some) true e = let few : share ≤ 2048 = within share e in inr (shared some.0 share few, meaning_shared share bytes some.0 few some.1)
+
+-- ---- two files
+
+-- something is told that is so
+abbrev SomeTold : (Told → Type 0) → Type 0
+SomeTold Leads = (told : Told) × Leads told
+
+says_told : (answer : Answer) → SomeTold (Says (λ a. a ≡ answer))
+says_told answer = (record { arrivals = []; reply = answered answer }, (answer, refl, refl))
+
+finds : (files : Option Files) (name : List ℕ) → (found : Option (List ℕ)) × Finds files name found
+finds None name = (Some [], refl)
+finds (Some fs) name = (file_of fs name, refl)
+
+reads_told : (files : Option Files) (name : List ℕ) (Leads : List ℕ → Told → Type 0) → ((bytes : List ℕ) → SomeTold (Leads bytes)) → SomeTold (Reads files name Leads)
+reads_told files name Leads some = by (finds files name)
+  where
+    by : (found : Option (List ℕ)) × Finds files name found → SomeTold (Reads files name Leads)
+    by (None, is) = (record { arrivals = name ∷ []; reply = absent }, (None, is, refl))
+    by (Some bytes, is) = let later = some bytes in (record { arrivals = name ∷ later.0.arrivals; reply = later.0.reply }, (Some bytes, is, (later.0, later.1, refl)))
+
+-- a source has a machine with quanta of this share, or is refused
+source_judged : (share : ℕ) (bytes : List ℕ) → ((a : Answer) × IsSourceRefusal share bytes a) ⊎ ((m : Machine) × IsSourceMachine share bytes m)
+source_judged share bytes = by (nat_lt (2 ^ 20) (length bytes)) refl
+  where
+    short : nat_lt (2 ^ 20) (length bytes) ≡ false → length bytes ≤ 2 ^ 20
+    short e = grind (arith, nat_tests)
+
+    meant : nat_lt (2 ^ 20) (length bytes) ≡ false → (tree : ModelTree) → SpellsTree bytes tree → ((m : Machine) → ¬ MeansAt share bytes m) ⊎ ((m : Machine) × MeansAt share bytes m)
+        → ((a : Answer) × IsSourceRefusal share bytes a) ⊎ ((m : Machine) × IsSourceMachine share bytes m)
+    meant e tree spelled (inl none) = inl (refusal ends.ModelRefused no_form, rw e (inr (tree, spelled, (none, refl))))
+    meant e tree spelled (inr found) = inr (found.0, record { short = short e; tree = tree; spelled = spelled; means = found.1 })
+
+    read : nat_lt (2 ^ 20) (length bytes) ≡ false → Read bytes → ((a : Answer) × IsSourceRefusal share bytes a) ⊎ ((m : Machine) × IsSourceMachine share bytes m)
+    read e (inl found) = meant e found.0 found.1 (meant_at share bytes)
+    read e (inr fails) = inl (refusal ends.ModelRefused (refused_line fails.0), rw e (inl (fails.0, fails.1, refl)))
+
+    by : (b : Bool) → nat_lt (2 ^ 20) (length bytes) ≡ b → ((a : Answer) × IsSourceRefusal share bytes a) ⊎ ((m : Machine) × IsSourceMachine share bytes m)
+    by true e = inl (refusal ends.ModelRefused too_long, rw e refl)
+    by false e = read e (read_source bytes)
+
+machine_told : (share : ℕ) (bytes : List ℕ) (Leads : Machine → Told → Type 0) → ((m : Machine) → SomeTold (Leads m)) → SomeTold (ByMachine share bytes Leads)
+machine_told share bytes Leads some = by (source_judged share bytes)
+  where
+    by : ((a : Answer) × IsSourceRefusal share bytes a) ⊎ ((m : Machine) × IsSourceMachine share bytes m) → SomeTold (ByMachine share bytes Leads)
+    by (inl fails) = (record { arrivals = []; reply = answered fails.0 }, inl (fails.0, fails.1, refl))
+    by (inr found) = let told = some found.0 in (told.0, inr (found.0, found.1, told.1))
+
+scope_told : (m : Machine) (Leads : Told → Type 0) → (IsInScope m → SomeTold Leads) → SomeTold (InScope m Leads)
+scope_told m Leads some = by (scope_of m)
+  where
+    by : ((why : Outside) × IsOutsideBy m why) ⊎ IsInScope m → SomeTold (InScope m Leads)
+    by (inl out) = let told = says_told (uncertifying (certs.Outside out.0)) in (told.0, inl (out.0, out.1, told.1))
+    by (inr inside) = let told = some inside in (told.0, inr (inside, told.1))
+
+both_told : (share : ℕ) (model certificate : List ℕ) (Is : Machine → List ℕ → Certificates.Answer → Type 0) → ((m : Machine) (text : List ℕ) → (such : Certificates.Answer) × Is m text such) → (files : Option Files)
+    → SomeTold (ReadsBoth share model certificate Is files)
+both_told share model certificate Is some files =
+    reads_told files model _ (λ bytes. machine_told share bytes _ (λ m. scope_told m _ (λ scope. reads_told files certificate _ (λ text.
+    let such = some m text in
+    let answer = certificate_answer such.0 in
+    (record { arrivals = []; reply = answered answer }, (answer, (such.0, such.1, refl), refl))))))
+
 command_told : (command : Command) (files : Files) → (told : Told) × LeadsTo command (Some files) told
 command_told (run_model model options) files = file_told model (IsRunAnswer options) (run_answer options) files
 command_told (print_model model) files = file_told model IsPrintAnswer print_answer files
+command_told (certify_model model certificate share) files = both_told share model certificate IsCertification one_each.some_certification (Some files)
+command_told (upgrade_model model certificate) files = both_told 0 model certificate IsUpgrade one_each.some_upgrade (Some files)
 
 all_told : (command : Option Command) (files : Option Files) → (told : Told) × Defines command files told
 all_told None files = (record { arrivals = []; reply = answered (refusal ends.Usage usage) }, (refusal ends.Usage usage, refl, refl))

@@ -1,5 +1,5 @@
 -- A source means one machine, and words and files define one answer.
-use Rattle.std.proofs.Common.{◌≡◌, ◌*◌, ◌^◌, ℕ, Bool, true, false, List, [], ◌∷◌, length, refl, sym, ap, ◌∙◌, subst, inl, inr, nat_lt, None, Some}
+use Rattle.std.proofs.Common.{◌≡◌, ◌*◌, ◌^◌, ℕ, Bool, true, false, List, [], ◌∷◌, length, refl, sym, ap, ◌∙◌, subst, inl, inr, nat_lt, None, Some, ◌<◌, ◌≤◌, arith}
 use Rattle.std.specs.declared.option.Option.{Option}
 use Rattle.std.specs.Prelude.{MatchBool}
 use Rattle.mu_io.specs.Files.{Files, file_of}
@@ -9,8 +9,15 @@ use Rattle.qss_machine.specs.declared.system.Machine.{Machine}
 use Rattle.qss_machine.proofs.Fields.{same_machine}
 use Rattle.qss_top.specs.FirstForm.{FirstForm}
 use Rattle.qss_top.specs.Meanings.{number_of, IsMachineOf, MeansAt}
-use Rattle.qss_top.specs.Commands.{RunOptions, Command, run_model, print_model, command_of}
-use Rattle.qss_top.specs.Answers.{Answer, Told, refusal, refused, printed, printed_text, IsMeaningAnswer, IsTreeAnswer, IsSourceAnswer, IsRunAnswer, IsPrintAnswer, answered, Says, ReadsThen, Reads, LeadsTo, Defines}
+use Rattle.cert_check.specs.Scope.{IsInScope, IsOutsideBy}
+use Rattle.cert_check.specs.declared.outside.Outside.{Outside}
+use Rattle.cert_answer.specs.Answers as Certificates
+use Rattle.cert_answer.specs.Answers.{IsCertification, IsUpgrade}
+use Rattle.cert_answer.specs.declared.ending.CertificateRefusal.TheVariants as certs
+use Rattle.cert_answer.proofs.Sameness.{one_each}
+use Rattle.cert_answer.proofs.Scopes.{one_outside, not_outside}
+use Rattle.qss_top.specs.Commands.{RunOptions, Command, run_model, print_model, certify_model, upgrade_model, command_of}
+use Rattle.qss_top.specs.Answers.{Answer, Told, refusal, refused, printed, printed_text, IsMeaningAnswer, IsTreeAnswer, IsSourceAnswer, IsRunAnswer, IsPrintAnswer, answered, Line, no_form, too_long, uncertifying, certificate_answer, IsCertificateAnswer, Says, ReadsThen, Reads, InScope, ByMachine, ReadsBoth, LeadsTo, Defines, IsSourceRefusal, IsSourceMachine}
 use Rattle.qss_top.specs.Laws.{MeaningsAreUnique, AnswersAreUnique}
 use Rattle.qss_top.specs.declared.status.Status.TheVariants as ends
 use Rattle.qss_top.specs.declared.tree.Refusal.{Refusal}
@@ -95,11 +102,68 @@ one_file name Leads one files s t p q =
     one_read name Leads one (file_of files name) s t
     (subst (λ (found : Option (List ℕ)). ReadsThen name Leads found s) p.1 p.2) (subst (λ (found : Option (List ℕ)). ReadsThen name Leads found t) q.1 q.2)
 
+-- ---- two files
+
+-- what leads on leads to one thing that is told
+abbrev pub IsOne : (Told → Type 0) → Type 0
+IsOne Leads = (s t : Told) → Leads s → Leads t → s ≡ t
+
+one_answer_told : (answer : Answer) → IsOne (Says (λ a. a ≡ answer))
+one_answer_told answer s t p q = one_says (λ a. a ≡ answer) (λ a b e f. e ∙ sym f) s t p q
+
+-- a source is refused in one way, or has one machine, and never both
+pub one_source_refusal : (share : ℕ) (bytes : List ℕ) (a b : Answer) → IsSourceRefusal share bytes a → IsSourceRefusal share bytes b → a ≡ b
+one_source_refusal share bytes a b p q =
+    one_source bytes (λ tree such. ((m : Machine) → ¬ MeansAt share bytes m) × (such ≡ refusal ends.ModelRefused no_form)) (λ tree c d e f. e.1 ∙ sym f.1) a b p q
+
+pub one_source_machine : (share : ℕ) (bytes : List ℕ) (m n : Machine) → IsSourceMachine share bytes m → IsSourceMachine share bytes n → m ≡ n
+one_source_machine share bytes m n p q = same_meaning_at share bytes m n p.means q.means
+
+pub source_fine : (share : ℕ) (bytes : List ℕ) (a : Answer) (m : Machine) → IsSourceRefusal share bytes a → IsSourceMachine share bytes m → ⊥
+source_fine share bytes a m refused_so is =
+    let within : length bytes ≤ 2 ^ 20 = is.short in
+    let short : nat_lt (2 ^ 20) (length bytes) ≡ false = grind arith in
+    by (rw short at refused_so)
+  where
+    by : IsTreeAnswer bytes (λ tree such. ((n : Machine) → ¬ MeansAt share bytes n) × (such ≡ refusal ends.ModelRefused no_form)) a → ⊥
+    by (inl fails) = no_both bytes fails.0 is.tree fails.1 is.spelled
+    by (inr found) = found.2.0 m is.means
+
+-- a source past the limit is refused for that
+pub long_refusal : (share : ℕ) (bytes : List ℕ) → 2 ^ 20 < length bytes → IsSourceRefusal share bytes (refusal ends.ModelRefused too_long)
+long_refusal share bytes h = let long : nat_lt (2 ^ 20) (length bytes) ≡ true = grind arith in rw long refl
+
+one_machine_told : (share : ℕ) (bytes : List ℕ) (Leads : Machine → Told → Type 0) → ((m : Machine) → IsOne (Leads m)) → IsOne (ByMachine share bytes Leads)
+one_machine_told share bytes Leads one s t (inl p) (inl q) = one_says (IsSourceRefusal share bytes) (one_source_refusal share bytes) s t p q
+one_machine_told share bytes Leads one s t (inl p) (inr q) = absurd (source_fine share bytes p.0 q.0 p.1 q.1)
+one_machine_told share bytes Leads one s t (inr p) (inl q) = absurd (source_fine share bytes q.0 p.0 q.1 p.1)
+one_machine_told share bytes Leads one s t (inr p) (inr q) = one p.0 s t p.2 (subst (λ (m : Machine). Leads m t) (one_source_machine share bytes q.0 p.0 q.1 p.1) q.2)
+
+one_scope_told : (m : Machine) (Leads : Told → Type 0) → (IsInScope m → IsOne Leads) → IsOne (InScope m Leads)
+one_scope_told m Leads one s t (inl p) (inl q) =
+    one_answer_told (uncertifying (certs.Outside p.0)) s t p.2
+    (subst (λ (why : Outside). Says (λ answer. answer ≡ uncertifying (certs.Outside why)) t) (one_outside m q.0 p.0 q.1 p.1) q.2)
+one_scope_told m Leads one s t (inl p) (inr q) = absurd (not_outside m p.0 p.1 q.0)
+one_scope_told m Leads one s t (inr p) (inl q) = absurd (not_outside m q.0 q.1 p.0)
+one_scope_told m Leads one s t (inr p) (inr q) = one p.0 s t p.1 q.1
+
+-- an answer of one kind is told in one way
+pub one_certificate_answer : (Is : Certificates.Answer → Type 0) → ((a b : Certificates.Answer) → Is a → Is b → a ≡ b) → (a b : Answer) → IsCertificateAnswer Is a → IsCertificateAnswer Is b → a ≡ b
+one_certificate_answer Is one a b p q = p.2 ∙ ap certificate_answer (one p.0 q.0 p.1 q.1) ∙ sym q.2
+
+one_both : (share : ℕ) (model certificate : List ℕ) (Is : Machine → List ℕ → Certificates.Answer → Type 0) → ((m : Machine) (text : List ℕ) (a b : Certificates.Answer) → Is m text a → Is m text b → a ≡ b) → (files : Files)
+    → IsOne (ReadsBoth share model certificate Is (Some files))
+one_both share model certificate Is one files s t p q =
+    one_file model _ (λ bytes. one_machine_told share bytes _ (λ m. one_scope_told m _ (λ scope. one_file certificate _ (λ text.
+    one_says (IsCertificateAnswer (Is m text)) (one_certificate_answer (Is m text) (one m text))) files))) files s t p q
+
 one_command : (command : Command) (files : Files) (s t : Told) → LeadsTo command (Some files) s → LeadsTo command (Some files) t → s ≡ t
 one_command (run_model model options) files s t p q =
     one_file model (λ bytes. Says (IsRunAnswer options bytes)) (λ bytes. one_says (IsRunAnswer options bytes) (one_run options bytes)) files s t p q
 one_command (print_model model) files s t p q =
     one_file model (λ bytes. Says (IsPrintAnswer bytes)) (λ bytes. one_says (IsPrintAnswer bytes) (one_print bytes)) files s t p q
+one_command (certify_model model certificate share) files s t p q = one_both share model certificate IsCertification one_each.one_certification files s t p q
+one_command (upgrade_model model certificate) files s t p q = one_both 0 model certificate IsUpgrade one_each.one_upgrade files s t p q
 
 one_told : (command : Option Command) (files : Option Files) (s t : Told) → Defines command files s → Defines command files t → s ≡ t
 one_told None files s t p q = one_says _ (λ a b e f. e ∙ sym f) s t p q

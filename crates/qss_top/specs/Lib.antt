@@ -4,6 +4,7 @@ pub mod Trees
 pub mod Saying
 pub mod Commands
 pub mod Words
+pub mod Certificates
 pub mod Answers
 pub mod Statuses
 pub mod TopCall

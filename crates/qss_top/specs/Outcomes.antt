@@ -3,7 +3,7 @@ use Rattle.std.specs.Prelude.{◌≡◌, ℕ, List, [], codes, Contains, Bool, t
 use Rattle.std.specs.Io.KnownBytes.{Appends}
 use Rattle.mu_io.specs.Files.{Files}
 use Rattle.mu_io.specs.Sinks.{AppendsPrefix}
-use Rattle.qss_top.specs.Answers.{Answer, Line, quiet, usage, too_long, no_form, refused, over, Reply, answered, absent, untold, MayAnswer, Told, Tells}
+use Rattle.qss_top.specs.Answers.{Answer, Line, quiet, usage, too_long, no_form, refused, over, uncertified, status_of_refusal, Reply, answered, absent, untold, MayAnswer, Told, Tells}
 use Rattle.qss_top.specs.Statuses.{is_defined}
 use Rattle.qss_top.specs.TopCall.{IsReplied, text_of, SomeRose}
 use Rattle.qss_top.specs.declared.outcome.Outcome.{Outcome}
@@ -21,6 +21,7 @@ status_of outcome.TooLong = ends.ModelRefused
 status_of outcome.NoForm = ends.ModelRefused
 status_of (outcome.Refused r) = ends.ModelRefused
 status_of (outcome.Overflow name tick) = ends.Overflow
+status_of (outcome.Uncertified why) = status_of_refusal why
 status_of outcome.Memory = ends.Memory
 
 -- what its line says, where it comes of a defined answer
@@ -33,12 +34,14 @@ line_of outcome.TooLong = too_long
 line_of outcome.NoForm = no_form
 line_of (outcome.Refused r) = refused r
 line_of (outcome.Overflow name tick) = over name tick
+line_of (outcome.Uncertified why) = uncertified why
 line_of outcome.Memory = quiet
 
 -- whether the line of an outcome is made in memory
 abbrev pub takes_memory : Outcome → Bool
 takes_memory (outcome.Refused r) = true
 takes_memory (outcome.Overflow name tick) = true
+takes_memory (outcome.Uncertified why) = true
 takes_memory _ = false
 
 -- the outcome is that of the answer, or a write fault or want of memory, and no more than the answer's text was written
