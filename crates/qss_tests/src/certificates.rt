@@ -37,7 +37,7 @@ fn rows(alloc: Global) -> Result<Items<SlopeRow>, AllocError>
 }
 
 // Decay by 256/4096 of the level in a tick, with the quantum 4.
-fn decay(alloc: Global) -> Result<Machine, AllocError> {
+pub(crate) fn decay(alloc: Global) -> Result<Machine, AllocError> {
     let states = states(alloc)?;
     let rows = rows(alloc)?;
     Ok(Machine {
@@ -123,7 +123,7 @@ const MIDDLE: &[u8] =
     b"P,1\np,1\nmu,128\nlambda,384\nh1,1\nG1,0\nh2,1\nG2,0\nc,0\nR,4096\nZ,64\nS,5\nsigmaR,41472\nC,432\nsigmaC,165888\n";
 
 // A text: the line of the form, the lines between, and the last lines.
-fn text(alloc: Global, form: &[u8], last: &[u8]) -> Result<Vec<u8>, AllocError> {
+pub(crate) fn text(alloc: Global, form: &[u8], last: &[u8]) -> Result<Vec<u8>, AllocError> {
     let mut text = form.to_vec(alloc)?;
     text.extend_from_slice(MIDDLE)?;
     text.extend_from_slice(last)?;

@@ -92,7 +92,7 @@ fn relative_decay(alloc: Global) -> Result<Machine, AllocError>
 }
 
 // A machine without states.
-fn empty(alloc: Global) -> Machine {
+pub(crate) fn empty(alloc: Global) -> Machine {
     Machine {
         p: 8,
         k: 4,

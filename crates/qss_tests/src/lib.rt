@@ -4,7 +4,13 @@
 #[cfg(test)]
 mod agendas;
 #[cfg(test)]
+mod answers;
+#[cfg(test)]
+mod certificate_lines;
+#[cfg(test)]
 mod certificates;
+#[cfg(test)]
+mod certifying;
 #[cfg(test)]
 mod checks;
 #[cfg(test)]

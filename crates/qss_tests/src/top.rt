@@ -5,7 +5,7 @@ use std::alloc::Global;
 use std::process::Abort;
 use std::test::Fail;
 
-const DECAY: &str =
+pub(crate) const DECAY: &str =
     "model decay Real x(start = 64); equation der(x) = -1*x; annotation(experiment(StopTime = 1, QSS_CoefBits = 8, QSS_TickBits = 4, QSS_LevelBits = 0, QSS_Quantum = 4)); end decay;";
 
 const STOPPED: &str =
@@ -28,7 +28,8 @@ const HEADER: &str = "tick,event,name,level,state\n";
 const DECAY_ROWS: &str =
     "0,start,x,64,262144\n1,level,x,60,245760\n3,level,x,52,215040\n5,level,x,46,188416\n7,level,x,40,164864\n9,level,x,35,144384\n11,level,x,30,126464\n14,level,x,25,103424\n16,end,x,25,90624\n";
 
-const USAGE: &str = "usage: qss VERB [WORD] [WORD] [--rule RULE] [--only NAME] [--relative N]\n";
+pub(crate) const USAGE: &str =
+    "usage: qss VERB [WORD] [WORD] [--rule RULE] [--only NAME] [--relative N]\n";
 
 // What a call of the top call is given, and the calls that are to fail.
 #[derive(Clone, Copy)]

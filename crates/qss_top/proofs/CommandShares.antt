@@ -1,13 +1,13 @@
 -- The share of a command is at most 2048.
 use Rattle.std.proofs.Common.{◌≡◌, ◌≤◌, Bool, true, false, ℕ, List, None, Some, refl, arith}
 use Rattle.std.specs.declared.option.Option.{Option}
-use Rattle.std.specs.Prelude.{◌&&◌, IfSome, bytes_eq, codes, nat_le, length, option_map, option_and_then, if◌then◌else◌}
+use Rattle.std.specs.Prelude.{◌&&◌, ◌||◌, is_some, IfSome, bytes_eq, codes, nat_le, length, option_map, option_and_then, if◌then◌else◌}
 use Rattle.std.specs.List.{list_all}
 use Rattle.std.specs.Char.{is_ascii_digit}
 use Rattle.std.specs.Str.Parse.{digits_value}
 use Rattle.std.proofs.lemmas.Bool.Decides.{nat_tests}
 use Rattle.qss_quant.specs.declared.rule.Rule.{Rule}
-use Rattle.qss_top.specs.Commands.{RunOptions, Command, run_model, print_model, rule_of, share_in, share_of, options_of, is_bare, command_by, command_said, command_of}
+use Rattle.qss_top.specs.Commands.{RunOptions, Command, run_model, print_model, certify_model, upgrade_model, rule_of, share_in, share_of, options_of, is_bare, share_alone, command_by, command_of_two, command_said, command_of}
 use Rattle.qss_top.specs.Saying.{Said, nothing_said, say_all}
 use Rattle.qss_top.specs.declared.words.Flag.{Flag}
 
@@ -15,6 +15,8 @@ use Rattle.qss_top.specs.declared.words.Flag.{Flag}
 abbrev pub HasShare : Command → Type 0
 HasShare (run_model model options) = options.share ≤ 2048
 HasShare (print_model model) = Unit {0}
+HasShare (certify_model model certificate share) = share ≤ 2048
+HasShare (upgrade_model model certificate) = Unit {0}
 
 number_by : (n : ℕ) (ok : Bool) → IfSome (if ok && nat_le n 2048 then Some n else None) (λ share. share ≤ 2048)
 number_by n false = tt
@@ -51,6 +53,15 @@ print_share : (model : List ℕ) (b : Bool) → IfSome (if b then Some (print_mo
 print_share model true = tt
 print_share model false = tt
 
+alone_share : (model certificate : List ℕ) (b : Bool) (share : Option ℕ) → IfSome share (λ n. n ≤ 2048) → IfSome (option_map (certify_model model certificate) (if b then None else share)) HasShare
+alone_share model certificate true share h = tt
+alone_share model certificate false None h = tt
+alone_share model certificate false (Some n) h = h
+
+upgrade_share : (model certificate : List ℕ) (b : Bool) → IfSome (if b then Some (upgrade_model model certificate) else None) HasShare
+upgrade_share model certificate true = tt
+upgrade_share model certificate false = tt
+
 verb_share : (b : Bool) (x y : Option Command) → IfSome x HasShare → IfSome y HasShare → IfSome (if b then x else y) HasShare
 verb_share true x y p q = p
 verb_share false x y p q = q
@@ -61,17 +72,25 @@ module _ (verb model : List ℕ) (s : Said) where
       verb_share (bytes_eq verb (codes "run")) (option_map (run_model model) (options_of s)) (if bytes_eq verb (codes "print") && is_bare s then Some (print_model model) else None)
       (run_share model (options_of s) (options_share s)) (print_share model (bytes_eq verb (codes "print") && is_bare s))
 
-said_share : (verb name rule only relative : Option (List ℕ)) (all_alone : Bool) (awaited : Option Flag)
-    → IfSome (command_said (record { verb = verb; name = name; rule = rule; only = only; relative = relative; all_alone = all_alone; awaited = awaited })) HasShare
-said_share (Some verb) (Some name) rule only relative all_alone None =
-    by_share verb name (record { verb = Some verb; name = Some name; rule = rule; only = only; relative = relative; all_alone = all_alone; awaited = None })
-said_share None name rule only relative all_alone None = tt
-said_share (Some verb) None rule only relative all_alone None = tt
-said_share verb name rule only relative all_alone (Some flag) = tt
+module _ (verb model certificate : List ℕ) (s : Said) where
+  two_share : IfSome (command_of_two verb model certificate s) HasShare
+  two_share =
+      verb_share (bytes_eq verb (codes "certify")) (option_map (certify_model model certificate) (share_alone s)) (if bytes_eq verb (codes "upgrade") && is_bare s then Some (upgrade_model model certificate) else None)
+      (alone_share model certificate (is_some s.rule || is_some s.only) (share_of s.relative) (value_share s.relative)) (upgrade_share model certificate (bytes_eq verb (codes "upgrade") && is_bare s))
+
+said_share : (verb name other rule only relative : Option (List ℕ)) (all_alone : Bool) (awaited : Option Flag)
+    → IfSome (command_said (record { verb = verb; name = name; other = other; rule = rule; only = only; relative = relative; all_alone = all_alone; awaited = awaited })) HasShare
+said_share (Some verb) (Some name) None rule only relative all_alone None =
+    by_share verb name (record { verb = Some verb; name = Some name; other = None; rule = rule; only = only; relative = relative; all_alone = all_alone; awaited = None })
+said_share (Some verb) (Some name) (Some other) rule only relative all_alone None =
+    two_share verb name other (record { verb = Some verb; name = Some name; other = Some other; rule = rule; only = only; relative = relative; all_alone = all_alone; awaited = None })
+said_share None name other rule only relative all_alone None = tt
+said_share (Some verb) None other rule only relative all_alone None = tt
+said_share verb name other rule only relative all_alone (Some flag) = tt
 
 words_share : (said : Option Said) → IfSome (option_and_then command_said said) HasShare
 words_share None = tt
-words_share (Some s) = said_share s.verb s.name s.rule s.only s.relative s.all_alone s.awaited
+words_share (Some s) = said_share s.verb s.name s.other s.rule s.only s.relative s.all_alone s.awaited
 
 pub command_share : (words : List (List ℕ)) → IfSome (command_of words) HasShare
 command_share words = words_share (say_all nothing_said words)

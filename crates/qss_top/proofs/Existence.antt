@@ -1,12 +1,19 @@
 -- Words and files define an answer.
-use Rattle.std.proofs.Common.{◌≡◌, ◌≤◌, ◌⊎◌, ℕ, List, [], ◌∷◌, refl, inl, inr, None, Some}
+use Rattle.std.proofs.Common.{◌≡◌, ◌≤◌, ◌⊎◌, ℕ, List, [], ◌∷◌, refl, inl, inr, None, Some, arith}
 use Rattle.std.specs.declared.option.Option.{Option}
 use Rattle.std.specs.Prelude.{IfSome}
 use Rattle.mu_io.specs.Files.{Files, file_of}
 use Rattle.mu_tree.specs.ModelTree.{ModelTree}
 use Rattle.qss_machine.specs.declared.system.Machine.{Machine}
-use Rattle.qss_top.specs.Commands.{RunOptions, Command, run_model, print_model, command_of, files_of}
-use Rattle.qss_top.specs.Answers.{Answer, Told, refusal, printed, printed_text, usage, answered, absent, untold, IsSourceRefusal, IsTreeRefusal, IsSourceMachine, IsSourceTree, IsRunAnswer, IsPrintAnswer, Says, ReadsThen, Reads, LeadsTo, Defines}
+use Rattle.cert_check.specs.Scope.{IsInScope, IsOutsideBy}
+use Rattle.cert_check.specs.declared.outside.Outside.{Outside}
+use Rattle.cert_answer.specs.Answers as Certificates
+use Rattle.cert_answer.specs.Answers.{IsCertification, IsUpgrade}
+use Rattle.cert_answer.specs.declared.ending.CertificateRefusal.TheVariants as certs
+use Rattle.cert_answer.proofs.Sameness.{one_each}
+use Rattle.cert_answer.proofs.Scopes.{scope_of}
+use Rattle.qss_top.specs.Commands.{RunOptions, Command, run_model, print_model, certify_model, upgrade_model, command_of, files_of}
+use Rattle.qss_top.specs.Answers.{Answer, Told, refusal, printed, printed_text, usage, answered, absent, untold, IsSourceRefusal, IsTreeRefusal, IsSourceMachine, IsSourceTree, IsRunAnswer, IsPrintAnswer, uncertifying, certificate_answer, Says, ReadsThen, Finds, Reads, InScope, ByMachine, ReadsBoth, LeadsTo, Defines}
 use Rattle.qss_top.specs.Laws.{AnswersExist}
 use Rattle.qss_top.specs.declared.status.Status.TheVariants as ends
 use Rattle.qss_top.proofs.CommandShares.{HasShare, command_share}
@@ -36,9 +43,53 @@ read_told name Is some (Some bytes) =
 file_told : (name : List ℕ) (Is : List ℕ → Answer → Type 0) → ((bytes : List ℕ) → (answer : Answer) × Is bytes answer) → (files : Files) → (told : Told) × Reads (Some files) name (λ bytes. Says (Is bytes)) told
 file_told name Is some files = let told = read_told name Is some (file_of files name) in (told.0, (file_of files name, refl, told.1))
 
+-- ---- two files
+
+-- something is told that is so
+abbrev SomeTold : (Told → Type 0) → Type 0
+SomeTold Leads = (told : Told) × Leads told
+
+says_told : (answer : Answer) → SomeTold (Says (λ a. a ≡ answer))
+says_told answer = (record { arrivals = []; reply = answered answer }, (answer, refl, refl))
+
+finds : (files : Option Files) (name : List ℕ) → (found : Option (List ℕ)) × Finds files name found
+finds None name = (Some [], refl)
+finds (Some fs) name = (file_of fs name, refl)
+
+reads_told : (files : Option Files) (name : List ℕ) (Leads : List ℕ → Told → Type 0) → ((bytes : List ℕ) → SomeTold (Leads bytes)) → SomeTold (Reads files name Leads)
+reads_told files name Leads some = by (finds files name)
+  where
+    by : (found : Option (List ℕ)) × Finds files name found → SomeTold (Reads files name Leads)
+    by (None, is) = (record { arrivals = name ∷ []; reply = absent }, (None, is, refl))
+    by (Some bytes, is) = let later = some bytes in (record { arrivals = name ∷ later.0.arrivals; reply = later.0.reply }, (Some bytes, is, (later.0, later.1, refl)))
+
+machine_told : (share : ℕ) → share ≤ 2048 → (bytes : List ℕ) (Leads : Machine → Told → Type 0) → ((m : Machine) → SomeTold (Leads m)) → SomeTold (ByMachine share bytes Leads)
+machine_told share few bytes Leads some = by (source_judged share few bytes)
+  where
+    by : ((a : Answer) × IsSourceRefusal bytes a) ⊎ ((m : Machine) × IsSourceMachine share bytes m) → SomeTold (ByMachine share bytes Leads)
+    by (inl fails) = (record { arrivals = []; reply = answered fails.0 }, inl (fails.0, fails.1, refl))
+    by (inr found) = let told = some found.0 in (told.0, inr (found.0, found.1, told.1))
+
+scope_told : (m : Machine) (Leads : Told → Type 0) → (IsInScope m → SomeTold Leads) → SomeTold (InScope m Leads)
+scope_told m Leads some = by (scope_of m)
+  where
+    by : ((why : Outside) × IsOutsideBy m why) ⊎ IsInScope m → SomeTold (InScope m Leads)
+    by (inl out) = let told = says_told (uncertifying (certs.Outside out.0)) in (told.0, inl (out.0, out.1, told.1))
+    by (inr inside) = let told = some inside in (told.0, inr (inside, told.1))
+
+both_told : (share : ℕ) → share ≤ 2048 → (model certificate : List ℕ) (Is : Machine → List ℕ → Certificates.Answer → Type 0) → ((m : Machine) (text : List ℕ) → (such : Certificates.Answer) × Is m text such) → (files : Option Files)
+    → SomeTold (ReadsBoth share model certificate Is files)
+both_told share few model certificate Is some files =
+    reads_told files model _ (λ bytes. machine_told share few bytes _ (λ m. scope_told m _ (λ scope. reads_told files certificate _ (λ text.
+    let such = some m text in
+    let answer = certificate_answer such.0 in
+    (record { arrivals = []; reply = answered answer }, (answer, (such.0, such.1, refl), refl))))))
+
 command_told : (command : Command) → HasShare command → (files : Files) → (told : Told) × LeadsTo command (Some files) told
 command_told (run_model model options) few files = file_told model (IsRunAnswer options) (run_answer options few) files
 command_told (print_model model) few files = file_told model IsPrintAnswer print_answer files
+command_told (certify_model model certificate share) few files = both_told share few model certificate IsCertification one_each.some_certification (Some files)
+command_told (upgrade_model model certificate) few files = both_told 0 (omega arith) model certificate IsUpgrade one_each.some_upgrade (Some files)
 
 all_told : (command : Option Command) → IfSome command HasShare → (files : Option Files) → (told : Told) × Defines command files told
 all_told None few files = (record { arrivals = []; reply = answered (refusal ends.Usage usage) }, (refusal ends.Usage usage, refl, refl))

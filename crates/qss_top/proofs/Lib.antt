@@ -7,3 +7,4 @@ pub mod OutcomeFacts
 pub mod Serving
 pub mod Tellings
 pub mod TopFacts
+pub mod TwoFiles

@@ -2,8 +2,16 @@
 use Rattle.std.proofs.Common.{◌≡◌, ◌⊎◌, ℕ, List, [], ◌∷◌, sym, ap, ◌∙◌, subst, inl, inr, None, Some}
 use Rattle.std.specs.declared.option.Option.{Option}
 use Rattle.mu_io.specs.Files.{Files, file_of}
-use Rattle.qss_top.specs.Commands.{RunOptions, Command, run_model, print_model, command_of}
-use Rattle.qss_top.specs.Answers.{Answer, Told, printed, printed_text, IsSourceRefusal, IsTreeRefusal, IsSourceMachine, IsSourceTree, IsRunAnswer, IsPrintAnswer, answered, Says, ReadsThen, Reads, LeadsTo, Defines}
+use Rattle.cert_check.specs.Scope.{IsInScope, IsOutsideBy}
+use Rattle.cert_check.specs.declared.outside.Outside.{Outside}
+use Rattle.cert_answer.specs.Answers as Certificates
+use Rattle.cert_answer.specs.Answers.{IsCertification, IsUpgrade}
+use Rattle.cert_answer.specs.declared.ending.CertificateRefusal.TheVariants as certs
+use Rattle.cert_answer.proofs.Sameness.{one_each}
+use Rattle.cert_answer.proofs.Scopes.{one_outside, not_outside}
+use Rattle.qss_machine.specs.declared.system.Machine.{Machine}
+use Rattle.qss_top.specs.Commands.{RunOptions, Command, run_model, print_model, certify_model, upgrade_model, command_of}
+use Rattle.qss_top.specs.Answers.{Answer, Told, printed, printed_text, IsSourceRefusal, IsTreeRefusal, IsSourceMachine, IsSourceTree, IsRunAnswer, IsPrintAnswer, answered, uncertifying, certificate_answer, IsCertificateAnswer, Says, ReadsThen, Reads, InScope, ByMachine, ReadsBoth, LeadsTo, Defines}
 use Rattle.qss_top.specs.Laws.{AnswersAreUnique}
 use Rattle.qss_top.proofs.Sources.{one_source_refusal, one_tree_refusal, one_source_machine, one_source_tree, source_fine, tree_fine}
 
@@ -37,11 +45,46 @@ one_file name Leads one files s t p q =
     one_read name Leads one (file_of files name) s t
     (subst (λ (found : Option (List ℕ)). ReadsThen name Leads found s) p.1 p.2) (subst (λ (found : Option (List ℕ)). ReadsThen name Leads found t) q.1 q.2)
 
+-- ---- two files
+
+-- what leads on leads to one thing that is told
+abbrev pub IsOne : (Told → Type 0) → Type 0
+IsOne Leads = (s t : Told) → Leads s → Leads t → s ≡ t
+
+one_answer_told : (answer : Answer) → IsOne (Says (λ a. a ≡ answer))
+one_answer_told answer s t p q = one_says (λ a. a ≡ answer) (λ a b e f. e ∙ sym f) s t p q
+
+one_machine_told : (share : ℕ) (bytes : List ℕ) (Leads : Machine → Told → Type 0) → ((m : Machine) → IsOne (Leads m)) → IsOne (ByMachine share bytes Leads)
+one_machine_told share bytes Leads one s t (inl p) (inl q) = one_says (IsSourceRefusal bytes) (one_source_refusal bytes) s t p q
+one_machine_told share bytes Leads one s t (inl p) (inr q) = absurd (source_fine share bytes p.0 q.0 p.1 q.1)
+one_machine_told share bytes Leads one s t (inr p) (inl q) = absurd (source_fine share bytes q.0 p.0 q.1 p.1)
+one_machine_told share bytes Leads one s t (inr p) (inr q) = one p.0 s t p.2 (subst (λ (m : Machine). Leads m t) (one_source_machine share bytes q.0 p.0 q.1 p.1) q.2)
+
+one_scope_told : (m : Machine) (Leads : Told → Type 0) → (IsInScope m → IsOne Leads) → IsOne (InScope m Leads)
+one_scope_told m Leads one s t (inl p) (inl q) =
+    one_answer_told (uncertifying (certs.Outside p.0)) s t p.2
+    (subst (λ (why : Outside). Says (λ answer. answer ≡ uncertifying (certs.Outside why)) t) (one_outside m q.0 p.0 q.1 p.1) q.2)
+one_scope_told m Leads one s t (inl p) (inr q) = absurd (not_outside m p.0 p.1 q.0)
+one_scope_told m Leads one s t (inr p) (inl q) = absurd (not_outside m q.0 q.1 p.0)
+one_scope_told m Leads one s t (inr p) (inr q) = one p.0 s t p.1 q.1
+
+-- an answer of one kind is told in one way
+pub one_certificate_answer : (Is : Certificates.Answer → Type 0) → ((a b : Certificates.Answer) → Is a → Is b → a ≡ b) → (a b : Answer) → IsCertificateAnswer Is a → IsCertificateAnswer Is b → a ≡ b
+one_certificate_answer Is one a b p q = p.2 ∙ ap certificate_answer (one p.0 q.0 p.1 q.1) ∙ sym q.2
+
+one_both : (share : ℕ) (model certificate : List ℕ) (Is : Machine → List ℕ → Certificates.Answer → Type 0) → ((m : Machine) (text : List ℕ) (a b : Certificates.Answer) → Is m text a → Is m text b → a ≡ b) → (files : Files)
+    → IsOne (ReadsBoth share model certificate Is (Some files))
+one_both share model certificate Is one files s t p q =
+    one_file model _ (λ bytes. one_machine_told share bytes _ (λ m. one_scope_told m _ (λ scope. one_file certificate _ (λ text.
+    one_says (IsCertificateAnswer (Is m text)) (one_certificate_answer (Is m text) (one m text))) files))) files s t p q
+
 one_command : (command : Command) (files : Files) (s t : Told) → LeadsTo command (Some files) s → LeadsTo command (Some files) t → s ≡ t
 one_command (run_model model options) files s t p q =
     one_file model (λ bytes. Says (IsRunAnswer options bytes)) (λ bytes. one_says (IsRunAnswer options bytes) (one_run options bytes)) files s t p q
 one_command (print_model model) files s t p q =
     one_file model (λ bytes. Says (IsPrintAnswer bytes)) (λ bytes. one_says (IsPrintAnswer bytes) (one_print bytes)) files s t p q
+one_command (certify_model model certificate share) files s t p q = one_both share model certificate IsCertification one_each.one_certification files s t p q
+one_command (upgrade_model model certificate) files s t p q = one_both 0 model certificate IsUpgrade one_each.one_upgrade files s t p q
 
 one_told : (command : Option Command) (files : Option Files) (s t : Told) → Defines command files s → Defines command files t → s ≡ t
 one_told None files s t p q = one_says _ (λ a b e f. e ∙ sym f) s t p q

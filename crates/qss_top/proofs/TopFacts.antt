@@ -1,6 +1,7 @@
 -- The status and the line of an outcome, for what is told.
 use Rattle.std.proofs.Common.{◌≡◌, ◌≢◌, ◌⊎◌, true, ℕ, List, refl, sym, ap, ◌∙◌, subst, inl, inr}
 use Rattle.std.specs.declared.option.Option.{Option}
+use Rattle.cert_answer.specs.declared.ending.CertificateRefusal.TheVariants as certs
 use Rattle.qss_top.specs.Answers.{Reply, answered, absent, untold}
 use Rattle.qss_top.specs.Outcomes.{status_of, line_text, takes_memory, IsReported}
 use Rattle.qss_top.specs.Statuses.{is_defined, leaves_out}
@@ -45,6 +46,10 @@ read_is outcome.TooLong e = absurd (cc e)
 read_is (outcome.Refused r) e = absurd (cc e)
 read_is (outcome.Overflow name tick) e = absurd (cc e)
 read_is outcome.Memory e = absurd (cc e)
+read_is (outcome.Uncertified (certs.Outside why)) e = absurd (cc e)
+read_is (outcome.Uncertified certs.TooLong) e = absurd (cc e)
+read_is (outcome.Uncertified (certs.Unread why)) e = absurd (cc e)
+read_is (outcome.Uncertified (certs.Rejected v)) e = absurd (cc e)
 
 write_is : (what : Outcome) → ends.WriteFault ≡ status_of what → what ≡ outcome.WriteFault
 write_is outcome.Done e = absurd (cc e)
@@ -55,6 +60,10 @@ write_is outcome.TooLong e = absurd (cc e)
 write_is (outcome.Refused r) e = absurd (cc e)
 write_is (outcome.Overflow name tick) e = absurd (cc e)
 write_is outcome.Memory e = absurd (cc e)
+write_is (outcome.Uncertified (certs.Outside why)) e = absurd (cc e)
+write_is (outcome.Uncertified certs.TooLong) e = absurd (cc e)
+write_is (outcome.Uncertified (certs.Unread why)) e = absurd (cc e)
+write_is (outcome.Uncertified (certs.Rejected v)) e = absurd (cc e)
 
 done_is : (what : Outcome) → ends.Ok ≡ status_of what → what ≡ outcome.Done
 done_is outcome.Done e = refl
@@ -65,6 +74,10 @@ done_is outcome.TooLong e = absurd (cc e)
 done_is (outcome.Refused r) e = absurd (cc e)
 done_is (outcome.Overflow name tick) e = absurd (cc e)
 done_is outcome.Memory e = absurd (cc e)
+done_is (outcome.Uncertified (certs.Outside why)) e = absurd (cc e)
+done_is (outcome.Uncertified certs.TooLong) e = absurd (cc e)
+done_is (outcome.Uncertified (certs.Unread why)) e = absurd (cc e)
+done_is (outcome.Uncertified (certs.Rejected v)) e = absurd (cc e)
 
 usage_is : (what : Outcome) → ends.Usage ≡ status_of what → what ≡ outcome.Usage
 usage_is outcome.Done e = absurd (cc e)
@@ -75,6 +88,10 @@ usage_is outcome.TooLong e = absurd (cc e)
 usage_is (outcome.Refused r) e = absurd (cc e)
 usage_is (outcome.Overflow name tick) e = absurd (cc e)
 usage_is outcome.Memory e = absurd (cc e)
+usage_is (outcome.Uncertified (certs.Outside why)) e = absurd (cc e)
+usage_is (outcome.Uncertified certs.TooLong) e = absurd (cc e)
+usage_is (outcome.Uncertified (certs.Unread why)) e = absurd (cc e)
+usage_is (outcome.Uncertified (certs.Rejected v)) e = absurd (cc e)
 
 pub read_of : (status : Status) (what : Outcome) → IsStatus status what → status ≡ ends.ReadFault → what ≡ outcome.ReadFault
 read_of status what h e = read_is what (sym e ∙ same_status status what h (λ m. absurd (cc (e, m))))

@@ -10,7 +10,14 @@ use Rattle.qss_compile.specs.Lines as Refusals
 use Rattle.qss_compile.specs.Meanings.{SpellsTree, IsUnspelled, Means, IsRefused}
 use Rattle.qss_compile.specs.declared.fault.Refused.{Refused}
 use Rattle.qss_play.specs.Plays.{run_under, text_of as run_text}
-use Rattle.qss_top.specs.Commands.{RunOptions, Command, run_model, print_model, command_of, files_of}
+use Rattle.cert_check.specs.Scope.{IsInScope, IsOutsideBy}
+use Rattle.cert_check.specs.declared.outside.Outside.{Outside}
+use Rattle.cert_answer.specs.Answers as Certificates
+use Rattle.cert_answer.specs.Answers.{IsCertification, IsUpgrade}
+use Rattle.cert_answer.specs.declared.ending.CertificateRefusal.TheVariants as certs
+use Rattle.cert_answer.specs.Endings.{refusal_line}
+use Rattle.cert_answer.specs.declared.ending.CertificateRefusal.{CertificateRefusal}
+use Rattle.qss_top.specs.Commands.{RunOptions, Command, run_model, print_model, certify_model, upgrade_model, command_of, files_of}
 use Rattle.qss_top.specs.Shares.{IsShared}
 use Rattle.qss_top.specs.declared.status.Status.{Status}
 use Rattle.qss_top.specs.declared.status.Status.TheVariants as ends
@@ -21,6 +28,7 @@ pub data Line : Type 0 where
   usage : Line
   too_long : Line
   refused : (bytes : List ℕ) → Line
+  uncertified : CertificateRefusal → Line
   over : (name : List ℕ) → (tick : ℕ) → Line
 
 -- the line on how words are a command
@@ -47,6 +55,7 @@ Tells quiet text = text ≡ []
 Tells usage text = text ≡ usage_line
 Tells too_long text = text ≡ too_long_line
 Tells (refused bytes) text = TellsRefusal bytes text
+Tells (uncertified why) text = text ≡ refusal_line why
 Tells (over name tick) text = text ≡ overflow_line name tick
 
 -- an answer: how the program ends, what out gains, and what the line on err says
@@ -118,6 +127,25 @@ IsRunAnswer options bytes answer = IsSourceRefusal bytes answer ⊎ ((m : Machin
 abbrev pub IsPrintAnswer : List ℕ → Answer → Type 0
 IsPrintAnswer bytes answer = IsTreeRefusal bytes answer ⊎ ((tree : ModelTree) × IsSourceTree bytes tree × (answer ≡ printed_text tree))
 
+-- how the program ends that refuses a certificate
+abbrev pub status_of_refusal : CertificateRefusal → Status
+status_of_refusal (certs.Outside why) = ends.Rejected
+status_of_refusal certs.TooLong = ends.CertRefused
+status_of_refusal (certs.Unread why) = ends.CertRefused
+status_of_refusal (certs.Rejected verdict) = ends.Rejected
+
+-- the answer that refuses a certificate
+abbrev pub uncertifying : CertificateRefusal → Answer
+uncertifying why = refusal (status_of_refusal why) (uncertified why)
+
+-- the answer of the program by that to a machine and the bytes of a certificate
+abbrev pub certificate_answer : Certificates.Answer → Answer
+certificate_answer (Certificates.refused why) = uncertifying why
+certificate_answer (Certificates.written text) = record { status = ends.Ok; out = text; line = quiet }
+
+abbrev pub IsCertificateAnswer : (Certificates.Answer → Type 0) → Answer → Type 0
+IsCertificateAnswer IsSuch answer = (such : Certificates.Answer) × IsSuch such × (answer ≡ certificate_answer such)
+
 -- what is replied: an answer; none, since a file is not on the shelf; or an answer to this command that cannot be named, since the shelf does not tell its files
 pub data Reply : Type 0 where
   answered : Answer → Reply
@@ -146,10 +174,30 @@ Finds (Some files) name found = found ≡ file_of files name
 abbrev pub Reads : Option Files → List ℕ → (List ℕ → Told → Type 0) → Told → Type 0
 Reads files name Leads told = (found : Option (List ℕ)) × Finds files name found × ReadsThen name Leads found told
 
+-- a machine leads on where certificates can speak of it
+abbrev pub InScope : Machine → (Told → Type 0) → Told → Type 0
+InScope m Leads told =
+    ((why : Outside) × IsOutsideBy m why × Says (λ answer. answer ≡ uncertifying (certs.Outside why)) told)
+    ⊎ (IsInScope m × Leads told)
+
+-- a source leads on with its machine, where it has one
+abbrev pub ByMachine : ℕ → List ℕ → (Machine → Told → Type 0) → Told → Type 0
+ByMachine share bytes Leads told = Says (IsSourceRefusal bytes) told ⊎ ((m : Machine) × IsSourceMachine share bytes m × Leads m told)
+
+-- a certificate of a machine is read, where there can be one
+abbrev pub ReadsCertificate : List ℕ → (Machine → List ℕ → Certificates.Answer → Type 0) → Machine → Option Files → Told → Type 0
+ReadsCertificate certificate IsSuch m files told = InScope m (Reads files certificate (λ text. Says (IsCertificateAnswer (IsSuch m text)))) told
+
+-- a model and then a certificate of its machine are read
+abbrev pub ReadsBoth : ℕ → List ℕ → List ℕ → (Machine → List ℕ → Certificates.Answer → Type 0) → Option Files → Told → Type 0
+ReadsBoth share model certificate IsSuch files told = Reads files model (λ bytes. ByMachine share bytes (λ m. ReadsCertificate certificate IsSuch m files)) told
+
 -- a command leads to what is told, or may lead to it where no files are told
 abbrev pub LeadsTo : Command → Option Files → Told → Type 0
 LeadsTo (run_model model options) files told = Reads files model (λ bytes. Says (IsRunAnswer options bytes)) told
 LeadsTo (print_model model) files told = Reads files model (λ bytes. Says (IsPrintAnswer bytes)) told
+LeadsTo (certify_model model certificate share) files told = ReadsBoth share model certificate IsCertification files told
+LeadsTo (upgrade_model model certificate) files told = ReadsBoth 0 model certificate IsUpgrade files told
 
 -- for some bytes that the command reads, the answer to it is such a one
 abbrev pub MayAnswer : Command → (Answer → Type 0) → Type 0

@@ -2,6 +2,7 @@ pub mod Shares
 pub mod Saying
 pub mod Commands
 pub mod Words
+pub mod Certificates
 pub mod Answers
 pub mod Statuses
 pub mod TopCall

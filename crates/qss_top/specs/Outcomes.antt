@@ -6,7 +6,8 @@ use Rattle.mu_io.specs.Sinks.{AppendsPrefix}
 use Rattle.qss_compile.specs.Causes.{is_memory}
 use Rattle.qss_compile.specs.Lines as Refusals
 use Rattle.qss_compile.specs.declared.fault.Refused.{Refused}
-use Rattle.qss_top.specs.Answers.{Answer, Told, Tells, answered, usage_line, too_long_line, overflow_line}
+use Rattle.cert_answer.specs.Endings.{refusal_line}
+use Rattle.qss_top.specs.Answers.{Answer, Told, Tells, answered, status_of_refusal, usage_line, too_long_line, overflow_line}
 use Rattle.qss_top.specs.Statuses.{is_defined}
 use Rattle.qss_top.specs.TopCall.{IsReplied, IsReplyLine, text_of, SomeRose}
 use Rattle.qss_top.specs.declared.outcome.Outcome.{Outcome}
@@ -23,6 +24,7 @@ status_of outcome.WriteFault = ends.WriteFault
 status_of outcome.TooLong = ends.ModelRefused
 status_of (outcome.Refused r) = ends.ModelRefused
 status_of (outcome.Overflow name tick) = ends.Overflow
+status_of (outcome.Uncertified why) = status_of_refusal why
 status_of outcome.Memory = ends.Memory
 
 -- the text of its line, where it comes of a defined answer
@@ -31,6 +33,7 @@ line_text outcome.Usage = usage_line
 line_text outcome.TooLong = too_long_line
 line_text (outcome.Refused r) = Refusals.line_of r
 line_text (outcome.Overflow name tick) = overflow_line name tick
+line_text (outcome.Uncertified why) = refusal_line why
 line_text _ = []
 
 -- the outcome of a refusal, which may be want of memory
@@ -45,6 +48,7 @@ IsRefusedFor Refuses what = (what ≡ outcome.Memory) ⊎ ((r : Refused) × Refu
 abbrev pub takes_memory : Outcome → Bool
 takes_memory (outcome.Refused r) = true
 takes_memory (outcome.Overflow name tick) = true
+takes_memory (outcome.Uncertified why) = true
 takes_memory _ = false
 
 -- the outcome is that of the answer, or a write fault or want of memory, and no more than the answer's text was written

@@ -4,15 +4,16 @@ ghost use Rattle.mu_io.specs.Faults.{OnlyCounts};
 ghost use Rattle.mu_io.specs.Sinks.{EndsByFault};
 ghost use Rattle.mu_tree.specs.ModelTree.{model};
 ghost use Rattle.qss_top.specs.Answers.{Answer, Told, IsRunAnswer, IsPrintAnswer, printed, printed_text, LeadsTo, IsTold};
-ghost use Rattle.qss_top.specs.Commands.{command_by, command_said, command_of, files_of};
+ghost use Rattle.qss_top.specs.Commands.{command_by, command_of_two, command_said, command_of, files_of};
 ghost use Rattle.qss_top.specs.Outcomes.{IsOutcome, Meets, Serves, status_of};
 ghost use Rattle.qss_top.specs.Statuses.{leaves_out};
 ghost use Rattle.qss_top.specs.Words.{command_in, command_with, options_in, said_in, IsTaskAnswer};
 
-use crate::options::Options;
+use crate::certificate::on_certificate;
+use crate::options::{Deed, Options};
 use crate::outcome::Outcome;
 use crate::source::{machine_of, model_of};
-use crate::values::{is_bare, options_said};
+use crate::values::{is_bare, options_said, share_alone};
 use crate::words::Said;
 use mu_io::{Name, ReadErr, Shelf, Sink, WriteErr, read_all, write_all};
 use mu_tree::canonical::write_model;
@@ -22,7 +23,7 @@ use qss_play::{Played, play};
 use std::alloc::{AllocError, Global};
 
 // The longest model that is read, in bytes.
-const MODEL_LIMIT: usize = 1 << 20;
+pub(crate) const MODEL_LIMIT: usize = 1 << 20;
 
 /// What is done with a model.
 #[derive(Clone, Copy, Debug)]
@@ -31,11 +32,18 @@ pub enum Task<'a> {
     Print,
 }
 
-/// What the words ask for: what is done with the model of a name.
+/// What the words ask for: what is done with the model of a name, or with it and the certificate of another.
 #[derive(Clone, Copy, Debug)]
-pub struct Request<'a> {
-    pub task: Task<'a>,
-    pub model: &'a str,
+pub enum Request<'a> {
+    Source {
+        task: Task<'a>,
+        model: &'a str,
+    },
+    Certificate {
+        deed: Deed,
+        model: &'a str,
+        certificate: &'a str,
+    },
 }
 
 // What the words ask for, where they are a command.
@@ -50,8 +58,11 @@ fn requested<'a>(words: &[&'a str]) -> Option<Request<'a>>
 fn request_said<'a>(said: Said<'a>) -> Option<Request<'a>>
     ensures { option_map command_in result ≡ command_said (said_in said.entry) }
 {
-    match (said.awaited, said.verb, said.name) {
-        (None, Some(verb), Some(model)) => request_by(verb, model, said),
+    match (said.awaited, said.verb, said.name, said.other) {
+        (None, Some(verb), Some(model), None) => request_by(verb, model, said),
+        (None, Some(verb), Some(model), Some(certificate)) => {
+            request_of_two(verb, model, certificate, said)
+        }
         _ => None,
     }
 }
@@ -63,11 +74,40 @@ fn request_by<'a>(verb: &str, model: &'a str, said: Said<'a>) -> Option<Request<
     if verb == "run" {
         let options = options_said(said)?;
         let task = Task::Run(options);
-        return Some(Request { task, model });
+        return Some(Request::Source { task, model });
     }
     if verb == "print" && is_bare(said) {
         let task = Task::Print;
-        return Some(Request { task, model });
+        return Some(Request::Source { task, model });
+    }
+    None
+}
+
+// What a verb asks for with the model and the certificate of two names.
+fn request_of_two<'a>(
+    verb: &str,
+    model: &'a str,
+    certificate: &'a str,
+    said: Said<'a>,
+) -> Option<Request<'a>>
+    ensures { option_map command_in result ≡ command_of_two verb.now model.now certificate.now (said_in said.entry) }
+{
+    if verb == "certify" {
+        let share = share_alone(said)?;
+        let deed = Deed::Certify(share);
+        return Some(Request::Certificate {
+            deed,
+            model,
+            certificate,
+        });
+    }
+    if verb == "upgrade" && is_bare(said) {
+        let deed = Deed::Upgrade;
+        return Some(Request::Certificate {
+            deed,
+            model,
+            certificate,
+        });
     }
     None
 }
@@ -89,7 +129,14 @@ pub(crate) fn answer<S: Shelf, O: Sink>(
     ensures unharmed { result ≢ Outcome.ReadFault → (name : List ℕ) → S.faults shelf.new name ≡ S.faults shelf.old name }
 {
     match requested(words) {
-        Some(request) => on_file(alloc, request.task, request.model, shelf, out),
+        Some(Request::Source { task, model }) => on_file(alloc, task, model, shelf, out),
+        Some(
+            Request::Certificate {
+                deed,
+                model,
+                certificate,
+            },
+        ) => on_certificate(alloc, deed, model, certificate, shelf, out),
         None => Outcome::Usage,
     }
 }

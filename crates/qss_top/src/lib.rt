@@ -1,6 +1,7 @@
 //! The top call of the simulator.
 #![tactic(auto)]
 
+mod certificate;
 mod command;
 mod digits;
 mod laws;

@@ -1,10 +1,11 @@
 // What became of a command, and the line that tells it.
 ghost use Rattle.std.specs.Prelude.{true, ◌≡◌, ◌⊎◌, ◌≤◌, ℕ, List, codes, IfOk};
-ghost use Rattle.qss_top.specs.Answers.{overflow_line};
+ghost use Rattle.qss_top.specs.Answers.{overflow_line, status_of_refusal};
 ghost use Rattle.qss_top.specs.Outcomes as Spec;
 ghost use Rattle.qss_top.specs.TopCall.{WritesLine};
 
 use crate::Status;
+use cert_answer::{CertificateRefusal, refusal_line as certificate_line};
 use mu_io::{Name, Sink, write_all};
 use qss_compile::{ModelErr, Refused, refusal_line};
 use std::alloc::{AllocError, Global};
@@ -19,6 +20,7 @@ pub enum Outcome {
     TooLong,
     Refused(Refused),
     Overflow { name: Name, tick: u64 },
+    Uncertified(CertificateRefusal),
     Memory,
 }
 
@@ -61,7 +63,21 @@ pub(crate) fn report<E: Sink>(alloc: Global, outcome: &Outcome, err: &mut E) -> 
             Ok(line) => tell(Status::Overflow, &line, err),
             Err(_) => tell(Status::Memory, b"out of memory\n", err),
         },
+        Outcome::Uncertified(why) => match certificate_line(alloc, *why) {
+            Ok(line) => tell(refusal_status(*why), &line, err),
+            Err(_) => tell(Status::Memory, b"out of memory\n", err),
+        },
         Outcome::Memory => tell(Status::Memory, b"out of memory\n", err),
+    }
+}
+
+// How the program ends that refuses a certificate.
+fn refusal_status(why: CertificateRefusal) -> Status
+    ensures { result ≡ status_of_refusal why }
+{
+    match why {
+        CertificateRefusal::Outside(_) | CertificateRefusal::Rejected(_) => Status::Rejected,
+        CertificateRefusal::TooLong | CertificateRefusal::Unread(_) => Status::CertRefused,
     }
 }
 

@@ -1,0 +1,4 @@
+pub mod Scopes
+pub mod Finished
+pub mod Sameness
+pub mod Bounds

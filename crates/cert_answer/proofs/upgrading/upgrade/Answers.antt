@@ -1,0 +1,17 @@
+use Rattle.std.proofs.Common.{◌≡◌, inr, refl}
+use Rattle.cert_check.specs.declared.certificate.Certificate.{Certificate}
+use Rattle.cert_answer.specs.Answers.{Answer, IsUpgrade, upgraded}
+use Rattle.cert_answer.proofs.Finished.{ends_as, not_read}
+use Rattle.cert_answer.proofs.Sameness.{some_answer}
+use Rattle.cert_answer.proofs.upgrading.upgrade.Goals as goal
+
+pub returns-in-Ok : goal.returns-in-Ok
+returns-in-Ok g c =
+    ends_as (λ k. g.O.Sink.written k) (λ k. g.O.Sink.faults k) (λ a. a ≡ upgraded c.in-Ok.c) (IsUpgrade c.args.m.now c.args.bytes.now)
+    (λ (a : Answer) (h : a ≡ upgraded c.in-Ok.c). inr (c.in-Ok.c, c.in-Ok.ensures.read, h)) c.write_newest.result c.args.out.now c.write_newest.new.out c.write_newest.ensures
+
+pub returns-in-Err : goal.returns-in-Err
+returns-in-Err g c =
+    let some = some_answer c.args.m.now c.args.bytes.now (λ (x : Certificate) (a : Answer). a ≡ upgraded x) (λ x. (upgraded x, refl)) in
+    not_read (λ k. g.O.Sink.written k) (λ k. g.O.Sink.faults k) c.args.m.now c.args.bytes.now (λ (x : Certificate) (a : Answer). a ≡ upgraded x) some.0 some.1 c.in-Err.ending
+    c.in-Err.ensures.refused c.args.out.now

@@ -1,0 +1,53 @@
+//! The reading of a certificate of a machine.
+
+ghost use Rattle.std.specs.Prelude.{◌≤◌, ℕ, List, length, IfOk, IfErr};
+ghost use Rattle.qss_machine.specs.declared.system.Machine.{Machine};
+ghost use Rattle.cert_check.specs.Scope.{IsInScope};
+ghost use Rattle.cert_text.specs.Texts.{IsRefusedFor};
+ghost use Rattle.cert_answer.specs.Answers.{limit, IsRead};
+ghost use Rattle.cert_answer.specs.Endings.{RefusesBy};
+
+use crate::ending::{CertificateRefusal, Ending};
+use cert_check::{Certificate, scope};
+use cert_text::{CertErr, read_certificate};
+use qss_machine::Machine;
+use std::alloc::Global;
+
+// The most bytes that a certificate has.
+const LIMIT: usize = 1 << 18;
+
+/// The certificate of a machine that bytes spell, or how a call ends that cannot have it.
+pub(crate) fn read_for(alloc: Global, m: &Machine, bytes: &[u8]) -> Result<Certificate, Ending>
+    ensures read { IfOk result (IsRead m.now bytes.now) }
+    ensures refused { IfErr result (RefusesBy m.now bytes.now) }
+{
+    match scope(m) {
+        Ok(_states) => read_short(alloc, m, bytes),
+        Err(why) => Err(Ending::Refused(CertificateRefusal::Outside(why))),
+    }
+}
+
+// The certificate, where it is not too long.
+fn read_short(alloc: Global, m: &Machine, bytes: &[u8]) -> Result<Certificate, Ending>
+    requires { IsInScope m.now }
+    ensures read { IfOk result (IsRead m.now bytes.now) }
+    ensures refused { IfErr result (RefusesBy m.now bytes.now) }
+{
+    if bytes.len() > LIMIT {
+        return Err(Ending::Refused(CertificateRefusal::TooLong));
+    }
+    match read_certificate(alloc, bytes, m) {
+        Ok(c) => Ok(c),
+        Err(why) => Err(unread(why)),
+    }
+}
+
+// How a call ends that cannot read a certificate for this.
+fn unread(why: CertErr) -> Ending
+    ensures { (m : Machine) (bytes : List ℕ) → IsInScope m → length bytes ≤ limit → IsRefusedFor m bytes why → RefusesBy m bytes result }
+{
+    match why {
+        CertErr::Memory => Ending::Memory,
+        why => Ending::Refused(CertificateRefusal::Unread(why)),
+    }
+}
