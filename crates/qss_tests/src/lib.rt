@@ -22,6 +22,8 @@ mod machines;
 #[cfg(test)]
 mod matrices;
 #[cfg(test)]
+mod models;
+#[cfg(test)]
 mod plays;
 #[cfg(test)]
 mod quanta;
