@@ -1,12 +1,14 @@
 // The commands on a model and a certificate.
 ghost use Rattle.std.specs.Prelude.{length, ◌≡◌, ◌≢◌, ◌≤◌, ◌^◌, [], ◌∷◌, true, IfOk, IfErr, ℕ, List};
 ghost use Rattle.mu_io.specs.Sinks.{EndsByFault};
+ghost use Rattle.mu_tree.specs.ModelTree.{model};
 ghost use Rattle.cert_check.specs.Scope.{IsInScope};
 ghost use Rattle.qss_top.specs.Answers.{Answer, IsSourceMachine, IsCertificateAnswer, ByMachine, ReadsCertificate, Reads, Says, LeadsTo};
 ghost use Rattle.qss_top.specs.Certificates.{IsDone, IsModelRefusal, outcome_by, share_in};
 ghost use Rattle.qss_top.specs.Commands.{files_of};
 ghost use Rattle.qss_top.specs.Outcomes.{IsOutcome, Serves, status_of};
 ghost use Rattle.qss_top.specs.Statuses.{leaves_out};
+ghost use Rattle.qss_top.specs.Trees.{SpellsTree};
 ghost use Rattle.qss_top.specs.Words.{command_on};
 
 use crate::command::MODEL_LIMIT;
@@ -17,6 +19,7 @@ use crate::tree::{TreeErr, read_model};
 use cert_answer::{CertificateRefusal, Ending, certify, upgrade};
 use cert_check::scope;
 use mu_io::{ReadErr, Shelf, Sink, read_all};
+use mu_tree::tree::Model;
 use qss_machine::Machine;
 use std::alloc::Global;
 
@@ -91,13 +94,28 @@ fn machine_read(alloc: Global, share: Share, bytes: &[u8]) -> Result<Machine, Ou
     ensures refused { IfErr result (IsModelRefusal share.share bytes.now) }
 {
     match read_model(alloc, bytes) {
-        Ok(_tree) => match machine_of(alloc, bytes) {
-            Ok(Some(m)) => Ok(m.with_relative(share.share)),
-            Ok(None) => Err(Outcome::NoForm),
-            Err(_) => Err(Outcome::Memory),
-        },
+        Ok(tree) => machine_meant(alloc, share, bytes, &tree),
         Err(TreeErr::Refused(refusal)) => Err(Outcome::Refused(refusal)),
         Err(TreeErr::Memory) => Err(Outcome::Memory),
+    }
+}
+
+// The machine of a source that spells a model.
+fn machine_meant(
+    alloc: Global,
+    share: Share,
+    bytes: &[u8],
+    tree: &Model,
+) -> Result<Machine, Outcome>
+    requires short { length bytes.now ≤ 2 ^ 20 }
+    requires spelled { SpellsTree bytes.now (model tree.now) }
+    ensures read { IfOk result (IsSourceMachine share.share bytes.now) }
+    ensures refused { IfErr result (IsModelRefusal share.share bytes.now) }
+{
+    match machine_of(alloc, bytes) {
+        Ok(Some(m)) => Ok(m.with_relative(share.share)),
+        Ok(None) => Err(Outcome::NoForm),
+        Err(_) => Err(Outcome::Memory),
     }
 }
 
