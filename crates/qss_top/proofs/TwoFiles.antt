@@ -37,6 +37,7 @@ use Rattle.qss_top.specs.TopCall.{IsReplied, text_of}
 use Rattle.qss_top.specs.Words.{command_on}
 use Rattle.qss_top.specs.declared.options.Deed.{Deed}
 use Rattle.qss_top.specs.declared.options.Deed.TheVariants as deeds
+use Rattle.qss_top.specs.declared.options.Share.{Share}
 use Rattle.qss_top.specs.declared.outcome.Outcome.{Outcome}
 use Rattle.qss_top.specs.declared.outcome.Outcome.TheVariants as outcome
 use Rattle.qss_top.specs.declared.status.Status.{Status}
@@ -243,6 +244,14 @@ module _ {K : Type 0} (known : K → Option (List ℕ)) (faults : K → ℕ) whe
       let same = one_done deed m bytes h.answer such h.is is in
       subst (λ (a : Answer). Became a (outcome_by end) old new) (ap certificate_answer same ∙ sym e)
       (became end h.answer old new h.told (λ text at. text_some deed m bytes text (subst (IsDone deed m bytes) at h.is)) h.whole h.prefix h.untouched h.calm)
+
+  pub certified_outcome : (share : Share) (m : Machine) (bytes : List ℕ) (end : Ending) (old new : K) → Ends known faults (Certificates.IsCertification m bytes) end old new
+      → (answer : Answer) → IsCertificateAnswer (IsDone (deeds.Certify share) m bytes) answer → Became answer (outcome_by end) old new
+  certified_outcome share m bytes end old new h answer is = done_outcome (deeds.Certify share) m bytes end old new h answer is
+
+  pub upgraded_outcome : (m : Machine) (bytes : List ℕ) (end : Ending) (old new : K) → Ends known faults (Certificates.IsUpgrade m bytes) end old new
+      → (answer : Answer) → IsCertificateAnswer (IsDone deeds.Upgrade m bytes) answer → Became answer (outcome_by end) old new
+  upgraded_outcome m bytes end old new h answer is = done_outcome deeds.Upgrade m bytes end old new h answer is
 
 pub done_left : (end : Ending) → leaves_out (status_of (outcome_by end)) ≡ true → leaves_sink end ≡ true
 done_left ending.Written e = e
