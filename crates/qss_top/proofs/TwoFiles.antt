@@ -31,7 +31,7 @@ use Rattle.qss_compile.specs.declared.fault.Refused.{Refused}
 use Rattle.qss_top.specs.Answers.{Answer, Line, Tells, refused, Told, Reply, answered, absent, untold, refusal, too_long, IsSourceRefusal, IsSourceMachine, uncertified, uncertifying, certificate_answer, status_of_refusal, IsCertificateAnswer, Says, Reads, InScope, ByMachine, ReadsCertificate, LeadsTo}
 use Rattle.qss_top.specs.Certificates.{IsDone, outcome_by, share_in}
 use Rattle.qss_top.specs.Commands.{files_of}
-use Rattle.qss_top.specs.Outcomes.{IsOutcome, IsRefusedFor, Meets, Serves, status_of, line_text}
+use Rattle.qss_top.specs.Outcomes.{IsOutcome, IsRefusedFor, Meets, Serves, status_of, line_text as outcome_text}
 use Rattle.qss_top.specs.Statuses.{leaves_out}
 use Rattle.qss_top.specs.TopCall.{IsReplied, text_of}
 use Rattle.qss_top.specs.Words.{command_on}
@@ -47,7 +47,7 @@ use Rattle.qss_top.proofs.Sources.{one_source_refusal, one_source_machine, sourc
 use Rattle.qss_top.proofs.Serving.{says_served, read_served, fault_served, memory_served, long_served}
 
 -- a refusal, where nothing was written
-refused_now : (status : Status) (line : Line) (what : Outcome) (old : Option (List ℕ)) (before : ℕ) → status_of what ≡ status → Tells line (line_text what) → IsOutcome (refusal status line) what old old before before
+refused_now : (status : Status) (line : Line) (what : Outcome) (old : Option (List ℕ)) (before : ℕ) → status_of what ≡ status → Tells line (outcome_text what) → IsOutcome (refusal status line) what old old before before
 refused_now status line what old before is said = record { defined = λ e. (is, said, Appends-nil old); prefix = no_prefix old []; quiet = λ e. refl }
 
 -- all that is led to is this answer, and nothing more is read
