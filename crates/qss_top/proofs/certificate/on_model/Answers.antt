@@ -9,7 +9,7 @@ pub returns-in-Ok-clause-serves : goal.returns-in-Ok-clause-serves
 returns-in-Ok-clause-serves g c =
     machine_served (g.S.Shelf.files c.args.shelf.now) _ (share_in c.args.deed) c.args.bytes.now (λ m fs. ReadsCertificate c.args.certificate.now (IsDone c.args.deed) m fs) c.in-Ok.m c.in_scope.result
     (g.O.Sink.written c.args.out.now) (g.O.Sink.written c.in_scope.new.out) (g.O.Sink.faults c.args.out.now) (g.O.Sink.faults c.in_scope.new.out)
-    (g.S.Shelf.faults c.args.shelf.now) (g.S.Shelf.faults c.in_scope.new.shelf) (rw c.share_of.ensures at c.in-Ok.ensures.machine) c.in_scope.ensures.serves
+    (g.S.Shelf.faults c.args.shelf.now) (g.S.Shelf.faults c.in_scope.new.shelf) (rw c.share_of-share.ensures at c.in-Ok.ensures.machine) c.in_scope.ensures.serves
 
 pub returns-in-Err-clause-serves : goal.returns-in-Err-clause-serves
 returns-in-Err-clause-serves g c =
