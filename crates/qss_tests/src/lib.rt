@@ -10,8 +10,6 @@ mod certificate_lines;
 #[cfg(test)]
 mod certificates;
 #[cfg(test)]
-mod certifying;
-#[cfg(test)]
 mod checks;
 #[cfg(test)]
 mod crossings;
@@ -22,12 +20,8 @@ mod machines;
 #[cfg(test)]
 mod matrices;
 #[cfg(test)]
-mod models;
-#[cfg(test)]
 mod plays;
 #[cfg(test)]
 mod quanta;
 #[cfg(test)]
 mod rows;
-#[cfg(test)]
-mod top;

@@ -1,5 +1,5 @@
 // Whole runs of models with clauses, algebraic variables, arrays and products, and the lines of refusals, worked out by hand.
-use crate::top::{BALL, HEADER, Setting, outcome, run_of};
+use crate::runs::{BALL, HEADER, Setting, outcome, run_of};
 use qss_top::Status;
 use std::alloc::Global;
 use std::process::Abort;

@@ -1,5 +1,5 @@
 // Calls of the top call with a model and a certificate, with texts that were worked out by hand.
-use crate::top::{DECAY, USAGE};
+use crate::runs::{DECAY, USAGE};
 use mu_io::{MemShelf, MemSink, Name};
 use qss_top::{Status, qss_main};
 use std::alloc::Global;

@@ -1,0 +1,12 @@
+pub mod Walking
+pub mod Left
+pub mod Conditions
+pub mod Bridges
+pub mod Counts
+pub mod Steps
+pub mod InOrder
+pub mod Equations
+pub mod KeptForms
+pub mod Solutions
+pub mod Finished
+pub mod Whole

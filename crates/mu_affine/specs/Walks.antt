@@ -1,0 +1,57 @@
+-- What the walk of an expression is given.
+use Rattle.std.specs.Prelude.{ℕ, Bool, true, false, ◌≡◌, ◌<◌, ◌+◌, List, slice_get, Option, Some, None, Result, Ok, Err}
+use Rattle.mu_forms.specs.declared.form.Place.{Place}
+use Rattle.mu_forms.specs.declared.form.ExactForm.{ExactForm}
+use Rattle.mu_forms.specs.declared.sum.RunningForm.{RunningForm}
+use Rattle.mu_forms.specs.declared.fault.AffineErr.{AffineErr}
+use Rattle.mu_forms.specs.AffineForm.{AffineForm, none, constant_form}
+use Rattle.mu_forms.specs.Forms.{form_meaning, sum_meaning, IsOver, IsFinished, IsReducedSum}
+use Rattle.mu_forms.specs.Parts.{join_forms, IsAnswer}
+use Rattle.mu_affine.specs.FormOf.{Context}
+use Rattle.mu_tree.specs.FlatExpression.{FlatExpression, Constant, Variable, Previous, Now, Sum, Product, Power, FlatTerms, no_terms, term, FlatFactors, no_factors, factor, FlatAction, Assign, Restart}
+
+-- the forms that a list has by number, 0 past its end
+abbrev pub forms_in : List ExactForm → ℕ → AffineForm
+forms_in solved v = form_in (slice_get solved v)
+  where
+    form_in : Option ExactForm → AffineForm
+    form_in None = constant_form none
+    form_in (Some f) = form_meaning f
+
+-- where an expression stands, and the forms of a list
+abbrev pub context_of : Place → List ExactForm → Context
+context_of p solved = record { place = p; forms = forms_in solved }
+
+-- each form of the list is finished, as one of an equation
+abbrev pub AreSolved : Place → List ExactForm → Type 0
+AreSolved p solved = (v : ℕ) (f : ExactForm) → slice_get solved v ≡ Some f → IsFinished (record p { in_equation = true }) f
+
+abbrev mutual
+  -- the numbers in an expression are those of variables, and those of previous values, which stand outside of equations, are below those of algebraic ones
+  pub IsNumbered : Place → (variables : ℕ) → FlatExpression → Type 0
+  IsNumbered p n (Constant a at) = Unit {0}
+  IsNumbered p n (Variable v at) = v < n
+  IsNumbered p n (Previous v at) = (p.in_equation ≡ false) × (v < p.sizes.states + p.sizes.discretes)
+  IsNumbered p n (Now at) = Unit {0}
+  IsNumbered p n (Sum ts) = AreNumbered p n ts
+  IsNumbered p n (Product fs) = AreNumberedFactors p n fs
+  IsNumbered p n (Power e exp at) = IsNumbered p n e
+
+  pub AreNumbered : Place → ℕ → FlatTerms → Type 0
+  AreNumbered p n no_terms = Unit {0}
+  AreNumbered p n (term minus at e ts) = IsNumbered p n e × AreNumbered p n ts
+
+  pub AreNumberedFactors : Place → ℕ → FlatFactors → Type 0
+  AreNumberedFactors p n no_factors = Unit {0}
+  AreNumberedFactors p n (factor divide at e fs) = IsNumbered p n e × AreNumberedFactors p n fs
+
+-- what joining a form to a sum at a place answers and leaves
+abbrev pub JoinsTerm : Place → (minus : Bool) → (at : ℕ) → (old new : RunningForm) → ExactForm → Result (Unit {0}) AffineErr → Type 0
+JoinsTerm p minus at old new f (Ok done) =
+    (join_forms p minus at (sum_meaning old) (form_meaning f) ≡ Ok (sum_meaning new)) × IsReducedSum new × IsOver p (sum_meaning new)
+JoinsTerm p minus at old new f (Err fault) = IsAnswer p (join_forms p minus at (sum_meaning old) (form_meaning f)) (Err fault)
+
+-- the numbers in what a statement writes
+abbrev pub IsNumberedAction : Place → (variables : ℕ) → FlatAction → Type 0
+IsNumberedAction p n (Assign v e) = IsNumbered p n e
+IsNumberedAction p n (Restart v e) = IsNumbered p n e

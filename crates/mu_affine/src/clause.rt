@@ -1,0 +1,73 @@
+// The forms of conditions and statements.
+
+ghost use Rattle.std.specs.Prelude.{◌<◌, ◌+◌, ◌^◌, true, length};
+ghost use Rattle.mu_tree.specs.FlatExpression.{flat_expression, flat_branch, flat_action};
+ghost use Rattle.mu_forms.specs.Forms.{form_meaning, IsFinished};
+ghost use Rattle.mu_forms.specs.Parts.{join_forms, IsAnswer};
+ghost use Rattle.mu_affine.specs.Normal.{condition_form, action_form};
+ghost use Rattle.mu_affine.specs.Walks.{context_of, AreSolved, IsNumbered, IsNumberedAction};
+
+use crate::walk::{form_of, join_term};
+use mu_forms::fault::AffineErr;
+use mu_forms::form::{ExactForm, Place};
+use mu_forms::sum::RunningForm;
+use mu_tree::flat::{FlatBranch, FlatStatement};
+use std::alloc::Global;
+
+// The difference of two forms.
+fn difference(
+    alloc: Global,
+    place: Place,
+    at: u32,
+    left: &ExactForm,
+    right: &ExactForm,
+) -> Result<ExactForm, AffineErr>
+    requires left { IsFinished place left.now }
+    requires right { IsFinished place right.now }
+    ensures { IsAnswer place (join_forms place true at (form_meaning left.now) (form_meaning right.now)) result }
+{
+    // Its clauses say that the constant is in lowest terms.
+    let _ = left.constant.den();
+    let mut total = RunningForm::new(alloc);
+    join_term(place, &mut total, false, at, left)?;
+    join_term(place, &mut total, true, at, right)?;
+    let form = total.finish(alloc)?;
+    Ok(form)
+}
+
+/// The form of a condition at a place: its left side less its right side, which stands in place of
+/// its relation.
+pub(crate) fn condition_form(
+    alloc: Global,
+    place: Place,
+    solved: &[ExactForm],
+    branch: &FlatBranch,
+) -> Result<ExactForm, AffineErr>
+    requires solved { AreSolved place solved.now }
+    requires sizes { place.sizes.states + place.sizes.discretes + place.sizes.discretes < 2 ^ 32 }
+    requires left { IsNumbered place (length solved.now) (flat_expression branch.now.left) }
+    requires right { IsNumbered place (length solved.now) (flat_expression branch.now.right) }
+    ensures { IsAnswer place (condition_form (context_of place solved.now) (flat_branch branch.now)) result }
+{
+    let left = form_of(alloc, place, solved, &branch.left)?;
+    let right = form_of(alloc, place, solved, &branch.right)?;
+    difference(alloc, place, branch.at, &left, &right)
+}
+
+/// The form of what a statement writes, at a place.
+pub(crate) fn action_form(
+    alloc: Global,
+    place: Place,
+    solved: &[ExactForm],
+    action: &FlatStatement,
+) -> Result<ExactForm, AffineErr>
+    requires solved { AreSolved place solved.now }
+    requires sizes { place.sizes.states + place.sizes.discretes + place.sizes.discretes < 2 ^ 32 }
+    requires numbered { IsNumberedAction place (length solved.now) (flat_action action.now) }
+    ensures { IsAnswer place (action_form (context_of place solved.now) (flat_action action.now)) result }
+{
+    match action {
+        FlatStatement::FlatSet { value, .. } => form_of(alloc, place, solved, value),
+        FlatStatement::FlatReinit { value, .. } => form_of(alloc, place, solved, value),
+    }
+}

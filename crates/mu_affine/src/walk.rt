@@ -1,0 +1,175 @@
+// The form of an expression, part by part.
+
+ghost use Rattle.std.specs.Prelude.{◌≡◌, ◌<◌, ◌+◌, ◌^◌, false, pos, map, length, Ok, Err, if◌then◌else◌};
+ghost use Rattle.mu_tree.specs.FlatExpression.{Variable, flat_expression, flat_terms_of, flat_factors_of, flat_signed, flat_scaled};
+ghost use Rattle.mu_num.specs.Fraction.{whole};
+ghost use Rattle.mu_forms.specs.declared.fault.AffineErr.TheVariants.{TimeHere};
+ghost use Rattle.mu_forms.specs.AffineForm.{constant_form, name_form, time_form, none};
+ghost use Rattle.mu_forms.specs.Forms.{form_meaning, sum_meaning, IsOver, IsFinished, IsReducedSum};
+ghost use Rattle.mu_forms.specs.Parts.{join_forms, multiply_forms, IsAnswer};
+ghost use Rattle.mu_affine.specs.FormOf.{form_of, sum_form, product_of};
+ghost use Rattle.mu_affine.specs.Walks.{context_of, AreSolved, IsNumbered, AreNumbered, AreNumberedFactors, JoinsTerm};
+
+use mu_forms::fault::AffineErr;
+use mu_forms::form::{ExactForm, Place};
+use mu_forms::product::{divide, multiply, raise};
+use mu_forms::sum::RunningForm;
+use mu_num::Ratio;
+use mu_tree::flat::{FlatExpr, FlatFactor, FlatTerm};
+use std::alloc::Global;
+
+// The form of a variable: a state or a discrete variable is a name, an algebraic one has a form.
+fn variable(
+    alloc: Global,
+    place: Place,
+    solved: &[ExactForm],
+    var: u32,
+    at: u32,
+) -> Result<ExactForm, AffineErr>
+    requires solved { AreSolved place solved.now }
+    requires within { var < length solved.now }
+    requires sizes { place.sizes.states + place.sizes.discretes < 2 ^ 32 }
+    ensures { IsAnswer place (form_of (context_of place solved.now) (Variable var at)) result }
+{
+    if var < place.sizes.states + place.sizes.discretes {
+        let form = ExactForm::name(alloc, var)?;
+        return Ok(form);
+    }
+    let form = &solved[var as usize];
+    if !place.in_equation && !form.products.as_slice().is_empty() {
+        return Err(AffineErr::NotAffine { at });
+    }
+    let copy = form.copy(alloc)?;
+    Ok(copy)
+}
+
+// The form of the previous value of a discrete variable, which stands outside of equations.
+fn previous(alloc: Global, place: Place, var: u32) -> Result<ExactForm, AffineErr>
+    requires outside { place.in_equation ≡ false }
+    requires within { var < place.sizes.states + place.sizes.discretes }
+    requires sizes { place.sizes.states + place.sizes.discretes + place.sizes.discretes < 2 ^ 32 }
+    ensures { IsAnswer place (Ok (name_form (var + place.sizes.discretes))) result }
+{
+    let form = ExactForm::name(alloc, var + place.sizes.discretes)?;
+    Ok(form)
+}
+
+// The form of the time, which stands outside of equations.
+fn time(alloc: Global, place: Place, at: u32) -> Result<ExactForm, AffineErr>
+    ensures { IsAnswer place (if place.in_equation then Err (TimeHere at) else Ok time_form) result }
+{
+    if place.in_equation {
+        Err(AffineErr::TimeHere { at })
+    } else {
+        Ok(ExactForm::time(alloc))
+    }
+}
+
+/// Joins the form of a term to a sum. After a fault the sum holds a part of the form.
+pub(crate) fn join_term(
+    place: Place,
+    total: &mut RunningForm,
+    minus: bool,
+    at: u32,
+    form: &ExactForm,
+) -> Result<(), AffineErr>
+    requires form { IsFinished place form.now }
+    requires reduced { IsReducedSum total.old }
+    requires over { IsOver place (sum_meaning total.old) }
+    ensures { JoinsTerm place minus at total.old total.new form.now result }
+{
+    match total.join(minus, form)? {
+        Ok(()) => Ok(()),
+        Err(fault) => Err(AffineErr::ConstFault { at, fault }),
+    }
+}
+
+// Multiplies a product by the form of a factor, or divides it.
+fn take_factor(
+    alloc: Global,
+    place: Place,
+    divides: bool,
+    at: u32,
+    total: &ExactForm,
+    form: &ExactForm,
+) -> Result<ExactForm, AffineErr>
+    requires total { IsFinished place total.now }
+    requires form { IsFinished place form.now }
+    ensures { IsAnswer place (multiply_forms place divides at (form_meaning total.now) (form_meaning form.now)) result }
+{
+    if divides {
+        divide(alloc, place, at, total, form)
+    } else {
+        multiply(alloc, place, at, total, form)
+    }
+}
+
+/// The form of an expression at a place, where these are the forms of the algebraic variables.
+#[cycle(walking)]
+pub(crate) fn form_of(
+    alloc: Global,
+    place: Place,
+    solved: &[ExactForm],
+    e: &FlatExpr,
+) -> Result<ExactForm, AffineErr>
+    requires solved { AreSolved place solved.now }
+    requires sizes { place.sizes.states + place.sizes.discretes + place.sizes.discretes < 2 ^ 32 }
+    requires numbered { IsNumbered place (length solved.now) (flat_expression e.now) }
+    ensures { IsAnswer place (form_of (context_of place solved.now) (flat_expression e.now)) result }
+{
+    match e {
+        FlatExpr::Const { value, .. } => Ok(ExactForm::constant(alloc, *value)),
+        FlatExpr::Var { var, at } => variable(alloc, place, solved, *var, *at),
+        FlatExpr::Pre { var, .. } => previous(alloc, place, *var),
+        FlatExpr::Time { at } => time(alloc, place, *at),
+        FlatExpr::Sum { terms } => sum_of(alloc, place, solved, terms),
+        FlatExpr::Product { factors } => product_of(alloc, place, solved, factors),
+        FlatExpr::Pow { base, exp, at } => {
+            let base = form_of(alloc, place, solved, base)?;
+            raise(alloc, place, *exp, *at, &base)
+        }
+    }
+}
+
+// The form of a sum, term by term.
+#[cycle(walking)]
+fn sum_of(
+    alloc: Global,
+    place: Place,
+    solved: &[ExactForm],
+    terms: &[FlatTerm],
+) -> Result<ExactForm, AffineErr>
+    requires solved { AreSolved place solved.now }
+    requires sizes { place.sizes.states + place.sizes.discretes + place.sizes.discretes < 2 ^ 32 }
+    requires numbered { AreNumbered place (length solved.now) (flat_terms_of (map flat_signed terms.now)) }
+    ensures { IsAnswer place (sum_form (context_of place solved.now) (Ok (constant_form none)) (flat_terms_of (map flat_signed terms.now))) result }
+{
+    let mut total = RunningForm::new(alloc);
+    for term in terms {
+        let form = form_of(alloc, place, solved, &term.value)?;
+        join_term(place, &mut total, term.minus, term.at, &form)?;
+    }
+    let form = total.finish(alloc)?;
+    Ok(form)
+}
+
+// The form of a product, factor by factor.
+#[cycle(walking)]
+fn product_of(
+    alloc: Global,
+    place: Place,
+    solved: &[ExactForm],
+    factors: &[FlatFactor],
+) -> Result<ExactForm, AffineErr>
+    requires solved { AreSolved place solved.now }
+    requires sizes { place.sizes.states + place.sizes.discretes + place.sizes.discretes < 2 ^ 32 }
+    requires numbered { AreNumberedFactors place (length solved.now) (flat_factors_of (map flat_scaled factors.now)) }
+    ensures { IsAnswer place (product_of (context_of place solved.now) (Ok (constant_form (whole (pos 1)))) (flat_factors_of (map flat_scaled factors.now))) result }
+{
+    let mut total = ExactForm::constant(alloc, Ratio::whole(1));
+    for factor in factors {
+        let form = form_of(alloc, place, solved, &factor.value)?;
+        total = take_factor(alloc, place, factor.divide, factor.at, &total, &form)?;
+    }
+    Ok(total)
+}

@@ -1,0 +1,5 @@
+pub mod Rounded
+pub mod Places
+pub mod Checks
+pub mod Machines
+pub mod Laws

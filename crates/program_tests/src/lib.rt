@@ -1,0 +1,9 @@
+//! Tests of the whole program over files in memory.
+#![tactic(auto)]
+
+#[cfg(test)]
+mod certifying;
+#[cfg(test)]
+mod models;
+#[cfg(test)]
+mod runs;

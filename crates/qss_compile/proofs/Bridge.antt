@@ -1,0 +1,30 @@
+-- The forms of a flat model are laid out as a machine wants them.
+use Rattle.std.proofs.Common.{◌≡◌, ◌∙◌, ap, sym, subst, refl, ℕ, ◌+◌, List, get_or, take, drop}
+use Rattle.std.specs.Prelude.{All, sum_by}
+use Rattle.mu_affine.proofs.Finished.{states_counted, discretes_counted, forms_one_each, forms_of_states, forms_of_clauses}
+use Rattle.mu_affine.specs.Kept.{AreForms, equation_place, clause_place}
+use Rattle.mu_affine.specs.Solution.{sizes_of}
+use Rattle.mu_forms.specs.declared.form.ExactForm.{ExactForm}
+use Rattle.mu_forms.specs.declared.form.Forms.{Forms}
+use Rattle.mu_machine.proofs.Finished.{named_for, right_side_for}
+use Rattle.mu_machine.specs.Machines.{AreFormsFor, AreNamed, IsRightSide}
+use Rattle.mu_machine.specs.Places.{is_state, is_discrete, state_count, discrete_count, clause_forms}
+use Rattle.mu_tree.specs.FlatExpression.{FlatModelTree}
+
+-- the forms of a flat model are laid out as a machine wants them
+pub forms_for : (m : FlatModelTree) (order : List ℕ) (f : Forms) → AreForms m order f → AreFormsFor f.forms m
+forms_for m order f are =
+    let n = (sizes_of m).states in
+    let g = (sizes_of m).discretes in
+    let states : n ≡ state_count m.vars = sym (states_counted is_state refl refl refl m.vars) in
+    let discretes : g ≡ discrete_count m.vars = sym (discretes_counted is_discrete refl refl refl m.vars) in
+    let rights : All (IsRightSide n g) (take n f.forms) = λ i d inside. right_side_for (equation_place m) (get_or (take n f.forms) i d) refl (forms_of_states m order f are i d inside) in
+    let others : All (λ (form : ExactForm). AreNamed (n + g + g) form.entries) (drop n f.forms) =
+    λ i d inside. named_for (clause_place m) (get_or (drop n f.forms) i d) (forms_of_clauses m order f are i d inside) in
+    record {
+      one_each = forms_one_each m order f are ∙ ap (λ (k : ℕ). k + sum_by clause_forms m.clauses) states;
+      of_states = subst (λ (k : ℕ). All (IsRightSide (state_count m.vars) k) (take (state_count m.vars) f.forms)) discretes
+          (subst (λ (k : ℕ). All (IsRightSide k g) (take k f.forms)) states rights);
+      of_clauses = subst (λ (k : ℕ). All (λ (form : ExactForm). AreNamed (state_count m.vars + k + k) form.entries) (drop (state_count m.vars) f.forms)) discretes
+          (subst (λ (k : ℕ). All (λ (form : ExactForm). AreNamed (k + g + g) form.entries) (drop k f.forms)) states others);
+    }

@@ -1,0 +1,108 @@
+-- Each source means a machine or is refused.
+use Rattle.std.proofs.Common.{◌≡◌, sym, subst, refl, inl, inr, ◌⊎◌, ℕ, ◌<◌, List, Result, Ok, Err, Some, None}
+use Rattle.std.proofs.lemmas.Result.{IfOk-at_ok}
+use Rattle.std.specs.declared.option.Option.{Option}
+use Rattle.mu_affine.specs.Kept.{AreForms}
+use Rattle.mu_affine.specs.Normal.{Taken, forms_of}
+use Rattle.mu_forms.specs.declared.fault.AffineErr.{AffineErr}
+use Rattle.mu_forms.specs.declared.form.Forms.{Forms}
+use Rattle.mu_grammar.specs.Fronts.{IsReason}
+use Rattle.mu_grammar.specs.ModelMachine.{model_machine}
+use Rattle.mu_grammar.specs.Models.{SpellsModel}
+use Rattle.mu_grammar.specs.Symbols.{symbols}
+use Rattle.mu_grammar.specs.declared.fault.ParseErr.{ParseErr}
+use Rattle.mu_grammar.proofs.Judged.{judged}
+use Rattle.mu_grammar.proofs.ModelDecides.{model_decides}
+use Rattle.mu_lexer.specs.Reading.{AreTokens}
+use Rattle.mu_lexer.specs.declared.token.Token.{Token}
+use Rattle.mu_machine.proofs.OneMachine.{machine_exists}
+use Rattle.mu_machine.specs.Checks.{machine_fault}
+use Rattle.mu_machine.specs.Machines.{IsMachineOf}
+use Rattle.mu_machine.specs.declared.fault.MachineErr.{MachineErr}
+use Rattle.mu_names.specs.Least.{least_of}
+use Rattle.mu_names.specs.Roles.{model_faults, scope_of, settings_in}
+use Rattle.mu_names.specs.declared.fault.NameErr.{NameErr}
+use Rattle.mu_names.proofs.LeastLaws.{least_is, none_left}
+use Rattle.mu_tree.specs.FlatExpression.{FlatModelTree}
+use Rattle.mu_tree.specs.FlatModels.{IsFlatModel}
+use Rattle.mu_tree.specs.ModelTree.{ModelTree}
+use Rattle.mu_tree.specs.declared.flat.Settings.{Settings}
+use Rattle.mu_unroll.proofs.FlatModels.{flat_model_right}
+use Rattle.mu_unroll.specs.Unrolling.{unrolled}
+use Rattle.mu_unroll.specs.declared.fault.UnrollErr.{UnrollErr}
+use Rattle.qss_compile.specs.Causes.{of_lexer, of_parser, of_names, of_unrolling, of_forms, of_rounding, without_names, with_names}
+use Rattle.qss_compile.specs.Laws.{SourcesAreDecided}
+use Rattle.qss_compile.specs.Meanings.{LeadsTo, IsFirstRefusal, FlatSource, IsFlatOf, IsNotFlat, IsUnspelled, SpellsTree, FlatMeans, IsFlatRefused, TreeMeans, IsTreeRefused}
+use Rattle.qss_compile.specs.Phases.{LexerRefuses, Spells, ParserRefuses, AreFaultless, HasOrder, OrderRefuses, FormsRefuse, RoundingRefuses}
+use Rattle.qss_compile.proofs.Bridge.{forms_for}
+use Rattle.qss_compile.proofs.Causal.{order_decides}
+use Rattle.qss_compile.proofs.Deciding.{Decides, then_decides}
+use Rattle.qss_compile.proofs.Formed.{forms_exist}
+use Rattle.qss_compile.proofs.Lexing.{Lexed, lexed}
+use Rattle.qss_compile.proofs.Settled.{stop_positive}
+use Rattle.qss_compile.proofs.WellFormed.{well_formed}
+
+lexer_decides : (bytes : List ℕ) → Decides (LexerRefuses bytes) (AreTokens bytes)
+lexer_decides bytes = by (lexed bytes)
+  where
+    by : Lexed bytes → Decides (LexerRefuses bytes) (AreTokens bytes)
+    by (inl found) = inl (found.0, found.1)
+    by (inr fails) = inr (without_names (of_lexer fails.0), (fails.0, fails.1, refl))
+
+parser_decides : (bytes : List ℕ) (tokens : List Token) → Decides (ParserRefuses bytes tokens) (Spells bytes tokens)
+parser_decides bytes tokens = by (judged model_machine SpellsModel model_decides 64 (symbols bytes tokens))
+  where
+    by : ((tree : ModelTree) × SpellsModel 64 (symbols bytes tokens) tree) ⊎ ((fault : ParseErr) × IsReason SpellsModel 64 (symbols bytes tokens) fault) → Decides (ParserRefuses bytes tokens) (Spells bytes tokens)
+    by (inl found) = inl (found.0, found.1)
+    by (inr fails) = inr (without_names (of_parser fails.0), (fails.0, fails.1.0, fails.1.1, refl))
+
+pub spelled_decides : (bytes : List ℕ) → Decides (IsUnspelled bytes) (SpellsTree bytes)
+spelled_decides bytes = then_decides (LexerRefuses bytes) (AreTokens bytes) (ParserRefuses bytes) (Spells bytes) (lexer_decides bytes) (λ tokens are. parser_decides bytes tokens)
+
+module _ (tree : ModelTree) where
+  unrolling_decides : AreFaultless tree → (r : Result FlatModelTree UnrollErr) → unrolled tree (scope_of tree).known ≡ r → Decides (IsNotFlat tree) (IsFlatOf tree)
+  unrolling_decides named (Ok flat) e = inl (record { flat = flat; settings = settings_in tree }, (named, e, refl))
+  unrolling_decides named (Err fault) e = inr (without_names (of_unrolling fault), inr (named, (fault, e, refl)))
+
+  names_decide : (o : Option NameErr) → least_of None (model_faults tree) ≡ o → Decides (IsNotFlat tree) (IsFlatOf tree)
+  names_decide None e = unrolling_decides (none_left (model_faults tree) e) (unrolled tree (scope_of tree).known) refl
+  names_decide (Some fault) e = inr (without_names (of_names fault), inl (fault, least_is (model_faults tree) fault e, refl))
+
+  flat_decides : Decides (IsNotFlat tree) (IsFlatOf tree)
+  flat_decides = names_decide (least_of None (model_faults tree)) refl
+
+-- forms are taken or refused
+forms_decide : (m : FlatModelTree) (order : List ℕ) → IsFlatModel m → Decides (FormsRefuse m order) (AreForms m order)
+forms_decide m order flat = by (forms_of m order) refl
+  where
+    by : (x : Result Taken AffineErr) → forms_of m order ≡ x → Decides (FormsRefuse m order) (AreForms m order)
+    by (Ok taken) e = inl (forms_exist m order taken flat e)
+    by (Err fault) e = inr (with_names m (of_forms fault), (fault, e, refl))
+
+-- and rounded or refused
+rounding_decides : (s : FlatSource) (order : List ℕ) (forms : Forms) → IsFlatModel s.flat → 0 < s.settings.stop.den → AreForms s.flat order forms → Decides (RoundingRefuses s.flat s.settings forms) (IsMachineOf forms.forms s.flat s.settings)
+rounding_decides s order forms flat positive are = by (machine_fault forms.forms s.flat s.settings) refl
+  where
+    by : (o : Option MachineErr) → machine_fault forms.forms s.flat s.settings ≡ o → Decides (RoundingRefuses s.flat s.settings forms) (IsMachineOf forms.forms s.flat s.settings)
+    by None e = inl (machine_exists forms.forms s.flat s.settings flat (forms_for s.flat order forms are) positive e)
+    by (Some fault) e = inr (with_names s.flat (of_rounding fault), (fault, e, refl))
+
+flat_means_decides : (s : FlatSource) → IsFlatModel s.flat → 0 < s.settings.stop.den → Decides (IsFlatRefused s) (FlatMeans s)
+flat_means_decides s flat positive =
+    then_decides (OrderRefuses s.flat) (HasOrder s.flat) (λ order. IsFirstRefusal (FormsRefuse s.flat order) (AreForms s.flat order) (RoundingRefuses s.flat s.settings))
+    (λ order. LeadsTo (AreForms s.flat order) (λ forms. IsMachineOf forms.forms s.flat s.settings)) (order_decides s.flat) (λ order has.
+    then_decides (FormsRefuse s.flat order) (AreForms s.flat order) (RoundingRefuses s.flat s.settings) (λ forms. IsMachineOf forms.forms s.flat s.settings) (forms_decide s.flat order flat) (λ forms are. rounding_decides s order forms flat positive are))
+
+-- a spelled model means a machine or is refused
+tree_decides : (bytes : List ℕ) (tree : ModelTree) → SpellsTree bytes tree → Decides (IsTreeRefused tree) (TreeMeans tree)
+tree_decides bytes tree spelled = then_decides (IsNotFlat tree) (IsFlatOf tree) IsFlatRefused FlatMeans (flat_decides tree) (λ s is. flat_means_decides s (flat s is) (positive s is))
+  where
+    flat : (s : FlatSource) → IsFlatOf tree s → IsFlatModel s.flat
+    flat s is = IfOk-at_ok IsFlatModel is.1 (flat_model_right tree (scope_of tree).known (well_formed 64 (symbols bytes spelled.0) tree spelled.2))
+
+    positive : (s : FlatSource) → IsFlatOf tree s → 0 < s.settings.stop.den
+    positive s is = subst (λ (t : Settings). 0 < t.stop.den) (sym is.2) (stop_positive tree)
+
+-- each source means a machine or is refused
+pub sources_decided : SourcesAreDecided
+sources_decided bytes = then_decides (IsUnspelled bytes) (SpellsTree bytes) IsTreeRefused TreeMeans (spelled_decides bytes) (λ tree spelled. tree_decides bytes tree spelled)

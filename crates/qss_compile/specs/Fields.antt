@@ -1,0 +1,14 @@
+-- The texts of fields.
+use Rattle.std.specs.Prelude.{ℕ, List, decimal}
+use Rattle.std.specs.Fmt.{signed_decimal}
+use Rattle.qss_compile.specs.declared.line.Field.{Field}
+use Rattle.qss_compile.specs.declared.line.Field.TheVariants.{Number, Whole, Share, Setting, Variable}
+use Rattle.qss_compile.specs.Lines.{ratio_text, setting_text, variable_text}
+
+-- the text of a field, where the variables have these names
+abbrev pub field_text : List (List ℕ) → Field → List ℕ
+field_text names (Number n) = decimal n
+field_text names (Whole z) = signed_decimal z
+field_text names (Share a) = ratio_text a
+field_text names (Setting which) = setting_text which
+field_text names (Variable var) = variable_text names var

@@ -1,0 +1,75 @@
+-- What a source means: phase after phase, from its bytes to its machine, or to the refusal of the first phase that refuses.
+use Rattle.std.specs.Prelude.{◌≡◌, ◌⊎◌, ℕ, List}
+use Rattle.mu_affine.specs.Kept.{AreForms}
+use Rattle.mu_lexer.specs.Reading.{AreTokens}
+use Rattle.mu_machine.specs.Machines.{IsMachineOf}
+use Rattle.mu_names.specs.Roles.{settings_in}
+use Rattle.mu_tree.specs.FlatExpression.{FlatModelTree}
+use Rattle.mu_tree.specs.ModelTree.{ModelTree}
+use Rattle.mu_tree.specs.declared.flat.Settings.{Settings}
+use Rattle.qss_compile.specs.Phases.{LexerRefuses, Spells, ParserRefuses, AreFaultless, NamesRefuse, UnrollsTo, UnrollingRefuses, HasOrder, OrderRefuses, FormsRefuse, RoundingRefuses}
+use Rattle.qss_compile.specs.declared.fault.ModelErr.TheVariants.{Memory}
+use Rattle.qss_compile.specs.declared.fault.Refused.{Refused}
+use Rattle.qss_machine.specs.declared.system.Machine.{Machine}
+
+-- a phase gives something that leads on to b
+abbrev pub LeadsTo : {A B : Type 0} → (A → Type 0) → (A → B → Type 0) → B → Type 0
+LeadsTo {A} Gives Later b = (a : A) × Gives a × Later a b
+
+-- a phase refuses, or gives something that a later phase refuses
+abbrev pub IsFirstRefusal : {A : Type 0} → (Refused → Type 0) → (A → Type 0) → (A → Refused → Type 0) → Refused → Type 0
+IsFirstRefusal Refuses Gives Later r = Refuses r ⊎ LeadsTo Gives Later r
+
+-- the tokens of the source spell this model
+abbrev pub SpellsTree : List ℕ → ModelTree → Type 0
+SpellsTree bytes = LeadsTo (AreTokens bytes) (Spells bytes)
+
+-- some source spells this model
+abbrev pub IsSpelled : ModelTree → Type 0
+IsSpelled tree = (bytes : List ℕ) × SpellsTree bytes tree
+
+-- a flat model with its settings
+pub record FlatSource : Type 0 where
+  pub flat : FlatModelTree
+  pub settings : Settings
+
+-- it means the machine
+abbrev pub FlatMeans : FlatSource → Machine → Type 0
+FlatMeans s = LeadsTo (HasOrder s.flat) (λ order. LeadsTo (AreForms s.flat order) (λ forms. IsMachineOf forms.forms s.flat s.settings))
+
+-- a model has this flat model with these settings
+abbrev pub IsFlatOf : ModelTree → FlatSource → Type 0
+IsFlatOf tree s = AreFaultless tree × UnrollsTo tree s.flat × (s.settings ≡ settings_in tree)
+
+-- a model means the machine
+abbrev pub TreeMeans : ModelTree → Machine → Type 0
+TreeMeans tree = LeadsTo (IsFlatOf tree) FlatMeans
+
+-- the source means the machine: no phase refuses
+abbrev pub Means : List ℕ → Machine → Type 0
+Means bytes = LeadsTo (SpellsTree bytes) TreeMeans
+
+-- a source spells no model, and this is why
+abbrev pub IsUnspelled : List ℕ → Refused → Type 0
+IsUnspelled bytes = IsFirstRefusal (LexerRefuses bytes) (AreTokens bytes) (ParserRefuses bytes)
+
+-- a model has no flat model, and this is why
+abbrev pub IsNotFlat : ModelTree → Refused → Type 0
+IsNotFlat tree r = NamesRefuse tree r ⊎ (AreFaultless tree × UnrollingRefuses tree r)
+
+-- a flat model with its settings is refused
+abbrev pub IsFlatRefused : FlatSource → Refused → Type 0
+IsFlatRefused s =
+    IsFirstRefusal (OrderRefuses s.flat) (HasOrder s.flat) (λ order. IsFirstRefusal (FormsRefuse s.flat order) (AreForms s.flat order) (RoundingRefuses s.flat s.settings))
+
+-- a model is refused
+abbrev pub IsTreeRefused : ModelTree → Refused → Type 0
+IsTreeRefused tree = IsFirstRefusal (IsNotFlat tree) (IsFlatOf tree) IsFlatRefused
+
+-- the source is refused by the first phase that refuses it
+abbrev pub IsRefused : List ℕ → Refused → Type 0
+IsRefused bytes = IsFirstRefusal (IsUnspelled bytes) (SpellsTree bytes) IsTreeRefused
+
+-- an answer that is a refusal of this kind, or want of memory
+abbrev pub IsErr : (Refused → Type 0) → Refused → Type 0
+IsErr Refuses r = (r.error ≡ Memory) ⊎ Refuses r

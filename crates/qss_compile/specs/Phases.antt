@@ -1,0 +1,76 @@
+-- Of each phase: what it gives, and why it refuses.
+use Rattle.std.specs.Prelude.{◌≡◌, ◌≢◌, ℕ, List, [], Ok, Err, Some}
+use Rattle.mu_affine.specs.Normal.{forms_of}
+use Rattle.mu_forms.specs.declared.fault.AffineErr.{AffineErr}
+use Rattle.mu_causal.specs.Answers.{IsCausalFault}
+use Rattle.mu_causal.specs.Causality.{IsOrder}
+use Rattle.mu_causal.specs.Dependencies.{AreCounted, IsAlgebraic, DependsOn}
+use Rattle.mu_causal.specs.declared.answer.CausalErr.{CausalErr}
+use Rattle.mu_causal.specs.declared.answer.CausalErr.TheVariants as ordering
+use Rattle.mu_forms.specs.declared.form.Forms.{Forms}
+use Rattle.mu_grammar.specs.Fronts.{IsFault}
+use Rattle.mu_grammar.specs.Models.{SpellsModel}
+use Rattle.mu_grammar.specs.Symbols.{symbols}
+use Rattle.mu_grammar.specs.declared.fault.ParseErr.{ParseErr}
+use Rattle.mu_grammar.specs.declared.fault.ParseErr.TheVariants as parsing
+use Rattle.mu_lexer.specs.Reading.{IsFirstFault}
+use Rattle.mu_lexer.specs.declared.lex.LexErr.{LexErr}
+use Rattle.mu_lexer.specs.declared.token.Token.{Token}
+use Rattle.mu_machine.specs.Checks.{machine_fault}
+use Rattle.mu_machine.specs.declared.fault.MachineErr.{MachineErr}
+use Rattle.mu_names.specs.Least.{IsLeastFault}
+use Rattle.mu_names.specs.Roles.{model_faults, scope_of}
+use Rattle.mu_names.specs.declared.fault.NameErr.{NameErr}
+use Rattle.mu_tree.specs.FlatExpression.{FlatModelTree}
+use Rattle.mu_tree.specs.ModelTree.{ModelTree}
+use Rattle.mu_tree.specs.declared.flat.Settings.{Settings}
+use Rattle.mu_unroll.specs.Unrolling.{unrolled}
+use Rattle.mu_unroll.specs.declared.fault.UnrollErr.{UnrollErr}
+use Rattle.qss_compile.specs.Causes.{of_lexer, of_parser, of_names, of_unrolling, of_order, of_forms, of_rounding, without_names, with_names}
+use Rattle.qss_compile.specs.declared.fault.Refused.{Refused}
+
+-- The lexer gives tokens (`AreTokens`), or refuses the first fault from the left.
+abbrev pub LexerRefuses : List ℕ → Refused → Type 0
+LexerRefuses bytes r = (fault : LexErr) × IsFirstFault bytes fault × (r ≡ without_names (of_lexer fault))
+
+-- The parser gives the model that the tokens spell, nested at most 64 deep.
+abbrev pub Spells : List ℕ → List Token → ModelTree → Type 0
+Spells bytes tokens tree = SpellsModel 64 (symbols bytes tokens) tree
+
+-- It refuses where the tokens first fail to begin such a model.
+abbrev pub ParserRefuses : List ℕ → List Token → Refused → Type 0
+ParserRefuses bytes tokens r =
+    (fault : ParseErr) × (fault ≢ parsing.Memory) × IsFault SpellsModel 64 (symbols bytes tokens) fault × (r ≡ without_names (of_parser fault))
+
+-- The names of a model have no fault.
+abbrev pub AreFaultless : ModelTree → Type 0
+AreFaultless tree = model_faults tree ≡ []
+
+-- They are refused for the fault of least place, and there of least number.
+abbrev pub NamesRefuse : ModelTree → Refused → Type 0
+NamesRefuse tree r = (fault : NameErr) × IsLeastFault (model_faults tree) fault × (r ≡ without_names (of_names fault))
+
+-- The model unrolls to this flat model.
+abbrev pub UnrollsTo : ModelTree → FlatModelTree → Type 0
+UnrollsTo tree flat = unrolled tree (scope_of tree).known ≡ Ok flat
+
+-- It is refused for the first fault in the order of unrolling.
+abbrev pub UnrollingRefuses : ModelTree → Refused → Type 0
+UnrollingRefuses tree r = (fault : UnrollErr) × (unrolled tree (scope_of tree).known ≡ Err fault) × (r ≡ without_names (of_unrolling fault))
+
+-- Each state and each algebraic variable has one equation, and the algebraic variables have this order.
+abbrev pub HasOrder : FlatModelTree → List ℕ → Type 0
+HasOrder flat order = AreCounted flat × IsOrder (IsAlgebraic flat) (DependsOn flat) order
+
+-- The flat model is refused for the least variable without its one equation, or else for a cycle.
+abbrev pub OrderRefuses : FlatModelTree → Refused → Type 0
+OrderRefuses flat r = (fault : CausalErr) × (fault ≢ ordering.Memory) × IsCausalFault flat fault × (r ≡ with_names flat (of_order fault))
+
+-- The forms of a flat model of this order are refused for the first fault in their sequence; `AreForms` says which they are.
+abbrev pub FormsRefuse : FlatModelTree → List ℕ → Refused → Type 0
+FormsRefuse flat order r = (fault : AffineErr) × (forms_of flat order ≡ Err fault) × (r ≡ with_names flat (of_forms fault))
+
+-- The machine of the forms is refused for the first limit that a number passes; `IsMachineOf` says which machine it is.
+abbrev pub RoundingRefuses : FlatModelTree → Settings → Forms → Refused → Type 0
+RoundingRefuses flat settings forms r =
+    (fault : MachineErr) × (machine_fault forms.forms flat settings ≡ Some fault) × (r ≡ with_names flat (of_rounding fault))

@@ -1,0 +1,345 @@
+// The line on err of a refusal.
+
+ghost use Rattle.std.specs.Prelude.{◌≡◌, ◌++◌, ◌∷◌, [], map, codes, decimal, IfOk, OnOk};
+ghost use Rattle.std.specs.Fmt.{signed_decimal};
+ghost use Rattle.qss_compile.specs.Lines as Spec;
+ghost use Rattle.qss_compile.specs.Fields.{field_text};
+
+use crate::fault::{ModelErr, Refused};
+use mu_causal::answer::CausalErr;
+use mu_forms::fault::AffineErr;
+use mu_grammar::fault::ParseErr;
+use mu_io::Name;
+use mu_lexer::lex::LexErr;
+use mu_machine::MachineErr;
+use mu_names::fault::NameErr;
+use mu_num::{NumErr, Ratio};
+use mu_tree::tree::SettingName;
+use mu_unroll::fault::UnrollErr;
+use std::alloc::{AllocError, Global};
+
+/// A field of a reason.
+#[derive(Clone, Copy)]
+pub enum Field {
+    Number(u32),
+    Whole(i128),
+    Share(Ratio),
+    Setting(SettingName),
+    Variable(u32),
+}
+
+// The number of a fault of a number.
+fn fault_number(fault: NumErr) -> u32
+    ensures { result ≡ Spec.fault_number fault }
+{
+    match fault {
+        NumErr::Range => 1,
+        NumErr::ZeroDivisor => 2,
+    }
+}
+
+// The name of a setting.
+fn setting_text(which: SettingName) -> &'static [u8]
+    ensures { result.now ≡ Spec.setting_text which }
+{
+    match which {
+        SettingName::StartTime => b"StartTime",
+        SettingName::StopTime => b"StopTime",
+        SettingName::CoefBits => b"QSS_CoefBits",
+        SettingName::TickBits => b"QSS_TickBits",
+        SettingName::LevelBits => b"QSS_LevelBits",
+        SettingName::Quantum => b"QSS_Quantum",
+    }
+}
+
+// The name of a variable.
+fn variable_text(names: &[Name], var: u32) -> &[u8]
+    ensures { result.now ≡ Spec.variable_text names.now var }
+{
+    let var = var as usize;
+    if var < names.len() {
+        names[var].bytes()
+    } else {
+        b""
+    }
+}
+
+// Adds a fraction.
+fn add_ratio(alloc: Global, line: &mut Vec<u8>, value: Ratio) -> Result<(), AllocError>
+    ensures { OnOk result (line.new.items ≡ line.old.items ++ Spec.ratio_text value) }
+{
+    let num = value.num().to_string(alloc)?;
+    let den = value.den().to_string(alloc)?;
+    line.extend_from_slice(num.as_bytes())?;
+    line.extend_from_slice(b"/")?;
+    line.extend_from_slice(den.as_bytes())?;
+    Ok(())
+}
+
+// Adds a whole number.
+fn add_whole(alloc: Global, line: &mut Vec<u8>, number: i128) -> Result<(), AllocError>
+    ensures { OnOk result (line.new.items ≡ line.old.items ++ signed_decimal number) }
+{
+    let text = number.to_string(alloc)?;
+    line.extend_from_slice(text.as_bytes())?;
+    Ok(())
+}
+
+// Adds a natural number.
+fn add_number(alloc: Global, line: &mut Vec<u8>, number: u32) -> Result<(), AllocError>
+    ensures { OnOk result (line.new.items ≡ line.old.items ++ decimal number) }
+{
+    let text = number.to_string(alloc)?;
+    line.extend_from_slice(text.as_bytes())?;
+    Ok(())
+}
+
+// Adds the text of a field, where the variables have these names.
+fn add_field(
+    alloc: Global,
+    names: &[Name],
+    line: &mut Vec<u8>,
+    field: Field,
+) -> Result<(), AllocError>
+    ensures { OnOk result (line.new.items ≡ line.old.items ++ field_text names.now field) }
+{
+    match field {
+        Field::Number(number) => add_number(alloc, line, number),
+        Field::Whole(number) => add_whole(alloc, line, number),
+        Field::Share(value) => add_ratio(alloc, line, value),
+        Field::Setting(which) => line.extend_from_slice(setting_text(which)),
+        Field::Variable(var) => line.extend_from_slice(variable_text(names, var)),
+    }
+}
+
+// Adds fields, each after one blank.
+fn add_fields(
+    alloc: Global,
+    names: &[Name],
+    line: &mut Vec<u8>,
+    fields: &[Field],
+) -> Result<(), AllocError>
+    ensures { OnOk result (line.new.items ≡ line.old.items ++ Spec.fields_text (map (field_text names.now) fields.now)) }
+{
+    for field in fields {
+        line.push(b' ')?;
+        add_field(alloc, names, line, *field)?;
+    }
+    Ok(())
+}
+
+// The line of a reason.
+fn reason_line(
+    alloc: Global,
+    names: &[Name],
+    phase: &[u8],
+    number: u8,
+    fields: &[Field],
+) -> Result<Vec<u8>, AllocError>
+    ensures { IfOk result (λ line. line.items ≡ Spec.reason_line (Spec.reason phase.now number (map (field_text names.now) fields.now))) }
+{
+    let number = number.to_string(alloc)?;
+    let mut line = b"refused: ".to_vec(alloc)?;
+    line.extend_from_slice(phase)?;
+    line.extend_from_slice(b" ")?;
+    line.extend_from_slice(number.as_bytes())?;
+    add_fields(alloc, names, &mut line, fields)?;
+    line.extend_from_slice(b"\n")?;
+    Ok(line)
+}
+
+fn lexer_line(alloc: Global, names: &[Name], fault: &LexErr) -> Result<Vec<u8>, AllocError>
+    ensures { IfOk result (λ line. line.items ≡ Spec.reason_line (Spec.lexer_reason fault.now)) }
+{
+    match fault {
+        LexErr::NoToken { at } => reason_line(alloc, names, b"lex", 1, &[Field::Number(*at)]),
+        LexErr::OpenComment { at } => reason_line(alloc, names, b"lex", 2, &[Field::Number(*at)]),
+        LexErr::OpenString { at } => reason_line(alloc, names, b"lex", 3, &[Field::Number(*at)]),
+        LexErr::Memory => reason_line(alloc, names, b"lex", 4, &[]),
+    }
+}
+
+fn parser_line(alloc: Global, names: &[Name], fault: &ParseErr) -> Result<Vec<u8>, AllocError>
+    ensures { IfOk result (λ line. line.items ≡ Spec.reason_line (Spec.parser_reason fault.now)) }
+{
+    match fault {
+        ParseErr::Syntax { token } => reason_line(
+            alloc,
+            names,
+            b"parse",
+            1,
+            &[Field::Number(*token)],
+        ),
+        ParseErr::Deep { token } => reason_line(
+            alloc,
+            names,
+            b"parse",
+            2,
+            &[Field::Number(*token)],
+        ),
+        ParseErr::Memory => reason_line(alloc, names, b"parse", 3, &[]),
+    }
+}
+
+fn names_line(alloc: Global, names: &[Name], fault: &NameErr) -> Result<Vec<u8>, AllocError>
+    ensures { IfOk result (λ line. line.items ≡ Spec.reason_line (Spec.names_reason fault.now)) }
+{
+    match fault {
+        NameErr::EndName { at } => reason_line(alloc, names, b"names", 1, &[Field::Number(*at)]),
+        NameErr::Duplicate { at } => reason_line(alloc, names, b"names", 2, &[Field::Number(*at)]),
+        NameErr::Unknown { at } => reason_line(alloc, names, b"names", 3, &[Field::Number(*at)]),
+        NameErr::Misused { at } => reason_line(alloc, names, b"names", 4, &[Field::Number(*at)]),
+        NameErr::NoValue { at } => reason_line(alloc, names, b"names", 5, &[Field::Number(*at)]),
+        NameErr::NotWhole { at } => reason_line(alloc, names, b"names", 6, &[Field::Number(*at)]),
+        NameErr::Size { at, value } => {
+            reason_line(
+                alloc,
+                names,
+                b"names",
+                7,
+                &[Field::Number(*at), Field::Whole(*value)],
+            )
+        }
+        NameErr::ConstFault { at, fault } => {
+            let fields = [Field::Number(*at), Field::Number(fault_number(*fault))];
+            reason_line(alloc, names, b"names", 8, &fields)
+        }
+        NameErr::Memory => reason_line(alloc, names, b"names", 9, &[]),
+    }
+}
+
+fn unrolling_line(alloc: Global, names: &[Name], fault: &UnrollErr) -> Result<Vec<u8>, AllocError>
+    ensures { IfOk result (λ line. line.items ≡ Spec.reason_line (Spec.unrolling_reason fault.now)) }
+{
+    match fault {
+        UnrollErr::Index { at, value, size } => {
+            let fields = [
+                Field::Number(*at),
+                Field::Whole(*value),
+                Field::Number(*size),
+            ];
+            reason_line(alloc, names, b"unroll", 1, &fields)
+        }
+        UnrollErr::NotWhole { at } => reason_line(
+            alloc,
+            names,
+            b"unroll",
+            2,
+            &[Field::Number(*at)],
+        ),
+        UnrollErr::TooMany { count } => reason_line(
+            alloc,
+            names,
+            b"unroll",
+            3,
+            &[Field::Number(*count)],
+        ),
+        UnrollErr::ConstFault { at, fault } => {
+            let fields = [Field::Number(*at), Field::Number(fault_number(*fault))];
+            reason_line(alloc, names, b"unroll", 4, &fields)
+        }
+        UnrollErr::Memory => reason_line(alloc, names, b"unroll", 5, &[]),
+    }
+}
+
+// The variables of a cycle, as fields.
+fn cycle_fields(alloc: Global, vars: &[u32]) -> Result<Vec<Field>, AllocError>
+    ensures { IfOk result (λ fields. fields.items ≡ map Field.Variable vars.now) }
+{
+    vars.iter().map(|var| Field::Variable(*var)).collect(alloc)
+}
+
+fn order_line(alloc: Global, names: &[Name], fault: &CausalErr) -> Result<Vec<u8>, AllocError>
+    ensures { IfOk result (λ line. line.items ≡ Spec.reason_line (Spec.order_reason names.now fault.now)) }
+{
+    match fault {
+        CausalErr::NoEquation { var } => {
+            reason_line(alloc, names, b"causal", 1, &[Field::Variable(*var)])
+        }
+        CausalErr::TwoEquations { var, first, second } => {
+            let fields = [
+                Field::Variable(*var),
+                Field::Number(*first),
+                Field::Number(*second),
+            ];
+            reason_line(alloc, names, b"causal", 2, &fields)
+        }
+        CausalErr::Loop { vars } => {
+            let fields = cycle_fields(alloc, vars.as_slice())?;
+            reason_line(alloc, names, b"causal", 3, &fields)
+        }
+        CausalErr::Memory => reason_line(alloc, names, b"causal", 4, &[]),
+    }
+}
+
+fn forms_line(alloc: Global, names: &[Name], fault: &AffineErr) -> Result<Vec<u8>, AllocError>
+    ensures { IfOk result (λ line. line.items ≡ Spec.reason_line (Spec.forms_reason fault.now)) }
+{
+    match fault {
+        AffineErr::NotAffine { at } => reason_line(
+            alloc,
+            names,
+            b"affine",
+            1,
+            &[Field::Number(*at)],
+        ),
+        AffineErr::TimeHere { at } => reason_line(
+            alloc,
+            names,
+            b"affine",
+            2,
+            &[Field::Number(*at)],
+        ),
+        AffineErr::ConstFault { at, fault } => {
+            let fields = [Field::Number(*at), Field::Number(fault_number(*fault))];
+            reason_line(alloc, names, b"affine", 3, &fields)
+        }
+        AffineErr::TooDense { count } => reason_line(
+            alloc,
+            names,
+            b"affine",
+            4,
+            &[Field::Number(*count)],
+        ),
+        AffineErr::Memory => reason_line(alloc, names, b"affine", 5, &[]),
+    }
+}
+
+fn rounding_line(alloc: Global, names: &[Name], fault: &MachineErr) -> Result<Vec<u8>, AllocError>
+    ensures { IfOk result (λ line. line.items ≡ Spec.reason_line (Spec.rounding_reason names.now fault.now)) }
+{
+    match fault {
+        MachineErr::Setting { which, value } => {
+            let fields = [Field::Setting(*which), Field::Share(*value)];
+            reason_line(alloc, names, b"machine", 1, &fields)
+        }
+        MachineErr::Start { var } => {
+            reason_line(alloc, names, b"machine", 2, &[Field::Variable(*var)])
+        }
+        MachineErr::Quantum { var } => {
+            reason_line(alloc, names, b"machine", 3, &[Field::Variable(*var)])
+        }
+        MachineErr::Coefficient { row } => {
+            reason_line(alloc, names, b"machine", 4, &[Field::Number(*row)])
+        }
+        MachineErr::Memory => reason_line(alloc, names, b"machine", 5, &[]),
+    }
+}
+
+/// The line on err of a refusal: its phase, the number of its reason and the fields, with a line
+/// feed; of want of memory the line that tells it.
+pub fn refusal_line(alloc: Global, refused: &Refused) -> Result<Vec<u8>, AllocError>
+    ensures { IfOk result (λ line. line.items ≡ Spec.line_of refused.now) }
+{
+    let names = refused.names.as_slice();
+    match &refused.error {
+        ModelErr::Lex(fault) => lexer_line(alloc, names, fault),
+        ModelErr::Parse(fault) => parser_line(alloc, names, fault),
+        ModelErr::Names(fault) => names_line(alloc, names, fault),
+        ModelErr::Unroll(fault) => unrolling_line(alloc, names, fault),
+        ModelErr::Causal(fault) => order_line(alloc, names, fault),
+        ModelErr::Affine(fault) => forms_line(alloc, names, fault),
+        ModelErr::Machine(fault) => rounding_line(alloc, names, fault),
+        ModelErr::Memory => b"out of memory\n".to_vec(alloc),
+    }
+}

@@ -1,0 +1,129 @@
+// The phases, from the bytes of a source to its machine.
+
+ghost use Rattle.std.specs.Prelude.{◌≡◌, ◌≤◌, ◌^◌, length, map, IfOk, IfErr};
+ghost use Rattle.mu_causal.specs.Dependencies.{IsNumbered};
+ghost use Rattle.mu_tree.specs.FlatExpression.{flat_model};
+ghost use Rattle.mu_tree.specs.FlatModels.{IsFlatModel};
+ghost use Rattle.mu_tree.specs.ModelTree.{model};
+ghost use Rattle.qss_compile.specs.Meanings as Spec;
+ghost use Rattle.qss_compile.specs.Flats.{flat_source};
+ghost use Rattle.qss_compile.specs.Causes.{with_names, without_names};
+
+use crate::fault::{ModelErr, Refused};
+use mu_affine::normal::normal;
+use mu_causal::ordering::order;
+use mu_io::{Items, Name};
+use mu_lexer::lex::lex;
+use mu_machine::to_machine;
+use mu_names::role::roles;
+use mu_parser::parse::parse;
+use mu_tree::flat::{FlatModel, FlatVar, Settings};
+use mu_tree::tree::Model;
+use mu_unroll::unroll::unroll;
+use qss_machine::Machine;
+use std::alloc::{AllocError, Global};
+
+/// A flat model with its settings.
+#[derive(Drop)]
+pub struct Flat {
+    pub model: FlatModel,
+    pub settings: Settings,
+}
+
+/// The model that a source spells, or why it spells none.
+pub fn read_model(alloc: Global, source: &[u8]) -> Result<Model, ModelErr>
+    requires { length source.now ≤ 2 ^ 20 }
+    ensures spelled { IfOk result (λ tree. Spec.SpellsTree source.now (model tree)) }
+    ensures refused { IfErr result (λ e. Spec.IsErr (Spec.IsUnspelled source.now) (without_names e)) }
+{
+    let tokens = lex(alloc, source)?;
+    let tree = parse(alloc, source, &tokens)?;
+    Ok(tree)
+}
+
+// The flat model of a model, with the settings.
+#[tactic(none)]
+fn flatten(alloc: Global, tree: &Model) -> Result<Flat, ModelErr>
+    requires { Spec.IsSpelled (model tree.now) }
+    ensures flat { IfOk result (λ flat. Spec.IsFlatOf (model tree.now) (flat_source flat)) }
+    ensures model { IfOk result (λ flat. IsFlatModel (flat_model flat.model)) }
+    ensures numbered { IfOk result (λ flat. IsNumbered (flat_model flat.model)) }
+    ensures refused { IfErr result (λ e. Spec.IsErr (Spec.IsNotFlat (model tree.now)) (without_names e)) }
+{
+    let scope = roles(alloc, tree)?;
+    let model = unroll(alloc, tree, &scope)?;
+    Ok(Flat {
+        model,
+        settings: scope.settings,
+    })
+}
+
+// The machine of a flat model.
+#[tactic(none)]
+fn machine_of(alloc: Global, flat: &Flat) -> Result<Machine, ModelErr>
+    requires model { IsFlatModel (flat_model flat.now.model) }
+    requires numbered { IsNumbered (flat_model flat.now.model) }
+    ensures means { IfOk result (Spec.FlatMeans (flat_source flat.now)) }
+    ensures refused { IfErr result (λ e. Spec.IsErr (Spec.IsFlatRefused (flat_source flat.now)) (with_names (flat_model flat.now.model) e)) }
+{
+    let order = order(alloc, &flat.model)?;
+    let forms = normal(alloc, &flat.model, &order)?;
+    let machine = to_machine(alloc, &forms, &flat.model, &flat.settings)?;
+    Ok(machine)
+}
+
+// The names of variables.
+fn names_of(alloc: Global, vars: &[FlatVar]) -> Result<Vec<Name>, AllocError>
+    ensures { IfOk result (λ names. names.items ≡ map (λ v. v.name) vars.now) }
+{
+    let mut names = Vec::new(alloc);
+    for one in vars {
+        let name = one.name.copy(alloc)?;
+        names.push(name)?;
+    }
+    Ok(names)
+}
+
+// A refusal of a flat model, with the names of its variables.
+fn refused_with(alloc: Global, error: ModelErr, model: &FlatModel) -> Refused
+    ensures { Spec.IsErr (λ r. r ≡ with_names (flat_model model.now) error) result }
+{
+    match names_of(alloc, &model.vars) {
+        Ok(names) => Refused {
+            error,
+            names: Items::new(names),
+        },
+        Err(_) => Refused::early(alloc, ModelErr::Memory),
+    }
+}
+
+/// The machine that a source means, or the refusal of the first phase that refuses it.
+#[tactic(none)]
+pub fn compile(alloc: Global, source: &[u8]) -> Result<Machine, Refused>
+    requires { length source.now ≤ 2 ^ 20 }
+    ensures means { IfOk result (Spec.Means source.now) }
+    ensures refused { IfErr result (Spec.IsErr (Spec.IsRefused source.now)) }
+{
+    let tree = match read_model(alloc, source) {
+        Ok(tree) => tree,
+        Err(error) => return Err(Refused::early(alloc, error)),
+    };
+    compile_tree(alloc, &tree)
+}
+
+/// The machine that a model means.
+#[tactic(none)]
+pub fn compile_tree(alloc: Global, tree: &Model) -> Result<Machine, Refused>
+    requires { Spec.IsSpelled (model tree.now) }
+    ensures means { IfOk result (Spec.TreeMeans (model tree.now)) }
+    ensures refused { IfErr result (Spec.IsErr (Spec.IsTreeRefused (model tree.now))) }
+{
+    let flat = match flatten(alloc, tree) {
+        Ok(flat) => flat,
+        Err(error) => return Err(Refused::early(alloc, error)),
+    };
+    match machine_of(alloc, &flat) {
+        Ok(machine) => Ok(machine),
+        Err(error) => Err(refused_with(alloc, error, &flat.model)),
+    }
+}
