@@ -69,18 +69,9 @@ const RUNS: [(&str, &str); 11] = [
         OF_TIME,
         "0,start,x,0,0\n0,start,c,0,\n1,when,1.1,,\n1,set,c,6,\n2,end,x,0,0\n2,end,c,6,\n",
     ),
-    (
-        ALGEBRAIC,
-        "0,start,x,1,1\n1,level,x,-1,-1\n1,end,x,-1,-1\n",
-    ),
-    (
-        EXCHANGED,
-        "0,start,x,1,1\n1,level,x,-1,-1\n1,end,x,-1,-1\n",
-    ),
-    (
-        LONG_REST,
-        "0,start,x,0,0\n4294967295,end,x,0,0\n",
-    ),
+    (ALGEBRAIC, "0,start,x,1,1\n1,level,x,-1,-1\n1,end,x,-1,-1\n"),
+    (EXCHANGED, "0,start,x,1,1\n1,level,x,-1,-1\n1,end,x,-1,-1\n"),
+    (LONG_REST, "0,start,x,0,0\n4294967295,end,x,0,0\n"),
     (
         ROUNDED,
         "0,start,x,10,2560\n1,level,x,8,2300\n1,end,x,8,2300\n",
@@ -151,7 +142,10 @@ fn rules_at_half_a_level(rt: HostRuntime) -> Result<(), Fail> {
             words,
             ..run_of(SHORT)
         };
-        let rows = format!(in alloc; "0,start,x,64,262144\n1,level,x,60,245760\n3,level,x,{},215040\n3,end,x,{},215040\n", level, level)?;
+        let rows = format!(in alloc;
+            "0,start,x,64,262144\n1,level,x,60,245760\n3,level,x,{},215040\n3,end,x,{},215040\n",
+            level, level
+        )?;
         assert_told(&rt, alloc, &setting, Status::Ok, &rows, "")?;
     }
     Ok(())
@@ -236,9 +230,7 @@ fn a_chain_begins_at_its_first_cell(rt: HostRuntime) -> Result<(), Fail> {
         let row = format!(in alloc; "0,start,u[{}],0,0\n", cell)?;
         text.extend_from_slice(row.as_bytes())?;
     }
-    text.extend_from_slice(
-        b"1,level,u[1],640,10995116277760\n2,level,u[1],1267,21775484190720\n",
-    )?;
+    text.extend_from_slice(b"1,level,u[1],640,10995116277760\n2,level,u[1],1267,21775484190720\n")?;
     let setting = Setting {
         room: text.len(),
         ..run_of(CHAIN)

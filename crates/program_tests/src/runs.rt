@@ -43,7 +43,10 @@ pub(crate) struct Setting<'a> {
 }
 
 // The status, and what out and err hold.
-pub(crate) fn outcome(alloc: Global, setting: &Setting) -> Result<(Status, MemSink, MemSink), Fail> {
+pub(crate) fn outcome(
+    alloc: Global,
+    setting: &Setting,
+) -> Result<(Status, MemSink, MemSink), Fail> {
     let mut files = Vec::new(alloc);
     files.push((
         Name::new(alloc, b"M")?,
