@@ -7,7 +7,7 @@ use Rattle.std.specs.Char.{is_ascii_digit}
 use Rattle.std.specs.Str.Parse.{digits_value}
 use Rattle.std.proofs.lemmas.Bool.Decides.{nat_tests}
 use Rattle.qss_quant.specs.declared.rule.Rule.{Rule}
-use Rattle.qss_top.specs.Commands.{RunOptions, Command, run_model, print_model, certify_model, upgrade_model, rule_of, share_in, share_of, options_of, is_bare, share_alone, command_by, command_of_two, command_said, command_of}
+use Rattle.qss_top.specs.Commands.{RunOptions, Command, run_model, print_model, certify_model, upgrade_model, rule_of, share_of, options_of, is_bare, share_alone, command_by, command_of_two, command_said, command_of}
 use Rattle.qss_top.specs.Saying.{Said, nothing_said, say_all}
 use Rattle.qss_top.specs.declared.words.Flag.{Flag}
 

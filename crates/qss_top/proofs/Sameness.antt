@@ -2,7 +2,7 @@
 use Rattle.std.proofs.Common.{◌≡◌, ◌⊎◌, ℕ, List, [], ◌∷◌, sym, ap, ◌∙◌, subst, inl, inr, None, Some}
 use Rattle.std.specs.declared.option.Option.{Option}
 use Rattle.mu_io.specs.Files.{Files, file_of}
-use Rattle.cert_check.specs.Scope.{IsInScope, IsOutsideBy}
+use Rattle.cert_check.specs.Scope.{IsInScope}
 use Rattle.cert_check.specs.declared.outside.Outside.{Outside}
 use Rattle.cert_answer.specs.Answers as Certificates
 use Rattle.cert_answer.specs.Answers.{IsCertification, IsUpgrade}

@@ -1,5 +1,4 @@
-use Rattle.std.proofs.Common.{◌≡◌, sym, ap, ◌∙◌, subst}
-use Rattle.qss_top.specs.Answers.{Answer}
+use Rattle.std.proofs.Common.{sym, ap, ◌∙◌, subst}
 use Rattle.qss_top.specs.Certificates.{outcome_by}
 use Rattle.qss_top.specs.Outcomes.{IsOutcome, status_of}
 use Rattle.qss_top.specs.Statuses.{leaves_out}
