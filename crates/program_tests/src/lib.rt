@@ -2,4 +2,8 @@
 #![tactic(auto)]
 
 #[cfg(test)]
+mod certifying;
+#[cfg(test)]
+mod models;
+#[cfg(test)]
 mod runs;

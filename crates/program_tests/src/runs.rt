@@ -5,7 +5,7 @@ use std::alloc::Global;
 use std::process::Abort;
 use std::test::Fail;
 
-const DECAY: &str =
+pub(crate) const DECAY: &str =
     "model decay Real x(start = 64); equation der(x) = -1*x; annotation(experiment(StopTime = 1, QSS_CoefBits = 8, QSS_TickBits = 4, QSS_LevelBits = 0, QSS_Quantum = 4)); end decay;";
 
 const STOPPED: &str =
@@ -23,26 +23,30 @@ const RESERVED: &str =
 const NO_QUANTUM: &str =
     "model m Real x(start = 1); equation der(x) = -1*x; annotation(experiment(StopTime = 1, QSS_CoefBits = 0, QSS_TickBits = 0, QSS_LevelBits = 0, QSS_Quantum = 0)); end m;";
 
-const HEADER: &str = "tick,event,name,level,state\n";
+pub(crate) const HEADER: &str = "tick,event,name,level,state\n";
 
-const DECAY_ROWS: &str =
+pub(crate) const DECAY_ROWS: &str =
     "0,start,x,64,262144\n1,level,x,60,245760\n3,level,x,52,215040\n5,level,x,46,188416\n7,level,x,40,164864\n9,level,x,35,144384\n11,level,x,30,126464\n14,level,x,25,103424\n16,end,x,25,90624\n";
 
-const USAGE: &str = "usage: qss VERB [WORD] [WORD] [--rule RULE] [--only NAME] [--relative N]\n";
+pub(crate) const USAGE: &str =
+    "usage: qss VERB [WORD] [WORD] [--rule RULE] [--only NAME] [--relative N]\n";
 
 // What a call of the top call is given, and the calls that are to fail.
 #[derive(Clone, Copy)]
-struct Setting<'a> {
-    words: &'a [&'a str],
-    source: &'a str,
-    room: usize,
-    shelf_fails: &'a [u32],
-    out_fails: &'a [u32],
-    err_fails: &'a [u32],
+pub(crate) struct Setting<'a> {
+    pub(crate) words: &'a [&'a str],
+    pub(crate) source: &'a str,
+    pub(crate) room: usize,
+    pub(crate) shelf_fails: &'a [u32],
+    pub(crate) out_fails: &'a [u32],
+    pub(crate) err_fails: &'a [u32],
 }
 
 // The status, and what out and err hold.
-fn outcome(alloc: Global, setting: &Setting) -> Result<(Status, MemSink, MemSink), Fail> {
+pub(crate) fn outcome(
+    alloc: Global,
+    setting: &Setting,
+) -> Result<(Status, MemSink, MemSink), Fail> {
     let mut files = Vec::new(alloc);
     files.push((
         Name::new(alloc, b"M")?,
@@ -55,7 +59,7 @@ fn outcome(alloc: Global, setting: &Setting) -> Result<(Status, MemSink, MemSink
     Ok((status, out, err))
 }
 
-fn run_of(source: &str) -> Setting<'_> {
+pub(crate) fn run_of(source: &str) -> Setting<'_> {
     Setting {
         words: &["run", "M"],
         source,
@@ -71,6 +75,7 @@ fn runs_print_their_rows(rt: HostRuntime) -> Result<(), Fail> {
     let alloc = rt.alloc();
     let cases = [
         (DECAY, Status::Ok, DECAY_ROWS, ""),
+        (FRACTIONS, Status::Ok, DECAY_ROWS, ""),
         (
             STOPPED,
             Status::Ok,
@@ -99,10 +104,9 @@ fn what_is_refused(rt: HostRuntime) -> Result<(), Fail> {
     let alloc = rt.alloc();
     let blanks = vec![in alloc; b' '; (1 << 20) + 1]?;
     let long = String::from_utf8(blanks)?;
-    let cases: [(&[&str], &str, u8, &str); 14] = [
-        (&["run", "M"], FRACTIONS, 5, "refused: top 2\n"),
+    let cases: [(&[&str], &str, u8, &str); 13] = [
         (&["run", "M"], RESERVED, 5, "refused: parse 1 1\n"),
-        (&["run", "M"], NO_QUANTUM, 5, "refused: top 2\n"),
+        (&["run", "M"], NO_QUANTUM, 5, "refused: machine 3 x\n"),
         (&["run", "M"], &long, 5, "refused: top 1\n"),
         (&["print", "M"], RESERVED, 5, "refused: parse 1 1\n"),
         (&["print", "M"], &long, 5, "refused: top 1\n"),
@@ -279,7 +283,7 @@ fn faults_of_the_shelf_and_of_err(rt: HostRuntime) -> Result<(), Fail> {
     Ok(())
 }
 
-const BALL: &str =
+pub(crate) const BALL: &str =
     "model ball\n  import math;\n  Real y(start = 1), v(start = 0) \"speed\";\nequation\n  der(y) = v;\n  der(v) = -10;\nalgorithm\n  when y < 0 then\n    reinit(v, -0.25*v);\n  end when;\n  annotation(experiment(MMO_Description = \"ball\", MMO_Solver = QSS3, StartTime = 0.0, StopTime = 1.25, Tolerance = {1e-3}, QSS_CoefBits = 4, QSS_TickBits = 2, QSS_LevelBits = 2, QSS_Quantum = 0.25));\nend ball;";
 
 const BALL_TEXT: &str =

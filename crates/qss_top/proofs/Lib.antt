@@ -1,11 +1,10 @@
-pub mod Pieces
 pub mod Sources
+pub mod Refusals
 pub mod Sameness
-pub mod MachineLimits
-pub mod SourceReading
-pub mod TreeFacts
+pub mod CommandShares
 pub mod Existence
 pub mod OutcomeFacts
 pub mod Serving
 pub mod Tellings
 pub mod TopFacts
+pub mod TwoFiles

@@ -1,171 +1,163 @@
--- A source of the first form, and what the reader makes of it.
-use Rattle.std.proofs.Common.{◌≡◌, ◌<◌, ◌⊎◌, ◌||◌, zero, Bool, true, false, ℕ, suc, List, [], ◌∷◌, ◌++◌, length, get_or, refl, sym, ap, ◌∙◌, arith, append-nil, lit<, map, None, Some, inl, inr, codes, bytes_eq, subst}
-use Rattle.std.proofs.lemmas.List.FromFn.{fill_by_all}
-use Rattle.std.proofs.lemmas.Slice.Eq.{bytes_eq-Decides}
-use Rattle.std.specs.Prelude.{Contains}
-use Rattle.std.specs.List.{list_any, concat, range_with_len}
-use Rattle.qss_top.specs.FirstForm.{FirstForm, texts_of, reserved, IsName, IsFirstForm}
-use Rattle.qss_top.specs.Reading.{is_free, is_end, parts_of, part, form_of, has_names}
-use Rattle.qss_top.specs.Scaling.{AreNumbers}
-use Rattle.qss_top.specs.declared.source.TheConstants.{PIECES}
-use Rattle.qss_top.proofs.Pieces.{AllFit, both, not_true, parts_are, parts_again, fit_length, fit_at}
+-- Each source is refused in one way, or gives one machine and one model.
+use Rattle.std.proofs.Common.{◌≡◌, ◌⊎◌, ◌<◌, ◌≤◌, ◌^◌, Bool, true, false, ℕ, List, length, refl, sym, ◌∙◌, subst, inl, inr, nat_lt, arith}
+use Rattle.std.specs.Prelude.{MatchBool, nat_le}
+use Rattle.std.proofs.lemmas.Bool.Decides.{nat_tests}
+use Rattle.mu_tree.specs.ModelTree.{ModelTree}
+use Rattle.qss_compile.specs.Meanings.{SpellsTree, IsUnspelled, Means, IsRefused}
+use Rattle.qss_compile.specs.declared.fault.Refused.{Refused}
+use Rattle.qss_compile.proofs.Deciding.{Single, Decides}
+use Rattle.qss_compile.proofs.Existence.{spelled_decides, sources_decided}
+use Rattle.qss_compile.proofs.Singles.{spelled_single, source_single}
+use Rattle.qss_machine.specs.Limits.{HasUnits}
+use Rattle.qss_machine.specs.declared.system.Machine.{Machine}
+use Rattle.qss_machine.proofs.Fields.{same_machine}
+use Rattle.qss_top.specs.Answers.{Answer, refusal, refused, too_long, IsRefusalFor, IsSourceRefusal, IsTreeRefusal, IsSourceMachine, IsSourceTree}
+use Rattle.qss_top.specs.Shares.{IsShared}
+use Rattle.qss_top.specs.declared.status.Status.TheVariants as ends
 
-fits_form : (bytes : List ℕ) (s : FirstForm) → IsFirstForm bytes s → AllFit PIECES (texts_of s)
-fits_form bytes s h =
-    (refl, (h.name.letters, (refl, (h.state.letters, (refl, (h.start, (refl, (h.state.letters, (refl, (h.rate, (refl, (h.state.letters, (refl, (h.stop, (refl, (h.coef_bits, (refl, (h.tick_bits, (refl, (h.level_bits, (refl, (h.quantum, (refl, (h.name.letters, (refl, tt)))))))))))))))))))))))))
+-- ---- refusals
 
--- the reader finds the parts of a source
-pub form_parts : (bytes : List ℕ) (s : FirstForm) → IsFirstForm bytes s → parts_of PIECES bytes ≡ Some (texts_of s)
-form_parts bytes s h = by_text h.text
+module _ (Refuses : List ℕ → Refused → Type 0) (bytes : List ℕ) where
+  -- a refusal, by whether the source is too long
+  abbrev ByLength : Bool → Answer → Type 0
+  ByLength long a = MatchBool long (a ≡ refusal ends.ModelRefused too_long) ((r : Refused) × Refuses bytes r × (a ≡ refusal ends.ModelRefused (refused bytes)))
+
+  one_by : (long : Bool) (a b : Answer) → ByLength long a → ByLength long b → a ≡ b
+  one_by true a b p q = p ∙ sym q
+  one_by false a b p q = p.2 ∙ sym q.2
+
+  pub one_refusal : (a b : Answer) → IsRefusalFor Refuses bytes a → IsRefusalFor Refuses bytes b → a ≡ b
+  one_refusal a b p q = one_by (nat_lt (2 ^ 20) (length bytes)) a b p q
+
+  pub long_for : 2 ^ 20 < length bytes → IsRefusalFor Refuses bytes (refusal ends.ModelRefused too_long)
+  long_for h = let long : nat_lt (2 ^ 20) (length bytes) ≡ true = grind arith in rw long refl
+
+  -- the refusal of a source that is not too long
+  pub short_for : length bytes ≤ 2 ^ 20 → (r : Refused) → Refuses bytes r → IsRefusalFor Refuses bytes (refusal ends.ModelRefused (refused bytes))
+  short_for h r refuses = let short : nat_lt (2 ^ 20) (length bytes) ≡ false = grind arith in rw short (r, refuses, refl)
+
+  -- and its reason
+  pub reason_of : length bytes ≤ 2 ^ 20 → (a : Answer) → IsRefusalFor Refuses bytes a → (r : Refused) × Refuses bytes r
+  reason_of h a p =
+      let short : nat_lt (2 ^ 20) (length bytes) ≡ false = grind arith in
+      let found : ByLength false a = rw short at p in
+      (found.0, found.1)
+
+  module _ {B : Type 0} (Gives : B → Type 0) (decides : Decides (Refuses bytes) Gives) where
+    -- a source is refused, or is not too long and gives something
+    abbrev pub IsJudged : Type 0
+    IsJudged = ((a : Answer) × IsRefusalFor Refuses bytes a) ⊎ ((length bytes ≤ 2 ^ 20) × ((b : B) × Gives b))
+
+    short_judged : length bytes ≤ 2 ^ 20 → Decides (Refuses bytes) Gives → IsJudged
+    short_judged h (inl found) = inr (h, found)
+    short_judged h (inr fails) = inl (refusal ends.ModelRefused (refused bytes), short_for h fails.0 fails.1)
+
+    by : (short : Bool) → nat_le (length bytes) (2 ^ 20) ≡ short → IsJudged
+    by true e = short_judged (grind (arith, nat_tests)) decides
+    by false e = inl (refusal ends.ModelRefused too_long, long_for (grind (arith, nat_tests)))
+
+    pub judged : IsJudged
+    judged = by (nat_le (length bytes) (2 ^ 20)) refl
+
+pub one_source_refusal : (bytes : List ℕ) (a b : Answer) → IsSourceRefusal bytes a → IsSourceRefusal bytes b → a ≡ b
+one_source_refusal bytes a b p q = one_refusal IsRefused bytes a b p q
+
+pub one_tree_refusal : (bytes : List ℕ) (a b : Answer) → IsTreeRefusal bytes a → IsTreeRefusal bytes b → a ≡ b
+one_tree_refusal bytes a b p q = one_refusal IsUnspelled bytes a b p q
+
+pub long_refusal : (bytes : List ℕ) → 2 ^ 20 < length bytes → IsSourceRefusal bytes (refusal ends.ModelRefused too_long)
+long_refusal bytes h = long_for IsRefused bytes h
+
+-- ---- machines
+
+-- a machine with a share is one
+one_shared : (share : ℕ) (plain m n : Machine) → IsShared share plain m → IsShared share plain n → m ≡ n
+one_shared share plain m n a b =
+    same_machine m n (record {
+      coefficient_bits = a.coef_bits ∙ sym b.coef_bits;
+      tick_bits = a.tick_bits ∙ sym b.tick_bits;
+      level_bits = a.level_bits ∙ sym b.level_bits;
+      last_tick = a.last ∙ sym b.last;
+      same_states = a.states ∙ sym b.states;
+      same_discretes = a.discretes ∙ sym b.discretes;
+      same_rows = a.rows ∙ sym b.rows;
+      same_clauses = a.clauses ∙ sym b.clauses;
+      share = a.relative ∙ sym b.relative;
+    })
+
+pub one_source_machine : (share : ℕ) (bytes : List ℕ) (m n : Machine) → IsSourceMachine share bytes m → IsSourceMachine share bytes n → m ≡ n
+one_source_machine share bytes m n p q =
+    let single : Single (IsRefused bytes) (Means bytes) = source_single bytes in
+    one_shared share p.plain m n p.shared (subst (λ (k : Machine). IsShared share k n) (single.one q.plain p.plain q.means p.means) q.shared)
+
+-- a source that means a machine is not refused
+pub source_fine : (share : ℕ) (bytes : List ℕ) (a : Answer) (m : Machine) → IsSourceRefusal bytes a → IsSourceMachine share bytes m → ⊥
+source_fine share bytes a m refuses is =
+    let single : Single (IsRefused bytes) (Means bytes) = source_single bytes in
+    let reason = reason_of IsRefused bytes is.short a refuses in
+    single.apart is.plain reason.0 is.means reason.1
+
+-- the same machine with another share
+units_shared : (m : Machine) (share : ℕ) → share ≤ 2048 → HasUnits m.p m.k m.f m.last share
+units_shared m share few =
+    let u : HasUnits m.p m.k m.f m.last m.relative = m.has_units in
+    record { coefficient_bits = u.coefficient_bits; tick_bits = u.tick_bits; unit_bits = u.unit_bits; level_bits = u.level_bits; state_bits = u.state_bits; last_tick = u.last_tick; share = few }
+
+abbrev with_share : (m : Machine) (share : ℕ) → share ≤ 2048 → Machine
+with_share m share few = record {
+  p = m.p;
+  k = m.k;
+  f = m.f;
+  last = m.last;
+  states = m.states;
+  discretes = m.discretes;
+  rows = m.rows;
+  clauses = m.clauses;
+  relative = share;
+  has_units = units_shared m share few;
+  has_variables = m.has_variables;
+  has_rows = m.has_rows;
+  has_clauses = m.has_clauses;
+}
+
+is_shared : (m : Machine) (share : ℕ) (few : share ≤ 2048) → IsShared share m (with_share m share few)
+is_shared m share few = record {
+  coef_bits = refl;
+  tick_bits = refl;
+  level_bits = refl;
+  last = refl;
+  states = refl;
+  discretes = refl;
+  rows = refl;
+  clauses = refl;
+  relative = refl;
+}
+
+-- a source is refused or means a machine
+pub source_judged : (share : ℕ) → share ≤ 2048 → (bytes : List ℕ) → ((a : Answer) × IsSourceRefusal bytes a) ⊎ ((m : Machine) × IsSourceMachine share bytes m)
+source_judged share few bytes = by (judged IsRefused bytes (Means bytes) (sources_decided bytes))
   where
-    by_text : (bytes ≡ concat (texts_of s)) ⊎ (bytes ≡ concat (texts_of s) ++ codes "\n") → parts_of PIECES bytes ≡ Some (texts_of s)
-    by_text (inl e) = rw (e ∙ sym (append-nil (concat (texts_of s)))) (parts_again PIECES (texts_of s) [] refl (fits_form bytes s h) refl)
-    by_text (inr e) = rw e (parts_again PIECES (texts_of s) (codes "\n") refl (fits_form bytes s h) refl)
+    by : IsJudged IsRefused bytes (Means bytes) (sources_decided bytes) → ((a : Answer) × IsSourceRefusal bytes a) ⊎ ((m : Machine) × IsSourceMachine share bytes m)
+    by (inl refuses) = inl refuses
+    by (inr found) =
+        let m = found.1.0 in inr (with_share m share few, record { short = found.0; plain = m; means = found.1.1; shared = is_shared m share few })
 
-some_same : (a b : List (List ℕ)) → Some a ≡ Some b → a ≡ b
-some_same a b e = cc
+-- ---- models
 
--- a source has one reading
-pub one_form : (bytes : List ℕ) (s t : FirstForm) → IsFirstForm bytes s → IsFirstForm bytes t → s ≡ t
-one_form bytes s t a b = ap form_of (some_same (texts_of s) (texts_of t) (sym (form_parts bytes s a) ∙ form_parts bytes t b))
+pub one_source_tree : (bytes : List ℕ) (a b : ModelTree) → IsSourceTree bytes a → IsSourceTree bytes b → a ≡ b
+one_source_tree bytes a b p q = let single : Single (IsUnspelled bytes) (SpellsTree bytes) = spelled_single bytes in single.one a b p.spelled q.spelled
 
--- the parts by their numbers
-by_places : (parts : List (List ℕ)) → length parts ≡ 25 → parts ≡ map (part parts) (range_with_len 0 25)
-by_places parts e = fill_by_all (part parts) parts 25 [] e (λ k h. refl)
+-- a source that spells a model is not refused for want of one
+pub tree_fine : (bytes : List ℕ) (a : Answer) (tree : ModelTree) → IsTreeRefusal bytes a → IsSourceTree bytes tree → ⊥
+tree_fine bytes a tree refuses is =
+    let single : Single (IsUnspelled bytes) (SpellsTree bytes) = spelled_single bytes in
+    let reason = reason_of IsUnspelled bytes is.short a refuses in
+    single.apart tree reason.0 is.spelled reason.1
 
-names_same : (a b : List ℕ) → bytes_eq a b ≡ true → b ≡ a
-names_same a b e = sym ((bytes_eq-Decides a b).0 e)
-
--- what the tests on names say
-record AreNames (parts : List (List ℕ)) : Type 0 where
-  name : is_free (part parts 1) ≡ true
-  state : is_free (part parts 3) ≡ true
-  end : part parts 23 ≡ part parts 1
-  left : part parts 7 ≡ part parts 3
-  right : part parts 11 ≡ part parts 3
-
-names_are : (parts : List (List ℕ)) → has_names parts ≡ true → AreNames parts
-names_are parts h =
-    let a = both _ (bytes_eq (part parts 3) (part parts 11)) h in
-    let b = both _ (bytes_eq (part parts 3) (part parts 7)) a.0 in
-    let c = both _ (bytes_eq (part parts 1) (part parts 23)) b.0 in
-    let d = both (is_free (part parts 1)) (is_free (part parts 3)) c.0 in
-    record {
-      name = d.0;
-      state = d.1;
-      end = names_same (part parts 1) (part parts 23) c.1;
-      left = names_same (part parts 3) (part parts 7) b.1;
-      right = names_same (part parts 3) (part parts 11) a.1;
-    }
-
--- the parts are the texts of what the reader makes of them
-texts_are : (parts : List (List ℕ)) → AllFit PIECES parts → AreNames parts → parts ≡ texts_of (form_of parts)
-texts_are parts fit names =
-    let at = λ (k : ℕ) (h : k < 25). fit_at PIECES parts k fit h in
-    let places = by_places parts (fit_length PIECES parts fit) in
-    places ∙ rw (
-      at 0 (lit< tt),
-      at 2 (lit< tt),
-      at 4 (lit< tt),
-      at 6 (lit< tt),
-      at 8 (lit< tt),
-      at 10 (lit< tt),
-      at 12 (lit< tt),
-      at 14 (lit< tt),
-      at 16 (lit< tt),
-      at 18 (lit< tt),
-      at 20 (lit< tt),
-      at 22 (lit< tt),
-      at 24 (lit< tt),
-      names.end,
-      names.left,
-      names.right,
-    ) refl
-
-at_end : (rest all : List ℕ) (parts : List (List ℕ)) → is_end rest ≡ true → all ≡ concat parts ++ rest → (all ≡ concat parts) ⊎ (all ≡ concat parts ++ codes "\n")
-at_end [] all parts e h = inl (h ∙ append-nil (concat parts))
-at_end (b ∷ []) all parts e h = let feed : b ≡ 10 = grind arith in inr (h ∙ ap (λ (c : ℕ). concat parts ++ c ∷ []) feed)
-at_end (b ∷ c ∷ rest) all parts e h = absurd (cc)
-
--- none of the words ties with a name that they do not contain, and the other way round
-free_by : (name : List ℕ) (words : List (List ℕ)) → list_any (λ word. bytes_eq word name) words ≡ false → (k : ℕ) → k < length words → get_or words k name ≡ name → ⊥
-free_by name [] e k h at = absurd (omega arith)
-free_by name (word ∷ words) e zero h at = let tie : bytes_eq word name ≡ true = (bytes_eq-Decides word name).1 at in absurd (cc (tie, ties (bytes_eq word name) (list_any (λ word. bytes_eq word name) words) e))
+-- a source is refused or spells a model
+pub tree_judged : (bytes : List ℕ) → ((a : Answer) × IsTreeRefusal bytes a) ⊎ ((tree : ModelTree) × IsSourceTree bytes tree)
+tree_judged bytes = by (judged IsUnspelled bytes (SpellsTree bytes) (spelled_decides bytes))
   where
-    ties : (a b : Bool) → (a || b) ≡ false → a ≡ false
-    ties true b e = absurd (cc)
-    ties false b e = refl
-free_by name (word ∷ words) e (suc k) h at = let below : k < length words = omega arith in free_by name words (rest (bytes_eq word name) (list_any (λ word. bytes_eq word name) words) e) k below at
-  where
-    rest : (a b : Bool) → (a || b) ≡ false → b ≡ false
-    rest true b e = absurd (cc)
-    rest false b e = e
-
-free_from : (name : List ℕ) (words : List (List ℕ)) → ((k : ℕ) → k < length words → get_or words k name ≡ name → ⊥) → list_any (λ word. bytes_eq word name) words ≡ false
-free_from name [] h = refl
-free_from name (word ∷ words) h =
-    let rest = free_from name words (λ k below at. h (suc k) (omega arith) at) in
-    by_tie (bytes_eq word name) refl rest
-  where
-    by_tie : (b : Bool) → bytes_eq word name ≡ b → list_any (λ word. bytes_eq word name) words ≡ false → (bytes_eq word name || list_any (λ word. bytes_eq word name) words) ≡ false
-    by_tie true e rest = absurd (h zero (omega arith) ((bytes_eq-Decides word name).0 e))
-    by_tie false e rest = rw e rest
-
-free_name : (name : List ℕ) → is_free name ≡ true → ¬ Contains reserved name
-unfolding is_free
-free_name name e c = free_by name reserved (not_true (list_any (λ word. bytes_eq word name) reserved) e) c.0 c.1 c.2
-
-name_free : (name : List ℕ) → ¬ Contains reserved name → is_free name ≡ true
-unfolding is_free
-name_free name h = rw (free_from name reserved (λ k below at. h (k, below, at))) refl
-
--- the numbers among the parts are digits
-pub numbers_fit : (bytes : List ℕ) (parts : List (List ℕ)) → parts_of PIECES bytes ≡ Some parts → AreNumbers parts
-numbers_fit bytes parts e =
-    let fit = (parts_are PIECES bytes parts e).fit in
-    let at = λ (k : ℕ) (h : k < 25). fit_at PIECES parts k fit h in
-    record {
-      start = at 5 (lit< tt);
-      rate = at 9 (lit< tt);
-      stop = at 13 (lit< tt);
-      coef_bits = at 15 (lit< tt);
-      tick_bits = at 17 (lit< tt);
-      level_bits = at 19 (lit< tt);
-      quantum = at 21 (lit< tt);
-    }
-
--- what the reader makes of parts with good names is what the source says
-pub form_read : (bytes : List ℕ) (parts : List (List ℕ)) → parts_of PIECES bytes ≡ Some parts → has_names parts ≡ true → IsFirstForm bytes (form_of parts)
-form_read bytes parts e named =
-    let are = parts_are PIECES bytes parts e in
-    let names = names_are parts named in
-    let texts = texts_are parts are.fit names in
-    let at = λ (k : ℕ) (h : k < 25). fit_at PIECES parts k are.fit h in
-    let numbers = numbers_fit bytes parts e in
-    let P : List (List ℕ) → Type 0 = λ texts. (bytes ≡ concat texts) ⊎ (bytes ≡ concat texts ++ codes "\n") in
-    record {
-      text = subst P texts (at_end are.rest bytes parts are.end are.whole);
-      name = record { letters = at 1 (lit< tt); free = free_name (part parts 1) names.name };
-      state = record { letters = at 3 (lit< tt); free = free_name (part parts 3) names.state };
-      start = numbers.start;
-      rate = numbers.rate;
-      stop = numbers.stop;
-      coef_bits = numbers.coef_bits;
-      tick_bits = numbers.tick_bits;
-      level_bits = numbers.level_bits;
-      quantum = numbers.quantum;
-    }
-
--- a source that the reader does not take apart is none of the first form
-pub no_parts : (bytes : List ℕ) → parts_of PIECES bytes ≡ None → (s : FirstForm) → ¬ IsFirstForm bytes s
-no_parts bytes e s h = absurd (cc (e, form_parts bytes s h))
-
-named : (s : FirstForm) → IsName s.name → IsName s.state → has_names (texts_of s) ≡ true
-named s name state =
-    rw (name_free s.name name.free, name_free s.state state.free, (bytes_eq-Decides s.name s.name).1 refl, (bytes_eq-Decides s.state s.state).1 refl) refl
-
--- nor is one whose names are not good
-pub no_names : (bytes : List ℕ) (parts : List (List ℕ)) → parts_of PIECES bytes ≡ Some parts → has_names parts ≡ false → (s : FirstForm) → ¬ IsFirstForm bytes s
-no_names bytes parts e bad s h =
-    let same = some_same parts (texts_of s) (sym e ∙ form_parts bytes s h) in
-    absurd (cc (bad, ap has_names same, named s h.name h.state))
+    by : IsJudged IsUnspelled bytes (SpellsTree bytes) (spelled_decides bytes) → ((a : Answer) × IsTreeRefusal bytes a) ⊎ ((tree : ModelTree) × IsSourceTree bytes tree)
+    by (inl refuses) = inl refuses
+    by (inr found) = inr (found.1.0, record { short = found.0; spelled = found.1.1 })

@@ -1,8 +1,9 @@
 -- The status and the line of an outcome, for what is told.
 use Rattle.std.proofs.Common.{◌≡◌, ◌≢◌, ◌⊎◌, true, ℕ, List, refl, sym, ap, ◌∙◌, subst, inl, inr}
 use Rattle.std.specs.declared.option.Option.{Option}
-use Rattle.qss_top.specs.Answers.{Line, Reply, answered, absent, untold, Tells}
-use Rattle.qss_top.specs.Outcomes.{HasLine, status_of, line_of, takes_memory, IsReported}
+use Rattle.cert_answer.specs.declared.ending.CertificateRefusal.TheVariants as certs
+use Rattle.qss_top.specs.Answers.{Reply, answered, absent, untold}
+use Rattle.qss_top.specs.Outcomes.{status_of, line_text, takes_memory, IsReported}
 use Rattle.qss_top.specs.Statuses.{is_defined, leaves_out}
 use Rattle.qss_top.specs.TopCall.{IsReplied, IsReplyLine, IsLineOf}
 use Rattle.qss_top.specs.declared.outcome.Outcome.{Outcome}
@@ -42,10 +43,13 @@ read_is outcome.Usage e = absurd (cc e)
 read_is outcome.ReadFault e = refl
 read_is outcome.WriteFault e = absurd (cc e)
 read_is outcome.TooLong e = absurd (cc e)
-read_is outcome.NoForm e = absurd (cc e)
 read_is (outcome.Refused r) e = absurd (cc e)
 read_is (outcome.Overflow name tick) e = absurd (cc e)
 read_is outcome.Memory e = absurd (cc e)
+read_is (outcome.Uncertified (certs.Outside why)) e = absurd (cc e)
+read_is (outcome.Uncertified certs.TooLong) e = absurd (cc e)
+read_is (outcome.Uncertified (certs.Unread why)) e = absurd (cc e)
+read_is (outcome.Uncertified (certs.Rejected v)) e = absurd (cc e)
 
 write_is : (what : Outcome) → ends.WriteFault ≡ status_of what → what ≡ outcome.WriteFault
 write_is outcome.Done e = absurd (cc e)
@@ -53,10 +57,13 @@ write_is outcome.Usage e = absurd (cc e)
 write_is outcome.ReadFault e = absurd (cc e)
 write_is outcome.WriteFault e = refl
 write_is outcome.TooLong e = absurd (cc e)
-write_is outcome.NoForm e = absurd (cc e)
 write_is (outcome.Refused r) e = absurd (cc e)
 write_is (outcome.Overflow name tick) e = absurd (cc e)
 write_is outcome.Memory e = absurd (cc e)
+write_is (outcome.Uncertified (certs.Outside why)) e = absurd (cc e)
+write_is (outcome.Uncertified certs.TooLong) e = absurd (cc e)
+write_is (outcome.Uncertified (certs.Unread why)) e = absurd (cc e)
+write_is (outcome.Uncertified (certs.Rejected v)) e = absurd (cc e)
 
 done_is : (what : Outcome) → ends.Ok ≡ status_of what → what ≡ outcome.Done
 done_is outcome.Done e = refl
@@ -64,10 +71,13 @@ done_is outcome.Usage e = absurd (cc e)
 done_is outcome.ReadFault e = absurd (cc e)
 done_is outcome.WriteFault e = absurd (cc e)
 done_is outcome.TooLong e = absurd (cc e)
-done_is outcome.NoForm e = absurd (cc e)
 done_is (outcome.Refused r) e = absurd (cc e)
 done_is (outcome.Overflow name tick) e = absurd (cc e)
 done_is outcome.Memory e = absurd (cc e)
+done_is (outcome.Uncertified (certs.Outside why)) e = absurd (cc e)
+done_is (outcome.Uncertified certs.TooLong) e = absurd (cc e)
+done_is (outcome.Uncertified (certs.Unread why)) e = absurd (cc e)
+done_is (outcome.Uncertified (certs.Rejected v)) e = absurd (cc e)
 
 usage_is : (what : Outcome) → ends.Usage ≡ status_of what → what ≡ outcome.Usage
 usage_is outcome.Done e = absurd (cc e)
@@ -75,10 +85,13 @@ usage_is outcome.Usage e = refl
 usage_is outcome.ReadFault e = absurd (cc e)
 usage_is outcome.WriteFault e = absurd (cc e)
 usage_is outcome.TooLong e = absurd (cc e)
-usage_is outcome.NoForm e = absurd (cc e)
 usage_is (outcome.Refused r) e = absurd (cc e)
 usage_is (outcome.Overflow name tick) e = absurd (cc e)
 usage_is outcome.Memory e = absurd (cc e)
+usage_is (outcome.Uncertified (certs.Outside why)) e = absurd (cc e)
+usage_is (outcome.Uncertified certs.TooLong) e = absurd (cc e)
+usage_is (outcome.Uncertified (certs.Unread why)) e = absurd (cc e)
+usage_is (outcome.Uncertified (certs.Rejected v)) e = absurd (cc e)
 
 pub read_of : (status : Status) (what : Outcome) → IsStatus status what → status ≡ ends.ReadFault → what ≡ outcome.ReadFault
 read_of status what h e = read_is what (sym e ∙ same_status status what h (λ m. absurd (cc (e, m))))
@@ -108,20 +121,16 @@ same_defined : (status : Status) (what : Outcome) → IsStatus status what → i
 same_defined status what (inl e) d = e
 same_defined status what (inr e) d = absurd (cc (ap is_defined e.0, d))
 
-tells_reply : (reply : Reply) (status : Status) (what : Outcome) (old new : Option (List ℕ)) (line : List ℕ) → status ≡ status_of what → HasLine reply (status_of what) old new (line_of what) → Tells (line_of what) line
-    → IsReplyLine reply status old new line
-tells_reply (answered answer) status what old new line same has tells = rw has at tells
-tells_reply absent status what old new line same has tells = tt
-tells_reply (untold command) status what old new line same has tells =
-    let such = has.4 in
-    (has.0, has.1, has.2, has.3, (same ∙ such.0, such.1, subst (λ (l : Line). Tells l line) such.2 tells))
-
 module _ (reply : Reply) (what : Outcome) (old new : Option (List ℕ)) (line : List ℕ) where
-  tells_defined : (status : Status) → IsStatus status what → is_defined status ≡ true → (is_defined status ≡ true → HasLine reply (status_of what) old new (line_of what)) → Tells (line_of what) line
-      → IsReplyLine reply status old new line
-  tells_defined status is d has tells = tells_reply reply status what old new line (same_defined status what is d) (has d) tells
+  -- the line of an outcome is that of its status
+  tells : (status : Status) → status ≡ status_of what → IsReplyLine reply (status_of what) old new (line_text what) → line ≡ line_text what → IsReplyLine reply status old new line
+  tells status same has is = subst (λ (s : Status). IsReplyLine reply s old new line) (sym same) (subst (λ (l : List ℕ). IsReplyLine reply (status_of what) old new l) (sym is) has)
 
-  pub line_is : (status : Status) → IsStatus status what → (is_defined status ≡ true → HasLine reply (status_of what) old new (line_of what)) → IsReported status what line → IsLineOf status reply old new line
+  tells_defined : (status : Status) → IsStatus status what → is_defined status ≡ true → (is_defined status ≡ true → IsReplyLine reply (status_of what) old new (line_text what)) → line ≡ line_text what
+      → IsReplyLine reply status old new line
+  tells_defined status is d has same = tells status (same_defined status what is d) (has d) same
+
+  pub line_is : (status : Status) → IsStatus status what → (is_defined status ≡ true → IsReplyLine reply (status_of what) old new (line_text what)) → IsReported status what line → IsLineOf status reply old new line
   line_is ends.Ok is has h = h
   line_is ends.Rejected is has h = tells_defined ends.Rejected is refl has h
   line_is ends.Usage is has h = tells_defined ends.Usage is refl has h

@@ -1,36 +1,62 @@
 -- What the words, with the files they name, define as the answer.
-use Rattle.std.specs.Prelude.{◌≡◌, ◌⊎◌, ℕ, ◌+◌, ◌^◌, List, [], ◌∷◌, ◌++◌, length, nat_lt, codes, decimal, Option, Some, None, IsSome, MatchBool}
+use Rattle.std.specs.Prelude.{◌≡◌, ◌⊎◌, ℕ, ◌+◌, ◌^◌, ◌≤◌, List, [], ◌∷◌, ◌++◌, length, nat_lt, codes, decimal, Option, Some, None, IsSome, MatchBool}
 use Rattle.mu_io.specs.Files.{Files, file_of}
 use Rattle.mu_tree.specs.Canonical.{canonical_text}
 use Rattle.mu_tree.specs.ModelTree.{ModelTree}
 use Rattle.qss_machine.specs.Runs.{Run}
 use Rattle.qss_machine.specs.declared.system.Machine.{Machine}
 use Rattle.qss_rows.specs.Lines.{name_of}
+use Rattle.qss_compile.specs.Lines as Refusals
+use Rattle.qss_compile.specs.Meanings.{SpellsTree, IsUnspelled, Means, IsRefused}
+use Rattle.qss_compile.specs.declared.fault.Refused.{Refused}
 use Rattle.qss_play.specs.Plays.{run_under, text_of as run_text}
-use Rattle.qss_top.specs.Commands.{RunOptions, Command, run_model, print_model, command_of, files_of}
-use Rattle.qss_top.specs.Meanings.{MeansAt}
-use Rattle.qss_top.specs.Trees.{SpellsTree, IsRefusedBy, phase_text}
+use Rattle.cert_check.specs.Scope.{IsInScope, IsOutsideBy}
+use Rattle.cert_check.specs.declared.outside.Outside.{Outside}
+use Rattle.cert_answer.specs.Answers as Certificates
+use Rattle.cert_answer.specs.Answers.{IsCertification, IsUpgrade}
+use Rattle.cert_answer.specs.declared.ending.CertificateRefusal.TheVariants as certs
+use Rattle.cert_answer.specs.Endings.{refusal_line}
+use Rattle.cert_answer.specs.declared.ending.CertificateRefusal.{CertificateRefusal}
+use Rattle.qss_top.specs.Commands.{RunOptions, Command, run_model, print_model, certify_model, upgrade_model, command_of, files_of}
+use Rattle.qss_top.specs.Shares.{IsShared}
 use Rattle.qss_top.specs.declared.status.Status.{Status}
 use Rattle.qss_top.specs.declared.status.Status.TheVariants as ends
-use Rattle.qss_top.specs.declared.tree.Refusal.{Refusal}
 
 -- what the line on err says of an answer
 pub data Line : Type 0 where
   quiet : Line
   usage : Line
   too_long : Line
-  no_form : Line
-  refused : Refusal → Line
+  refused : (bytes : List ℕ) → Line
+  uncertified : CertificateRefusal → Line
   over : (name : List ℕ) → (tick : ℕ) → Line
+
+-- the line on how words are a command
+abbrev pub usage_line : List ℕ
+usage_line = codes "usage: qss VERB [WORD] [WORD] [--rule RULE] [--only NAME] [--relative N]\n"
+
+-- the line on a source of more than 2^20 bytes
+abbrev pub too_long_line : List ℕ
+too_long_line = codes "refused: top 1\n"
+
+-- the line on a run that overflows
+abbrev pub overflow_line : (name : List ℕ) → (tick : ℕ) → List ℕ
+overflow_line name tick = codes "overflow: " ++ name ++ codes " at tick " ++ decimal tick ++ codes "\n"
+
+-- the text is the line of a refusal of the source; a cycle may be named from any of its variables
+pub record TellsRefusal (bytes text : List ℕ) : Type 0 where
+  pub refusal : Refused
+  pub is : IsRefused bytes refusal
+  pub same : text ≡ Refusals.line_of refusal
 
 -- the text says that
 abbrev pub Tells : Line → List ℕ → Type 0
 Tells quiet text = text ≡ []
-Tells usage text = text ≡ codes "usage: qss VERB [WORD] [WORD] [--rule RULE] [--only NAME] [--relative N]\n"
-Tells too_long text = text ≡ codes "refused: top 1\n"
-Tells no_form text = text ≡ codes "refused: top 2\n"
-Tells (refused r) text = text ≡ codes "refused: " ++ phase_text r.phase ++ codes " " ++ decimal r.number ++ codes " " ++ decimal r.place ++ codes "\n"
-Tells (over name tick) text = text ≡ codes "overflow: " ++ name ++ codes " at tick " ++ decimal tick ++ codes "\n"
+Tells usage text = text ≡ usage_line
+Tells too_long text = text ≡ too_long_line
+Tells (refused bytes) text = TellsRefusal bytes text
+Tells (uncertified why) text = text ≡ refusal_line why
+Tells (over name tick) text = text ≡ overflow_line name tick
 
 -- an answer: how the program ends, what out gains, and what the line on err says
 pub record Answer : Type 0 where
@@ -64,34 +90,61 @@ printed options m = answer_by (run_under options.rule m)
     answer_by : Run → Answer
     answer_by run = record { status = status_of_run run; out = run_text options.only m run; line = line_of_run m run }
 
--- the answer to `run` on a source that spells a model: refused where it means no machine with such quanta, else the run of its machine
-abbrev pub IsMeaningAnswer : RunOptions → List ℕ → Answer → Type 0
-IsMeaningAnswer options bytes answer =
-    (((m : Machine) → ¬ MeansAt options.share bytes m) × (answer ≡ refusal ends.ModelRefused no_form))
-    ⊎ ((m : Machine) × MeansAt options.share bytes m × (answer ≡ printed options m))
-
 -- the answer that prints a model
 abbrev pub printed_text : ModelTree → Answer
 printed_text tree = record { status = ends.Ok; out = canonical_text tree; line = quiet }
 
--- the answer to a source of at most 2^20 bytes: refused where it spells no model, else an answer to its model
-abbrev pub IsTreeAnswer : List ℕ → (ModelTree → Answer → Type 0) → Answer → Type 0
-IsTreeAnswer bytes IsAnswer answer =
-    ((r : Refusal) × IsRefusedBy bytes r × (answer ≡ refusal ends.ModelRefused (refused r)))
-    ⊎ ((tree : ModelTree) × SpellsTree bytes tree × IsAnswer tree answer)
+-- the answer that refuses a source: it has more than 2^20 bytes, or is refused for a reason of this kind
+abbrev pub IsRefusalFor : (List ℕ → Refused → Type 0) → List ℕ → Answer → Type 0
+IsRefusalFor Refuses bytes answer =
+    MatchBool (nat_lt (2 ^ 20) (length bytes)) (answer ≡ refusal ends.ModelRefused too_long) ((r : Refused) × Refuses bytes r × (answer ≡ refusal ends.ModelRefused (refused bytes)))
 
--- the answer to a source
-abbrev pub IsSourceAnswer : List ℕ → (ModelTree → Answer → Type 0) → Answer → Type 0
-IsSourceAnswer bytes IsAnswer answer =
-    MatchBool (nat_lt (2 ^ 20) (length bytes)) (answer ≡ refusal ends.ModelRefused too_long) (IsTreeAnswer bytes IsAnswer answer)
+-- the answer that refuses a source which means no machine
+abbrev pub IsSourceRefusal : List ℕ → Answer → Type 0
+IsSourceRefusal bytes answer = IsRefusalFor IsRefused bytes answer
 
--- the answer to `run` on a source
+-- the answer that refuses a source which spells no model
+abbrev pub IsTreeRefusal : List ℕ → Answer → Type 0
+IsTreeRefusal bytes answer = IsRefusalFor IsUnspelled bytes answer
+
+-- a source of at most 2^20 bytes means this machine, with quanta of at least this share of their levels
+pub record IsSourceMachine (share : ℕ) (bytes : List ℕ) (m : Machine) : Type 0 where
+  pub short : length bytes ≤ 2 ^ 20
+  pub plain : Machine
+  pub means : Means bytes plain
+  pub shared : IsShared share plain m
+
+-- a source of at most 2^20 bytes spells this model
+pub record IsSourceTree (bytes : List ℕ) (tree : ModelTree) : Type 0 where
+  pub short : length bytes ≤ 2 ^ 20
+  pub spelled : SpellsTree bytes tree
+
+-- the answer to `run` on a source: it is refused, or the run of its machine is printed
 abbrev pub IsRunAnswer : RunOptions → List ℕ → Answer → Type 0
-IsRunAnswer options bytes answer = IsSourceAnswer bytes (λ tree. IsMeaningAnswer options bytes) answer
+IsRunAnswer options bytes answer = IsSourceRefusal bytes answer ⊎ ((m : Machine) × IsSourceMachine options.share bytes m × (answer ≡ printed options m))
 
--- the answer to `print` on a source
+-- the answer to `print` on a source: it is refused, or its model is printed
 abbrev pub IsPrintAnswer : List ℕ → Answer → Type 0
-IsPrintAnswer bytes answer = IsSourceAnswer bytes (λ tree answer. answer ≡ printed_text tree) answer
+IsPrintAnswer bytes answer = IsTreeRefusal bytes answer ⊎ ((tree : ModelTree) × IsSourceTree bytes tree × (answer ≡ printed_text tree))
+
+-- how the program ends that refuses a certificate
+abbrev pub status_of_refusal : CertificateRefusal → Status
+status_of_refusal (certs.Outside why) = ends.Rejected
+status_of_refusal certs.TooLong = ends.CertRefused
+status_of_refusal (certs.Unread why) = ends.CertRefused
+status_of_refusal (certs.Rejected verdict) = ends.Rejected
+
+-- the answer that refuses a certificate
+abbrev pub uncertifying : CertificateRefusal → Answer
+uncertifying why = refusal (status_of_refusal why) (uncertified why)
+
+-- the answer of the program by that to a machine and the bytes of a certificate
+abbrev pub certificate_answer : Certificates.Answer → Answer
+certificate_answer (Certificates.refused why) = uncertifying why
+certificate_answer (Certificates.written text) = record { status = ends.Ok; out = text; line = quiet }
+
+abbrev pub IsCertificateAnswer : (Certificates.Answer → Type 0) → Answer → Type 0
+IsCertificateAnswer IsSuch answer = (such : Certificates.Answer) × IsSuch such × (answer ≡ certificate_answer such)
 
 -- what is replied: an answer; none, since a file is not on the shelf; or an answer to this command that cannot be named, since the shelf does not tell its files
 pub data Reply : Type 0 where
@@ -121,10 +174,30 @@ Finds (Some files) name found = found ≡ file_of files name
 abbrev pub Reads : Option Files → List ℕ → (List ℕ → Told → Type 0) → Told → Type 0
 Reads files name Leads told = (found : Option (List ℕ)) × Finds files name found × ReadsThen name Leads found told
 
+-- a machine leads on where certificates can speak of it
+abbrev pub InScope : Machine → (Told → Type 0) → Told → Type 0
+InScope m Leads told =
+    ((why : Outside) × IsOutsideBy m why × Says (λ answer. answer ≡ uncertifying (certs.Outside why)) told)
+    ⊎ (IsInScope m × Leads told)
+
+-- a source leads on with its machine, where it has one
+abbrev pub ByMachine : ℕ → List ℕ → (Machine → Told → Type 0) → Told → Type 0
+ByMachine share bytes Leads told = Says (IsSourceRefusal bytes) told ⊎ ((m : Machine) × IsSourceMachine share bytes m × Leads m told)
+
+-- a certificate of a machine is read, where there can be one
+abbrev pub ReadsCertificate : List ℕ → (Machine → List ℕ → Certificates.Answer → Type 0) → Machine → Option Files → Told → Type 0
+ReadsCertificate certificate IsSuch m files told = InScope m (Reads files certificate (λ text. Says (IsCertificateAnswer (IsSuch m text)))) told
+
+-- a model and then a certificate of its machine are read
+abbrev pub ReadsBoth : ℕ → List ℕ → List ℕ → (Machine → List ℕ → Certificates.Answer → Type 0) → Option Files → Told → Type 0
+ReadsBoth share model certificate IsSuch files told = Reads files model (λ bytes. ByMachine share bytes (λ m. ReadsCertificate certificate IsSuch m files)) told
+
 -- a command leads to what is told, or may lead to it where no files are told
 abbrev pub LeadsTo : Command → Option Files → Told → Type 0
 LeadsTo (run_model model options) files told = Reads files model (λ bytes. Says (IsRunAnswer options bytes)) told
 LeadsTo (print_model model) files told = Reads files model (λ bytes. Says (IsPrintAnswer bytes)) told
+LeadsTo (certify_model model certificate share) files told = ReadsBoth share model certificate IsCertification files told
+LeadsTo (upgrade_model model certificate) files told = ReadsBoth 0 model certificate IsUpgrade files told
 
 -- for some bytes that the command reads, the answer to it is such a one
 abbrev pub MayAnswer : Command → (Answer → Type 0) → Type 0

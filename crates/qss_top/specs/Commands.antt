@@ -18,6 +18,8 @@ pub record RunOptions : Type 0 where
 pub data Command : Type 0 where
   run_model : (model : List ℕ) → (options : RunOptions) → Command
   print_model : (model : List ℕ) → Command
+  certify_model : (model certificate : List ℕ) → (share : ℕ) → Command
+  upgrade_model : (model certificate : List ℕ) → Command
 
 -- the rule of this name
 abbrev pub rule_named : List ℕ → Option Rule
@@ -56,13 +58,24 @@ command_by verb model s =
     if bytes_eq verb (codes "run") then option_map (run_model model) (options_of s)
     else (if bytes_eq verb (codes "print") && is_bare s then Some (print_model model) else None)
 
+-- the share that is said, where no other option is
+abbrev pub share_alone : Said → Option ℕ
+share_alone s = if is_some s.rule || is_some s.only then None else share_of s.relative
+
+-- the command of a verb with the two names behind it
+abbrev pub command_of_two : List ℕ → List ℕ → List ℕ → Said → Option Command
+command_of_two verb model certificate s =
+    if bytes_eq verb (codes "certify") then option_map (certify_model model certificate) (share_alone s)
+    else (if bytes_eq verb (codes "upgrade") && is_bare s then Some (upgrade_model model certificate) else None)
+
 -- the command that is said, where no option is without a value
 abbrev pub command_said : Said → Option Command
-command_said s = by s.awaited s.verb s.name
+command_said s = by s.awaited s.verb s.name s.other
   where
-    by : Option Flag → Option (List ℕ) → Option (List ℕ) → Option Command
-    by None (Some verb) (Some model) = command_by verb model s
-    by _ _ _ = None
+    by : Option Flag → Option (List ℕ) → Option (List ℕ) → Option (List ℕ) → Option Command
+    by None (Some verb) (Some model) None = command_by verb model s
+    by None (Some verb) (Some model) (Some certificate) = command_of_two verb model certificate s
+    by _ _ _ _ = None
 
 -- the command that the words give
 abbrev pub command_of : List (List ℕ) → Option Command
@@ -72,3 +85,5 @@ command_of words = option_and_then command_said (say_all nothing_said words)
 abbrev pub files_of : Command → List (List ℕ)
 files_of (run_model model options) = model ∷ []
 files_of (print_model model) = model ∷ []
+files_of (certify_model model certificate share) = model ∷ certificate ∷ []
+files_of (upgrade_model model certificate) = model ∷ certificate ∷ []

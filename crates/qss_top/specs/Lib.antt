@@ -1,13 +1,10 @@
-pub mod FirstForm
-pub mod Meanings
-pub mod Trees
+pub mod Shares
 pub mod Saying
 pub mod Commands
 pub mod Words
+pub mod Certificates
 pub mod Answers
 pub mod Statuses
 pub mod TopCall
 pub mod Laws
-pub mod Reading
-pub mod Scaling
 pub mod Outcomes

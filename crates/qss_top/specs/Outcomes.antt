@@ -1,11 +1,15 @@
 -- What became of a command, and what it meets of what is told.
-use Rattle.std.specs.Prelude.{◌≡◌, ℕ, List, [], codes, Contains, Bool, true, false, Option, Some, None, IfSome}
+use Rattle.std.specs.Prelude.{◌≡◌, ◌⊎◌, ℕ, List, [], codes, Contains, Bool, true, false, Option, Some, None, IfSome, if◌then◌else◌}
 use Rattle.std.specs.Io.KnownBytes.{Appends}
 use Rattle.mu_io.specs.Files.{Files}
 use Rattle.mu_io.specs.Sinks.{AppendsPrefix}
-use Rattle.qss_top.specs.Answers.{Answer, Line, quiet, usage, too_long, no_form, refused, over, Reply, answered, absent, untold, MayAnswer, Told, Tells}
+use Rattle.qss_compile.specs.Causes.{is_memory}
+use Rattle.qss_compile.specs.Lines as Refusals
+use Rattle.qss_compile.specs.declared.fault.Refused.{Refused}
+use Rattle.cert_answer.specs.Endings.{refusal_line}
+use Rattle.qss_top.specs.Answers.{Answer, Told, Tells, answered, status_of_refusal, usage_line, too_long_line, overflow_line}
 use Rattle.qss_top.specs.Statuses.{is_defined}
-use Rattle.qss_top.specs.TopCall.{IsReplied, text_of, SomeRose}
+use Rattle.qss_top.specs.TopCall.{IsReplied, IsReplyLine, text_of, SomeRose}
 use Rattle.qss_top.specs.declared.outcome.Outcome.{Outcome}
 use Rattle.qss_top.specs.declared.outcome.Outcome.TheVariants as outcome
 use Rattle.qss_top.specs.declared.status.Status.{Status}
@@ -18,45 +22,45 @@ status_of outcome.Usage = ends.Usage
 status_of outcome.ReadFault = ends.ReadFault
 status_of outcome.WriteFault = ends.WriteFault
 status_of outcome.TooLong = ends.ModelRefused
-status_of outcome.NoForm = ends.ModelRefused
 status_of (outcome.Refused r) = ends.ModelRefused
 status_of (outcome.Overflow name tick) = ends.Overflow
+status_of (outcome.Uncertified why) = status_of_refusal why
 status_of outcome.Memory = ends.Memory
 
--- what its line says, where it comes of a defined answer
-abbrev pub line_of : Outcome → Line
-line_of outcome.Done = quiet
-line_of outcome.Usage = usage
-line_of outcome.ReadFault = quiet
-line_of outcome.WriteFault = quiet
-line_of outcome.TooLong = too_long
-line_of outcome.NoForm = no_form
-line_of (outcome.Refused r) = refused r
-line_of (outcome.Overflow name tick) = over name tick
-line_of outcome.Memory = quiet
+-- the text of its line, where it comes of a defined answer
+abbrev pub line_text : Outcome → List ℕ
+line_text outcome.Usage = usage_line
+line_text outcome.TooLong = too_long_line
+line_text (outcome.Refused r) = Refusals.line_of r
+line_text (outcome.Overflow name tick) = overflow_line name tick
+line_text (outcome.Uncertified why) = refusal_line why
+line_text _ = []
+
+-- the outcome of a refusal, which may be want of memory
+abbrev pub refused_so : Refused → Outcome
+refused_so r = if is_memory r.error then outcome.Memory else outcome.Refused r
+
+-- the outcome of a refusal for a reason of this kind, or of want of memory
+abbrev pub IsRefusedFor : (Refused → Type 0) → Outcome → Type 0
+IsRefusedFor Refuses what = (what ≡ outcome.Memory) ⊎ ((r : Refused) × Refuses r × (what ≡ outcome.Refused r))
 
 -- whether the line of an outcome is made in memory
 abbrev pub takes_memory : Outcome → Bool
 takes_memory (outcome.Refused r) = true
 takes_memory (outcome.Overflow name tick) = true
+takes_memory (outcome.Uncertified why) = true
 takes_memory _ = false
 
 -- the outcome is that of the answer, or a write fault or want of memory, and no more than the answer's text was written
 pub record IsOutcome (answer : Answer) (what : Outcome) (old new : Option (List ℕ)) (before now : ℕ) : Type 0 where
-  pub defined : is_defined (status_of what) ≡ true → (status_of what ≡ answer.status) × (line_of what ≡ answer.line) × Appends old new answer.out
+  pub defined : is_defined (status_of what) ≡ true → (status_of what ≡ answer.status) × Tells answer.line (line_text what) × Appends old new answer.out
   pub prefix : AppendsPrefix old new answer.out
   pub quiet : answer.out ≡ [] → now ≡ before
-
--- the line that an outcome has in a reply, with its status and with what was written
-abbrev pub HasLine : Reply → Status → Option (List ℕ) → Option (List ℕ) → Line → Type 0
-HasLine (answered answer) status old new line = line ≡ answer.line
-HasLine absent status old new line = Unit {0}
-HasLine (untold command) status old new line = MayAnswer command (λ answer. (status ≡ answer.status) × Appends old new answer.out × (line ≡ answer.line))
 
 -- the outcome is one for what is told: its status, its line and what was written, and which counts rose
 pub record Meets (told : Told) (what : Outcome) (old new : Option (List ℕ)) (out_before out_now : ℕ) (before now : List ℕ → ℕ) : Type 0 where
   pub replied : IsReplied told.reply (status_of what) old new
-  pub line : is_defined (status_of what) ≡ true → HasLine told.reply (status_of what) old new (line_of what)
+  pub line : is_defined (status_of what) ≡ true → IsReplyLine told.reply (status_of what) old new (line_text what)
   pub prefix : IfSome (text_of told.reply) (λ text. AppendsPrefix old new text)
   pub quiet : text_of told.reply ≡ Some [] → out_now ≡ out_before
   pub read_fault : what ≡ outcome.ReadFault → SomeRose told.arrivals before now
@@ -75,4 +79,4 @@ IsReported ends.Ok what line = line ≡ []
 IsReported ends.ReadFault what line = line ≡ codes "read fault\n"
 IsReported ends.WriteFault what line = line ≡ codes "write fault\n"
 IsReported ends.Memory what line = line ≡ codes "out of memory\n"
-IsReported _ what line = Tells (line_of what) line
+IsReported _ what line = line ≡ line_text what

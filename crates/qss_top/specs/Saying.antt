@@ -4,10 +4,11 @@ use Rattle.std.specs.List.{starts_with}
 use Rattle.qss_top.specs.declared.words.Flag.{Flag}
 use Rattle.qss_top.specs.declared.words.Flag.TheVariants.{Rule, Only, Relative}
 
--- what is said up to a word: the verb, the name behind it and the values of the options; whether all later words stand alone; and the option whose value comes next
+-- what is said up to a word: the verb, the name behind it, the name behind that and the values of the options; whether all later words stand alone; and the option whose value comes next
 pub record Said : Type 0 where
   pub verb : Option (List ℕ)
   pub name : Option (List ℕ)
+  pub other : Option (List ℕ)
   pub rule : Option (List ℕ)
   pub only : Option (List ℕ)
   pub relative : Option (List ℕ)
@@ -16,7 +17,7 @@ pub record Said : Type 0 where
 
 -- nothing
 abbrev pub nothing_said : Said
-nothing_said = record { verb = None; name = None; rule = None; only = None; relative = None; all_alone = false; awaited = None }
+nothing_said = record { verb = None; name = None; other = None; rule = None; only = None; relative = None; all_alone = false; awaited = None }
 
 -- a word that is no option: it does not begin with a hyphen, or is nothing else
 abbrev pub is_plain : List ℕ → Bool
@@ -36,14 +37,15 @@ flag_and_value word =
     else (if starts_with nat_eq word (codes "--only=") then Some (Only, drop 7 word)
     else (if starts_with nat_eq word (codes "--relative=") then Some (Relative, drop 11 word) else None))
 
--- a word that stands alone is the verb, or the name behind it, and there is no third
+-- a word that stands alone is the verb, the name behind it, or the name behind that, and there is no fourth
 abbrev pub say_alone : Said → List ℕ → Option Said
-say_alone s word = by s.verb s.name
+say_alone s word = by s.verb s.name s.other
   where
-    by : Option (List ℕ) → Option (List ℕ) → Option Said
-    by None name = Some (record s { verb = Some word })
-    by (Some verb) None = Some (record s { name = Some word })
-    by (Some verb) (Some name) = None
+    by : Option (List ℕ) → Option (List ℕ) → Option (List ℕ) → Option Said
+    by None name other = Some (record s { verb = Some word })
+    by (Some verb) None other = Some (record s { name = Some word })
+    by (Some verb) (Some name) None = Some (record s { other = Some word })
+    by (Some verb) (Some name) (Some other) = None
 
 -- an option has one value and is given once
 abbrev pub say_value : Said → Flag → List ℕ → Option Said

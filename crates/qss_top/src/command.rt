@@ -3,17 +3,17 @@ ghost use Rattle.std.specs.Prelude.{length, ◌≡◌, ◌≢◌, ◌≤◌, ◌
 ghost use Rattle.mu_io.specs.Faults.{OnlyCounts};
 ghost use Rattle.mu_io.specs.Sinks.{EndsByFault};
 ghost use Rattle.mu_tree.specs.ModelTree.{model};
-ghost use Rattle.qss_top.specs.Answers.{Answer, Told, IsMeaningAnswer, IsTreeAnswer, printed, printed_text, LeadsTo, IsTold};
-ghost use Rattle.qss_top.specs.Commands.{command_by, command_said, command_of, files_of};
+ghost use Rattle.qss_top.specs.Answers.{Answer, Told, IsRunAnswer, IsPrintAnswer, printed, printed_text, LeadsTo, IsTold};
+ghost use Rattle.qss_top.specs.Commands.{command_by, command_of_two, command_said, command_of, files_of};
 ghost use Rattle.qss_top.specs.Outcomes.{IsOutcome, Meets, Serves, status_of};
 ghost use Rattle.qss_top.specs.Statuses.{leaves_out};
-ghost use Rattle.qss_top.specs.Words.{command_in, command_with, options_in, said_in, IsAnswerTo};
+ghost use Rattle.qss_top.specs.Words.{command_in, command_with, options_in, said_in, IsTaskAnswer};
 
-use crate::machine::machine_of;
-use crate::options::Options;
+use crate::certificate::on_certificate;
+use crate::options::{Deed, Options};
 use crate::outcome::Outcome;
-use crate::tree::{TreeErr, read_model};
-use crate::values::{is_bare, options_said};
+use crate::source::{machine_of, model_of};
+use crate::values::{is_bare, options_said, share_alone};
 use crate::words::Said;
 use mu_io::{Name, ReadErr, Shelf, Sink, WriteErr, read_all, write_all};
 use mu_tree::canonical::write_model;
@@ -23,7 +23,7 @@ use qss_play::{Played, play};
 use std::alloc::{AllocError, Global};
 
 // The longest model that is read, in bytes.
-const MODEL_LIMIT: usize = 1 << 20;
+pub(crate) const MODEL_LIMIT: usize = 1 << 20;
 
 /// What is done with a model.
 #[derive(Clone, Copy, Debug)]
@@ -32,11 +32,18 @@ pub enum Task<'a> {
     Print,
 }
 
-/// What the words ask for: what is done with the model of a name.
+/// What the words ask for: what is done with the model of a name, or with it and the certificate of another.
 #[derive(Clone, Copy, Debug)]
-pub struct Request<'a> {
-    pub task: Task<'a>,
-    pub model: &'a str,
+pub enum Request<'a> {
+    Source {
+        task: Task<'a>,
+        model: &'a str,
+    },
+    Certificate {
+        deed: Deed,
+        model: &'a str,
+        certificate: &'a str,
+    },
 }
 
 // What the words ask for, where they are a command.
@@ -51,8 +58,11 @@ fn requested<'a>(words: &[&'a str]) -> Option<Request<'a>>
 fn request_said<'a>(said: Said<'a>) -> Option<Request<'a>>
     ensures { option_map command_in result ≡ command_said (said_in said.entry) }
 {
-    match (said.awaited, said.verb, said.name) {
-        (None, Some(verb), Some(model)) => request_by(verb, model, said),
+    match (said.awaited, said.verb, said.name, said.other) {
+        (None, Some(verb), Some(model), None) => request_by(verb, model, said),
+        (None, Some(verb), Some(model), Some(certificate)) => {
+            request_of_two(verb, model, certificate, said)
+        }
         _ => None,
     }
 }
@@ -64,11 +74,40 @@ fn request_by<'a>(verb: &str, model: &'a str, said: Said<'a>) -> Option<Request<
     if verb == "run" {
         let options = options_said(said)?;
         let task = Task::Run(options);
-        return Some(Request { task, model });
+        return Some(Request::Source { task, model });
     }
     if verb == "print" && is_bare(said) {
         let task = Task::Print;
-        return Some(Request { task, model });
+        return Some(Request::Source { task, model });
+    }
+    None
+}
+
+// What a verb asks for with the model and the certificate of two names.
+fn request_of_two<'a>(
+    verb: &str,
+    model: &'a str,
+    certificate: &'a str,
+    said: Said<'a>,
+) -> Option<Request<'a>>
+    ensures { option_map command_in result ≡ command_of_two verb.now model.now certificate.now (said_in said.entry) }
+{
+    if verb == "certify" {
+        let share = share_alone(said)?;
+        let deed = Deed::Certify(share);
+        return Some(Request::Certificate {
+            deed,
+            model,
+            certificate,
+        });
+    }
+    if verb == "upgrade" && is_bare(said) {
+        let deed = Deed::Upgrade;
+        return Some(Request::Certificate {
+            deed,
+            model,
+            certificate,
+        });
     }
     None
 }
@@ -90,7 +129,14 @@ pub(crate) fn answer<S: Shelf, O: Sink>(
     ensures unharmed { result ≢ Outcome.ReadFault → (name : List ℕ) → S.faults shelf.new name ≡ S.faults shelf.old name }
 {
     match requested(words) {
-        Some(request) => on_file(alloc, request.task, request.model, shelf, out),
+        Some(Request::Source { task, model }) => on_file(alloc, task, model, shelf, out),
+        Some(
+            Request::Certificate {
+                deed,
+                model,
+                certificate,
+            },
+        ) => on_certificate(alloc, deed, model, certificate, shelf, out),
         None => Outcome::Usage,
     }
 }
@@ -120,26 +166,10 @@ fn on_file<S: Shelf, O: Sink>(
     }
 }
 
-// Does this with the model that a source spells.
+// Does this with the model that a source spells, or with the machine that it means.
 fn on_source<O: Sink>(alloc: Global, task: Task, bytes: &[u8], out: &mut O) -> Outcome
     requires { length bytes.now ≤ 2 ^ 20 }
-    ensures outcome { (answer : Answer) → IsTreeAnswer bytes.now (IsAnswerTo task.entry bytes.now) answer → IsOutcome answer result (O.written out.old) (O.written out.new) (O.faults out.old) (O.faults out.new) }
-    ensures not_usage { result ≢ Outcome.Usage }
-    ensures not_read { result ≢ Outcome.ReadFault }
-    ensures untouched { leaves_out (status_of result) ≡ true → out.new ≡ out.old }
-    ensures calm { result ≢ Outcome.WriteFault → O.faults out.new ≡ O.faults out.old }
-    ensures last { result ≡ Outcome.WriteFault → EndsByFault O.written O.faults out.old out.new }
-{
-    match read_model(alloc, bytes) {
-        Ok(tree) => on_tree(alloc, task, bytes, &tree, out),
-        Err(TreeErr::Refused(refusal)) => Outcome::Refused(refusal),
-        Err(TreeErr::Memory) => Outcome::Memory,
-    }
-}
-
-// Does this with a source and its model.
-fn on_tree<O: Sink>(alloc: Global, task: Task, bytes: &[u8], tree: &Model, out: &mut O) -> Outcome
-    ensures outcome { (answer : Answer) → IsAnswerTo task.entry bytes.now (model tree.now) answer → IsOutcome answer result (O.written out.old) (O.written out.new) (O.faults out.old) (O.faults out.new) }
+    ensures outcome { (answer : Answer) → IsTaskAnswer task.entry bytes.now answer → IsOutcome answer result (O.written out.old) (O.written out.new) (O.faults out.old) (O.faults out.new) }
     ensures not_usage { result ≢ Outcome.Usage }
     ensures not_read { result ≢ Outcome.ReadFault }
     ensures untouched { leaves_out (status_of result) ≡ true → out.new ≡ out.old }
@@ -148,7 +178,23 @@ fn on_tree<O: Sink>(alloc: Global, task: Task, bytes: &[u8], tree: &Model, out: 
 {
     match task {
         Task::Run(options) => run_source(alloc, options, bytes, out),
-        Task::Print => print_model(alloc, tree, out),
+        Task::Print => print_source(alloc, bytes, out),
+    }
+}
+
+// Writes the canonical text of the model that a source spells.
+fn print_source<O: Sink>(alloc: Global, bytes: &[u8], out: &mut O) -> Outcome
+    requires { length bytes.now ≤ 2 ^ 20 }
+    ensures outcome { (answer : Answer) → IsPrintAnswer bytes.now answer → IsOutcome answer result (O.written out.old) (O.written out.new) (O.faults out.old) (O.faults out.new) }
+    ensures not_usage { result ≢ Outcome.Usage }
+    ensures not_read { result ≢ Outcome.ReadFault }
+    ensures untouched { leaves_out (status_of result) ≡ true → out.new ≡ out.old }
+    ensures calm { result ≢ Outcome.WriteFault → O.faults out.new ≡ O.faults out.old }
+    ensures last { result ≡ Outcome.WriteFault → EndsByFault O.written O.faults out.old out.new }
+{
+    match model_of(alloc, bytes) {
+        Ok(tree) => print_model(alloc, &tree, out),
+        Err(what) => what,
     }
 }
 
@@ -170,17 +216,17 @@ fn print_model<O: Sink>(alloc: Global, tree: &Model, out: &mut O) -> Outcome
 
 // Runs the machine that a source means.
 fn run_source<O: Sink>(alloc: Global, options: Options, bytes: &[u8], out: &mut O) -> Outcome
-    ensures outcome { (answer : Answer) → IsMeaningAnswer (options_in options.entry) bytes.now answer → IsOutcome answer result (O.written out.old) (O.written out.new) (O.faults out.old) (O.faults out.new) }
+    requires { length bytes.now ≤ 2 ^ 20 }
+    ensures outcome { (answer : Answer) → IsRunAnswer (options_in options.entry) bytes.now answer → IsOutcome answer result (O.written out.old) (O.written out.new) (O.faults out.old) (O.faults out.new) }
     ensures not_usage { result ≢ Outcome.Usage }
     ensures not_read { result ≢ Outcome.ReadFault }
     ensures untouched { leaves_out (status_of result) ≡ true → out.new ≡ out.old }
     ensures calm { result ≢ Outcome.WriteFault → O.faults out.new ≡ O.faults out.old }
     ensures last { result ≡ Outcome.WriteFault → EndsByFault O.written O.faults out.old out.new }
 {
-    match machine_of(alloc, bytes) {
-        Ok(Some(m)) => run_machine(alloc, options, m.with_relative(options.share), out),
-        Ok(None) => Outcome::NoForm,
-        Err(_) => Outcome::Memory,
+    match machine_of(alloc, options.share, bytes) {
+        Ok(m) => run_machine(alloc, options, m, out),
+        Err(what) => what,
     }
 }
 

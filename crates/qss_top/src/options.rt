@@ -1,4 +1,4 @@
-// The options of a run.
+// The options of the commands.
 ghost use Rattle.std.specs.Prelude.{◌≤◌};
 
 use qss_quant::Rule;
@@ -11,4 +11,18 @@ pub struct Options<'a> {
     pub only: Option<&'a [u8]>,
     pub share: u16,
     pub ghost within: { share ≤ 2048 },
+}
+
+/// The least share of their levels that quanta have, in 4096ths.
+#[derive(Clone, Copy, Debug)]
+pub struct Share {
+    pub share: u16,
+    pub ghost within: { share ≤ 2048 },
+}
+
+/// What is done with a certificate of a model.
+#[derive(Clone, Copy, Debug)]
+pub enum Deed {
+    Certify(Share),
+    Upgrade,
 }

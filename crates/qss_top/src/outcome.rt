@@ -1,12 +1,13 @@
 // What became of a command, and the line that tells it.
 ghost use Rattle.std.specs.Prelude.{true, ◌≡◌, ◌⊎◌, ◌≤◌, ℕ, List, codes, IfOk};
-ghost use Rattle.qss_top.specs.Answers.{Tells, over, refused};
+ghost use Rattle.qss_top.specs.Answers.{overflow_line, status_of_refusal};
 ghost use Rattle.qss_top.specs.Outcomes as Spec;
 ghost use Rattle.qss_top.specs.TopCall.{WritesLine};
 
 use crate::Status;
-use crate::tree::Refusal;
+use cert_answer::{CertificateRefusal, refusal_line as certificate_line};
 use mu_io::{Name, Sink, write_all};
+use qss_compile::{ModelErr, Refused, refusal_line};
 use std::alloc::{AllocError, Global};
 
 /// What became of a command.
@@ -17,10 +18,24 @@ pub enum Outcome {
     ReadFault,
     WriteFault,
     TooLong,
-    NoForm,
-    Refused(Refusal),
+    Refused(Refused),
     Overflow { name: Name, tick: u64 },
+    Uncertified(CertificateRefusal),
     Memory,
+}
+
+impl From<Refused> for Outcome {
+    ghost use Rattle.std.specs.Prelude.{◌≡◌};
+    ghost use Rattle.qss_top.specs.Outcomes.{refused_so};
+
+    ghost from_gives = { λ refused what. what ≡ refused_so refused };
+
+    fn from(refused: Refused) -> Outcome {
+        match refused.error {
+            ModelErr::Memory => Outcome::Memory,
+            _ => Outcome::Refused(refused),
+        }
+    }
 }
 
 /// Writes the line of an outcome. Where the memory for it is not found, that is told in its place.
@@ -40,8 +55,7 @@ pub(crate) fn report<E: Sink>(alloc: Global, outcome: &Outcome, err: &mut E) -> 
         Outcome::ReadFault => tell(Status::ReadFault, b"read fault\n", err),
         Outcome::WriteFault => tell(Status::WriteFault, b"write fault\n", err),
         Outcome::TooLong => tell(Status::ModelRefused, b"refused: top 1\n", err),
-        Outcome::NoForm => tell(Status::ModelRefused, b"refused: top 2\n", err),
-        Outcome::Refused(refusal) => match refusal_text(alloc, *refusal) {
+        Outcome::Refused(refused) => match refusal_line(alloc, refused) {
             Ok(line) => tell(Status::ModelRefused, &line, err),
             Err(_) => tell(Status::Memory, b"out of memory\n", err),
         },
@@ -49,7 +63,21 @@ pub(crate) fn report<E: Sink>(alloc: Global, outcome: &Outcome, err: &mut E) -> 
             Ok(line) => tell(Status::Overflow, &line, err),
             Err(_) => tell(Status::Memory, b"out of memory\n", err),
         },
+        Outcome::Uncertified(why) => match certificate_line(alloc, *why) {
+            Ok(line) => tell(refusal_status(*why), &line, err),
+            Err(_) => tell(Status::Memory, b"out of memory\n", err),
+        },
         Outcome::Memory => tell(Status::Memory, b"out of memory\n", err),
+    }
+}
+
+// How the program ends that refuses a certificate.
+fn refusal_status(why: CertificateRefusal) -> Status
+    ensures { result ≡ status_of_refusal why }
+{
+    match why {
+        CertificateRefusal::Outside(_) | CertificateRefusal::Rejected(_) => Status::Rejected,
+        CertificateRefusal::TooLong | CertificateRefusal::Unread(_) => Status::CertRefused,
     }
 }
 
@@ -64,28 +92,13 @@ fn tell<E: Sink>(status: Status, line: &[u8], err: &mut E) -> Status
 }
 
 fn overflow_text(alloc: Global, name: &[u8], tick: u64) -> Result<Vec<u8>, AllocError>
-    ensures { IfOk result (λ line. Tells (over name.now tick) line.items) }
+    ensures { IfOk result (λ line. line.items ≡ overflow_line name.now tick) }
 {
     let tick = tick.to_string(alloc)?;
     let mut line = b"overflow: ".to_vec(alloc)?;
     line.extend_from_slice(name)?;
     line.extend_from_slice(b" at tick ")?;
     line.extend_from_slice(tick.as_bytes())?;
-    line.extend_from_slice(b"\n")?;
-    Ok(line)
-}
-
-fn refusal_text(alloc: Global, refusal: Refusal) -> Result<Vec<u8>, AllocError>
-    ensures { IfOk result (λ line. Tells (refused refusal) line.items) }
-{
-    let number = refusal.number.to_string(alloc)?;
-    let place = refusal.place.to_string(alloc)?;
-    let mut line = b"refused: ".to_vec(alloc)?;
-    line.extend_from_slice(refusal.phase.text())?;
-    line.extend_from_slice(b" ")?;
-    line.extend_from_slice(number.as_bytes())?;
-    line.extend_from_slice(b" ")?;
-    line.extend_from_slice(place.as_bytes())?;
     line.extend_from_slice(b"\n")?;
     Ok(line)
 }

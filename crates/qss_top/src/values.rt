@@ -4,7 +4,7 @@ ghost use Rattle.qss_top.specs.Commands as Spec;
 ghost use Rattle.qss_top.specs.Words.{options_in, said_in};
 
 use crate::digits::{are_digits, number};
-use crate::options::Options;
+use crate::options::{Options, Share};
 use crate::words::Said;
 use qss_quant::Rule;
 
@@ -19,6 +19,17 @@ pub(crate) fn options_said<'a>(said: Said<'a>) -> Option<Options<'a>>
         only: said.only,
         share,
     })
+}
+
+/// The share that is said, where no other option is.
+pub(crate) fn share_alone(said: Said) -> Option<Share>
+    ensures { option_map (λ found. found.share) result ≡ Spec.share_alone (said_in said.entry) }
+{
+    if said.rule.is_some() || said.only.is_some() {
+        return None;
+    }
+    let share = share_of(said.relative)?;
+    Some(Share { share })
 }
 
 /// Whether no option is said.

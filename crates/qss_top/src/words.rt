@@ -11,12 +11,13 @@ pub enum Flag {
     Relative,
 }
 
-/// What is said up to a word: the verb, the name behind it and the values of the options; whether all later words
-/// stand alone; and the option whose value comes next.
+/// What is said up to a word: the verb, the name behind it, the name behind that and the values of the options; whether
+/// all later words stand alone; and the option whose value comes next.
 #[derive(Clone, Copy, Debug)]
 pub struct Said<'a> {
     pub verb: Option<&'a str>,
     pub name: Option<&'a str>,
+    pub other: Option<&'a str>,
     pub rule: Option<&'a [u8]>,
     pub only: Option<&'a [u8]>,
     pub relative: Option<&'a [u8]>,
@@ -73,6 +74,7 @@ impl<'a> Said<'a> {
         Said {
             verb: None,
             name: None,
+            other: None,
             rule: None,
             only: None,
             relative: None,
@@ -98,20 +100,24 @@ impl<'a> Said<'a> {
         }
     }
 
-    // A word that stands alone is the verb, or the name behind it.
+    // A word that stands alone is the verb, the name behind it, or the name behind that.
     fn say_alone(self, word: &'a str) -> Option<Said<'a>>
         ensures { option_map said_in result ≡ say_alone (said_in self.entry) word.now }
     {
-        match (self.verb, self.name) {
-            (None, _) => Some(Said {
+        match (self.verb, self.name, self.other) {
+            (None, _, _) => Some(Said {
                 verb: Some(word),
                 ..self
             }),
-            (Some(_), None) => Some(Said {
+            (Some(_), None, _) => Some(Said {
                 name: Some(word),
                 ..self
             }),
-            (Some(_), Some(_)) => None,
+            (Some(_), Some(_), None) => Some(Said {
+                other: Some(word),
+                ..self
+            }),
+            (Some(_), Some(_), Some(_)) => None,
         }
     }
 

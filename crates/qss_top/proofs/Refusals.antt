@@ -1,0 +1,30 @@
+-- The outcome of a refusal.
+use Rattle.std.proofs.Common.{◌≡◌, ◌≢◌, Bool, true, false, refl, sym, ap, ◌∙◌, inl, inr}
+use Rattle.std.specs.Prelude.{if◌then◌else◌}
+use Rattle.qss_compile.specs.Causes.{is_memory}
+use Rattle.qss_compile.specs.Meanings.{IsErr}
+use Rattle.qss_compile.specs.declared.fault.Refused.{Refused}
+use Rattle.qss_top.specs.Outcomes.{IsRefusedFor, refused_so}
+use Rattle.qss_top.specs.declared.outcome.Outcome.{Outcome}
+use Rattle.qss_top.specs.declared.outcome.Outcome.TheVariants as outcome
+
+module _ (Refuses : Refused → Type 0) where
+  by : (r : Refused) (b : Bool) → is_memory r.error ≡ b → IsErr Refuses r → IsRefusedFor Refuses (if b then outcome.Memory else outcome.Refused r)
+  by r true e h = inl refl
+  by r false e (inl memory) = absurd (cc (sym (ap is_memory memory) ∙ e))
+  by r false e (inr refuses) = inr (r, refuses, refl)
+
+  pub refused_for : (r : Refused) → IsErr Refuses r → IsRefusedFor Refuses (refused_so r)
+  refused_for r h = by r (is_memory r.error) refl h
+
+  pub not_usage : (what : Outcome) → IsRefusedFor Refuses what → what ≢ outcome.Usage
+  not_usage what (inl memory) = λ e. cc (memory, e)
+  not_usage what (inr found) = let is = found.2 in λ e. cc (is, e)
+
+  pub not_read : (what : Outcome) → IsRefusedFor Refuses what → what ≢ outcome.ReadFault
+  not_read what (inl memory) = λ e. cc (memory, e)
+  not_read what (inr found) = let is = found.2 in λ e. cc (is, e)
+
+  pub not_write : (what : Outcome) → IsRefusedFor Refuses what → what ≢ outcome.WriteFault
+  not_write what (inl memory) = λ e. cc (memory, e)
+  not_write what (inr found) = let is = found.2 in λ e. cc (is, e)

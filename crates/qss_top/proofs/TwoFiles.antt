@@ -1,0 +1,373 @@
+-- How a command on a model and a certificate serves what is told.
+use Rattle.std.proofs.Common.{◌≡◌, ◌≢◌, ◌+◌, ◌<◌, ◌≤◌, ◌^◌, Bool, true, false, ℕ, List, [], ◌∷◌, ◌++◌, length, pos, refl, sym, ap, ◌∙◌, subst, arith, inl, inr, None, Some, append-nil}
+use Rattle.std.specs.declared.option.Option.{Option}
+use Rattle.std.specs.Prelude.{IfSome, IsSomeAnd, bytes_eq}
+use Rattle.std.specs.Io.KnownBytes.{Appends}
+use Rattle.std.proofs.KnownBytes.{Appends-nil}
+use Rattle.std.proofs.Math.ListN.{replicate}
+use Rattle.std.proofs.lemmas.List.{length-replicate}
+use Rattle.std.proofs.lemmas.Slice.Eq.{bytes_eq-Decides}
+use Rattle.csv.specs.Writing.{default_writer, row_text, row_body, end_text}
+use Rattle.mu_io.specs.Faults.{Rose, OnlyCounts}
+use Rattle.mu_io.specs.Files.{Files, file_of}
+use Rattle.mu_io.specs.Sinks.{AppendsPrefix}
+use Rattle.cert_check.specs.Scope.{IsInScope, IsOutsideBy}
+use Rattle.cert_check.specs.declared.certificate.Certificate.{Certificate}
+use Rattle.cert_check.specs.declared.outside.Outside.{Outside}
+use Rattle.cert_lines.specs.Bounds.{bounds_text, bounds_header, bound_lines}
+use Rattle.cert_text.specs.Lines.{Line as TextLine, lines}
+use Rattle.cert_text.specs.Written.{lines_text, line_text, fields_of_line}
+use Rattle.cert_answer.specs.Answers as Certificates
+use Rattle.cert_answer.specs.Endings.{Ends, MayEnd, text_of as text_of_answer, leaves_out as leaves_sink}
+use Rattle.cert_answer.specs.declared.ending.CertificateRefusal.TheVariants as certs
+use Rattle.cert_answer.specs.declared.ending.Ending.{Ending}
+use Rattle.cert_answer.specs.declared.ending.Ending.TheVariants as ending
+use Rattle.cert_answer.proofs.Bounds.{bounds}
+use Rattle.cert_answer.proofs.Sameness.{one_each}
+use Rattle.cert_answer.proofs.Scopes.{one_outside, not_outside}
+use Rattle.qss_machine.specs.declared.system.Machine.{Machine}
+use Rattle.qss_compile.specs.Meanings.{IsRefused}
+use Rattle.qss_compile.specs.declared.fault.Refused.{Refused}
+use Rattle.qss_top.specs.Answers.{Answer, Line, Tells, refused, Told, Reply, answered, absent, untold, refusal, too_long, IsSourceRefusal, IsSourceMachine, uncertified, uncertifying, certificate_answer, status_of_refusal, IsCertificateAnswer, Says, Reads, InScope, ByMachine, ReadsCertificate, LeadsTo}
+use Rattle.qss_top.specs.Certificates.{IsDone, outcome_by, share_in}
+use Rattle.qss_top.specs.Commands.{files_of}
+use Rattle.qss_top.specs.Outcomes.{IsOutcome, IsRefusedFor, Meets, Serves, status_of, line_text as outcome_text}
+use Rattle.qss_top.specs.Statuses.{leaves_out}
+use Rattle.qss_top.specs.TopCall.{IsReplied, text_of}
+use Rattle.qss_top.specs.Words.{command_on}
+use Rattle.qss_top.specs.declared.options.Deed.{Deed}
+use Rattle.qss_top.specs.declared.options.Deed.TheVariants as deeds
+use Rattle.qss_top.specs.declared.options.Share.{Share}
+use Rattle.qss_top.specs.declared.outcome.Outcome.{Outcome}
+use Rattle.qss_top.specs.declared.outcome.Outcome.TheVariants as outcome
+use Rattle.qss_top.specs.declared.status.Status.{Status}
+use Rattle.qss_top.specs.declared.status.Status.TheVariants as ends
+use Rattle.qss_top.proofs.OutcomeFacts.{no_prefix}
+use Rattle.qss_top.proofs.Sources.{one_source_refusal, one_source_machine, source_fine, short_for, long_refusal}
+use Rattle.qss_top.proofs.Serving.{says_served, read_served, fault_served, memory_served, long_served}
+
+-- a refusal, where nothing was written
+refused_now : (status : Status) (line : Line) (what : Outcome) (old : Option (List ℕ)) (before : ℕ) → status_of what ≡ status → Tells line (outcome_text what) → IsOutcome (refusal status line) what old old before before
+refused_now status line what old before is said = record { defined = λ e. (is, said, Appends-nil old); prefix = no_prefix old []; quiet = λ e. refl }
+
+-- all that is led to is this answer, and nothing more is read
+pub one_served : (files : Option Files) (names : List (List ℕ)) (Leads : Option Files → Told → Type 0) (a : Answer) (what : Outcome) (old : Option (List ℕ)) (out_before : ℕ) (before : List ℕ → ℕ)
+    → ((fs : Files) (t : Told) → Leads (Some fs) t → t ≡ record { arrivals = []; reply = answered a }) → Leads None (record { arrivals = []; reply = answered a })
+    → IsOutcome a what old old out_before out_before → what ≢ outcome.ReadFault → Serves files names Leads what old old out_before out_before before before
+one_served files names Leads a what old out_before before only all is not_read = record {
+  known = λ fs e t leads. subst (λ (u : Told). Meets u what old old out_before out_before before before) (sym (only fs t leads)) (record {
+    replied = λ d. let p = is.defined d in (p.0, p.2);
+    line = λ d. (is.defined d).1;
+    prefix = is.prefix;
+    quiet = λ d. refl;
+    read_fault = λ d. absurd (not_read d);
+    others = λ name apart. refl;
+  });
+  some = λ d. (record { arrivals = []; reply = answered a }, a, all, refl, is);
+  read_fault = λ d. absurd (not_read d);
+  others = λ name apart. refl;
+}
+
+-- memory was wanting, and nothing is told of the answer
+untelling : (reply : Reply) (old : Option (List ℕ)) → IsReplied reply ends.Memory old old
+untelling (answered answer) old = λ d. absurd (cc d)
+untelling absent old = inr refl
+untelling (untold command) old = λ d. absurd (cc d)
+
+unwritten : (reply : Reply) (old : Option (List ℕ)) → IfSome (text_of reply) (λ text. AppendsPrefix old old text)
+unwritten (answered answer) old = no_prefix old answer.out
+unwritten absent old = no_prefix old []
+unwritten (untold command) old = tt
+
+pub memory_wanted : (files : Option Files) (names : List (List ℕ)) (Leads : Option Files → Told → Type 0) (old : Option (List ℕ)) (out_before : ℕ) (before : List ℕ → ℕ)
+    → Serves files names Leads outcome.Memory old old out_before out_before before before
+memory_wanted files names Leads old out_before before = record {
+  known = λ fs e t leads. record {
+    replied = untelling t.reply old;
+    line = λ d. absurd (cc d);
+    prefix = unwritten t.reply old;
+    quiet = λ d. refl;
+    read_fault = λ d. absurd (cc d);
+    others = λ name apart. refl;
+  };
+  some = λ d. absurd (cc d);
+  read_fault = λ d. absurd (cc d);
+  others = λ name apart. refl;
+}
+
+-- ---- the machine of a source
+
+module _ (files : Option Files) (names : List (List ℕ)) (share : ℕ) (bytes : List ℕ) (Leads : Machine → Option Files → Told → Type 0) where
+  abbrev Source : Option Files → Told → Type 0
+  Source fs = ByMachine share bytes (λ m. Leads m fs)
+
+  pub machine_served : (m : Machine) (what : Outcome) (old new : Option (List ℕ)) (out_before out_now : ℕ) (before now : List ℕ → ℕ) → IsSourceMachine share bytes m
+      → Serves files names (Leads m) what old new out_before out_now before now → Serves files names Source what old new out_before out_now before now
+  machine_served m what old new out_before out_now before now is h = record {
+    known = λ fs e t leads. h.known fs e t (to_machine fs t leads);
+    some = λ d. let p = h.some d in (p.0, p.1, inr (m, is, p.2), p.3, p.4);
+    read_fault = h.read_fault;
+    others = h.others;
+  }
+    where
+      to_machine : (fs : Files) (t : Told) → Source (Some fs) t → Leads m (Some fs) t
+      to_machine fs t (inl says) = absurd (source_fine share bytes says.0 m says.1 is)
+      to_machine fs t (inr found) = subst (λ (n : Machine). Leads n (Some fs) t) (one_source_machine share bytes found.0 m found.1 is) found.2
+
+  -- a source that is refused
+  refused_served : (r : Refused) (old : Option (List ℕ)) (out_before : ℕ) (before : List ℕ → ℕ) → length bytes ≤ 2 ^ 20 → IsRefused bytes r → Serves files names Source (outcome.Refused r) old old out_before out_before before before
+  refused_served r old out_before before short is =
+      one_served files names Source (refusal ends.ModelRefused (refused bytes)) (outcome.Refused r) old out_before before only (inl (refusal ends.ModelRefused (refused bytes), refuses, refl))
+      (refused_now ends.ModelRefused (refused bytes) (outcome.Refused r) old out_before refl (record { refusal = r; is = is; same = refl })) (λ e. cc e)
+    where
+      refuses : IsSourceRefusal bytes (refusal ends.ModelRefused (refused bytes))
+      refuses = short_for IsRefused bytes short r is
+
+      only : (fs : Files) (t : Told) → Source (Some fs) t → t ≡ record { arrivals = []; reply = answered (refusal ends.ModelRefused (refused bytes)) }
+      only fs t (inl says) =
+          says.2 ∙ ap (λ (a : Answer). record { arrivals = []; reply = answered a }) (one_source_refusal bytes says.0 (refusal ends.ModelRefused (refused bytes)) says.1 refuses)
+      only fs t (inr found) = absurd (source_fine share bytes (refusal ends.ModelRefused (refused bytes)) found.0 refuses found.1)
+
+  -- a source that gives no machine
+  pub no_machine_served : (what : Outcome) (old : Option (List ℕ)) (out_before : ℕ) (before : List ℕ → ℕ) → length bytes ≤ 2 ^ 20 → IsRefusedFor (IsRefused bytes) what
+      → Serves files names Source what old old out_before out_before before before
+  no_machine_served what old out_before before short (inl e) =
+      subst (λ (w : Outcome). Serves files names Source w old old out_before out_before before before) (sym e) (memory_wanted files names Source old out_before before)
+  no_machine_served what old out_before before short (inr (r, is, e)) =
+      subst (λ (w : Outcome). Serves files names Source w old old out_before out_before before before) (sym e) (refused_served r old out_before before short is)
+
+-- ---- the scope of certificates
+
+module _ (files : Option Files) (names : List (List ℕ)) (m : Machine) (Leads : Option Files → Told → Type 0) where
+  pub scope_served : (what : Outcome) (old new : Option (List ℕ)) (out_before out_now : ℕ) (before now : List ℕ → ℕ) → IsInScope m → Serves files names Leads what old new out_before out_now before now
+      → Serves files names (λ fs t. InScope m (Leads fs) t) what old new out_before out_now before now
+  scope_served what old new out_before out_now before now scope h = record {
+    known = λ fs e t leads. by fs e t leads;
+    some = λ d. let p = h.some d in (p.0, p.1, inr (scope, p.2), p.3, p.4);
+    read_fault = h.read_fault;
+    others = h.others;
+  }
+    where
+      by : (fs : Files) → files ≡ Some fs → (t : Told) → InScope m (Leads (Some fs)) t → Meets t what old new out_before out_now before now
+      by fs e t (inl out) = absurd (not_outside m out.0 out.1 scope)
+      by fs e t (inr inside) = h.known fs e t inside.1
+
+  pub outside_served : (why : Outside) (old : Option (List ℕ)) (out_before : ℕ) (before : List ℕ → ℕ) → IsOutsideBy m why
+      → Serves files names (λ fs t. InScope m (Leads fs) t) (outcome.Uncertified (certs.Outside why)) old old out_before out_before before before
+  outside_served why old out_before before is =
+      one_served files names (λ fs t. InScope m (Leads fs) t) (uncertifying (certs.Outside why)) (outcome.Uncertified (certs.Outside why)) old out_before before only
+      (inl (why, is, (uncertifying (certs.Outside why), refl, refl))) (refused_now ends.Rejected (uncertified (certs.Outside why)) (outcome.Uncertified (certs.Outside why)) old out_before refl refl) (λ e. cc e)
+    where
+      only : (fs : Files) (t : Told) → InScope m (Leads (Some fs)) t → t ≡ record { arrivals = []; reply = answered (uncertifying (certs.Outside why)) }
+      only fs t (inl out) =
+          out.2.2 ∙ ap (λ (a : Answer). record { arrivals = []; reply = answered a }) (out.2.1 ∙ ap (λ (w : Outside). uncertifying (certs.Outside w)) (one_outside m out.0 why out.1 is))
+      only fs t (inr inside) = absurd (not_outside m why is inside.0)
+
+-- ---- the text of an answer
+
+append_none : (xs ys : List ℕ) → xs ++ ys ≡ [] → (xs ≡ []) × (ys ≡ [])
+append_none [] ys e = (refl, e)
+append_none (x ∷ xs) ys e = absurd (cc)
+
+row_none : (fields : List (List ℕ)) → row_text default_writer fields ≡ [] → ⊥
+row_none fields e =
+    let tail = (append_none (row_body default_writer fields) _ e).1 in
+    let end = (append_none _ (end_text default_writer.terminator) tail).1 in
+    cc
+
+lines_none : (ls : List TextLine) (l : TextLine) (rest : List TextLine) → ls ≡ l ∷ rest → lines_text ls ≡ [] → ⊥
+lines_none ls l rest is e = row_none (fields_of_line l) (append_none (line_text l) (lines_text rest) (ap lines_text (sym is) ∙ e)).0
+
+bounds_none : (m : Machine) (c : Certificate) → bounds_text m c ≡ [] → ⊥
+bounds_none m c e = let header = (append_none bounds_header (bound_lines m.states c.e) e).0 in cc
+
+-- the text of an answer is not empty
+pub text_some : (deed : Deed) (m : Machine) (bytes text : List ℕ) → IsDone deed m bytes (Certificates.written text) → text ≡ [] → ⊥
+text_some (deeds.Certify share) m bytes text is none = let law = bounds m bytes text is in bounds_none m law.0 (sym law.2 ∙ none)
+text_some deeds.Upgrade m bytes text (inl (why, h, e)) none = absurd (cc)
+text_some deeds.Upgrade m bytes text (inr (c, read, e)) none =
+    let same : text ≡ lines_text (lines (pos 3) c) = cc in
+    lines_none (lines (pos 3) c) _ _ refl (sym same ∙ none)
+
+-- there is one answer
+pub one_done : (deed : Deed) (m : Machine) (bytes : List ℕ) (a b : Certificates.Answer) → IsDone deed m bytes a → IsDone deed m bytes b → a ≡ b
+one_done (deeds.Certify share) m bytes a b p q = one_each.one_certification m bytes a b p q
+one_done deeds.Upgrade m bytes a b p q = one_each.one_upgrade m bytes a b p q
+
+some_done : (deed : Deed) (m : Machine) (bytes : List ℕ) → (a : Certificates.Answer) × IsDone deed m bytes a
+some_done (deeds.Certify share) m bytes = one_each.some_certification m bytes
+some_done deeds.Upgrade m bytes = one_each.some_upgrade m bytes
+
+pub some_told : (deed : Deed) (m : Machine) (bytes : List ℕ) → (a : Answer) × IsCertificateAnswer (IsDone deed m bytes) a
+some_told deed m bytes = let such = some_done deed m bytes in (certificate_answer such.0, (such.0, such.1, refl))
+
+whole_prefix : (old new : Option (List ℕ)) (xs : List ℕ) → Appends old new xs → AppendsPrefix old new xs
+whole_prefix old new xs written = record { front = xs; rest = []; parts = append-nil xs; appended = written }
+
+-- ---- how a call ended
+
+module _ {K : Type 0} (known : K → Option (List ℕ)) (faults : K → ℕ) where
+  abbrev Became : Answer → Outcome → K → K → Type 0
+  Became answer what old new = IsOutcome answer what (known old) (known new) (faults old) (faults new)
+
+  -- nothing was written
+  kept : (answer : Answer) (what : Outcome) (old new : K) → new ≡ old → Became answer what old old → Became answer what old new
+  kept answer what old new same h = subst (λ (k : K). Became answer what old k) (sym same) h
+
+  became : (end : Ending) (a : Certificates.Answer) (old new : K) → MayEnd a end → ((text : List ℕ) → a ≡ Certificates.written text → text ≡ [] → ⊥)
+      → (end ≡ ending.Written → Appends (known old) (known new) (text_of_answer a)) → (end ≡ ending.Fault → AppendsPrefix (known old) (known new) (text_of_answer a))
+      → (leaves_sink end ≡ true → new ≡ old) → (end ≢ ending.Fault → faults new ≡ faults old) → Became (certificate_answer a) (outcome_by end) old new
+  became ending.Written (Certificates.written text) old new told some whole prefix untouched calm = record {
+    defined = λ e. (refl, refl, whole refl);
+    prefix = whole_prefix (known old) (known new) text (whole refl);
+    quiet = λ e. calm (λ d. cc d);
+  }
+  became ending.Written (Certificates.refused why) old new told some whole prefix untouched calm = absurd (cc told)
+  became (ending.Refused why) a old new told some whole prefix untouched calm =
+      kept (certificate_answer a) (outcome.Uncertified why) old new (untouched refl)
+      (subst (λ (x : Certificates.Answer). Became (certificate_answer x) (outcome.Uncertified why) old old) (sym told)
+      (refused_now (status_of_refusal why) (uncertified why) (outcome.Uncertified why) (known old) (faults old) refl refl))
+  became ending.Fault (Certificates.written text) old new told some whole prefix untouched calm = record {
+    defined = λ e. absurd (cc e);
+    prefix = prefix refl;
+    quiet = λ e. absurd (some text refl e);
+  }
+  became ending.Fault (Certificates.refused why) old new told some whole prefix untouched calm = absurd (cc told)
+  became ending.Memory a old new told some whole prefix untouched calm =
+      kept (certificate_answer a) outcome.Memory old new (untouched refl)
+      (record { defined = λ e. absurd (cc e); prefix = no_prefix (known old) (certificate_answer a).out; quiet = λ e. refl })
+
+  -- what became of a certificate
+  pub done_outcome : (deed : Deed) (m : Machine) (bytes : List ℕ) (end : Ending) (old new : K) → Ends known faults (IsDone deed m bytes) end old new
+      → (answer : Answer) → IsCertificateAnswer (IsDone deed m bytes) answer → Became answer (outcome_by end) old new
+  done_outcome deed m bytes end old new h answer (such, is, e) =
+      let same = one_done deed m bytes h.answer such h.is is in
+      subst (λ (a : Answer). Became a (outcome_by end) old new) (ap certificate_answer same ∙ sym e)
+      (became end h.answer old new h.told (λ text at. text_some deed m bytes text (subst (IsDone deed m bytes) at h.is)) h.whole h.prefix h.untouched h.calm)
+
+  pub certified_outcome : (share : Share) (m : Machine) (bytes : List ℕ) (end : Ending) (old new : K) → Ends known faults (Certificates.IsCertification m bytes) end old new
+      → (answer : Answer) → IsCertificateAnswer (IsDone (deeds.Certify share) m bytes) answer → Became answer (outcome_by end) old new
+  certified_outcome share m bytes end old new h answer is = done_outcome (deeds.Certify share) m bytes end old new h answer is
+
+  pub upgraded_outcome : (m : Machine) (bytes : List ℕ) (end : Ending) (old new : K) → Ends known faults (Certificates.IsUpgrade m bytes) end old new
+      → (answer : Answer) → IsCertificateAnswer (IsDone deeds.Upgrade m bytes) answer → Became answer (outcome_by end) old new
+  upgraded_outcome m bytes end old new h answer is = done_outcome deeds.Upgrade m bytes end old new h answer is
+
+pub done_left : (end : Ending) → leaves_out (status_of (outcome_by end)) ≡ true → leaves_sink end ≡ true
+done_left ending.Written e = e
+done_left (ending.Refused why) e = refl
+done_left ending.Fault e = e
+done_left ending.Memory e = absurd (cc e)
+
+pub done_fault : (end : Ending) → outcome_by end ≡ outcome.WriteFault → end ≡ ending.Fault
+done_fault ending.Written e = absurd (cc e)
+done_fault (ending.Refused why) e = absurd (cc e)
+done_fault ending.Fault e = refl
+done_fault ending.Memory e = absurd (cc e)
+
+pub done_read : (end : Ending) → (outcome_by end ≢ outcome.ReadFault) × (outcome_by end ≢ outcome.Usage)
+done_read ending.Written = (λ e. cc e, λ e. cc e)
+done_read (ending.Refused why) = (λ e. cc e, λ e. cc e)
+done_read ending.Fault = (λ e. cc e, λ e. cc e)
+done_read ending.Memory = (λ e. cc e, λ e. cc e)
+
+-- ---- files
+
+-- there are bytes of each length
+bytes_of : (n : ℕ) → (bytes : List ℕ) × (length bytes ≡ n)
+bytes_of n = (replicate n 32, length-replicate n 32)
+
+longer : (n : ℕ) (bytes : List ℕ) → length bytes ≡ n + 1 → n < length bytes
+longer n bytes e = omega arith
+
+-- a count at one name has not fallen at any
+pub counted_later : (name : List ℕ) (before now : List ℕ → ℕ) → OnlyCounts name before now → (other : List ℕ) → before other ≤ now other
+counted_later name before now counts other = by (bytes_eq other name) refl
+  where
+    by : (b : Bool) → bytes_eq other name ≡ b → before other ≤ now other
+    by true is = let same = (bytes_eq-Decides other name).0 is in subst (λ (n : List ℕ). before n ≤ now n) (sym same) counts.later
+    by false is = let same = counts.others other (λ e. let wrong = (bytes_eq-Decides other name).1 e in absurd (cc)) in omega (arith, same)
+
+-- the certificate in a file of this name
+module _ (deed : Deed) (m : Machine) (certificate : List ℕ) (files : Option Files) where
+  abbrev Leads : List ℕ → Option Files → Told → Type 0
+  Leads text fs = Says (IsCertificateAnswer (IsDone deed m text))
+
+  abbrev TextFile : (what : Outcome) (old new : Option (List ℕ)) (out_before out_now : ℕ) (before now : List ℕ → ℕ) → Type 0
+  TextFile = Serves files (certificate ∷ []) (λ fs. Reads fs certificate (λ text. Leads text fs))
+
+  pub text_served : (bytes : List ℕ) (what : Outcome) (old new : Option (List ℕ)) (out_before out_now : ℕ) (before now : List ℕ → ℕ)
+      → OnlyCounts certificate before now → now certificate ≡ before certificate → IfSome files (λ fs. file_of fs certificate ≡ Some bytes) → what ≢ outcome.ReadFault
+      → ((a : Answer) → IsCertificateAnswer (IsDone deed m bytes) a → IsOutcome a what old new out_before out_now) → TextFile what old new out_before out_now before now
+  text_served bytes what old new out_before out_now before now counts calm told not_read is =
+      read_served certificate [] Leads files bytes what old new out_before out_now before now now counts calm told
+      (says_served files (IsCertificateAnswer (IsDone deed m bytes)) what old new out_before out_now now is (some_told deed m bytes) not_read)
+
+  -- bytes past the limit have this answer
+  long_done : (d : Deed) (bytes : List ℕ) → IsInScope m → 2 ^ 18 < length bytes → IsDone d m bytes (Certificates.refused certs.TooLong)
+  long_done (deeds.Certify share) bytes scope long = inl (certs.TooLong, (scope, long), refl)
+  long_done deeds.Upgrade bytes scope long = inl (certs.TooLong, (scope, long), refl)
+
+  long_answer : (bytes : List ℕ) → IsInScope m → 2 ^ 18 < length bytes → (a : Answer) → IsCertificateAnswer (IsDone deed m bytes) a → a ≡ uncertifying certs.TooLong
+  long_answer bytes scope long a is = is.2 ∙ ap certificate_answer (one_done deed m bytes is.0 (Certificates.refused certs.TooLong) is.1 (long_done deed bytes scope long))
+
+  pub long_text_served : (old : Option (List ℕ)) (out_before : ℕ) (before now : List ℕ → ℕ) → IsInScope m → OnlyCounts certificate before now → now certificate ≡ before certificate
+      → IfSome files (λ fs. IsSomeAnd (file_of fs certificate) (λ bytes. 2 ^ 18 < length bytes)) → TextFile (outcome.Uncertified certs.TooLong) old old out_before out_before before now
+  long_text_served old out_before before now scope counts calm told =
+      let a = uncertifying certs.TooLong in
+      let long = bytes_of (2 ^ 18 + 1) in
+      long_served certificate [] Leads files (2 ^ 18) a (outcome.Uncertified certs.TooLong) old out_before before now counts calm told
+      (λ bytes h fs t leads. leads.2 ∙ ap (λ (b : Answer). record { arrivals = []; reply = answered b }) (long_answer bytes scope h leads.0 leads.1))
+      (λ bytes h. (a, (Certificates.refused certs.TooLong, long_done deed bytes scope h, refl), refl)) (long.0, longer (2 ^ 18) long.0 long.1)
+      (refused_now ends.CertRefused (uncertified certs.TooLong) (outcome.Uncertified certs.TooLong) old out_before refl refl) (λ e. cc e)
+
+  pub text_fault_served : (old : Option (List ℕ)) (out_before : ℕ) (before now : List ℕ → ℕ) → OnlyCounts certificate before now → Rose (before certificate) (now certificate)
+      → TextFile outcome.ReadFault old old out_before out_before before now
+  text_fault_served old out_before before now counts rose = fault_served certificate [] Leads files old out_before before now counts rose
+
+  pub text_memory_served : (old : Option (List ℕ)) (out_before : ℕ) (before now : List ℕ → ℕ) → OnlyCounts certificate before now → TextFile outcome.Memory old old out_before out_before before now
+  text_memory_served old out_before before now counts = memory_served certificate [] Leads files old out_before before now counts
+
+-- the model and the certificate in files of these names
+module _ (deed : Deed) (model certificate : List ℕ) (files : Option Files) where
+  abbrev Behind : List ℕ → Option Files → Told → Type 0
+  Behind bytes fs = ByMachine (share_in deed) bytes (λ m. ReadsCertificate certificate (IsDone deed) m fs)
+
+  abbrev Both : (what : Outcome) (old new : Option (List ℕ)) (out_before out_now : ℕ) (before now : List ℕ → ℕ) → Type 0
+  Both = Serves files (files_of (command_on deed model certificate)) (LeadsTo (command_on deed model certificate))
+
+  both_served : (d : Deed) (what : Outcome) (old new : Option (List ℕ)) (out_before out_now : ℕ) (before now : List ℕ → ℕ)
+      → Serves files (model ∷ certificate ∷ []) (λ fs. Reads fs model (λ bytes. ByMachine (share_in d) bytes (λ m. ReadsCertificate certificate (IsDone d) m fs))) what old new out_before out_now before now
+      → Serves files (files_of (command_on d model certificate)) (LeadsTo (command_on d model certificate)) what old new out_before out_now before now
+  both_served (deeds.Certify share) what old new out_before out_now before now h = h
+  both_served deeds.Upgrade what old new out_before out_now before now h = h
+
+  pub models_served : (bytes : List ℕ) (what : Outcome) (old new : Option (List ℕ)) (out_before out_now : ℕ) (before mid now : List ℕ → ℕ)
+      → OnlyCounts model before mid → mid model ≡ before model → IfSome files (λ fs. file_of fs model ≡ Some bytes)
+      → Serves files (certificate ∷ []) (Behind bytes) what old new out_before out_now mid now → Both what old new out_before out_now before now
+  models_served bytes what old new out_before out_now before mid now counts calm told h =
+      both_served deed what old new out_before out_now before now (read_served model (certificate ∷ []) Behind files bytes what old new out_before out_now before mid now counts calm told h)
+
+  long_leads : (bytes : List ℕ) → 2 ^ 20 < length bytes → (fs : Option Files) (t : Told) → Behind bytes fs t → t ≡ record { arrivals = []; reply = answered (refusal ends.ModelRefused too_long) }
+  long_leads bytes h fs t (inl says) =
+      says.2 ∙ ap (λ (b : Answer). record { arrivals = []; reply = answered b }) (one_source_refusal bytes says.0 (refusal ends.ModelRefused too_long) says.1 (long_refusal bytes h))
+  long_leads bytes h fs t (inr found) = absurd (source_fine (share_in deed) bytes (refusal ends.ModelRefused too_long) found.0 (long_refusal bytes h) found.1)
+
+  long_all : (bytes : List ℕ) → 2 ^ 20 < length bytes → Behind bytes None (record { arrivals = []; reply = answered (refusal ends.ModelRefused too_long) })
+  long_all bytes h = inl (refusal ends.ModelRefused too_long, long_refusal bytes h, refl)
+
+  pub long_models_served : (old : Option (List ℕ)) (out_before : ℕ) (before now : List ℕ → ℕ) → OnlyCounts model before now → now model ≡ before model
+      → IfSome files (λ fs. IsSomeAnd (file_of fs model) (λ bytes. 2 ^ 20 < length bytes)) → Both outcome.TooLong old old out_before out_before before now
+  long_models_served old out_before before now counts calm told =
+      let long = bytes_of (2 ^ 20 + 1) in
+      both_served deed outcome.TooLong old old out_before out_before before now
+      (long_served model (certificate ∷ []) Behind files (2 ^ 20) (refusal ends.ModelRefused too_long) outcome.TooLong old out_before before now counts calm told long_leads long_all
+      (long.0, longer (2 ^ 20) long.0 long.1) (refused_now ends.ModelRefused too_long outcome.TooLong old out_before refl refl) (λ e. cc e))
+
+  pub models_fault_served : (old : Option (List ℕ)) (out_before : ℕ) (before now : List ℕ → ℕ) → OnlyCounts model before now → Rose (before model) (now model) → Both outcome.ReadFault old old out_before out_before before now
+  models_fault_served old out_before before now counts rose =
+      both_served deed outcome.ReadFault old old out_before out_before before now (fault_served model (certificate ∷ []) Behind files old out_before before now counts rose)
+
+  pub models_memory_served : (old : Option (List ℕ)) (out_before : ℕ) (before now : List ℕ → ℕ) → OnlyCounts model before now → Both outcome.Memory old old out_before out_before before now
+  models_memory_served old out_before before now counts =
+      both_served deed outcome.Memory old old out_before out_before before now (memory_served model (certificate ∷ []) Behind files old out_before before now counts)

@@ -1,0 +1,50 @@
+use Rattle.std.proofs.Common.{sym, ap, ◌∙◌, subst}
+use Rattle.qss_top.specs.Certificates.{outcome_by}
+use Rattle.qss_top.specs.Outcomes.{IsOutcome, status_of}
+use Rattle.qss_top.specs.Statuses.{leaves_out}
+use Rattle.qss_top.specs.declared.outcome.Outcome.{Outcome}
+use Rattle.qss_top.proofs.TwoFiles.{certified_outcome, upgraded_outcome, done_left, done_fault, done_read}
+use Rattle.qss_top.proofs.certificate.on_text.Goals as goal
+
+pub returns-in-Certify-clause-outcome : goal.returns-in-Certify-clause-outcome
+returns-in-Certify-clause-outcome g c answer h =
+    subst (λ (w : Outcome). IsOutcome answer w (g.O.Sink.written c.args.out.now) (g.O.Sink.written c.certify.new.out) (g.O.Sink.faults c.args.out.now) (g.O.Sink.faults c.certify.new.out)) (sym c.outcome_of.ensures)
+    (certified_outcome (λ k. g.O.Sink.written k) (λ k. g.O.Sink.faults k) c.in-Certify.field-0 c.args.m.now c.args.text.now c.certify.result c.args.out.now c.certify.new.out c.certify.ensures.answered answer
+    (rw c.in-Certify.is at h))
+
+pub returns-in-Certify-clause-not_read : goal.returns-in-Certify-clause-not_read
+returns-in-Certify-clause-not_read g c e = (done_read c.certify.result).0 (sym c.outcome_of.ensures ∙ e)
+
+pub returns-in-Certify-clause-not_usage : goal.returns-in-Certify-clause-not_usage
+returns-in-Certify-clause-not_usage g c e = (done_read c.certify.result).1 (sym c.outcome_of.ensures ∙ e)
+
+pub returns-in-Certify-clause-untouched : goal.returns-in-Certify-clause-untouched
+returns-in-Certify-clause-untouched g c e =
+    c.certify.ensures.answered.untouched (done_left c.certify.result (sym (ap (λ (w : Outcome). leaves_out (status_of w)) c.outcome_of.ensures) ∙ e))
+
+pub returns-in-Certify-clause-calm : goal.returns-in-Certify-clause-calm
+returns-in-Certify-clause-calm g c other = c.certify.ensures.answered.calm (λ e. other (c.outcome_of.ensures ∙ ap outcome_by e))
+
+pub returns-in-Certify-clause-last : goal.returns-in-Certify-clause-last
+returns-in-Certify-clause-last g c e = c.certify.ensures.answered.last (done_fault c.certify.result (sym c.outcome_of.ensures ∙ e))
+
+pub returns-in-Upgrade-clause-outcome : goal.returns-in-Upgrade-clause-outcome
+returns-in-Upgrade-clause-outcome g c answer h =
+    subst (λ (w : Outcome). IsOutcome answer w (g.O.Sink.written c.args.out.now) (g.O.Sink.written c.upgrade.new.out) (g.O.Sink.faults c.args.out.now) (g.O.Sink.faults c.upgrade.new.out)) (sym c.outcome_of-in-Upgrade.ensures)
+    (upgraded_outcome (λ k. g.O.Sink.written k) (λ k. g.O.Sink.faults k) c.args.m.now c.args.text.now c.upgrade.result c.args.out.now c.upgrade.new.out c.upgrade.ensures answer (rw c.in-Upgrade.is at h))
+
+pub returns-in-Upgrade-clause-not_read : goal.returns-in-Upgrade-clause-not_read
+returns-in-Upgrade-clause-not_read g c e = (done_read c.upgrade.result).0 (sym c.outcome_of-in-Upgrade.ensures ∙ e)
+
+pub returns-in-Upgrade-clause-not_usage : goal.returns-in-Upgrade-clause-not_usage
+returns-in-Upgrade-clause-not_usage g c e = (done_read c.upgrade.result).1 (sym c.outcome_of-in-Upgrade.ensures ∙ e)
+
+pub returns-in-Upgrade-clause-untouched : goal.returns-in-Upgrade-clause-untouched
+returns-in-Upgrade-clause-untouched g c e =
+    c.upgrade.ensures.untouched (done_left c.upgrade.result (sym (ap (λ (w : Outcome). leaves_out (status_of w)) c.outcome_of-in-Upgrade.ensures) ∙ e))
+
+pub returns-in-Upgrade-clause-calm : goal.returns-in-Upgrade-clause-calm
+returns-in-Upgrade-clause-calm g c other = c.upgrade.ensures.calm (λ e. other (c.outcome_of-in-Upgrade.ensures ∙ ap outcome_by e))
+
+pub returns-in-Upgrade-clause-last : goal.returns-in-Upgrade-clause-last
+returns-in-Upgrade-clause-last g c e = c.upgrade.ensures.last (done_fault c.upgrade.result (sym c.outcome_of-in-Upgrade.ensures ∙ e))

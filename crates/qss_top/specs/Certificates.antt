@@ -1,0 +1,27 @@
+-- What is done with a model and a certificate, as the code goes through it.
+use Rattle.std.specs.Prelude.{ℕ, List}
+use Rattle.qss_machine.specs.declared.system.Machine.{Machine}
+use Rattle.cert_answer.specs.Answers as Certificates
+use Rattle.cert_answer.specs.declared.ending.Ending.{Ending}
+use Rattle.cert_answer.specs.declared.ending.Ending.TheVariants as ending
+use Rattle.qss_top.specs.declared.options.Deed.{Deed}
+use Rattle.qss_top.specs.declared.options.Deed.TheVariants as deeds
+use Rattle.qss_top.specs.declared.outcome.Outcome.{Outcome}
+use Rattle.qss_top.specs.declared.outcome.Outcome.TheVariants as outcome
+
+-- the share of the levels that quanta then have
+abbrev pub share_in : Deed → ℕ
+share_in (deeds.Certify share) = share.share
+share_in deeds.Upgrade = 0
+
+-- the answer to a machine and the bytes of a certificate
+abbrev pub IsDone : Deed → Machine → List ℕ → Certificates.Answer → Type 0
+IsDone (deeds.Certify share) = Certificates.IsCertification
+IsDone deeds.Upgrade = Certificates.IsUpgrade
+
+-- what became of a command whose answer to a certificate ended so
+abbrev pub outcome_by : Ending → Outcome
+outcome_by ending.Written = outcome.Done
+outcome_by (ending.Refused why) = outcome.Uncertified why
+outcome_by ending.Fault = outcome.WriteFault
+outcome_by ending.Memory = outcome.Memory

@@ -1,0 +1,163 @@
+// The commands on a model and a certificate.
+ghost use Rattle.std.specs.Prelude.{length, ◌≡◌, ◌≢◌, ◌≤◌, ◌^◌, [], ◌∷◌, true, ℕ, List};
+ghost use Rattle.mu_io.specs.Sinks.{EndsByFault};
+ghost use Rattle.cert_check.specs.Scope.{IsInScope};
+ghost use Rattle.qss_top.specs.Answers.{Answer, IsCertificateAnswer, ByMachine, ReadsCertificate, Reads, Says, LeadsTo};
+ghost use Rattle.qss_top.specs.Certificates.{IsDone, outcome_by, share_in};
+ghost use Rattle.qss_top.specs.Commands.{files_of};
+ghost use Rattle.qss_top.specs.Outcomes.{IsOutcome, Serves, status_of};
+ghost use Rattle.qss_top.specs.Statuses.{leaves_out};
+ghost use Rattle.qss_top.specs.Words.{command_on};
+
+use crate::command::MODEL_LIMIT;
+use crate::options::{Deed, Share};
+use crate::outcome::Outcome;
+use crate::source::machine_of;
+use cert_answer::{CertificateRefusal, Ending, certify, upgrade};
+use cert_check::scope;
+use mu_io::{ReadErr, Shelf, Sink, read_all};
+use qss_machine::Machine;
+use std::alloc::Global;
+
+// The longest certificate that is read, in bytes.
+const CERTIFICATE_LIMIT: usize = 1 << 18;
+
+/// Does this with the model and the certificate in two files.
+pub(crate) fn on_certificate<S: Shelf, O: Sink>(
+    alloc: Global,
+    deed: Deed,
+    model: &str,
+    certificate: &str,
+    shelf: &mut S,
+    out: &mut O,
+) -> Outcome
+    ensures serves { Serves (S.files shelf.old) (files_of (command_on deed model.now certificate.now)) (LeadsTo (command_on deed model.now certificate.now)) result (O.written out.old) (O.written out.new) (O.faults out.old) (O.faults out.new) (S.faults shelf.old) (S.faults shelf.new) }
+    ensures not_usage { result ≢ Outcome.Usage }
+    ensures untouched { leaves_out (status_of result) ≡ true → out.new ≡ out.old }
+    ensures calm { result ≢ Outcome.WriteFault → O.faults out.new ≡ O.faults out.old }
+    ensures last { result ≡ Outcome.WriteFault → EndsByFault O.written O.faults out.old out.new }
+    ensures files { S.files shelf.new ≡ S.files shelf.old }
+    ensures later { (name : List ℕ) → S.faults shelf.old name ≤ S.faults shelf.new name }
+    ensures unharmed { result ≢ Outcome.ReadFault → (name : List ℕ) → S.faults shelf.new name ≡ S.faults shelf.old name }
+{
+    match read_all(alloc, shelf, model, MODEL_LIMIT) {
+        Ok(bytes) => on_model(alloc, deed, &bytes, certificate, shelf, out),
+        Err(ReadErr::TooLong) => Outcome::TooLong,
+        Err(ReadErr::Fault) => Outcome::ReadFault,
+        Err(ReadErr::Memory) => Outcome::Memory,
+    }
+}
+
+// Does this with the machine of a source.
+fn on_model<S: Shelf, O: Sink>(
+    alloc: Global,
+    deed: Deed,
+    bytes: &[u8],
+    certificate: &str,
+    shelf: &mut S,
+    out: &mut O,
+) -> Outcome
+    requires { length bytes.now ≤ 2 ^ 20 }
+    ensures serves { Serves (S.files shelf.old) (certificate.now ∷ []) (λ files. ByMachine (share_in deed) bytes.now (λ m. ReadsCertificate certificate.now (IsDone deed) m files)) result (O.written out.old) (O.written out.new) (O.faults out.old) (O.faults out.new) (S.faults shelf.old) (S.faults shelf.new) }
+    ensures not_usage { result ≢ Outcome.Usage }
+    ensures untouched { leaves_out (status_of result) ≡ true → out.new ≡ out.old }
+    ensures calm { result ≢ Outcome.WriteFault → O.faults out.new ≡ O.faults out.old }
+    ensures last { result ≡ Outcome.WriteFault → EndsByFault O.written O.faults out.old out.new }
+    ensures files { S.files shelf.new ≡ S.files shelf.old }
+    ensures later { (name : List ℕ) → S.faults shelf.old name ≤ S.faults shelf.new name }
+    ensures unharmed { result ≢ Outcome.ReadFault → (name : List ℕ) → S.faults shelf.new name ≡ S.faults shelf.old name }
+{
+    let share = share_of(deed);
+    match machine_of(alloc, share.share, bytes) {
+        Ok(m) => in_scope(alloc, deed, &m, certificate, shelf, out),
+        Err(what) => what,
+    }
+}
+
+// The share of what is done: an upgrade asks for none.
+fn share_of(deed: Deed) -> Share
+    ensures { result.share ≡ share_in deed }
+{
+    match deed {
+        Deed::Certify(share) => share,
+        Deed::Upgrade => Share { share: 0 },
+    }
+}
+
+// Goes on where certificates can speak of the machine.
+fn in_scope<S: Shelf, O: Sink>(
+    alloc: Global,
+    deed: Deed,
+    m: &Machine,
+    certificate: &str,
+    shelf: &mut S,
+    out: &mut O,
+) -> Outcome
+    ensures serves { Serves (S.files shelf.old) (certificate.now ∷ []) (ReadsCertificate certificate.now (IsDone deed) m.now) result (O.written out.old) (O.written out.new) (O.faults out.old) (O.faults out.new) (S.faults shelf.old) (S.faults shelf.new) }
+    ensures not_usage { result ≢ Outcome.Usage }
+    ensures untouched { leaves_out (status_of result) ≡ true → out.new ≡ out.old }
+    ensures calm { result ≢ Outcome.WriteFault → O.faults out.new ≡ O.faults out.old }
+    ensures last { result ≡ Outcome.WriteFault → EndsByFault O.written O.faults out.old out.new }
+    ensures files { S.files shelf.new ≡ S.files shelf.old }
+    ensures later { (name : List ℕ) → S.faults shelf.old name ≤ S.faults shelf.new name }
+    ensures unharmed { result ≢ Outcome.ReadFault → (name : List ℕ) → S.faults shelf.new name ≡ S.faults shelf.old name }
+{
+    match scope(m) {
+        Ok(_states) => on_text_file(alloc, deed, m, certificate, shelf, out),
+        Err(why) => Outcome::Uncertified(CertificateRefusal::Outside(why)),
+    }
+}
+
+// Does this with the certificate in a file.
+fn on_text_file<S: Shelf, O: Sink>(
+    alloc: Global,
+    deed: Deed,
+    m: &Machine,
+    certificate: &str,
+    shelf: &mut S,
+    out: &mut O,
+) -> Outcome
+    requires { IsInScope m.now }
+    ensures serves { Serves (S.files shelf.old) (certificate.now ∷ []) (λ files. Reads files certificate.now (λ text. Says (IsCertificateAnswer (IsDone deed m.now text)))) result (O.written out.old) (O.written out.new) (O.faults out.old) (O.faults out.new) (S.faults shelf.old) (S.faults shelf.new) }
+    ensures not_usage { result ≢ Outcome.Usage }
+    ensures untouched { leaves_out (status_of result) ≡ true → out.new ≡ out.old }
+    ensures calm { result ≢ Outcome.WriteFault → O.faults out.new ≡ O.faults out.old }
+    ensures last { result ≡ Outcome.WriteFault → EndsByFault O.written O.faults out.old out.new }
+    ensures files { S.files shelf.new ≡ S.files shelf.old }
+    ensures later { (name : List ℕ) → S.faults shelf.old name ≤ S.faults shelf.new name }
+    ensures unharmed { result ≢ Outcome.ReadFault → (name : List ℕ) → S.faults shelf.new name ≡ S.faults shelf.old name }
+{
+    match read_all(alloc, shelf, certificate, CERTIFICATE_LIMIT) {
+        Ok(text) => on_text(alloc, deed, m, &text, out),
+        Err(ReadErr::TooLong) => Outcome::Uncertified(CertificateRefusal::TooLong),
+        Err(ReadErr::Fault) => Outcome::ReadFault,
+        Err(ReadErr::Memory) => Outcome::Memory,
+    }
+}
+
+// Does this with the bytes of a certificate.
+fn on_text<O: Sink>(alloc: Global, deed: Deed, m: &Machine, text: &[u8], out: &mut O) -> Outcome
+    ensures outcome { (answer : Answer) → IsCertificateAnswer (IsDone deed m.now text.now) answer → IsOutcome answer result (O.written out.old) (O.written out.new) (O.faults out.old) (O.faults out.new) }
+    ensures not_read { result ≢ Outcome.ReadFault }
+    ensures not_usage { result ≢ Outcome.Usage }
+    ensures untouched { leaves_out (status_of result) ≡ true → out.new ≡ out.old }
+    ensures calm { result ≢ Outcome.WriteFault → O.faults out.new ≡ O.faults out.old }
+    ensures last { result ≡ Outcome.WriteFault → EndsByFault O.written O.faults out.old out.new }
+{
+    match deed {
+        Deed::Certify(_) => outcome_of(certify(alloc, m, text, out)),
+        Deed::Upgrade => outcome_of(upgrade(alloc, m, text, out)),
+    }
+}
+
+// What became of a command whose answer to a certificate ended so.
+fn outcome_of(ending: Ending) -> Outcome
+    ensures { result ≡ outcome_by ending }
+{
+    match ending {
+        Ending::Written => Outcome::Done,
+        Ending::Refused(why) => Outcome::Uncertified(why),
+        Ending::Fault => Outcome::WriteFault,
+        Ending::Memory => Outcome::Memory,
+    }
+}
