@@ -1,10 +1,8 @@
 -- An accepted certificate bounds the runs of the model.
-use Rattle.std.proofs.Common.{◌≡◌, ◌^◌, ◌⊎◌, Bool, true, false, ℕ, List, [], ◌∷◌, length, refl, sym, ap, ◌∙◌, subst, inl, inr, None, Some, nat_lt}
+use Rattle.std.proofs.Common.{◌≡◌, ◌^◌, Bool, true, false, ℕ, List, [], ◌∷◌, length, sym, ap, ◌∙◌, inl, inr, None, Some, nat_lt}
 use Rattle.std.specs.declared.option.Option.{Option}
 use Rattle.std.specs.Prelude.{MatchBool}
 use Rattle.mu_io.specs.Files.{Files}
-use Rattle.cert_check.specs.Scope.{IsInScope, IsOutsideBy}
-use Rattle.cert_check.specs.declared.outside.Outside.{Outside}
 use Rattle.cert_answer.specs.Answers as Certificates
 use Rattle.cert_answer.specs.declared.ending.CertificateRefusal.{CertificateRefusal}
 use Rattle.cert_answer.specs.declared.ending.CertificateRefusal.TheVariants as certs
@@ -12,7 +10,7 @@ use Rattle.cert_answer.proofs.Bounds.{bounds}
 use Rattle.qss_compile.specs.Meanings.{IsRefused}
 use Rattle.qss_compile.specs.declared.fault.Refused.{Refused}
 use Rattle.qss_machine.specs.declared.system.Machine.{Machine}
-use Rattle.qss_top.specs.Answers.{Answer, Told, Reply, answered, refusal, refused, too_long, uncertifying, certificate_answer, status_of_refusal, IsCertificateAnswer, IsSourceRefusal, IsSourceMachine, Says, ReadsThen, Reads, Finds, InScope, ByMachine, ReadsCertificate}
+use Rattle.qss_top.specs.Answers.{Answer, Told, answered, refusal, refused, too_long, certificate_answer, status_of_refusal, IsCertificateAnswer, IsSourceRefusal, IsSourceMachine, Says, ReadsThen, Finds, ByMachine, ReadsCertificate}
 use Rattle.qss_top.specs.CertifiedRuns.{AreCertified, CertifiedRunsStayNear}
 use Rattle.qss_top.specs.declared.status.Status.TheVariants as ends
 
