@@ -8,3 +8,4 @@ pub mod Serving
 pub mod Tellings
 pub mod TopFacts
 pub mod TwoFiles
+pub mod Certified

@@ -8,3 +8,4 @@ pub mod Statuses
 pub mod TopCall
 pub mod Laws
 pub mod Outcomes
+pub mod CertifiedRuns

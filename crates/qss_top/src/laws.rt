@@ -1,4 +1,5 @@
 // Laws on what is told.
+ghost use Rattle.qss_top.specs.CertifiedRuns.{CertifiedRunsStayNear};
 ghost use Rattle.qss_top.specs.Laws.{AnswersAreUnique, AnswersExist};
 
 /// Law: words and files define at most one answer, with the files at which it arrives.
@@ -9,4 +10,10 @@ pub fn answers_are_unique()
 /// Law: words and files define an answer, or that none can be had.
 pub fn answers_exist()
     ensures { AnswersExist }
+{}
+
+/// Law: where a certificate is accepted, any two legitimate runs of the machine that the model means, from the certificate's
+/// starts, lie within the bounds that are printed, and the machine's own runs are among these.
+pub fn certified_runs_stay_near()
+    ensures { CertifiedRunsStayNear }
 {}

@@ -13,6 +13,6 @@ mod top;
 mod values;
 mod words;
 
-pub use laws::{answers_are_unique, answers_exist};
+pub use laws::{answers_are_unique, answers_exist, certified_runs_stay_near};
 pub use status::Status;
 pub use top::qss_main;

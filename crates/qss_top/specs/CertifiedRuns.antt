@@ -1,0 +1,33 @@
+-- What it means for the runs of a model that the program accepts a certificate.
+use Rattle.std.specs.Prelude.{◌≡◌, ℕ, List, Option, Some}
+use Rattle.mu_io.specs.Files.{Files}
+use Rattle.cert_check.specs.Promises.{IsPromised, AdmitsRuns}
+use Rattle.cert_check.specs.declared.certificate.Certificate.{Certificate}
+use Rattle.cert_lines.specs.Bounds.{bounds_text}
+use Rattle.cert_text.specs.Texts.{IsTextOf}
+use Rattle.qss_machine.specs.declared.system.Machine.{Machine}
+use Rattle.qss_top.specs.Answers.{Answer, Told, answered, Finds, IsSourceMachine, LeadsTo}
+use Rattle.qss_top.specs.Commands.{certify_model}
+use Rattle.qss_top.specs.declared.status.Status.TheVariants as ends
+
+-- for the bytes of both files, the machine that the model means and the certificate that is spelled: the text is the certificate's bounds, any two
+-- legitimate runs of the machine from the certificate's starts lie within them, and the machine's own runs are among these
+pub record AreCertified (model certificate : List ℕ) (share : ℕ) (files : Option Files) (out : List ℕ) : Type 0 where
+  pub source : List ℕ
+  pub found : Finds files model (Some source)
+  pub text : List ℕ
+  pub read : Finds files certificate (Some text)
+  pub machine : Machine
+  pub means : IsSourceMachine share source machine
+  pub spelled : Certificate
+  pub is : IsTextOf machine text spelled
+  pub bounds : out ≡ bounds_text machine spelled
+  pub promised : IsPromised machine spelled
+  pub admitted : AdmitsRuns machine spelled
+
+-- where the answer to a certificate and a model is that all went well, the runs of the model are certified
+abbrev pub CertifiedRunsStayNear : Type 0
+CertifiedRunsStayNear =
+    (model certificate : List ℕ) (share : ℕ) (files : Option Files) (told : Told) (answer : Answer) →
+    LeadsTo (certify_model model certificate share) files told → told.reply ≡ answered answer → answer.status ≡ ends.Ok →
+    AreCertified model certificate share files answer.out
