@@ -20,8 +20,6 @@ mod machines;
 #[cfg(test)]
 mod matrices;
 #[cfg(test)]
-mod plays;
-#[cfg(test)]
 mod quanta;
 #[cfg(test)]
 mod rows;
