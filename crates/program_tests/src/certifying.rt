@@ -3,6 +3,7 @@ use crate::runs::{DECAY, USAGE};
 use mu_io::{MemShelf, MemSink, Name};
 use qss_top::{Status, qss_main};
 use std::alloc::Global;
+use std::process::Abort;
 use std::test::Fail;
 
 // The same decay with the quantum 1.
@@ -47,63 +48,73 @@ fn text(alloc: Global, form: &str, last: &str) -> Result<String, Fail> {
     Ok(text)
 }
 
+// A command with the files of a model and a certificate.
+fn call_of<'a>(words: &'a [&'a str], model: &'a str, certificate: &'a str) -> Call<'a> {
+    Call {
+        words,
+        model,
+        certificate,
+        out_fails: &[],
+    }
+}
+
+// A call has this status, text and line.
+fn assert_answered(
+    rt: &impl Abort,
+    alloc: Global,
+    call: &Call,
+    code: u8,
+    written: &str,
+    line: &str,
+) -> Result<(), Fail> {
+    let (status, out, err) = outcome(alloc, call)?;
+    assert_eq!(rt; status.code(), code);
+    assert_eq!(rt; out.bytes(), written.as_bytes());
+    assert_eq!(rt; err.bytes(), line.as_bytes());
+    Ok(())
+}
+
 #[test]
-fn certificates_are_answered(rt: HostRuntime) -> Result<(), Fail> {
+fn a_certificate_is_accepted(rt: HostRuntime) -> Result<(), Fail> {
+    let alloc = rt.alloc();
+    let bounds = "name,levels\nx,21\n";
+    let plain = text(alloc, "1", "")?;
+    let call = call_of(&["certify", "M", "C"], DECAY, &plain);
+    assert_answered(&rt, alloc, &call, 0, bounds, "")?;
+    let apart = text(alloc, "2", "start1,262144\nstart2,180224\n")?;
+    let call = call_of(&["certify", "M", "C"], DECAY, &apart);
+    assert_answered(&rt, alloc, &call, 0, bounds, "")?;
+    let relative = format!(in alloc; "form,3\n{}{}Q,10\n", FRONT, RELATIVE_BACK)?;
+    let words: &[&str] = &["certify", "--relative", "512", "M", "C"];
+    let call = call_of(words, FINE, &relative);
+    assert_answered(&rt, alloc, &call, 0, "name,levels\nx,35\n", "")
+}
+
+#[test]
+fn a_certificate_is_rejected(rt: HostRuntime) -> Result<(), Fail> {
+    let alloc = rt.alloc();
+    let far = text(alloc, "2", "start1,262144\nstart2,176128\n")?;
+    let line = "rejected: inequality 5 place 3 left 7398752256 right 7247757312\n";
+    let call = call_of(&["certify", "M", "C"], DECAY, &far);
+    assert_answered(&rt, alloc, &call, 1, "", line)?;
+    let small = format!(in alloc; "form,3\n{}{}Q,9\n", FRONT, RELATIVE_BACK)?;
+    let words: &[&str] = &["certify", "--relative", "512", "M", "C"];
+    let line = "rejected: inequality 13 place 2 left 36864 right 37376\n";
+    let call = call_of(words, FINE, &small);
+    assert_answered(&rt, alloc, &call, 1, "", line)
+}
+
+#[test]
+fn a_certificate_is_upgraded(rt: HostRuntime) -> Result<(), Fail> {
     let alloc = rt.alloc();
     let plain = text(alloc, "1", "")?;
-    let apart = text(alloc, "2", "start1,262144\nstart2,180224\n")?;
-    let far = text(alloc, "2", "start1,262144\nstart2,176128\n")?;
     let newest = text(alloc, "3", "start1,262144\nstart2,262144\nQ,4\n")?;
-    let relative = format!(in alloc; "form,3\n{}{}Q,10\n", FRONT, RELATIVE_BACK)?;
-    let small = format!(in alloc; "form,3\n{}{}Q,9\n", FRONT, RELATIVE_BACK)?;
-    let certify: &[&str] = &["certify", "M", "C"];
-    let share: &[&str] = &["certify", "--relative", "512", "M", "C"];
-    let upgrade: &[&str] = &["upgrade", "M", "C"];
-    let bounds = "name,levels\nx,21\n";
-    let cases: [(&[&str], &str, &str, u8, &str, &str); 8] = [
-        (certify, DECAY, &plain, 0, bounds, ""),
-        (certify, DECAY, &apart, 0, bounds, ""),
-        (
-            certify,
-            DECAY,
-            &far,
-            1,
-            "",
-            "rejected: inequality 5 place 3 left 7398752256 right 7247757312\n",
-        ),
-        (share, FINE, &relative, 0, "name,levels\nx,35\n", ""),
-        (
-            share,
-            FINE,
-            &small,
-            1,
-            "",
-            "rejected: inequality 13 place 2 left 36864 right 37376\n",
-        ),
-        (upgrade, DECAY, &plain, 0, &newest, ""),
-        (upgrade, DECAY, &newest, 0, &newest, ""),
-        (
-            upgrade,
-            DECAY,
-            "form,7\n",
-            7,
-            "",
-            "certificate refused: 5 7\n",
-        ),
-    ];
-    for (words, model, certificate, code, written, line) in cases {
-        let call = Call {
-            words,
-            model,
-            certificate,
-            out_fails: &[],
-        };
-        let (status, out, err) = outcome(alloc, &call)?;
-        assert_eq!(rt; status.code(), code);
-        assert_eq!(rt; out.bytes(), written.as_bytes());
-        assert_eq!(rt; err.bytes(), line.as_bytes());
-    }
-    Ok(())
+    let call = call_of(&["upgrade", "M", "C"], DECAY, &plain);
+    assert_answered(&rt, alloc, &call, 0, &newest, "")?;
+    let call = call_of(&["upgrade", "M", "C"], DECAY, &newest);
+    assert_answered(&rt, alloc, &call, 0, &newest, "")?;
+    let call = call_of(&["upgrade", "M", "C"], DECAY, "form,7\n");
+    assert_answered(&rt, alloc, &call, 7, "", "certificate refused: 5 7\n")
 }
 
 #[test]

@@ -247,31 +247,35 @@ fn a_write_that_fails_ends_the_run(rt: HostRuntime) -> Result<(), Fail> {
     Ok(())
 }
 
+// Each call of the shelf fails in turn, and then err, on a command.
+fn assert_faults(rt: &impl Abort, alloc: Global, words: &[&str]) -> Result<(), Fail> {
+    for call in 0..3u32 {
+        let setting = Setting {
+            words,
+            shelf_fails: &[call],
+            ..run_of(DECAY)
+        };
+        let (got, out, err) = outcome(alloc, &setting)?;
+        assert_eq!(rt; got, Status::ReadFault);
+        assert_eq!(rt; out.bytes(), b"".as_slice());
+        assert_eq!(rt; err.bytes(), b"read fault\n".as_slice());
+    }
+    let setting = Setting {
+        words,
+        err_fails: &[0],
+        ..run_of("model m $")
+    };
+    let (got, _, err) = outcome(alloc, &setting)?;
+    assert_eq!(rt; got, Status::ModelRefused);
+    assert_eq!(rt; err.bytes(), b"".as_slice());
+    Ok(())
+}
+
 #[test]
 fn faults_of_the_shelf_and_of_err(rt: HostRuntime) -> Result<(), Fail> {
     let alloc = rt.alloc();
-    let both: [&[&str]; 2] = [&["run", "M"], &["print", "M"]];
-    for words in both {
-        for call in 0..3u32 {
-            let setting = Setting {
-                words,
-                shelf_fails: &[call],
-                ..run_of(DECAY)
-            };
-            let (got, out, err) = outcome(alloc, &setting)?;
-            assert_eq!(rt; got, Status::ReadFault);
-            assert_eq!(rt; out.bytes(), b"".as_slice());
-            assert_eq!(rt; err.bytes(), b"read fault\n".as_slice());
-        }
-        let setting = Setting {
-            words,
-            err_fails: &[0],
-            ..run_of("model m $")
-        };
-        let (got, _, err) = outcome(alloc, &setting)?;
-        assert_eq!(rt; got, Status::ModelRefused);
-        assert_eq!(rt; err.bytes(), b"".as_slice());
-    }
+    assert_faults(&rt, alloc, &["run", "M"])?;
+    assert_faults(&rt, alloc, &["print", "M"])?;
     let setting = Setting {
         shelf_fails: &[3],
         err_fails: &[0],
