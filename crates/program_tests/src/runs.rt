@@ -247,35 +247,54 @@ fn a_write_that_fails_ends_the_run(rt: HostRuntime) -> Result<(), Fail> {
     Ok(())
 }
 
-// Each call of the shelf fails in turn, and then err, on a command.
-fn assert_faults(rt: &impl Abort, alloc: Global, words: &[&str]) -> Result<(), Fail> {
-    for call in 0..3u32 {
-        let setting = Setting {
-            words,
-            shelf_fails: &[call],
-            ..run_of(DECAY)
-        };
-        let (got, out, err) = outcome(alloc, &setting)?;
-        assert_eq!(rt; got, Status::ReadFault);
-        assert_eq!(rt; out.bytes(), b"".as_slice());
-        assert_eq!(rt; err.bytes(), b"read fault\n".as_slice());
-    }
-    let setting = Setting {
-        words,
-        err_fails: &[0],
-        ..run_of("model m $")
-    };
-    let (got, _, err) = outcome(alloc, &setting)?;
-    assert_eq!(rt; got, Status::ModelRefused);
-    assert_eq!(rt; err.bytes(), b"".as_slice());
+// A run or a print ends with this status and this line, and writes nothing on out.
+fn assert_nothing(
+    rt: &impl Abort,
+    alloc: Global,
+    setting: &Setting,
+    status: Status,
+    line: &str,
+) -> Result<(), Fail> {
+    let (got, out, err) = outcome(alloc, setting)?;
+    assert_eq!(rt; got, status);
+    assert_eq!(rt; out.bytes(), b"".as_slice());
+    assert_eq!(rt; err.bytes(), line.as_bytes());
     Ok(())
 }
 
 #[test]
-fn faults_of_the_shelf_and_of_err(rt: HostRuntime) -> Result<(), Fail> {
+fn faults_of_the_shelf(rt: HostRuntime) -> Result<(), Fail> {
     let alloc = rt.alloc();
-    assert_faults(&rt, alloc, &["run", "M"])?;
-    assert_faults(&rt, alloc, &["print", "M"])?;
+    for call in 0..3u32 {
+        let run = Setting {
+            shelf_fails: &[call],
+            ..run_of(DECAY)
+        };
+        assert_nothing(&rt, alloc, &run, Status::ReadFault, "read fault\n")?;
+        let print = Setting {
+            words: &["print", "M"],
+            shelf_fails: &[call],
+            ..run_of(DECAY)
+        };
+        assert_nothing(&rt, alloc, &print, Status::ReadFault, "read fault\n")?;
+    }
+    Ok(())
+}
+
+#[test]
+fn faults_of_err(rt: HostRuntime) -> Result<(), Fail> {
+    let alloc = rt.alloc();
+    let run = Setting {
+        err_fails: &[0],
+        ..run_of("model m $")
+    };
+    assert_nothing(&rt, alloc, &run, Status::ModelRefused, "")?;
+    let print = Setting {
+        words: &["print", "M"],
+        err_fails: &[0],
+        ..run_of("model m $")
+    };
+    assert_nothing(&rt, alloc, &print, Status::ModelRefused, "")?;
     let setting = Setting {
         shelf_fails: &[3],
         err_fails: &[0],
