@@ -1,12 +1,12 @@
 -- The right sides of equations by their variables.
 use Rattle.std.proofs.Common.{◌≡◌, ◌∙◌, ◌<◌, ◌≤◌, ◌+◌, ℕ, List, [], ◌∷◌, length, get_or, drop, map, set, replicate, add-one, refl, sym, ap, subst, arith, inl, inr, true, false}
-use Rattle.std.specs.Prelude.{Some, slice_get, ◌≢◌, All, nat_eq, if◌then◌else◌}
+use Rattle.std.specs.Prelude.{option_map, Some, slice_get, ◌≢◌, All, nat_eq, if◌then◌else◌}
 use Prim.Native.Nat.{zero, suc}
-use Rattle.std.proofs.Math.Seq.{drop-cons}
+use Rattle.std.proofs.Math.Seq.{drop-cons, drop-length}
 use Rattle.std.proofs.lemmas.Bool.{cases_eq}
 use Rattle.std.proofs.lemmas.Bool.Decides.{nat_tests}
 use Rattle.std.proofs.lemmas.List.{length-map}
-use Rattle.std.proofs.lemmas.Option.{slice_get_past}
+use Rattle.std.proofs.lemmas.Option.{slice_get-get_or, slice_get-map, slice_get_within, slice_get_past}
 use Rattle.mu_tree.specs.declared.flat.FlatEquation.{FlatEquation}
 use Rattle.mu_tree.specs.FlatExpression.{Constant, FlatEquationTree, flat_equation, flat_expression}
 use Rattle.mu_forms.specs.AffineForm.{none}
@@ -17,31 +17,27 @@ use Rattle.mu_affine.specs.Takings.{side_at, AreFirsts}
 pub past_side : (es : List FlatEquationTree) (i : ℕ) → length es ≤ i → side_at es i ≡ Constant none 0
 past_side es i h = rw (slice_get_past es i h) refl
 
--- nothing is left of a list after its length
-drop_whole : {A : Type 0} (xs : List A) (n : ℕ) → n ≡ length xs → drop n xs ≡ []
-drop_whole [] zero h = refl
-drop_whole [] (suc n) h = refl
-drop_whole (x ∷ xs) zero h = absurd (omega arith)
-drop_whole (x ∷ xs) (suc n) h = drop_whole xs n (omega arith)
+-- what holds of all elements holds of one
+pub one_of_all : {A : Type 0} (P : A → Type 0) (xs : List A) (i : ℕ) (x : A) → All P xs → slice_get xs i ≡ Some x → P x
+one_of_all P xs i x all there =
+    let within : i < length xs = slice_get_within xs i x there in
+    let same : x ≡ get_or xs i x = let e = slice_get-get_or xs i x within in cc in
+    subst P (sym same) (all i x within)
 
 -- an element of a mapped list
 map_at : {A B : Type 0} (f : A → B) (xs : List A) (i : ℕ) (d : A) → i < length xs → d ≡ get_or xs i d → slice_get (map f xs) i ≡ Some (f d)
-map_at f [] i d h is = absurd (omega arith)
-map_at f (x ∷ xs) zero d h is = ap (λ y. Some (f y)) (sym is)
-map_at f (x ∷ xs) (suc i) d h is = map_at f xs i d (omega arith) is
+map_at f xs i d h is = slice_get-map f xs i ∙ ap (option_map f) (slice_get-get_or xs i d h ∙ ap Some (sym is))
 
 -- what holds of all of a mapped list
 pub mapped_one : {A B : Type 0} (f : A → B) (P : B → Type 0) (xs : List A) (i : ℕ) (d : A) → All P (map f xs) → i < length xs → d ≡ get_or xs i d → P (f d)
-mapped_one f P [] i d all h is = absurd (omega arith)
-mapped_one f P (x ∷ xs) zero d all h is = subst (λ y. P (f y)) (sym is) (all zero (f x) (omega arith))
-mapped_one f P (x ∷ xs) (suc i) d all h is = mapped_one f P xs i d (λ k e within. all (suc k) e (omega arith)) (omega arith) is
+mapped_one f P xs i d all h is = one_of_all P (map f xs) i (f d) all (map_at f xs i d h is)
 
 -- at first no variable has an equation
 pub no_firsts : (es : List FlatEquation) (variables n : ℕ) (firsts : List ℕ) → firsts ≡ replicate variables (length es) → n ≡ length es
     → (v : ℕ) → v < length firsts → side_at (map flat_equation es) (get_or firsts v 0) ≡ right_side (map flat_equation (drop n es)) v
 no_firsts es variables n firsts made whole v h =
     let here : get_or firsts v 0 ≡ length es = replicated variables firsts made v h in
-    past_side (map flat_equation es) (get_or firsts v 0) (omega (arith, here, length-map es flat_equation)) ∙ sym (ap (λ xs. right_side (map flat_equation xs) v) (drop_whole es n whole))
+    past_side (map flat_equation es) (get_or firsts v 0) (omega (arith, here, length-map es flat_equation)) ∙ sym (ap (λ xs. right_side (map flat_equation xs) v) (ap (λ k. drop k es) whole ∙ drop-length es))
   where
     each_same : (k : ℕ) (x : ℕ) (v : ℕ) → v < length (replicate k x) → get_or (replicate k x) v 0 ≡ x
     each_same zero x v h = absurd (omega arith)
@@ -63,7 +59,7 @@ pub first_more : (es : List FlatEquation) (i j : ℕ) (e : FlatEquation) (firsts
 first_more es i j e firsts next h is before v within =
     elim (cases_eq v e.target) [
       | inl same ↦
-          let there : get_or (set firsts e.target i) v 0 ≡ i = ap (get_or (set firsts e.target i) v) refl ∙ written firsts e.target v i same within in
+          let there : get_or (set firsts e.target i) v 0 ≡ i = written firsts e.target v i same within in
           let test : nat_eq e.target v ≡ true = grind (arith, nat_tests) in
           let side : side_at (map flat_equation es) i ≡ flat_expression e.value = let at = map_at flat_equation es i e h is in rw at refl in
           ap (side_at (map flat_equation es)) there ∙ side ∙ sym (one_equation es i e v h is ∙ ap (λ b. if b then flat_expression e.value else right_side (map flat_equation (drop (i + 1) es)) v) test)
@@ -86,13 +82,6 @@ first_more es i j e firsts next h is before v within =
     unwritten (x ∷ xs) zero (suc v) i other = refl
     unwritten (x ∷ xs) (suc k) zero i other = refl
     unwritten (x ∷ xs) (suc k) (suc v) i other = unwritten xs k v i (λ same. other (ap (λ n. suc n) same))
-
--- what is left of a list with one element written
-pub within_set : {A : Type 0} (xs : List A) (k : ℕ) (x : A) (v : ℕ) → v < length (set xs k x) → v < length xs
-within_set [] k x v h = h
-within_set (y ∷ ys) zero x v h = h
-within_set (y ∷ ys) (suc k) x zero h = omega arith
-within_set (y ∷ ys) (suc k) x (suc v) h = let rest = within_set ys k x v (omega arith) in omega (arith, rest)
 
 -- a variable without an equation has the right side 0
 pub no_side : (es : List FlatEquation) (firsts : List ℕ) (v : ℕ) → AreFirsts (map flat_equation es) firsts → v < length firsts → length es ≤ get_or firsts v 0 → right_side (map flat_equation es) v ≡ Constant none 0

@@ -1,6 +1,6 @@
 -- What the forms of a flat model have in common: how many there are, and which names stand in each.
 use Rattle.std.proofs.Common.{◌≡◌, ◌∙◌, ◌<◌, ◌≤◌, ◌+◌, ◌*◌, ℕ, List, [], ◌∷◌, ◌++◌, length, get_or, take, drop, map, refl, sym, ap, subst, arith, inl, inr, Bool, true, false}
-use Rattle.std.specs.Prelude.{Some, slice_get, ◌⊎◌, All, sum_by, count_by, nat_eq, if◌then◌else◌, Result, Ok, Err}
+use Rattle.std.specs.Prelude.{Some, slice_get, ◌⊎◌, All, sum_by, count_by, nat_eq, if◌then◌else◌, Result, Ok}
 use Rattle.std.specs.List.{AllByRecursion}
 use Rattle.std.specs.List.Sorted.{IsStrictlySortedBy, IsStrictlyIncreasing}
 use Rattle.std.specs.Ordering.{nat_cmp, ordering_then}
@@ -35,6 +35,7 @@ use Rattle.mu_affine.specs.Solution.{count_of_role, sizes_of, equation_context, 
 use Rattle.mu_affine.specs.Normal.{Taken, then_take, counted, right_side, solve, solve_all, keep, keep_states, condition_form, action_form, keep_actions, keep_branches, keep_clauses, nothing_taken}
 use Rattle.mu_affine.specs.Kept.{equation_place, clause_place, AreForms}
 use Rattle.mu_affine.proofs.Counts.{one_if}
+use Rattle.mu_affine.proofs.Steps.{parts_of, same_ok}
 
 -- the names of a finished form may stand at its place
 name_stands : (p : Place) (f : ExactForm) → IsFinished p f → All (λ e. MayStand p e.var) f.entries
@@ -125,14 +126,6 @@ pairs_rise p f finished =
     let width : ℕ = p.sizes.states + p.sizes.discretes in
     let within : All (λ e. e.discrete < width) f.products = λ k d h. (pair_stands p f finished k d h).2 in
     IsStrictlyIncreasing-from_sorted (map (pair_number width) f.products) (numbers_sorted width f.products (recursion_from_All (λ e. e.discrete < width) f.products within) finished.canonical.pairs.rising)
-
--- what a sequence of steps that answers was made of
-parts_of : {A B : Type 0} (r : Result A AffineErr) (next : A → Result B AffineErr) (b : B) → then_take r next ≡ Ok b → (a : A) × (r ≡ Ok a) × (next a ≡ Ok b)
-parts_of {A} {B} (Ok a) next b h = (a, refl, h)
-parts_of {A} {B} (Err fault) next b h = absurd (cc)
-
-same_ok : {A : Type 0} (a b : A) → ◌≡◌ {A = Result A AffineErr} (Ok a) (Ok b) → a ≡ b
-same_ok {A} a b h = cc
 
 -- keeping one form
 keep_length : (n : Sizes) (part : Result AffineForm AffineErr) (t u : Taken) → keep n part t ≡ Ok u → length u.kept ≡ length t.kept + 1

@@ -1,11 +1,10 @@
 -- The forms of algebraic variables, one after another.
 use Rattle.std.proofs.Common.{◌≡◌, ◌∙◌, ◌<◌, ◌≤◌, ◌+◌, ◌^◌, ℕ, List, [], ◌∷◌, length, get_or, drop, map, set, refl, sym, ap, subst, arith, inl, inr, true, false}
-use Rattle.std.specs.Prelude.{Option, Some, None, slice_get, ◌≢◌, All, nat_eq, if◌then◌else◌, Result, Ok, Err}
+use Rattle.std.specs.Prelude.{Option, Some, None, slice_get, ◌≢◌, nat_eq, if◌then◌else◌, Result, Ok, Err}
 use Prim.Native.Nat.{zero, suc}
 use Rattle.std.proofs.Math.Path.{fun_ext}
 use Rattle.std.proofs.lemmas.Bool.{cases_eq}
 use Rattle.std.proofs.lemmas.Bool.Decides.{nat_tests}
-use Rattle.std.proofs.lemmas.Option.{slice_get-get_or, slice_get_within}
 use Rattle.mu_tree.specs.declared.flat.FlatEquation.{FlatEquation}
 use Rattle.mu_tree.specs.FlatExpression.{FlatModelTree, flat_equation}
 use Rattle.mu_forms.specs.declared.fault.AffineErr.{AffineErr}
@@ -19,14 +18,8 @@ use Rattle.mu_affine.specs.Solution.{sizes_of, equation_context}
 use Rattle.mu_affine.specs.Normal.{Taken, then_take, counted, right_side, solve, solve_all, nothing_taken}
 use Rattle.mu_affine.specs.Walks.{forms_in, AreSolved}
 use Rattle.mu_affine.specs.Takings.{IsFaultOf, of_equations, IsZero, AreZeros, solved_so_far, IsSolved}
+use Rattle.mu_affine.proofs.Equations.{one_of_all}
 use Rattle.mu_affine.proofs.Steps.{after, fault_then, fault_same, vars_from}
-
--- what holds of all elements holds of one
-pub one_of_all : {A : Type 0} (P : A → Type 0) (xs : List A) (i : ℕ) (x : A) → All P xs → slice_get xs i ≡ Some x → P x
-one_of_all P xs i x all there =
-    let within : i < length xs = slice_get_within xs i x there in
-    let same : x ≡ get_or xs i x = let e = slice_get-get_or xs i x within in cc in
-    subst P (sym same) (all i x within)
 
 -- an element that was written
 set_here : {A : Type 0} (xs : List A) (v : ℕ) (x : A) → v < length xs → slice_get (set xs v x) v ≡ Some x

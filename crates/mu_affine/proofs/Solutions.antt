@@ -1,6 +1,6 @@
 -- The solved forms of a flat model are a solution, and two solutions agree.
 use Rattle.std.proofs.Common.{◌≡◌, ◌∙◌, ◌<◌, ◌≤◌, ◌+◌, ℕ, List, [], ◌∷◌, ◌++◌, length, get_or, refl, sym, ap, subst, arith, inl, inr, Bool, true, false, append-nil, append_assoc}
-use Rattle.std.specs.Prelude.{Option, Some, None, slice_get, ◌≢◌, ◌⊎◌, Contains, nat_eq, nat_lt, if◌then◌else◌, Result, Ok, Err}
+use Rattle.std.specs.Prelude.{Option, Some, None, slice_get, ◌≢◌, ◌⊎◌, Contains, nat_eq, nat_lt, if◌then◌else◌, Result, Ok}
 use Prim.Native.Nat.{zero, suc}
 use Rattle.std.proofs.lemmas.Bool.{cases_eq, cases_lt}
 use Rattle.std.proofs.lemmas.Bool.Decides.{nat_tests}
@@ -18,6 +18,7 @@ use Rattle.mu_forms.specs.Parts.{kept, then_form, join_forms, multiply_forms, ra
 use Rattle.mu_affine.specs.FormOf.{variable_form, form_of, sum_form, product_of}
 use Rattle.mu_affine.specs.Solution.{sizes_of, equation_context, clause_context, IsSolution}
 use Rattle.mu_affine.specs.Normal.{Taken, then_take, counted, right_side, solve, solve_all, keep, keep_states, condition_form, action_form, keep_actions, keep_branches, keep_clauses, nothing_taken, forms_of}
+use Rattle.mu_affine.proofs.Steps.{parts_of, same_ok}
 use Rattle.mu_affine.proofs.Bridges.{state_place, discrete_place}
 
 -- an element is the first one, or one of the others
@@ -218,14 +219,6 @@ sound_more m flat counted listed v F f ready sound form = record {
   where
     kept_form : (w : ℕ) → Contains listed w → with_form F v f w ≡ F w
     kept_form w before = form_old F v w f (λ same. ready.unlisted (subst (Contains listed) same before))
-
--- what a sequence of steps that answers was made of
-parts_of : {A B : Type 0} (r : Result A AffineErr) (next : A → Result B AffineErr) (b : B) → then_take r next ≡ Ok b → (a : A) × (r ≡ Ok a) × (next a ≡ Ok b)
-parts_of {A} {B} (Ok a) next b h = (a, refl, h)
-parts_of {A} {B} (Err fault) next b h = absurd (cc)
-
-same_ok : {A : Type 0} (a b : A) → ◌≡◌ {A = Result A AffineErr} (Ok a) (Ok b) → a ≡ b
-same_ok {A} a b h = cc
 
 -- the order is solved
 order_sound : (m : FlatModelTree) → IsFlatModel m → AreCounted m → (vs listed : List ℕ) (t u : Taken) → Follow (IsAlgebraic m) (DependsOn m) listed vs → IsSound m listed t.solved → solve_all m vs t ≡ Ok u → IsSound m (listed ++ vs) u.solved

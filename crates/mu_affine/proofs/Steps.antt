@@ -1,5 +1,5 @@
 -- Steps that follow each other, and their faults.
-use Rattle.std.proofs.Common.{◌≡◌, ◌∙◌, ◌<◌, ◌+◌, ℕ, List, ◌∷◌, length, drop, get_or, map, add-one, sym, ap}
+use Rattle.std.proofs.Common.{◌≡◌, ◌∙◌, ◌<◌, ◌+◌, ℕ, List, ◌∷◌, length, drop, get_or, map, add-one, refl, sym, ap}
 use Rattle.std.specs.Prelude.{Result, Ok, Err}
 use Prim.Native.Nat.{suc}
 use Rattle.std.proofs.Math.Seq.{drop-cons}
@@ -74,6 +74,15 @@ fault_after r next a fault is h = fault_along (next a) (then_take r next) fault 
 -- a fault of one answer is a fault of an equal one
 pub fault_same : {A : Type 0} (r s : Result A AffineErr) (fault : AffineErr) → r ≡ s → IsFaultOf r fault → IsFaultOf s fault
 fault_same r s fault same h = fault_along r s fault (λ e failed. sym same ∙ failed) h
+
+-- what a sequence of steps that answers was made of
+pub parts_of : {A B : Type 0} (r : Result A AffineErr) (next : A → Result B AffineErr) (b : B) → then_take r next ≡ Ok b → (a : A) × (r ≡ Ok a) × (next a ≡ Ok b)
+parts_of {A} {B} (Ok a) next b h = (a, refl, h)
+parts_of {A} {B} (Err fault) next b h = absurd (cc)
+
+-- answers that are equal have equal values
+pub same_ok : {A : Type 0} (a b : A) → ◌≡◌ {A = Result A AffineErr} (Ok a) (Ok b) → a ≡ b
+same_ok {A} a b h = cc
 
 -- what is left of a list from a place on
 drop_from : {A : Type 0} (xs : List A) (i : ℕ) (d : A) → i < length xs → d ≡ get_or xs i d → drop i xs ≡ d ∷ drop (i + 1) xs

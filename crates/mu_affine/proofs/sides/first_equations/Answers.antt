@@ -1,8 +1,8 @@
-use Rattle.std.proofs.Common.{◌∙◌, ◌<◌, ◌-◌, ℕ, length, get_or, length-set, refl, sym, arith}
+use Rattle.std.proofs.Common.{◌∙◌, ◌<◌, ◌-◌, ℕ, length, get_or, length-set, refl, sym, subst, arith}
 use Rattle.std.proofs.lemmas.List.{get_or_default}
 use Rattle.mu_tree.specs.declared.flat.FlatEquation.{FlatEquation}
 use Rattle.mu_tree.specs.FlatExpression.{flat_equation}
-use Rattle.mu_affine.proofs.Equations.{mapped_one, no_firsts, first_more, within_set}
+use Rattle.mu_affine.proofs.Equations.{mapped_one, no_firsts, first_more}
 use Rattle.mu_affine.proofs.sides.first_equations.Goals as goal
 
 pub loop-place-init : goal.loop-place-init
@@ -29,5 +29,5 @@ loop-place-preserved c =
       within = omega (arith, c.loop-place.invariant.within);
       one_each = length-set c.loop-place.firsts.items e.target i ∙ c.loop-place.invariant.one_each;
       firsts = λ v h. first_more c.args.equations.now i c.loop-place.place e c.loop-place.firsts.items (omega (arith, c.loop-place-test.true)) below (get_or_default c.args.equations.now i c.index-equations-place.result e below) c.loop-place.invariant.firsts v
-          (within_set c.loop-place.firsts.items e.target i v h);
+          (subst (λ n. v < n) (length-set c.loop-place.firsts.items e.target i) h);
     }
