@@ -128,7 +128,7 @@ pairs_rise p f finished =
     IsStrictlyIncreasing-from_sorted (map (pair_number width) f.products) (numbers_sorted width f.products (recursion_from_All (λ e. e.discrete < width) f.products within) finished.canonical.pairs.rising)
 
 -- keeping one form
-keep_length : (n : Sizes) (part : Result AffineForm AffineErr) (t u : Taken) → keep n part t ≡ Ok u → length u.kept ≡ length t.kept + 1
+pub keep_length : (n : Sizes) (part : Result AffineForm AffineErr) (t u : Taken) → keep n part t ≡ Ok u → length u.kept ≡ length t.kept + 1
 keep_length n part t u h =
     let form = parts_of part (λ f. then_take (counted n t.count f) (λ count. Ok (kept_with t f count))) u h in
     let count = parts_of (counted n t.count form.0) (λ count. Ok (kept_with t form.0 count)) u form.2 in
@@ -138,7 +138,7 @@ keep_length n part t u h =
     kept_with t f count = record { solved = t.solved; kept = t.kept ++ f ∷ []; count = count }
 
 -- solving keeps none
-solve_length : (m : FlatModelTree) (vs : List ℕ) (t u : Taken) → solve_all m vs t ≡ Ok u → length u.kept ≡ length t.kept
+pub solve_length : (m : FlatModelTree) (vs : List ℕ) (t u : Taken) → solve_all m vs t ≡ Ok u → length u.kept ≡ length t.kept
 solve_length m [] t u h = sym (ap (λ (s : Taken). length s.kept) (same_ok t u h))
 solve_length m (v ∷ vs) t u h =
     let step = parts_of (solve m v t) (solve_all m vs) u h in
@@ -149,14 +149,14 @@ solve_length m (v ∷ vs) t u h =
     solved_with : Taken → (ℕ → AffineForm) → ℕ → Taken
     solved_with t forms count = record { solved = forms; kept = t.kept; count = count }
 
-states_length : (m : FlatModelTree) (v more : ℕ) (t u : Taken) → keep_states m v more t ≡ Ok u → length u.kept ≡ length t.kept + more
+pub states_length : (m : FlatModelTree) (v more : ℕ) (t u : Taken) → keep_states m v more t ≡ Ok u → length u.kept ≡ length t.kept + more
 states_length m v zero t u h = let same = ap (λ (s : Taken). length s.kept) (same_ok t u h) in omega (arith, same)
 states_length m v (suc more) t u h =
     let part = form_of (equation_context (sizes_of m) t.solved) (right_side m.equations v) in
     let step = parts_of (keep (sizes_of m) part t) (keep_states m (suc v) more) u h in
     omega (arith, states_length m (suc v) more step.0 u step.2, keep_length (sizes_of m) part t step.0 step.1)
 
-actions_length : (n : Sizes) (xs : List FlatAction) (t u : Taken) → keep_actions n xs t ≡ Ok u → length u.kept ≡ length t.kept + length xs
+pub actions_length : (n : Sizes) (xs : List FlatAction) (t u : Taken) → keep_actions n xs t ≡ Ok u → length u.kept ≡ length t.kept + length xs
 actions_length n [] t u h = let same = ap (λ (s : Taken). length s.kept) (same_ok t u h) in omega (arith, same)
 actions_length n (a ∷ xs) t u h =
     let part = action_form (clause_context n t.solved) a in
@@ -164,10 +164,10 @@ actions_length n (a ∷ xs) t u h =
     omega (arith, actions_length n xs step.0 u step.2, keep_length n part t step.0 step.1)
 
 -- how many forms a branch and a clause have
-abbrev branch_forms : FlatBranchTree → ℕ
+abbrev pub branch_forms : FlatBranchTree → ℕ
 branch_forms b = 1 + length b.body
 
-branches_length : (n : Sizes) (xs : List FlatBranchTree) (t u : Taken) → keep_branches n xs t ≡ Ok u → length u.kept ≡ length t.kept + sum_by branch_forms xs
+pub branches_length : (n : Sizes) (xs : List FlatBranchTree) (t u : Taken) → keep_branches n xs t ≡ Ok u → length u.kept ≡ length t.kept + sum_by branch_forms xs
 branches_length n [] t u h = let same = ap (λ (s : Taken). length s.kept) (same_ok t u h) in omega (arith, same)
 branches_length n (b ∷ xs) t u h =
     let part = condition_form (clause_context n t.solved) b in
@@ -175,7 +175,7 @@ branches_length n (b ∷ xs) t u h =
     let body = parts_of (keep_actions n b.body step.0) (keep_branches n xs) u step.2 in
     omega (arith, branches_length n xs body.0 u body.2, actions_length n b.body step.0 body.0 body.1, keep_length n part t step.0 step.1, sum_by-cons branch_forms b xs)
 
-clauses_length : (n : Sizes) (xs : List (List FlatBranchTree)) (t u : Taken) → keep_clauses n xs t ≡ Ok u → length u.kept ≡ length t.kept + sum_by (sum_by branch_forms) xs
+pub clauses_length : (n : Sizes) (xs : List (List FlatBranchTree)) (t u : Taken) → keep_clauses n xs t ≡ Ok u → length u.kept ≡ length t.kept + sum_by (sum_by branch_forms) xs
 clauses_length n [] t u h = let same = ap (λ (s : Taken). length s.kept) (same_ok t u h) in omega (arith, same)
 clauses_length n (bs ∷ xs) t u h =
     let step = parts_of (keep_branches n bs t) (keep_clauses n xs) u h in
