@@ -7,7 +7,7 @@ use Rattle.std.proofs.lemmas.List.Sums.{position_or_len_is}
 use Rattle.std.specs.List.{position}
 use Rattle.std.specs.Prelude.{Some, None, nat_lt}
 
-less_yes : (i n : ℕ) → i < n → nat_lt i n ≡ true
+pub less_yes : (i n : ℕ) → i < n → nat_lt i n ≡ true
 less_yes i n h = grind (arith, nat_tests)
 
 -- an element passes, and none before it

@@ -23,7 +23,7 @@ use Rattle.qss_run.proofs.Quiet.{int_at-tabulate, tabulate-same}
 use Rattle.qss_run.proofs.Silence.{line_state_at, silence, stands_still}
 use Rattle.qss_run.proofs.Silences.{quiet_worlds, quiet_leads}
 
-later_of : (P : ℕ → Type 0) (from t : ℕ) (found : Option ℕ) → FirstAfter P from found → found ≡ Some t → from < t
+pub later_of : (P : ℕ → Type 0) (from t : ℕ) (found : Option ℕ) → FirstAfter P from found → found ≡ Some t → from < t
 later_of P from t None first e = absurd (cc)
 later_of P from t (Some u) first e = let same : u ≡ t = cc in omega (arith, first.later, same)
 
@@ -32,7 +32,7 @@ later_if tick t true e = let same : tick + 1 ≡ t = cc in omega (arith, same)
 later_if tick t false e = absurd (cc)
 
 -- each due tick is later
-dues_later : (m : Machine) (tick : ℕ) (s : Store) → Stands m tick s → (place t : ℕ) → due_at s.agenda place ≡ Some t → tick < t
+pub dues_later : (m : Machine) (tick : ℕ) (s : Store) → Stands m tick s → (place t : ℕ) → due_at s.agenda place ≡ Some t → tick < t
 dues_later m tick s stands place t e = elim (cases_lt place n) [ inl below ↦ later_of _ tick t _ (for.dues place below) e | inr past ↦ beyond past ]
   where
     n : ℕ
@@ -81,23 +81,26 @@ abbrev pub arrived_then : ℕ → List Bool → List Bool → List Bool
 arrived_then zero arrived settled = arrived
 arrived_then (suc ticks) arrived settled = settled
 
-pub world_then : (m : Machine) (tick ticks : ℕ) (s : Store) (arrived : Vec Bool Global) → Stands m tick s → arrived.items ≡ arrived_then ticks s.arrived.items s.settled.items →
-    world_of (tick + ticks) (record s { arrived = arrived }) ≡ world_after m (world_of tick s) ticks
-world_then m tick zero s arrived stands is =
+pub world_then : (m : Machine) (tick ticks : ℕ) (s : Store) (arrived : Vec Bool Global) (calm : Bool) → Stands m tick s → arrived.items ≡ arrived_then ticks s.arrived.items s.settled.items →
+    world_of (tick + ticks) (record s { arrived = arrived; calm = calm }) ≡ world_after m (world_of tick s) ticks
+world_then m tick zero s arrived calm stands is =
     let e : tick + 0 ≡ tick = omega arith in
-    ap (λ t. world_of t (record s { arrived = arrived })) e
+    ap (λ t. world_of t (record s { arrived = arrived; calm = calm })) e
     ∙ ap (λ (a : List Bool). record { states = states_at s.lines.items tick; levels = s.levels.items; discretes = s.work.d; arrived = a; settled = s.settled.items }) is
-world_then m tick (suc ticks) s arrived stands is =
+world_then m tick (suc ticks) s arrived calm stands is =
     ap (λ (x : List ℤ). record { states = x; levels = s.levels.items; discretes = s.work.d; arrived = arrived.items; settled = s.settled.items }) (states_later m tick s stands (suc ticks))
     ∙ ap (λ (a : List Bool). record { states = states_after m (world_of tick s) (suc ticks); levels = s.levels.items; discretes = s.work.d; arrived = a; settled = s.settled.items }) is
 
-pub fits_then : (m : Machine) (s : Store) (arrived : Vec Bool Global) → FitsMachine m s → length arrived.items ≡ length (conditions m) → FitsMachine m (record s { arrived = arrived })
-fits_then m s arrived fits many = record {
+pub fits_then : (m : Machine) (s : Store) (arrived : Vec Bool Global) (calm : Bool) → FitsMachine m s → length arrived.items ≡ length (conditions m) →
+    FitsMachine m (record s { arrived = arrived; calm = calm })
+fits_then m s arrived calm fits many = record {
   branches = fits.branches;
+  uses = fits.uses;
   lines = fits.lines;
   levels = fits.levels;
   slopes = fits.slopes;
   fresh = fits.fresh;
+  moved_room = fits.moved_room;
   watches = fits.watches;
   arrived = many;
   settled = fits.settled;
@@ -112,11 +115,15 @@ fits_then m s arrived fits many = record {
   row_room = fits.row_room;
 }
 
-pub stands_then : (m : Machine) (tick ticks : ℕ) (s : Store) (arrived : Vec Bool Global) → Stands m tick s → tick + ticks < m.last →
-    ((place t : ℕ) → due_at s.agenda place ≡ Some t → tick + ticks + 1 ≤ t) → arrived.items ≡ arrived_then ticks s.arrived.items s.settled.items → Stands m (tick + ticks) (record s { arrived = arrived })
-stands_then m tick ticks s arrived stands before nothing is = record {
-  fits = fits_then m s arrived stands.fits (ap length is ∙ many ticks);
-  stands_for = subst (λ v. StandsFor m (tick + ticks) v (line_at s.lines.items) (watch_at s.watches.items) s.agenda) (sym (world_then m tick ticks s arrived stands is)) (still ticks before nothing);
+pub stands_then : (m : Machine) (tick ticks : ℕ) (s : Store) (arrived : Vec Bool Global) (calm : Bool) → Stands m tick s → tick + ticks < m.last →
+    ((place t : ℕ) → due_at s.agenda place ≡ Some t → tick + ticks + 1 ≤ t) → arrived.items ≡ arrived_then ticks s.arrived.items s.settled.items →
+    (calm ≡ true → arrived.items ≡ s.settled.items) → Stands m (tick + ticks) (record s { arrived = arrived; calm = calm })
+stands_then m tick ticks s arrived calm stands before nothing is as_settled = record {
+  fits = fits_then m s arrived calm stands.fits (ap length is ∙ many ticks);
+  stands_for = subst (λ v. StandsFor m (tick + ticks) v (line_at s.lines.items) (watch_at s.watches.items) s.agenda) (sym (world_then m tick ticks s arrived calm stands is)) (still ticks before nothing);
+  fresh_levels = stands.fresh_levels;
+  own_slopes = stands.own_slopes;
+  calm = as_settled;
 }
   where
     many : (k : ℕ) → length (arrived_then k s.arrived.items s.settled.items) ≡ length (conditions m)

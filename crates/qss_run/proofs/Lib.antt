@@ -22,3 +22,17 @@ pub mod Goings
 pub mod Branches
 pub mod NamedRows
 pub mod Starts
+pub mod Writes
+pub mod Dues
+pub mod DueRows
+pub mod DueFirsts
+pub mod DueLevels
+pub mod Speeds
+pub mod QuietTick
+pub mod QuietVisits
+pub mod Unread
+pub mod Among
+pub mod Least
+pub mod PlainRows
+pub mod Courses
+pub mod Shifting

@@ -79,16 +79,45 @@ still_near m tick w line watch due end ticks j s some below in_time h nothing =
     let at_level = subst (λ level. IsAway (level_unit m) (state_at (line j) (tick + ticks)) level (quantum_of m j level) → ⊥) l.own_level stays in
     less_yes _ _ _ refl (subst (λ x. IsAway (level_unit m) x (int_at w.levels j) (quantum_of m j (int_at w.levels j)) → ⊥) (line_state_at m tick w line watch due s j ticks h) at_level)
 
+-- where the last place has no due tick up to some later tick, no condition became true through the handlers
+pub none_rises : (m : Machine) (tick : ℕ) (w : World) (line : ℕ → Line) (watch : ℕ → Watch) (due : List (Option ℕ)) (end : ℕ) → StandsFor m tick w line watch due → tick < end →
+    ((u : ℕ) → due_at due (state_count m + length (conditions m)) ≡ Some u → end < u) → NoneRises w
+none_rises m tick w line watch due end s later nothing = by_rises (rises w) refl
+  where
+    by_rises : (b : Bool) → rises w ≡ b → rises w ≡ false
+    by_rises false e = e
+    by_rises true e =
+        let next : due_at due (state_count m + length (conditions m)) ≡ Some (tick + 1) = s.rising ∙ ap (λ b. if b then Some (tick + 1) else None) e in
+        absurd (omega (arith, nothing _ next, later))
+
+-- the value that a watch leads to
+pub watch_value_at : (m : Machine) (tick : ℕ) (w : World) (line : ℕ → Line) (watch : ℕ → Watch) (due : List (Option ℕ)) → StandsFor m tick w line watch due →
+    (place ticks : ℕ) → place < length (conditions m) →
+    value_at (watch place) (tick + ticks) ≡ value_of m (condition_at m place).form (states_after m w ticks) w.discretes w.discretes (tick + ticks)
+watch_value_at m tick w line watch due s place ticks h =
+    let v = s.watches place h in
+    line_more (watch place).value (watch place).speed (watch place).tick tick ticks v.not_later
+    ∙ ap (λ z. z +ℤ pos ticks *ℤ (watch place).speed) v.here
+    ∙ ap (λ z. value_of m (condition_at m place).form w.states w.discretes w.discretes tick +ℤ pos ticks *ℤ z) v.own_speed
+    ∙ sym (value_line m (condition_at m place).form tick w ticks s.states)
+
+-- a condition whose due tick is later is still as after the last handlers
+pub flag_still : (m : Machine) (tick : ℕ) (w : World) (line : ℕ → Line) (watch : ℕ → Watch) (due : List (Option ℕ)) (end ticks place : ℕ) →
+    StandsFor m tick w line watch due → 0 < ticks → tick + ticks ≤ end → end ≤ tick_limit → place < length (conditions m) →
+    ((u : ℕ) → due_at due (state_count m + place) ≡ Some u → end < u) →
+    truth m (condition_at m place) (states_after m w ticks) w.discretes (tick + ticks) ≡ flag_at w.settled place
+flag_still m tick w line watch due end ticks place s some below in_time h nothing =
+    let P : ℕ → Type 0 = λ t. holds_at (watch place) t ≢ flag_at w.settled place in
+    let held : holds_at (watch place) (tick + ticks) ≡ truth m (condition_at m place) (states_after m w ticks) w.discretes (tick + ticks) =
+    ap (λ r. compares r (value_at (watch place) (tick + ticks))) (s.watches place h).own_rel
+    ∙ ap (compares (condition_at m place).rel) (watch_value_at m tick w line watch due s place ticks h) in
+    sym held
+    ∙ same_flag _ _ (not_yet P tick end (tick + ticks) (due_at due (state_count m + place)) (s.changes place h) nothing (omega (arith, some)) below in_time)
+
 module _ (m : Machine) (tick : ℕ) (w : World) (line : ℕ → Line) (watch : ℕ → Watch) (due : List (Option ℕ)) (end : ℕ)
     (s : StandsFor m tick w line watch due) (later : tick < end) (in_time : end ≤ tick_limit) (nothing : HasNothingUpTo end due) where
   calm : NoneRises w
-  calm = by_rises (rises w) refl
-    where
-      by_rises : (b : Bool) → rises w ≡ b → rises w ≡ false
-      by_rises false e = e
-      by_rises true e =
-          let next : due_at due (state_count m + length (conditions m)) ≡ Some (tick + 1) = s.rising ∙ ap (λ b. if b then Some (tick + 1) else None) e in
-          absurd (omega (arith, nothing _ _ next, later))
+  calm = none_rises m tick w line watch due end s later (nothing _)
 
   line_state : (j ticks : ℕ) → j < state_count m → state_at (line j) (tick + ticks) ≡ int_at (states_after m w ticks) j
   line_state j ticks h = line_state_at m tick w line watch due s j ticks h
@@ -96,24 +125,6 @@ module _ (m : Machine) (tick : ℕ) (w : World) (line : ℕ → Line) (watch : �
   near_still : (ticks j : ℕ) → 0 < ticks → tick + ticks ≤ end → j < state_count m →
       is_near m j (int_at (states_after m w ticks) j) (int_at w.levels j) ≡ true
   near_still ticks j some below h = still_near m tick w line watch due end ticks j s some below in_time h (nothing j)
-
-  watched : (ticks place : ℕ) → place < length (conditions m) →
-      holds_at (watch place) (tick + ticks) ≡ truth m (condition_at m place) (states_after m w ticks) w.discretes (tick + ticks)
-  watched ticks place h =
-      let v = s.watches place h in
-      let moved : value_at (watch place) (tick + ticks) ≡ value_of m (condition_at m place).form (states_after m w ticks) w.discretes w.discretes (tick + ticks) =
-      line_more (watch place).value (watch place).speed (watch place).tick tick ticks v.not_later
-      ∙ ap (λ z. z +ℤ pos ticks *ℤ (watch place).speed) v.here
-      ∙ ap (λ z. value_of m (condition_at m place).form w.states w.discretes w.discretes tick +ℤ pos ticks *ℤ z) v.own_speed
-      ∙ sym (value_line m (condition_at m place).form tick w ticks s.states) in
-      ap (λ r. compares r (value_at (watch place) (tick + ticks))) v.own_rel ∙ ap (compares (condition_at m place).rel) moved
-
-  flag_still : (ticks place : ℕ) → 0 < ticks → tick + ticks ≤ end → place < length (conditions m) →
-      truth m (condition_at m place) (states_after m w ticks) w.discretes (tick + ticks) ≡ flag_at w.settled place
-  flag_still ticks place some below h =
-      let P : ℕ → Type 0 = λ t. holds_at (watch place) t ≢ flag_at w.settled place in
-      sym (watched ticks place h)
-      ∙ same_flag _ _ (not_yet P tick end (tick + ticks) (due_at due (state_count m + place)) (s.changes place h) (nothing (state_count m + place)) (omega (arith, some)) below in_time)
 
   settled_many : length w.settled ≡ length (conditions m)
   settled_many = ap length s.settled ∙ length-map (conditions m) (λ c. truth m c w.states w.discretes tick)
@@ -124,22 +135,13 @@ module _ (m : Machine) (tick : ℕ) (w : World) (line : ℕ → Line) (watch : �
       let test = λ (c : Condition). truth m c (states_after m w ticks) w.discretes (tick + ticks) in
       fill_by_all (flag_at w.settled) (truths m (states_after m w ticks) w.discretes (tick + ticks)) (length (conditions m)) false
       (length-map (conditions m) test)
-      (λ place h. get_or-map test (conditions m) place none false h ∙ flag_still ticks place some below h)
+      (λ place h. get_or-map test (conditions m) place none false h ∙ flag_still m tick w line watch due end ticks place s some below in_time h (nothing (state_count m + place)))
       ∙ sym (fill_by_all (flag_at w.settled) w.settled (length (conditions m)) false settled_many (λ place h. refl))
 
   quiet_still : (ticks : ℕ) → 0 < ticks → tick + ticks ≤ end → IsQuiet m tick w ticks
   quiet_still ticks some below = record { near = λ j h. near_still ticks j some below h; same = truths_still ticks some below }
 
   -- ---- the same lines and watches later
-
-  watch_value : (ticks place : ℕ) → place < length (conditions m) →
-      value_at (watch place) (tick + ticks) ≡ value_of m (condition_at m place).form (states_after m w ticks) w.discretes w.discretes (tick + ticks)
-  watch_value ticks place h =
-      let v = s.watches place h in
-      line_more (watch place).value (watch place).speed (watch place).tick tick ticks v.not_later
-      ∙ ap (λ z. z +ℤ pos ticks *ℤ (watch place).speed) v.here
-      ∙ ap (λ z. value_of m (condition_at m place).form w.states w.discretes w.discretes tick +ℤ pos ticks *ℤ z) v.own_speed
-      ∙ sym (value_line m (condition_at m place).form tick w ticks s.states)
 
   no_rising : due_at due (state_count m + length (conditions m)) ≡ None
   no_rising = s.rising ∙ ap (λ b. if b then Some (tick + 1) else None) calm
@@ -158,7 +160,7 @@ module _ (m : Machine) (tick : ℕ) (w : World) (line : ℕ → Line) (watch : �
     dues = λ j h. from_later _ tick (tick + suc ticks) (due_at due j) (omega arith) (λ u e. omega (arith, nothing j u e, below)) (s.dues j h);
     watches = λ place h. record {
       not_later = omega (arith, (s.watches place h).not_later);
-      here = watch_value (suc ticks) place h;
+      here = watch_value_at m tick w line watch due s place (suc ticks) h;
       own_speed = (s.watches place h).own_speed;
       own_rel = (s.watches place h).own_rel;
     };

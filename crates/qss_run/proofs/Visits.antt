@@ -6,7 +6,7 @@ use Rattle.std.proofs.lemmas.List.FromFn.{length-map-range_with_len}
 use Rattle.std.proofs.Common.{Vec, Global}
 use Rattle.std.specs.Vec.{with_items}
 use Rattle.std.specs.Option.{option_or}
-use Rattle.std.specs.Prelude.{Option, Some, None, Ok, All, MatchBool, is_some, position}
+use Rattle.std.specs.Prelude.{Option, Some, None, Ok, All, MatchBool, is_some, position, vec_capacity}
 use Rattle.mu_num.specs.Sizes.{IsWithin}
 use Rattle.mu_num.proofs.Tests.{int_lt-true}
 use Rattle.qss_machine.specs.declared.parts.Condition.{Condition}
@@ -88,36 +88,38 @@ next_is_near name m j state old new h next = by_near (is_near m j state old) ref
 
 -- ---- the store stands again
 
-pub stands_again : (m : Machine) (t : ℕ) (s : Store) → FitsMachine m s → ((j : ℕ) → j < state_count m → IsWithin 43 (int_at s.levels.items j)) →
+pub stands_again : (m : Machine) (t : ℕ) (s : Store) (x : List ℤ) → length x ≡ state_count m → FitsMachine m s → ((j : ℕ) → j < state_count m → IsWithin 43 (int_at s.levels.items j)) →
     position (is_overweight m s.levels.items s.work.d) m.rows ≡ None →
     s.slopes.items ≡ slopes_of m (world_of t s) →
-    ((j : ℕ) → j < state_count m → IsTurned m t (int_at s.work.x j) (int_at s.levels.items j) (slope_at m j s.levels.items s.work.d) j (line_at s.lines.items j) (due_at s.agenda j)) →
-    s.settled.items ≡ truths m s.work.x s.work.d t →
-    ((place : ℕ) → place < length (conditions m) → IsWatched m t s.work.x s.work.d s.slopes.items place (watch_at s.watches.items place) (due_at s.agenda (state_count m + place))) →
+    ((j : ℕ) → j < state_count m → IsTurned m t (int_at x j) (int_at s.levels.items j) (slope_at m j s.levels.items s.work.d) j (line_at s.lines.items j) (due_at s.agenda j)) →
+    s.settled.items ≡ truths m x s.work.d t →
+    ((place : ℕ) → place < length (conditions m) → IsWatched m t x s.work.d s.slopes.items place (watch_at s.watches.items place) (due_at s.agenda (state_count m + place))) →
     due_at s.agenda (state_count m + length (conditions m)) ≡ rising_tick t (world_of t s) →
-    (states_at s.lines.items t ≡ s.work.x) × Stands m t s
-stands_again m t s fits small light slopes turned settled watched rising = (states, record { fits = fits; stands_for = for })
+    s.fresh.items ≡ s.levels.items → (s.calm ≡ true → s.arrived.items ≡ s.settled.items) →
+    (states_at s.lines.items t ≡ x) × Stands m t s
+stands_again m t s x many fits small light slopes turned settled watched rising twice calm =
+    (states, record { fits = fits; stands_for = for; fresh_levels = twice; own_slopes = slopes; calm = calm })
   where
-    states : states_at s.lines.items t ≡ s.work.x
+    states : states_at s.lines.items t ≡ x
     states =
         ap (λ n. tabulate n (λ j. state_at (line_at s.lines.items j) t)) fits.lines
-        ∙ tabulate-same (pos 0) (state_count m) _ (int_at s.work.x) (λ j h. (turned j h).here)
-        ∙ sym (tabulate-int_at s.work.x (state_count m) fits.states)
+        ∙ tabulate-same (pos 0) (state_count m) _ (int_at x) (λ j h. (turned j h).here)
+        ∙ sym (tabulate-int_at x (state_count m) many)
 
-    state : (j : ℕ) → int_at s.work.x j ≡ int_at (world_of t s).states j
+    state : (j : ℕ) → int_at x j ≡ int_at (world_of t s).states j
     state j = ap (λ xs. int_at xs j) (sym states)
 
-    flag : (place : ℕ) → place < length (conditions m) → truth m (condition_at m place) s.work.x s.work.d t ≡ flag_at s.settled.items place
+    flag : (place : ℕ) → place < length (conditions m) → truth m (condition_at m place) x s.work.d t ≡ flag_at s.settled.items place
     flag place h =
         let none : Condition = record { form = record { entries = []; time = pos 0; gamma = pos 0 }; rel = Less } in
-        let test = λ (c : Condition). truth m c s.work.x s.work.d t in
+        let test = λ (c : Condition). truth m c x s.work.d t in
         sym (ap (λ flags. flag_at flags place) settled ∙ get_or-map test (conditions m) place none false h)
 
     for : StandsFor m t (world_of t s) (line_at s.lines.items) (watch_at s.watches.items) s.agenda
     for = record {
       left = record { one_each = fits.levels; small_levels = small; light = light };
       states = length-map-range_with_len (λ j. state_at (line_at s.lines.items j) t) 0 (length s.lines.items) ∙ fits.lines;
-      settled = settled ∙ ap (λ x. truths m x s.work.d t) (sym states);
+      settled = settled ∙ ap (λ y. truths m y s.work.d t) (sym states);
       lines = λ j h. record {
         not_later = (turned j h).not_later;
         here = (turned j h).here ∙ state j;
@@ -127,12 +129,45 @@ stands_again m t s fits small light slopes turned settled watched rising = (stat
       dues = λ j h. (turned j h).is_due;
       watches = λ place h. record {
         not_later = (watched place h).not_later;
-        here = (watched place h).here ∙ ap (λ x. value_of m (condition_at m place).form x s.work.d s.work.d t) (sym states);
+        here = (watched place h).here ∙ ap (λ y. value_of m (condition_at m place).form y s.work.d s.work.d t) (sym states);
         own_speed = (watched place h).own_speed ∙ ap (speed_of m (condition_at m place).form) slopes;
         own_rel = (watched place h).own_rel;
       };
       changes = λ place h. subst (λ b. IsChange t b (watch_at s.watches.items place) (due_at s.agenda (state_count m + place))) (flag place h) (watched place h).is_change;
       rising = rising;
+    }
+
+-- a store stands with other memory for moved states
+pub stands_with : (m : Machine) (tick : ℕ) (s : Store) (moved : Vec ℕ Global) (agenda : List (Option ℕ)) → Stands m tick s → vec_capacity moved ≡ vec_capacity s.moved → agenda ≡ s.agenda →
+    Stands m tick (record s { moved = moved; agenda = agenda })
+stands_with m tick s moved agenda stands room same =
+    let fits = stands.fits in
+    record {
+      fits = record {
+        branches = fits.branches;
+        uses = fits.uses;
+        lines = fits.lines;
+        levels = fits.levels;
+        slopes = fits.slopes;
+        fresh = fits.fresh;
+        moved_room = omega (arith, room, fits.moved_room);
+        watches = fits.watches;
+        arrived = fits.arrived;
+        settled = fits.settled;
+        now = fits.now;
+        due = fits.due;
+        places = ap length same ∙ fits.places;
+        states = fits.states;
+        discretes = fits.discretes;
+        before = fits.before;
+        small_discretes = fits.small_discretes;
+        work_room = fits.work_room;
+        row_room = fits.row_room;
+      };
+      stands_for = subst (StandsFor m tick (world_of tick s) (line_at s.lines.items) (watch_at s.watches.items)) (sym same) stands.stands_for;
+      fresh_levels = stands.fresh_levels;
+      own_slopes = stands.own_slopes;
+      calm = stands.calm;
     }
 
 -- ---- the step
@@ -210,10 +245,11 @@ levels_small m tick s stands k z h =
     subst (IsWithin 43) (get_or_default s.levels.items k (pos 0) z h) (stands.stands_for.left.small_levels k (omega (arith, h, stands.fits.levels)))
 
 -- a state at a tick is within the limit on arrival
-pub state_small : (lines : List Line) (t j : ℕ) → j < length lines → All (IsWithin 88) (states_at lines t) → IsWithin 89 (state_at (line_at lines j) t)
-state_small lines t j h small =
+pub state_within : (lines : List Line) (t j : ℕ) → j < length lines → All (IsWithin 88) (states_at lines t) → IsWithin 88 (state_at (line_at lines j) t)
+state_within lines t j h small =
     let many = length-map-range_with_len (λ i. state_at (line_at lines i) t) 0 (length lines) in
     let here = int_at-tabulate (length lines) (λ i. state_at (line_at lines i) t) j h in
-    let within : IsWithin 88 (int_at (states_at lines t) j) = small j (pos 0) (omega (arith, h, many)) in
-    let own : IsWithin 88 (state_at (line_at lines j) t) = subst (IsWithin 88) here within in
-    omega (arith, own)
+    subst (IsWithin 88) here (small j (pos 0) (omega (arith, h, many)))
+
+pub state_small : (lines : List Line) (t j : ℕ) → j < length lines → All (IsWithin 88) (states_at lines t) → IsWithin 89 (state_at (line_at lines j) t)
+state_small lines t j h small = omega (arith, state_within lines t j h small)

@@ -8,3 +8,8 @@ pub mod Rooms
 pub mod Standings
 pub mod Events
 pub mod Calls
+pub mod Moves
+pub mod Writes
+pub mod Speeds
+pub mod Overweights
+pub mod Turnings

@@ -1,5 +1,5 @@
 -- What a simulator keeps, and the world that it stands for.
-use Rattle.std.specs.Prelude.{◌≡◌, ℕ, ◌+◌, ◌≤◌, Bool, List, [], length, map, All, ℤ, Option, None, vec_capacity}
+use Rattle.std.specs.Prelude.{◌≡◌, ℕ, ◌+◌, ◌≤◌, Bool, true, List, [], length, map, All, ℤ, Option, None, vec_capacity}
 use Rattle.mu_num.specs.Sizes.{IsWithin}
 use Rattle.qss_machine.specs.declared.system.Machine.{Machine}
 use Rattle.qss_machine.specs.Numbers.{tabulate, first_past}
@@ -7,13 +7,16 @@ use Rattle.qss_machine.specs.Machines.{state_count, discrete_count, level_unit, 
 use Rattle.qss_machine.specs.Limits.{level_below}
 use Rattle.qss_machine.specs.Handlers.{Handling, conditions, truths, due_flags, run_clauses}
 use Rattle.qss_machine.specs.Ticks.{World}
+use Rattle.qss_machine.specs.Uses.{uses_of}
 use Rattle.qss_quant.specs.Lines.{Line, state_at}
 use Rattle.qss_hand.specs.Works.{row_room}
 use Rattle.qss_sched.specs.Ranks.{HasNone}
 use Rattle.qss_run.specs.declared.outcome.Outcome.{Outcome}
 use Rattle.qss_run.specs.declared.store.Store.{Store}
 use Rattle.qss_run.specs.Places.{line_at, watch_at, AreBranches}
-use Rattle.qss_run.specs.Sims.{StandsFor}
+use Rattle.qss_run.specs.Moves.{AreDue, IsWithout}
+use Rattle.qss_run.specs.Sims.{slopes_of, StandsFor}
+use Rattle.qss_run.specs.Speeds.{OnlyStatesAreDue}
 
 -- the states to which lines lead at a tick
 abbrev pub states_at : List Line → ℕ → List ℤ
@@ -40,10 +43,12 @@ world_of tick s = record {
 -- lists of the machine's lengths, values within the limits, and memory for all rows of a tick
 pub record FitsMachine (m : Machine) (s : Store) : Type 0 where
   pub branches : AreBranches m s.branches.items
+  pub uses : s.uses ≡ uses_of m
   pub lines : length s.lines.items ≡ state_count m
   pub levels : length s.levels.items ≡ state_count m
   pub slopes : length s.slopes.items ≡ state_count m
   pub fresh : length s.fresh.items ≡ state_count m
+  pub moved_room : state_count m ≤ vec_capacity s.moved
   pub watches : length s.watches.items ≡ length (conditions m)
   pub arrived : length s.arrived.items ≡ length (conditions m)
   pub settled : length s.settled.items ≡ length (conditions m)
@@ -57,10 +62,20 @@ pub record FitsMachine (m : Machine) (s : Store) : Type 0 where
   pub work_room : row_room m.clauses ≤ s.work.room
   pub row_room : row_room m.clauses + state_count m + discrete_count m + 1 ≤ vec_capacity s.rows
 
--- a store stands for its world at a tick
+-- a store stands for its world at a tick: it keeps the slopes there, each level twice, and while it is calm no condition is on arrival other than after the handlers
 pub record Stands (m : Machine) (tick : ℕ) (s : Store) : Type 0 where
   pub fits : FitsMachine m s
   pub stands_for : StandsFor m tick (world_of tick s) (line_at s.lines.items) (watch_at s.watches.items) s.agenda
+  pub fresh_levels : s.fresh.items ≡ s.levels.items
+  pub own_slopes : s.slopes.items ≡ slopes_of m (world_of tick s)
+  pub calm : s.calm ≡ true → s.arrived.items ≡ s.settled.items
+
+-- a store stood at a tick with this agenda; nothing but states is due at the next one, and these were taken out
+pub record IsTaken (m : Machine) (tick : ℕ) (agenda : List (Option ℕ)) (s : Store) : Type 0 where
+  pub stands : Stands m tick (record s { agenda = agenda })
+  pub due : AreDue (state_count m) (tick + 1) agenda s.moved.items
+  pub without : IsWithout s.moved.items agenda s.agenda
+  pub only_states : OnlyStatesAreDue m tick agenda
 
 -- a store with memory and the values of the start
 pub record IsBlank (m : Machine) (s : Store) : Type 0 where
@@ -68,6 +83,7 @@ pub record IsBlank (m : Machine) (s : Store) : Type 0 where
   pub states : s.work.x ≡ start_states m
   pub discretes : s.work.d ≡ start_discretes m
   pub levels : s.levels.items ≡ map (level_below (level_unit m)) (start_states m)
+  pub fresh_levels : s.fresh.items ≡ s.levels.items
   pub no_dues : HasNone s.agenda
 
 -- what a simulator keeps: a tick of the run, memory for the rows of an overflow, and until the end of the run a store that stands there

@@ -1,6 +1,6 @@
 //! From one event to the next: ticks at which nothing happens, and one at which something may.
 
-ghost use Rattle.std.specs.Prelude.{◌≡◌, ℕ, ◌+◌, ◌<◌, ◌≤◌, List, None, Option, length, vec_capacity, if◌then◌else◌};
+ghost use Rattle.std.specs.Prelude.{◌≡◌, ℕ, ◌+◌, ◌<◌, ◌≤◌, List, None, Option, length, vec_capacity};
 ghost use Rattle.qss_machine.specs.Machines.{state_count};
 ghost use Rattle.qss_machine.specs.Ticks.{World, world_unless};
 ghost use Rattle.qss_machine.specs.Runs.{last_world, tick_rows};
@@ -9,22 +9,13 @@ ghost use Rattle.qss_run.specs.Rules.{IsRuled};
 ghost use Rattle.qss_run.specs.Stores.{world_of, Stands};
 ghost use Rattle.qss_run.specs.Events.{AreSilent, IsVisit};
 
+use crate::calm::catch_up;
 use crate::held::next_visit;
 use crate::store::Store;
 use crate::visit::visit;
 use qss_machine::Machine;
 use qss_quant::{Quantizer, Steps};
 use std::sync::ledger::Ledger;
-
-// After a tick at which nothing happens the conditions are on arrival as they were after the last handlers.
-fn catch_up(skipped: bool, settled: &[bool], arrived: &mut [bool])
-    requires { length arrived.old ≡ length settled.now }
-    ensures { arrived.new ≡ (if skipped then settled.now else arrived.old) }
-{
-    if skipped {
-        arrived.copy_from_slice(settled);
-    }
-}
 
 // Goes to just before the next tick at which something happens, or just before the last one.
 fn jump(m: &Machine, tick: u64, s: &mut Store) -> u64
@@ -41,6 +32,7 @@ fn jump(m: &Machine, tick: u64, s: &mut Store) -> u64
         tick + 1 < next,
         s.settled.as_slice(),
         s.arrived.as_mut_slice(),
+        &mut s.calm,
     );
     next - 1
 }

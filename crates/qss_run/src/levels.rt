@@ -3,7 +3,7 @@
 ghost use Rattle.std.specs.Prelude.{◌≡◌, ◌+◌, ◌<◌, ◌≤◌, ◌++◌, ◌∷◌, [], All, length, vec_len, vec_capacity, if◌then◌else◌};
 ghost use Rattle.mu_num.specs.Sizes.{IsWithin};
 ghost use Rattle.qss_machine.specs.Machines.{state_count, level_unit};
-ghost use Rattle.qss_machine.specs.Ticks.{AreNextLevels};
+ghost use Rattle.qss_machine.specs.Ticks.{IsNextLevel, AreNextLevels};
 ghost use Rattle.std.specs.Ordering.{int_eq};
 ghost use Rattle.qss_machine.specs.Runs.{level_rows};
 ghost use Rattle.qss_machine.specs.declared.rows.RowKind.TheVariants as kind;
@@ -19,6 +19,25 @@ pub(crate) fn level_unit(m: &Machine) -> i128
     1i128 << (m.p + m.k)
 }
 
+/// The new level of a state: the old one while the state is within the quantum of it, else one that the rule gives.
+pub(crate) fn next_level(
+    m: &Machine,
+    q: &Quantizer,
+    j: u32,
+    x: i128,
+    level: i64,
+    unit: i128,
+) -> i128
+    requires state { j < state_count m.now }
+    requires small_state { IsWithin 88 x }
+    requires small_level { IsWithin 43 level }
+    requires unit { unit ≡ level_unit m.now }
+    ensures { IsNextLevel (IsRuled q.now.name) m.now j x level result }
+{
+    let quantum = m.quantum_at(j, level);
+    q.level(x, level, quantum, unit)
+}
+
 /// The new level of each state: the old one while the state is within the quantum of it, else one that the rule gives.
 pub(crate) fn relevel(m: &Machine, q: &Quantizer, x: &[i128], levels: &[i64], fresh: &mut [i128])
     requires states { length x.now ≡ state_count m.now }
@@ -30,13 +49,19 @@ pub(crate) fn relevel(m: &Machine, q: &Quantizer, x: &[i128], levels: &[i64], fr
 {
     let unit = level_unit(m);
     for j in 0..x.len() {
-        let quantum = m.quantum_at(j as u32, levels[j]);
-        fresh[j] = q.level(x[j], levels[j], quantum, unit);
+        fresh[j] = next_level(m, q, j as u32, x[j], levels[j], unit);
     }
 }
 
-// A state takes a level, with a row where it is another one.
-fn take_level(rows: &mut Vec<Row>, tick: u64, var: u32, level: &mut i64, fresh: i128, state: i128)
+/// A state takes a level, with a row where it is another one.
+pub(crate) fn take_level(
+    rows: &mut Vec<Row>,
+    tick: u64,
+    var: u32,
+    level: &mut i64,
+    fresh: i128,
+    state: i128,
+)
     requires small { IsWithin 43 fresh }
     requires room { vec_len rows.old < vec_capacity rows.old }
     ensures level { level.new ≡ fresh }

@@ -2,8 +2,10 @@
 #![tactic(auto)]
 
 mod advance;
+mod calm;
 mod conditions;
 mod course;
+mod due;
 mod ends;
 mod going;
 mod handlers;
@@ -12,13 +14,19 @@ mod jump;
 mod laws;
 mod levels;
 mod outcome;
+mod readers;
+mod relevel;
+mod shifts;
 mod sim;
 mod slopes;
+mod sparse;
 mod start;
 mod states;
 mod store;
+mod turned;
 mod visit;
 mod watches;
+mod watching;
 mod weights;
 
 pub use course::Course;

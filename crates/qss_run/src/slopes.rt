@@ -10,6 +10,7 @@ ghost use Rattle.qss_quant.specs.Lines.{state_at, IsNear};
 ghost use Rattle.qss_sched.specs.Ranks.{due_at};
 ghost use Rattle.qss_run.specs.Places.{line_at, IsTurned};
 ghost use Rattle.qss_run.specs.Sims.{IsDue};
+ghost use Rattle.qss_run.specs.Turnings.{comes_from};
 
 use crate::levels::level_unit;
 use qss_machine::Machine;
@@ -33,6 +34,7 @@ fn renew<L: Ledger>(
     requires slope { IsWithin 88 slope }
     requires level { IsWithin 43 level }
     ensures moved { result ≡ true → (line.new ≡ record { tick = tick; x = x; slope = slope; level = level }) × (steps.new ≡ steps.old + 1) }
+    ensures kept { state_at line.old tick ≡ x → line.old.slope ≡ slope → line.old.level ≡ level → result ≡ false }
     ensures left { result ≡ false → (line.new ≡ line.old) × (state_at line.old tick ≡ x) × (line.old.slope ≡ slope) × (line.old.level ≡ level) × (steps.new ≡ steps.old) }
 {
     if line.slope == slope && line.level == level && line.value_at(tick) == x {
@@ -48,8 +50,9 @@ fn renew<L: Ledger>(
     true
 }
 
-// State j goes on from a tick at its slope, and the agenda has the tick at which it then leaves its quantum.
-fn reslope<L: Ledger>(
+/// State j goes on from a tick at its slope, and the agenda has the tick at which it then leaves its quantum. A line that
+/// goes on so already is left as it is.
+pub(crate) fn reslope<L: Ledger>(
     m: &Machine,
     j: u32,
     tick: u64,
@@ -78,6 +81,7 @@ fn reslope<L: Ledger>(
     ensures others { (place : ℕ) → (place ≡ j → ⊥) → due_at agenda.new place ≡ due_at agenda.old place }
     ensures due { IsDue m.now tick j line.new (due_at agenda.new j) }
     ensures counted { steps.new ≤ steps.old + 1 }
+    ensures once { state_at line.old tick ≡ x → (line.old.tick ≡ tick → (line.old.slope ≡ slope) × (line.old.level ≡ level)) → steps.new + comes_from tick line.old ≤ steps.old + comes_from tick line.new }
 {
     if renew(line, tick, x, slope, level, steps) {
         let quantum = m.quantum_at(j, level);

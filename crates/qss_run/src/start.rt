@@ -23,7 +23,7 @@ use crate::watches::rewatch_all;
 use mu_num::floor_div;
 use qss_cross::Detector;
 use qss_hand::Work;
-use qss_machine::{Machine, Rel, Row, RowKind};
+use qss_machine::{Machine, Rel, Row, RowKind, Uses};
 use qss_quant::Integrator;
 use qss_sched::Agenda;
 use std::alloc::{AllocError, Global};
@@ -77,6 +77,17 @@ fn start_levels(alloc: Global, m: &Machine) -> Result<Vec<i64>, AllocError>
     Ok(levels)
 }
 
+// The levels once more.
+fn levels_again(alloc: Global, levels: &[i64]) -> Result<Vec<i128>, AllocError>
+    ensures { IfOk result (λ fresh. fresh.items ≡ levels.now) }
+{
+    let mut fresh: Vec<i128> = Vec::with_capacity(alloc, levels.len())?;
+    for j in 0..levels.len() {
+        fresh.push_reserved(levels[j] as i128);
+    }
+    Ok(fresh)
+}
+
 // So many equal elements.
 fn copies<T: Copy>(alloc: Global, value: T, count: usize) -> Result<Vec<T>, AllocError>
     ensures { IfOk result (λ list. length list.items ≡ count) }
@@ -93,6 +104,7 @@ fn blank_store(alloc: Global, m: &Machine) -> Result<Store, AllocError>
     ensures { IfOk result (λ s. IsBlank m.now s) }
 {
     let branches = branch_places(alloc, m)?;
+    let uses = Uses::new(alloc, m)?;
     let work = Work::new(alloc, m)?;
     let levels = start_levels(alloc, m)?;
     let states = levels.len();
@@ -111,7 +123,8 @@ fn blank_store(alloc: Global, m: &Machine) -> Result<Store, AllocError>
     };
     let lines = copies(alloc, line, states)?;
     let slopes = copies(alloc, 0, states)?;
-    let fresh = copies(alloc, 0, states)?;
+    let fresh = levels_again(alloc, levels.as_slice())?;
+    let moved: Vec<u32> = Vec::with_capacity(alloc, states)?;
     let watches = copies(alloc, watch, conditions)?;
     let arrived = copies(alloc, false, conditions)?;
     let settled = copies(alloc, false, conditions)?;
@@ -121,6 +134,7 @@ fn blank_store(alloc: Global, m: &Machine) -> Result<Store, AllocError>
     let rows = Vec::with_capacity(alloc, work.log.capacity() + states + work.d.len() + 1)?;
     Ok(Store {
         branches,
+        uses,
         lines,
         levels,
         slopes,
@@ -130,6 +144,8 @@ fn blank_store(alloc: Global, m: &Machine) -> Result<Store, AllocError>
         now,
         due,
         fresh,
+        moved,
+        calm: true,
         agenda,
         work,
         rows,

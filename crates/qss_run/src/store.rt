@@ -3,16 +3,19 @@
 use crate::conditions::BranchPlace;
 use qss_cross::Detector;
 use qss_hand::Work;
-use qss_machine::Row;
+use qss_machine::{Row, Uses};
 use qss_quant::Integrator;
 use qss_sched::Agenda;
 
-/// By state: its line, its level and its slope. By condition: its branch, its watch, whether it held on the last arrival
-/// and after the last handlers. The agenda has a place for each state, then one for each condition, and one for a
-/// condition that became true through the handlers. `now`, `due` and `fresh` are room for a tick's work.
+/// By state: its line, its level, its slope, and its level once more for the next tick's work. By condition: its branch, its
+/// watch, whether it held on the last arrival and after the last handlers. `uses` says which rows and conditions read a
+/// variable. The agenda has a place for each state, then one for each condition, and one for a condition that became true
+/// through the handlers. While `calm` is set, each condition is on arrival as after the last handlers. `now`, `due` and
+/// `moved` are room for a tick's work.
 #[derive(Drop)]
 pub(crate) struct Store {
     pub branches: Vec<BranchPlace>,
+    pub uses: Uses,
     pub lines: Vec<Integrator>,
     pub levels: Vec<i64>,
     pub slopes: Vec<i128>,
@@ -22,6 +25,8 @@ pub(crate) struct Store {
     pub now: Vec<bool>,
     pub due: Vec<bool>,
     pub fresh: Vec<i128>,
+    pub moved: Vec<u32>,
+    pub calm: bool,
     pub agenda: Agenda,
     pub work: Work,
     pub rows: Vec<Row>,

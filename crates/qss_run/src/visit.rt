@@ -17,6 +17,7 @@ use crate::conditions::{BranchPlace, read_conditions, set_due};
 use crate::going::go_on;
 use crate::handlers::run_handlers;
 use crate::levels::{relevel, take_levels};
+use crate::sparse::{take_alone, visit_due};
 use crate::states::{arrive, first_past};
 use crate::store::Store;
 use crate::weights::first_overweight;
@@ -146,9 +147,8 @@ pub(crate) fn requantize(
     first_overweight(m, levels, work.d.as_slice())
 }
 
-/// One tick after the one at which the store stands. It gives the variable that overflows, if one does; the store is then
-/// good for nothing but its memory for rows.
-pub(crate) fn visit<L: Ledger>(
+// One tick after the one at which the store stands, whatever is due there.
+fn visit_all<L: Ledger>(
     m: &Machine,
     q: &Quantizer,
     tick: u64,
@@ -206,5 +206,31 @@ pub(crate) fn visit<L: Ledger>(
         &mut s.agenda,
         steps,
     );
+    s.calm = false;
     None
+}
+
+/// One tick after the one at which the store stands. It gives the variable that overflows, if one does; the store is then
+/// good for nothing but its memory for rows.
+pub(crate) fn visit<L: Ledger>(
+    m: &Machine,
+    q: &Quantizer,
+    tick: u64,
+    s: &mut Store,
+    steps: &mut Steps<L>,
+) -> Option<u32>
+    requires stands { Stands m.now tick s.old }
+    requires in_time { tick < m.now.last }
+    ensures stepped { Step (IsRuled q.now.name) m.now (tick + 1) (world_of tick s.old) (world_unless result (world_of (tick + 1) s.new)) }
+    ensures rows { result ≡ None → s.new.rows.items ≡ tick_rows m.now (tick + 1) (world_of tick s.old) (world_of (tick + 1) s.new) }
+    ensures stands { result ≡ None → Stands m.now (tick + 1) s.new }
+    ensures room { vec_capacity s.new.rows ≡ vec_capacity s.old.rows }
+    ensures counted { steps.new ≤ steps.old + state_count m.now }
+{
+    let states = s.lines.len() as u32;
+    if take_alone(&mut s.agenda, tick + 1, states, &mut s.moved) {
+        visit_due(m, q, tick, s, steps)
+    } else {
+        visit_all(m, q, tick, s, steps)
+    }
 }

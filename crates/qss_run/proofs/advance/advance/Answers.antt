@@ -10,7 +10,7 @@ use Rattle.qss_machine.specs.Machines.{state_count}
 use Rattle.qss_machine.specs.Ticks.{Step, world_unless}
 use Rattle.qss_machine.specs.Runs.{last_world}
 use Rattle.qss_run.specs.Rules.{IsRuled}
-use Rattle.qss_run.specs.Stores.{world_of}
+use Rattle.qss_run.specs.Stores.{world_of, Stands}
 use Rattle.qss_run.specs.Events.{IsVisit}
 use Rattle.qss_run.proofs.Goings.{visit_on, rows_on, silent_visit}
 use Rattle.qss_run.proofs.advance.advance.Goals as goal
@@ -104,3 +104,8 @@ loop-tick-preserved g c =
         steps_more (state_count m) (c.loop-tick.tick - c.args.from) (t - c.args.from) (omega (arith, c.loop-tick.invariant.later, c.go_to_visit-visited.ensures.later)),
       );
     }
+
+pub finish-requires : goal.finish-requires
+finish-requires g c =
+    let at_last : c.loop-tick.tick ≡ c.args.m.now.last = omega (arith, c.loop-tick-test.false, c.loop-tick.invariant.in_time) in
+    subst (λ t. Stands c.args.m.now t c.loop-tick.s) at_last c.loop-tick.invariant.stands

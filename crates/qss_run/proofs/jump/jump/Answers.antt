@@ -1,5 +1,5 @@
 -- The store is good just before the next visit.
-use Rattle.std.proofs.Common.{◌≡◌, ℕ, ◌+◌, ◌-◌, ◌<◌, ◌≤◌, Bool, refl, ◌∙◌, sym, ap, subst, arith}
+use Rattle.std.proofs.Common.{◌≡◌, ℕ, ◌+◌, ◌-◌, ◌<◌, ◌≤◌, Bool, true, refl, ◌∙◌, sym, ap, subst, arith}
 use Rattle.std.proofs.Common.{Vec, Global}
 use Rattle.std.proofs.lemmas.List.{with_items_is}
 use Rattle.std.specs.Prelude.{Some, nat_lt, if◌then◌else◌}
@@ -32,20 +32,22 @@ returns c =
     let arrived : Vec Bool Global = with_items s.arrived c.catch_up.new.arrived in
     let is : arrived.items ≡ arrived_then k s.arrived.items s.settled.items =
     with_items_is s.arrived c.catch_up.new.arrived (c.catch_up.auto.arrived ∙ c.as_mut_slice.ensures.len)
-    ∙ c.catch_up.ensures
+    ∙ c.catch_up.ensures.arrived
     ∙ ap (λ b. if nat_lt (tick + 1) next then b else c.as_mut_slice.result.now) c.as_slice.ensures.value
     ∙ ap (λ a. if nat_lt (tick + 1) next then s.settled.items else a) c.as_mut_slice.ensures.value
     ∙ arrived_if tick next k s.arrived.items s.settled.items e later in
-    let world = world_then m tick k s arrived c.requires.stands is in
+    let calm : Bool = c.catch_up.new.calm in
+    let world = world_then m tick k s arrived calm c.requires.stands is in
+    let as_settled : calm ≡ true → arrived.items ≡ s.settled.items = λ e. with_items_is s.arrived c.catch_up.new.arrived (c.catch_up.auto.arrived ∙ c.as_mut_slice.ensures.len) ∙ c.catch_up.ensures.calm e ∙ c.as_slice.ensures.value in
     record {
       later = omega (arith, later);
       before = omega (arith, later, c.next_visit-next.ensures.at_most);
       silent = λ name. (
         quiet_worlds m (world_of tick s) k,
-        subst (λ t. AreSilent (IsRuled name) m tick (world_of tick s) (quiet_worlds m (world_of tick s) k) t (world_of t (record s { arrived = arrived }))) e
+        subst (λ t. AreSilent (IsRuled name) m tick (world_of tick s) (quiet_worlds m (world_of tick s) k) t (world_of t (record s { arrived = arrived; calm = calm }))) e
             (subst (AreSilent (IsRuled name) m tick (world_of tick s) (quiet_worlds m (world_of tick s) k) (tick + k)) (sym world)
             (silent_then (IsRuled name) m tick k s c.requires.stands before nothing)),
       );
-      stands = subst (λ t. Stands m t (record s { arrived = arrived })) e (stands_then m tick k s arrived c.requires.stands before nothing is);
+      stands = subst (λ t. Stands m t (record s { arrived = arrived; calm = calm })) e (stands_then m tick k s arrived calm c.requires.stands before nothing is as_settled);
       room = refl;
     }

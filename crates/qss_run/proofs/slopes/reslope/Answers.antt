@@ -1,5 +1,5 @@
 -- The line is here, and the agenda has its due tick.
-use Rattle.std.proofs.Common.{◌≡◌, ◌∙◌, sym, ap, subst}
+use Rattle.std.proofs.Common.{◌≡◌, ◌∙◌, false, sym, ap, subst}
 use Rattle.std.proofs.lemmas.Int.{to_z-of_z}
 use Rattle.std.proofs.lemmas.List.{get_or-set_same}
 use Rattle.std.specs.Int.RustNames.{FitsSigned}
@@ -8,6 +8,7 @@ use Rattle.mu_num.specs.Sizes.{IsPositiveWithin}
 use Rattle.qss_quant.specs.Lines.{Line, state_at}
 use Rattle.qss_sched.specs.Ranks.{due_at}
 use Rattle.qss_run.specs.Sims.{IsDue}
+use Rattle.qss_run.proofs.Courses.{counted_once}
 use Rattle.qss_run.proofs.Ranges.{quantum_fits, unit_fits}
 use Rattle.qss_run.proofs.Turning.{line_here, due_here}
 use Rattle.qss_run.proofs.slopes.reslope.Goals as goal
@@ -48,3 +49,14 @@ returns-then-renew-clause-due g c =
     subst (IsDue c.args.m.now c.args.tick c.args.j c.renew.new.line) (sym held)
     (due_here c.args.m.now c.args.tick c.args.j c.renew.new.line c.args.x c.args.slope c.args.level c.level_unit.result c.quantum_at-quantum.result c.due.result
     is c.level_unit.ensures.value own first)
+
+pub returns-then-renew-clause-once : goal.returns-then-renew-clause-once
+returns-then-renew-clause-once g c here once =
+    let of_x = c.ranges.x in
+    let of_slope = c.ranges.slope in
+    let of_level = c.ranges.level in
+    let moved = c.renew.ensures.moved c.if-renew.true in
+    let is : c.renew.new.line ≡ record { tick = c.args.tick; x = c.args.x; slope = c.args.slope; level = c.args.level } = simp to_z-of_z at moved.0 in
+    let kept = simp to_z-of_z at c.renew.ensures.kept in
+    counted_once c.args.tick c.args.line.now c.renew.new.line c.args.steps.now c.renew.new.steps moved.1 (ap (λ (l : Line). l.tick) is)
+    (λ e. let no : c.renew.result ≡ false = kept here (once e).0 (once e).1 in let yes = c.if-renew.true in cc)

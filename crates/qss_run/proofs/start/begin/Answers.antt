@@ -37,10 +37,12 @@ returns c =
     } in
     let good : FitsMachine m next = record {
       branches = fits.branches;
+      uses = fits.uses;
       lines = same_length s.lines c.set_out.new.lines ∙ fits.lines;
       levels = fits.levels;
       slopes = same_length s.slopes c.set_out.new.slopes ∙ fits.slopes;
       fresh = fits.fresh;
+      moved_room = fits.moved_room;
       watches = same_length s.watches c.set_out.new.watches ∙ fits.watches;
       arrived = same_length s.arrived c.set_out.new.arrived ∙ fits.arrived;
       settled = same_length s.settled c.set_out.new.settled ∙ fits.settled;
@@ -67,7 +69,7 @@ returns c =
     ∙ ap (λ d. position (is_overweight m (levels_at_start m) d) m.rows) blank.discretes
     ∙ light_start m in
     let same : next.arrived.items ≡ next.settled.items = of_arrived ∙ c.set_out.ensures.arrived ∙ sym of_settled in
-    let again = stands_again m 0 next good
+    let again = stands_again m 0 next s.work.x fits.states good
     (λ j inside. subst (λ l. IsWithin 43 (int_at l j)) (sym blank.levels) (levels_start m j (pos 0) (omega (arith, inside, count_start m))))
     light
     (of_slopes ∙ c.set_out.ensures.slopes ∙ ap (λ l. tabulate (state_count m) (λ j. slope_at m j l next.work.d)) levels)
@@ -81,7 +83,9 @@ returns c =
     (c.set_out.ensures.watches place (omega (arith, inside, branches)))))
     (ap (λ k. due_at next.agenda (state_count m + k)) (sym branches)
     ∙ c.set_out.ensures.rising
-    ∙ sym (ap (λ b. if b then Some (0 + 1) else None) (ap (λ a. list_any (λ flag. flag) (due_flags next.settled.items a next.settled.items)) same ∙ settled_twice next.settled.items))) in
+    ∙ sym (ap (λ b. if b then Some (0 + 1) else None) (ap (λ a. list_any (λ flag. flag) (due_flags next.settled.items a next.settled.items)) same ∙ settled_twice next.settled.items)))
+    blank.fresh_levels
+    (λ e. same) in
     let of_states : states_at next.lines.items 0 ≡ start_states m = again.0 ∙ blank.states in
     let settled : next.settled.items ≡ truths m (start_states m) (start_discretes m) 0 =
     of_settled ∙ c.set_out.ensures.settled ∙ ap (λ x. truths m x next.work.d 0) blank.states ∙ ap (λ d. truths m (start_states m) d 0) blank.discretes in

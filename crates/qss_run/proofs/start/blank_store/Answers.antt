@@ -39,13 +39,16 @@ returns c =
     let of_pre = ap (λ (v : Values). v.pre) work in
     let room = ap (λ (v : Values). v.room) work in
     let discretes : length c.in_ok-work.work.d ≡ discrete_count m = ap length of_d ∙ length-map m.discretes (λ (d : DiscreteInfo). d.d0) in
+    let twice : c.in_ok-fresh.fresh.items ≡ c.in_ok-levels.levels.items = c.in_ok-fresh.ensures ∙ c.as_slice.ensures.value in
     record {
       fits = record {
         branches = c.in_ok-branches.ensures;
+        uses = c.in_ok-uses.ensures;
         lines = c.in_ok-lines.ensures ∙ states;
         levels = ap length c.in_ok-levels.ensures ∙ count_start m;
         slopes = c.in_ok-slopes.ensures ∙ states;
-        fresh = c.in_ok-fresh.ensures ∙ states;
+        fresh = ap length twice ∙ ap length c.in_ok-levels.ensures ∙ count_start m;
+        moved_room = omega (arith, c.in_ok-moved.ensures.capacity, states);
         watches = c.in_ok-watches.ensures ∙ places;
         arrived = c.in_ok-arrived.ensures ∙ places;
         settled = c.in_ok-settled.ensures ∙ places;
@@ -73,5 +76,6 @@ returns c =
       states = of_x;
       discretes = of_d;
       levels = c.in_ok-levels.ensures;
+      fresh_levels = twice;
       no_dues = c.in_ok-agenda.ensures.none;
     }

@@ -1,0 +1,74 @@
+-- Which numbers stand in a list of places.
+use Rattle.std.proofs.Common.{◌≡◌, ℕ, zero, suc, ◌+◌, ◌<◌, ◌≤◌, Bool, true, false, ◌&&◌, List, [], ◌∷◌, ◌++◌, length, get_or, take, pos, refl, sym, ◌∙◌, ap, arith, append-nil, inl, inr, ◌==◌}
+use Rattle.std.proofs.lemmas.Bool.{or_from, and_right, cases_lt}
+use Rattle.std.proofs.lemmas.Grind.{flat_map-append}
+use Rattle.std.proofs.lemmas.List.{take_more}
+use Rattle.std.proofs.lemmas.List.Folds.{list_any-append, list_any_at}
+use Rattle.std.proofs.lemmas.List.FromFn.{length-map-range_with_len, get_or-map-range_with_len}
+use Rattle.std.specs.List.{list_any}
+use Rattle.std.specs.Prelude.{◌||◌, All, flat_map, if◌then◌else◌}
+use Rattle.mu_num.proofs.Tests.{eqb-yes, eqb-no}
+use Rattle.qss_machine.specs.declared.parts.SlopeRow.{SlopeRow}
+use Rattle.qss_machine.specs.declared.system.Machine.{Machine}
+use Rattle.qss_machine.specs.Machines.{state_count, discrete_count, row_at}
+use Rattle.qss_machine.specs.Uses.{row_reads, places_from, reading_rows, uses_of}
+use Rattle.qss_run.specs.Moves.{is_among}
+use Rattle.qss_run.proofs.Speeds.{rows_of, rows_many}
+
+among_if : (b : Bool) (i : ℕ) (rest : List ℕ) (place : ℕ) → is_among (if b then i ∷ rest else rest) place ≡ ((b && (i == place)) || is_among rest place)
+among_if true i rest place = refl
+among_if false i rest place = refl
+
+settled_and : (b : Bool) → ((b && true) || false) ≡ b
+settled_and true = refl
+settled_and false = refl
+
+module _ {X : Type 0} (test : X → Bool) where
+  pub before_first : (i : ℕ) (xs : List X) (place : ℕ) → place < i → is_among (places_from test i xs) place ≡ false
+  before_first i [] place h = refl
+  before_first i (x ∷ xs) place h =
+      among_if (test x) i (places_from test (i + 1) xs) place
+      ∙ or_from _ _ (and_right (test x) (i == place) (eqb-no i place (λ e. omega (arith, e, h)))) (before_first (i + 1) xs place (omega (arith, h)))
+
+  -- a place stands among those that pass a test where its element passes
+  place_among : (i : ℕ) (xs : List X) (k : ℕ) (d : X) → k < length xs → is_among (places_from test i xs) (i + k) ≡ test (get_or xs k d)
+  place_among i [] k d h = absurd (omega (arith, h))
+  place_among i (x ∷ xs) zero d h =
+      let e : i + 0 ≡ i = omega arith in
+      ap (is_among (places_from test i (x ∷ xs))) e
+      ∙ among_if (test x) i (places_from test (i + 1) xs) i
+      ∙ ap (λ b. (test x && b) || is_among (places_from test (i + 1) xs) i) (eqb-yes i i refl)
+      ∙ ap (λ b. (test x && true) || b) (before_first (i + 1) xs i (omega arith))
+      ∙ settled_and (test x)
+  place_among i (x ∷ xs) (suc k) d h =
+      let e : i + suc k ≡ (i + 1) + k = omega arith in
+      among_if (test x) i (places_from test (i + 1) xs) (i + suc k)
+      ∙ ap (λ b. b || is_among (places_from test (i + 1) xs) (i + suc k)) (and_right (test x) (i == (i + suc k)) (eqb-no i (i + suc k) (λ q. omega (arith, q))))
+      ∙ ap (is_among (places_from test (i + 1) xs)) e
+      ∙ place_among (i + 1) xs k d (omega (arith, h))
+
+-- a row stands among the reading ones where it reads
+pub among_rows : (m : Machine) (j row : ℕ) → row < state_count m → is_among (reading_rows m j) row ≡ row_reads j (row_at m row)
+among_rows m j row h =
+    let none : SlopeRow = record { entries = []; products = []; beta = pos 0 } in
+    let e : 0 + row ≡ row = omega arith in
+    ap (is_among (reading_rows m j)) (sym e) ∙ place_among (row_reads j) 0 m.rows row none (omega (arith, h, m.has_rows.one_each))
+
+-- a number stands in lists one after another where it stands in one of them
+pub among_all : (f : ℕ → List ℕ) (xs : List ℕ) (place : ℕ) → is_among (flat_map f xs) place ≡ list_any (λ x. is_among (f x) place) xs
+among_all f [] place = refl
+among_all f (x ∷ xs) place =
+    list_any-append (λ (i : ℕ). i == place) (f x) (flat_map f xs) ∙ ap (λ b. is_among (f x) place || b) (among_all f xs place)
+
+-- lists one after another, with that of one more element
+pub lists_more : (f : ℕ → List ℕ) (xs : List ℕ) (i : ℕ) → i < length xs → flat_map f (take (i + 1) xs) ≡ flat_map f (take i xs) ++ f (get_or xs i 0)
+lists_more f xs i h =
+    ap (flat_map f) (take_more xs i 0 h) ∙ flat_map-append f (take i xs) (get_or xs i 0 ∷ []) ∙ ap (λ more. flat_map f (take i xs) ++ more) (append-nil (f (get_or xs i 0)))
+
+-- the rows that are kept for a state are those that read it
+module _ (m : Machine) (uses : List (List ℕ) × List (List ℕ)) (j : ℕ) (are : uses ≡ uses_of m) (h : j < state_count m) where
+  pub rows_kept : get_or uses.0 j [] ≡ reading_rows m j
+  rows_kept = ap (λ (u : List (List ℕ) × List (List ℕ)). get_or u.0 j []) are ∙ rows_of m j h
+
+  pub rows_reach : j < length uses.0
+  rows_reach = omega (arith, h, ap (λ (u : List (List ℕ) × List (List ℕ)). length u.0) are, rows_many m)

@@ -1,0 +1,170 @@
+-- States of which some go on at new slopes, step by step.
+use Rattle.std.proofs.Common.{◌≡◌, ◌≢◌, ℕ, ◌+◌, ◌*◌, ◌<◌, ◌≤◌, true, false, List, [], ◌∷◌, ◌++◌, length, get_or, set, take, ℤ, pos, refl, sym, ◌∙◌, ap, subst, arith, append_assoc, inl, inr, ◌==◌}
+use Rattle.std.proofs.lemmas.Bool.{or_parts, or_cases, or_from, cases_Bool, cases_eq}
+use Rattle.std.proofs.lemmas.List.{get_or-set_other, get_or-set_same}
+use Rattle.std.proofs.lemmas.List.Folds.{list_any-append}
+use Rattle.std.proofs.lemmas.List.FromFn.{get_or-map-range_with_len}
+use Rattle.std.proofs.lemmas.List.Sums.{sum_by-set, sum_by-le}
+use Rattle.std.specs.List.{list_any}
+use Rattle.std.specs.Prelude.{Option, ◌||◌, if◌then◌else◌}
+use Rattle.mu_num.proofs.Tests.{if_cases, if-true, if-false, eqb-true, eqb-yes, eqb-no}
+use Rattle.mu_num.specs.Sizes.{IsWithin}
+use Rattle.qss_machine.specs.declared.system.Machine.{Machine}
+use Rattle.qss_machine.specs.Machines.{state_count, level_unit, row_at, slope_at, quantum_of}
+use Rattle.qss_machine.specs.Numbers.{int_at, tabulate}
+use Rattle.qss_machine.specs.Uses.{row_reads, reading_rows}
+use Rattle.qss_quant.specs.Lines.{Line, state_at, IsNear}
+use Rattle.qss_sched.specs.Ranks.{due_at}
+use Rattle.qss_run.specs.Moves.{is_among, IsOff}
+use Rattle.qss_run.specs.Places.{line_at, IsTurned}
+use Rattle.qss_run.specs.Sims.{IsDue}
+use Rattle.qss_run.specs.Turnings.{turning_states, comes_from, come_from, MayTurn, GoesOn, Courses, AreTurned, AreLevelsBefore}
+use Rattle.qss_run.proofs.Among.{among_rows, among_all, lists_more}
+use Rattle.qss_run.proofs.Turning.{no_line}
+use Rattle.qss_run.proofs.Unread.{unread_at, unread_slope}
+
+-- ---- how many lines come from a tick
+
+-- one more line comes from a tick
+pub counted_once : (tick : ℕ) (old new : Line) (before after : ℕ) → after ≡ before + 1 → new.tick ≡ tick → old.tick ≢ tick → after + comes_from tick old ≤ before + comes_from tick new
+counted_once tick old new before after e here other =
+    omega (arith, e, if-true {A = ℕ} (new.tick == tick) 1 0 (eqb-yes new.tick tick here), if-false {A = ℕ} (old.tick == tick) 1 0 (eqb-no old.tick tick other))
+
+pub come_from-set : (tick : ℕ) (lines : List Line) (j : ℕ) (line : Line) → j < length lines →
+    come_from tick (set lines j line) + comes_from tick (line_at lines j) ≡ come_from tick lines + comes_from tick line
+come_from-set tick lines j line h = sum_by-set (comes_from tick) lines j line no_line h
+
+pub come_from_few : (tick : ℕ) (lines : List Line) → come_from tick lines ≤ length lines
+come_from_few tick lines =
+    let each = sum_by-le (comes_from tick) 1 lines (λ k d h. if_cases (λ n. n ≤ 1) ((get_or lines k d).tick == tick) 1 0 (λ e. omega arith) (λ e. omega arith)) in
+    omega (arith, each)
+
+-- ---- one state
+
+module _ (m : Machine) (tick : ℕ) (level slope : ℤ) (j : ℕ) where
+  -- a line is at one state at the tick all along
+  pub same_state : {old new : Line} {due_old due_new : Option ℕ} → GoesOn m tick level slope j old new due_old due_new → state_at new tick ≡ state_at old tick
+  same_state (inl kept) = ap (λ (l : Line). state_at l tick) kept.0
+  same_state (inr turned) = turned.here
+
+  -- a line that may go on may do so again
+  pub may_turn_again : (old new : Line) (due_old due_new : Option ℕ) → MayTurn m tick level slope j old due_old → GoesOn m tick level slope j old new due_old due_new →
+      MayTurn m tick level slope j new due_new
+  may_turn_again old new due_old due_new may (inl kept) =
+      subst (λ (l : Line). MayTurn m tick level slope j l due_new) (sym kept.0) (subst (MayTurn m tick level slope j old) (sym kept.1) may)
+  may_turn_again old new due_old due_new may (inr turned) = record {
+    not_later = turned.not_later;
+    small = subst (IsWithin 88) (sym turned.here) may.small;
+    near = subst (λ x. IsNear (level_unit m) x level (quantum_of m j level)) (sym turned.here) may.near;
+    due = λ e. turned.is_due;
+    once = λ e. (turned.own_slope, turned.own_level);
+  }
+
+  -- a line at its new slope stays at it
+  pub still_turned : (x : ℤ) (old new : Line) (due_old due_new : Option ℕ) → state_at old tick ≡ x → IsTurned m tick x level slope j old due_old →
+      GoesOn m tick level slope j old new due_old due_new → IsTurned m tick x level slope j new due_new
+  still_turned x old new due_old due_new at turned (inl kept) =
+      subst (λ (l : Line). IsTurned m tick x level slope j l due_new) (sym kept.0) (subst (IsTurned m tick x level slope j old) (sym kept.1) turned)
+  still_turned x old new due_old due_new at turned (inr again) = subst (λ z. IsTurned m tick z level slope j new due_new) at again
+
+  pub goes_on_on : (a b c : Line) (due_a due_b due_c : Option ℕ) → GoesOn m tick level slope j a b due_a due_b → GoesOn m tick level slope j b c due_b due_c →
+      GoesOn m tick level slope j a c due_a due_c
+  goes_on_on a b c due_a due_b due_c (inl first) (inl second) = inl (second.0 ∙ first.0, second.1 ∙ first.1)
+  goes_on_on a b c due_a due_b due_c (inl first) (inr second) = inr (subst (λ z. IsTurned m tick z level slope j c due_c) (ap (λ (l : Line). state_at l tick) first.0) second)
+  goes_on_on a b c due_a due_b due_c (inr first) second = inr (still_turned (state_at a tick) b c due_b due_c first.here first second)
+
+-- ---- all states
+
+module _ (m : Machine) (tick : ℕ) (levels slopes : List ℤ) where
+  pub none_turned : (old : Courses) → AreTurned m tick levels slopes [] old old
+  none_turned old = record {
+    each = λ k h. inl (refl, refl);
+    turned = λ k h among. absurd (cc);
+    as_many = refl;
+    others = λ place h. refl;
+  }
+
+  -- one state goes on at its slope
+  pub one_turned : (j : ℕ) (old new : Courses) → j < state_count m →
+      IsTurned m tick (state_at (line_at old.lines j) tick) (int_at levels j) (int_at slopes j) j (line_at new.lines j) (due_at new.dues j) →
+      ((k : ℕ) → (k ≡ j → ⊥) → line_at new.lines k ≡ line_at old.lines k) → length new.dues ≡ length old.dues →
+      ((place : ℕ) → (place ≡ j → ⊥) → due_at new.dues place ≡ due_at old.dues place) → AreTurned m tick levels slopes (j ∷ []) old new
+  one_turned j old new known turned lines places dues =
+      let here = λ (k : ℕ) (same : j ≡ k).
+      subst (λ (i : ℕ). IsTurned m tick (state_at (line_at old.lines i) tick) (int_at levels i) (int_at slopes i) i (line_at new.lines i) (due_at new.dues i)) same turned in
+      record {
+        each = λ k h. elim (cases_eq k j) [
+          | inl same ↦ inr (here k (sym same))
+          | inr other ↦ inl (lines k other, dues k other)
+        ];
+        turned = λ k h among. elim (or_cases (j == k) false among) [
+          | inl same ↦ here k (eqb-true j k same)
+          | inr none ↦ absurd (cc)
+        ];
+        as_many = places;
+        others = λ place past. dues place (λ e. omega (arith, e, past, known));
+      }
+
+  -- and then more do
+  pub turned_then : (xs ys : List ℕ) (a b c : Courses) → AreTurned m tick levels slopes xs a b → AreTurned m tick levels slopes ys b c → AreTurned m tick levels slopes (xs ++ ys) a c
+  turned_then xs ys a b c first second = record {
+    each = λ k h. goes_on_on m tick (int_at levels k) (int_at slopes k) k (line_at a.lines k) (line_at b.lines k) (line_at c.lines k)
+        (due_at a.dues k) (due_at b.dues k) (due_at c.dues k) (first.each k h) (second.each k h);
+    turned = λ k h among.
+        let at : state_at (line_at b.lines k) tick ≡ state_at (line_at a.lines k) tick = same_state m tick (int_at levels k) (int_at slopes k) k (first.each k h) in
+        elim (or_cases (is_among xs k) (is_among ys k) (sym (list_any-append (λ (i : ℕ). i == k) xs ys) ∙ among)) [
+          | inl before ↦ still_turned m tick (int_at levels k) (int_at slopes k) k (state_at (line_at a.lines k) tick) (line_at b.lines k) (line_at c.lines k)
+              (due_at b.dues k) (due_at c.dues k) at (first.turned k h before) (second.each k h)
+          | inr after ↦ subst (λ z. IsTurned m tick z (int_at levels k) (int_at slopes k) k (line_at c.lines k) (due_at c.dues k)) at (second.turned k h after)
+        ];
+    as_many = second.as_many ∙ first.as_many;
+    others = λ place past. second.others place past ∙ first.others place past;
+  }
+
+-- ---- states that neither moved nor read one that did
+
+module _ (m : Machine) (k : ℕ) (h : k < state_count m) where
+  unturned : (moved : List ℕ) → list_any (λ j. is_among (j ∷ reading_rows m j) k) moved ≡ false →
+      (is_among moved k ≡ false) × (list_any (λ j. row_reads j (row_at m k)) moved ≡ false)
+  unturned [] none = (refl, refl)
+  unturned (j ∷ moved) none =
+      let parts = or_parts (is_among (j ∷ reading_rows m j) k) (list_any (λ (i : ℕ). is_among (i ∷ reading_rows m i) k) moved) none in
+      let own = or_parts (j == k) (is_among (reading_rows m j) k) parts.0 in
+      let rest = unturned moved parts.1 in
+      (or_from _ _ own.0 rest.0, or_from _ _ (sym (among_rows m j k h) ∙ own.1) rest.1)
+
+  -- each state goes on at its new slope, since that of one that reads no moved state is its old one
+  pub turned_all : (tick : ℕ) (levels before discretes slopes_old slopes : List ℤ) (moved : List ℕ) (old new : Courses) →
+      AreTurned m tick levels slopes (turning_states m moved) old new → AreLevelsBefore m moved levels discretes slopes_old old.lines before →
+      slopes ≡ tabulate (state_count m) (λ j. slope_at m j levels discretes) → (line_at old.lines k).tick ≤ tick → (line_at old.lines k).slope ≡ int_at slopes_old k →
+      ((line_at old.lines k).level ≡ int_at levels k → IsDue m tick k (line_at old.lines k) (due_at old.dues k)) →
+      IsTurned m tick (state_at (line_at old.lines k) tick) (int_at levels k) (slope_at m k levels discretes) k (line_at new.lines k) (due_at new.dues k)
+  turned_all tick levels before discretes slopes_old slopes moved old new are were slopes_new not_later own_slope due =
+      let x : ℤ = state_at (line_at old.lines k) tick in
+      let own : int_at slopes k ≡ slope_at m k levels discretes =
+      ap (λ xs. int_at xs k) slopes_new ∙ get_or-map-range_with_len (λ j. slope_at m j levels discretes) 0 (state_count m) k k (pos 0) h (omega arith) in
+      subst (λ z. IsTurned m tick x (int_at levels k) z k (line_at new.lines k) (due_at new.dues k)) own
+      (elim (cases_Bool (is_among (turning_states m moved) k)) [
+        | inl among ↦ are.turned k h among
+        | inr none ↦
+            let parts = unturned moved (sym (among_all (λ (j : ℕ). j ∷ reading_rows m j) moved k) ∙ none) in
+            let same : int_at slopes_old k ≡ slope_at m k levels discretes =
+            ap (λ xs. int_at xs k) were.own_slopes ∙ get_or-map-range_with_len (λ j. slope_at m j before discretes) 0 (state_count m) k k (pos 0) h (omega arith)
+            ∙ sym (unread_slope m.f (row_at m k) moved before levels discretes (unread_at moved (row_at m k) parts.1) were.off) in
+            let own_level : (line_at old.lines k).level ≡ int_at levels k = were.own_levels k h ∙ sym (were.off.others k parts.0) in
+            still_turned m tick (int_at levels k) (int_at slopes k) k x (line_at old.lines k) (line_at new.lines k) (due_at old.dues k) (due_at new.dues k) refl
+            (record { not_later = not_later; here = refl; own_slope = own_slope ∙ same ∙ sym own; own_level = own_level; is_due = due own_level })
+            (are.each k h)
+      ])
+
+-- where the lines come from earlier ticks they may go on
+pub may_turn : (m : Machine) (tick : ℕ) (level slope : ℤ) (j : ℕ) (line : Line) (found : Option ℕ) → line.tick < tick → IsWithin 88 (state_at line tick) →
+    IsNear (level_unit m) (state_at line tick) level (quantum_of m j level) → (line.level ≡ level → IsDue m tick j line found) → MayTurn m tick level slope j line found
+may_turn m tick level slope j line found earlier small near due =
+    record { not_later = omega (arith, earlier); small = small; near = near; due = due; once = λ e. absurd (omega (arith, earlier, e)) }
+
+-- the states that turn where one more moved
+pub turning_more : (m : Machine) (moved : List ℕ) (i : ℕ) → i < length moved →
+    turning_states m (take (i + 1) moved) ≡ (turning_states m (take i moved) ++ get_or moved i 0 ∷ []) ++ reading_rows m (get_or moved i 0)
+turning_more m moved i h =
+    lists_more (λ (j : ℕ). j ∷ reading_rows m j) moved i h ∙ sym (append_assoc (turning_states m (take i moved)) (get_or moved i 0 ∷ []) (reading_rows m (get_or moved i 0)))

@@ -1,0 +1,150 @@
+-- A tick at which nothing but states is due.
+use Rattle.std.proofs.Common.{◌≡◌, ◌≢◌, ℕ, ◌+◌, ◌*◌, ◌^◌, ◌<◌, ◌≤◌, false, List, [], ◌∷◌, length, get_or, map, ℤ, pos, ◌*ℤ◌, sym, ◌∙◌, ap, subst, arith, inl, inr}
+use Rattle.std.proofs.lemmas.Int.{ints, unsigned_abs-mul}
+use Rattle.std.proofs.lemmas.Bool.{cases_lt}
+use Rattle.std.proofs.lemmas.List.{length-map, get_or_past}
+use Rattle.std.proofs.lemmas.List.Elements.{All-append, All-map}
+use Rattle.std.proofs.lemmas.List.Sums.{sum_by-cons}
+use Rattle.std.proofs.Math.Pow.{pow_mono}
+use Rattle.std.specs.Int.RustNames.{unsigned_abs}
+use Rattle.std.specs.List.{list_any, sum_by}
+use Rattle.std.specs.Prelude.{Option, Some, None, All, if◌then◌else◌}
+use Rattle.mu_num.specs.Sizes.{IsWithin}
+use Rattle.mu_num.specs.Ticks.{tick_limit}
+use Rattle.qss_machine.specs.declared.parts.Condition.{Condition}
+use Rattle.qss_machine.specs.declared.parts.Entry.{Entry}
+use Rattle.qss_machine.specs.declared.parts.Form.{Form}
+use Rattle.qss_machine.specs.declared.parts.Rel.TheVariants.{Less}
+use Rattle.qss_machine.specs.declared.system.Machine.{Machine}
+use Rattle.qss_machine.specs.Limits.{IsBounded}
+use Rattle.qss_machine.specs.Numbers.{int_at, sum_over, first_past}
+use Rattle.qss_machine.specs.Machines.{state_count, level_unit, value_of, truth, inputs}
+use Rattle.qss_machine.specs.Handlers.{conditions, truths, due_flags}
+use Rattle.qss_machine.specs.Firing.{flag_at}
+use Rattle.qss_machine.specs.Ticks.{World, handling_at, moved_states}
+use Rattle.qss_machine.proofs.Loops.{product_bound}
+use Rattle.qss_machine.proofs.SumLaws.{weighted_sum-entries}
+use Rattle.qss_quant.specs.Lines.{Line}
+use Rattle.qss_cross.specs.Crossing.{Watch, IsSmall, value_at, holds_at}
+use Rattle.qss_sched.specs.Ranks.{due_at}
+use Rattle.qss_run.specs.declared.conditions.BranchPlace.{BranchPlace}
+use Rattle.qss_run.specs.Places.{AreBranches, IsWatched}
+use Rattle.qss_run.specs.Skips.{NoneRises}
+use Rattle.qss_run.specs.Sims.{slopes_of, condition_at, rises, IsChange, rising_tick, StandsFor}
+use Rattle.qss_run.specs.Speeds.{OnlyStatesAreDue}
+use Rattle.qss_run.proofs.Branches.{place_at}
+use Rattle.qss_run.proofs.Quiet.{clauses-idle, moved_is}
+use Rattle.qss_run.proofs.Flags.{truths_are}
+use Rattle.qss_run.proofs.Silence.{from_later, none_rises, watch_value_at, flag_still}
+use Rattle.qss_run.proofs.Skipped.{settled_twice}
+
+module _ (m : Machine) (tick : ℕ) (w : World) (line : ℕ → Line) (watch : ℕ → Watch) (due : List (Option ℕ))
+    (s : StandsFor m tick w line watch due) (only : OnlyStatesAreDue m tick due) (in_time : tick + 1 ≤ tick_limit) where
+  -- no condition became true through the handlers
+  calm : NoneRises w
+  calm = none_rises m tick w line watch due (tick + 1) s (omega arith) (λ later e. only (state_count m + length (conditions m)) later (omega arith) e)
+
+  pub none_risen : due_at due (state_count m + length (conditions m)) ≡ None
+  none_risen = s.rising ∙ ap (λ b. if b then Some (tick + 1) else None) calm
+
+  -- nor does one rise at the next tick
+  pub none_rises_then : (next : World) → next.arrived ≡ w.settled → next.settled ≡ w.settled → due_at due (state_count m + length (conditions m)) ≡ rising_tick (tick + 1) next
+  none_rises_then next arrived settled =
+      let none : rises next ≡ false =
+      ap (λ a. list_any (λ flag. flag) (due_flags next.settled a next.settled)) arrived
+      ∙ ap (λ a. list_any (λ flag. flag) (due_flags a w.settled a)) settled
+      ∙ settled_twice w.settled in
+      none_risen ∙ sym (ap (λ b. if b then Some ((tick + 1) + 1) else None) none)
+
+  value_then : (place : ℕ) → place < length (conditions m) → value_at (watch place) (tick + 1) ≡ value_of m (condition_at m place).form (moved_states m w) w.discretes w.discretes (tick + 1)
+  value_then place h =
+      watch_value_at m tick w line watch due s place 1 h ∙ ap (λ x. value_of m (condition_at m place).form x w.discretes w.discretes (tick + 1)) (sym (moved_is m w))
+
+  flag_then : (place : ℕ) → place < length (conditions m) → truth m (condition_at m place) (moved_states m w) w.discretes (tick + 1) ≡ flag_at w.settled place
+  flag_then place h =
+      ap (λ x. truth m (condition_at m place) x w.discretes (tick + 1)) (moved_is m w)
+      ∙ flag_still m tick w line watch due (tick + 1) 1 place s (omega arith) (omega arith) in_time h (λ later e. only (state_count m + place) later (omega arith) e)
+
+  -- the conditions are as after the last handlers
+  pub quiet_truths : truths m (moved_states m w) w.discretes (tick + 1) ≡ w.settled
+  quiet_truths =
+      sym (truths_are m (moved_states m w) w.discretes (tick + 1) w.settled (ap length s.settled ∙ length-map (conditions m) (λ c. truth m c w.states w.discretes tick))
+      (λ place h. sym (flag_then place h)))
+
+  -- the handlers do nothing
+  pub only_moves : handling_at m (tick + 1) w ≡ record { states = moved_states m w; discretes = w.discretes; rows = []; overflow = first_past 88 (moved_states m w) }
+  only_moves =
+      let idle : list_any (λ flag. flag) (due_flags (truths m (moved_states m w) w.discretes (tick + 1)) w.arrived w.settled) ≡ false =
+      subst (λ now. list_any (λ flag. flag) (due_flags now w.arrived w.settled) ≡ false) (sym quiet_truths) calm in
+      clauses-idle m (tick + 1) w.discretes 0 (record { states = moved_states m w; discretes = w.discretes; rows = []; overflow = first_past 88 (moved_states m w) }) m.clauses _ idle
+
+  -- each condition is still watched
+  pub watched_then : (place : ℕ) → place < length (conditions m) → IsWatched m (tick + 1) (moved_states m w) w.discretes (slopes_of m w) place (watch place) (due_at due (state_count m + place))
+  watched_then place h =
+      let v = s.watches place h in
+      record {
+        not_later = omega (arith, v.not_later);
+        here = value_then place h;
+        own_speed = v.own_speed;
+        own_rel = v.own_rel;
+        is_change = subst (λ b. IsChange (tick + 1) b (watch place) (due_at due (state_count m + place))) (sym (flag_then place h))
+            (from_later (λ t. holds_at (watch place) t ≢ flag_at w.settled place) tick (tick + 1) (due_at due (state_count m + place)) (omega arith)
+            (λ later e. only (state_count m + place) later (omega arith) e) (s.changes place h));
+      }
+
+-- ---- sizes of values
+
+int_at_within : (xs : List ℤ) → All (IsWithin 88) xs → (i : ℕ) → IsWithin 88 (int_at xs i)
+int_at_within xs small i =
+    elim (cases_lt i (length xs)) [
+      | inl below ↦ small i (pos 0) below
+      | inr past ↦ (let none : int_at xs i ≡ pos 0 = get_or_past xs i (pos 0) past in subst (IsWithin 88) (sym none) (omega arith))
+    ]
+
+scaled_within : (m : Machine) (d : List ℤ) → All (IsWithin 43) d → All (IsWithin 88) (map (λ z. z *ℤ level_unit m) d)
+scaled_within m d small =
+    All-map (IsWithin 88) (λ z. z *ℤ level_unit m) d
+    (λ k z h.
+    let unit : unsigned_abs (level_unit m) ≤ 2 ^ 44 = pow_mono m.has_units.unit_bits in
+    omega (arith, product_bound (get_or d k z) (level_unit m) (2 ^ 43) (2 ^ 44) (small k z h) unit))
+
+sum_within : (entries : List Entry) (xs : List ℤ) → All (IsWithin 88) xs →
+    unsigned_abs (sum_over (λ entry. entry.coef *ℤ int_at xs entry.var) entries) ≤ sum_by (λ (entry : Entry). unsigned_abs entry.coef) entries * 2 ^ 88
+sum_within [] xs small = omega arith
+sum_within (entry ∷ entries) xs small =
+    let term = product_bound entry.coef (int_at xs entry.var) (unsigned_abs entry.coef) (2 ^ 88) (omega arith) (int_at_within xs small entry.var) in
+    omega (arith, ints, term, sum_within entries xs small, sum_by-cons (λ (other : Entry). unsigned_abs other.coef) entry entries)
+
+-- a bounded form of small values has a small value
+pub value_small : (m : Machine) (form : Form) (x d : List ℤ) (tick : ℕ) → IsBounded form → All (IsWithin 88) x → All (IsWithin 43) d → tick < 2 ^ 32 → IsSmall (value_of m form x d d tick)
+value_small m form x d tick bounded small_x small_d in_time =
+    let scaled = scaled_within m d small_d in
+    let all : All (IsWithin 88) (inputs m x d d) = All-append (IsWithin 88) x _ small_x (All-append (IsWithin 88) (map (λ z. z *ℤ level_unit m) d) (map (λ z. z *ℤ level_unit m) d) scaled scaled) in
+    let own = sum_within form.entries (inputs m x d d) all in
+    let bits : m.f + m.p ≤ 56 = omega (arith, m.has_units.level_bits, m.has_units.coefficient_bits) in
+    let power : 2 ^ (m.f + m.p) ≤ 2 ^ 56 = pow_mono bits in
+    let moment : unsigned_abs (pos tick *ℤ pos (2 ^ (m.f + m.p))) ≤ 2 ^ 32 * 2 ^ 56 = product_bound (pos tick) (pos (2 ^ (m.f + m.p))) (2 ^ 32) (2 ^ 56) (omega (arith, in_time)) power in
+    let same : unsigned_abs (pos tick *ℤ pos (2 ^ (m.f + m.p))) ≡ tick * 2 ^ (m.f + m.p) = unsigned_abs-mul (pos tick) (pos (2 ^ (m.f + m.p))) in
+    let timed = product_bound form.time (pos (tick * 2 ^ (m.f + m.p))) (unsigned_abs form.time) (2 ^ 88) (omega arith) (omega (arith, moment, same)) in
+    let unit : unsigned_abs (level_unit m) ≤ 2 ^ 44 = pow_mono m.has_units.unit_bits in
+    let constant = product_bound form.gamma (level_unit m) (2 ^ 78) (2 ^ 44) bounded.constant unit in
+    let sum = weighted_sum-entries form.entries (inputs m x d d) in
+    omega (arith, ints, own, timed, constant, sum, bounded.coefficients)
+
+-- the conditions of a machine are bounded
+pub condition_bounded : (m : Machine) (branches : List BranchPlace) → AreBranches m branches → (place : ℕ) → place < length branches → IsBounded (condition_at m place).form
+condition_bounded m branches are place h =
+    let branch : BranchPlace = place_at branches place in
+    let own = are.each place h in
+    let of_clause = m.has_clauses.each branch.clause (record { branches = [] }) own.clause_known in
+    let of_branch = of_clause.branches branch.branch (record { condition = record { form = record { entries = []; time = pos 0; gamma = pos 0 }; rel = Less }; actions = [] }) own.branch_known in
+    subst (λ (c : Condition). IsBounded c.form) own.own of_branch.condition.bounded
+
+-- so its value at the next tick is small, where the states and discrete values are
+pub small_then : (m : Machine) (tick : ℕ) (w : World) (line : ℕ → Line) (watch : ℕ → Watch) (due : List (Option ℕ)) (branches : List BranchPlace) → StandsFor m tick w line watch due →
+    OnlyStatesAreDue m tick due → tick + 1 < 2 ^ 32 → AreBranches m branches → All (IsWithin 88) (moved_states m w) → All (IsWithin 43) w.discretes →
+    (place : ℕ) → place < length branches → IsSmall (value_at (watch place) (tick + 1))
+small_then m tick w line watch due branches s only in_time are small_states small_discretes place h =
+    let watched = watched_then m tick w line watch due s only (omega (arith, in_time)) place (omega (arith, h, are.as_many)) in
+    subst IsSmall (sym watched.here)
+    (value_small m (condition_at m place).form (moved_states m w) w.discretes (tick + 1) (condition_bounded m branches are place h) small_states small_discretes in_time)

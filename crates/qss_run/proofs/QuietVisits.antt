@@ -1,0 +1,187 @@
+-- A store after a tick at which nothing but states was due.
+use Rattle.std.proofs.Common.{◌≡◌, ◌≢◌, ℕ, ◌+◌, ◌≤◌, ◌<◌, Bool, true, false, List, [], ◌++◌, length, ℤ, pos, refl, sym, ◌∙◌, ap, subst, arith, inl, inr}
+use Rattle.std.proofs.lemmas.Bool.{cases_Bool}
+use Rattle.std.proofs.lemmas.List.{get_or_default}
+use Rattle.std.proofs.lemmas.List.FromFn.{length-map-range_with_len}
+use Rattle.std.specs.Option.{option_or}
+use Rattle.std.specs.Prelude.{Option, Some, None, All, position}
+use Rattle.mu_num.specs.Sizes.{IsWithin}
+use Rattle.mu_num.specs.Ticks.{tick_limit}
+use Rattle.qss_machine.specs.declared.system.Machine.{Machine}
+use Rattle.qss_machine.specs.Numbers.{int_at, tabulate, first_past}
+use Rattle.qss_machine.specs.Machines.{state_count, level_unit, slope_at, quantum_of, row_at}
+use Rattle.qss_machine.specs.Handlers.{Handling, conditions, truths}
+use Rattle.qss_machine.specs.Ticks.{World, moved_states, handling_at, is_near, is_overweight, AreNextLevels, world_unless, settle, Step}
+use Rattle.qss_machine.specs.Runs.{level_rows, tick_rows}
+use Rattle.qss_quant.specs.declared.rule.Rule.{Rule}
+use Rattle.qss_quant.specs.Lines.{Line, state_at, IsNear}
+use Rattle.qss_sched.specs.Ranks.{due_at}
+use Rattle.qss_run.specs.declared.store.Store.{Store}
+use Rattle.qss_run.specs.Moves.{is_among, AreNumbers, IsOff}
+use Rattle.qss_run.specs.Places.{line_at, watch_at, IsWatched}
+use Rattle.qss_run.specs.Rules.{IsRuled}
+use Rattle.qss_run.specs.Sims.{IsDue, StandsFor, HasNothingBefore, rising_tick}
+use Rattle.qss_run.specs.Speeds.{reads_moved}
+use Rattle.qss_run.specs.Turnings.{AreLevelsBefore}
+use Rattle.qss_run.specs.Stores.{states_at, world_of, IsTaken}
+use Rattle.qss_run.proofs.Quiet.{int_at-tabulate}
+use Rattle.qss_run.proofs.Silence.{line_state_at, still_near}
+use Rattle.qss_run.proofs.NextVisit.{only_due_states_pass}
+use Rattle.qss_run.proofs.Jumps.{dues_later, later_of}
+use Rattle.qss_run.proofs.QuietTick.{only_moves, quiet_truths, none_rises_then, watched_then}
+use Rattle.qss_run.proofs.Unread.{unread_at, unread_slope}
+use Rattle.qss_run.proofs.Visits.{arrives, due_stays, next_is_near, end_of}
+use Rattle.qss_run.proofs.Writes.{index_of}
+
+-- a place past all numbers is not among them
+pub not_among : (n : ℕ) (moved : List ℕ) (place : ℕ) → AreNumbers n moved → n ≤ place → is_among moved place ≡ false
+not_among n moved place numbers past =
+    elim (cases_Bool (is_among moved place)) [
+      | inl among ↦ let found = index_of moved place among in absurd (omega (arith, numbers.below found.0 0 found.1, found.2, past))
+      | inr not ↦ not
+    ]
+
+-- a step, where its overflow is known, and without one the world
+pub steps_or : (Rule : ℤ → ℤ → ℤ → ℤ → Type 0) (m : Machine) (tick : ℕ) (w next : World) (h : Handling) (levels : List ℤ) (o : Option ℕ) →
+    h ≡ handling_at m tick w → (h.overflow ≡ None → AreNextLevels Rule m h.states w.levels levels) →
+    o ≡ option_or h.overflow (option_or (first_past 43 levels) (position (is_overweight m levels h.discretes) m.rows)) →
+    (o ≡ None → next ≡ end_of m tick w h levels) → Step Rule m tick w (world_unless o next)
+steps_or Rule m tick w next h levels o is allowed over end =
+    subst (λ (g : Handling). (levels : List ℤ) × (g.overflow ≡ None → AreNextLevels Rule m g.states w.levels levels) × (world_unless o next ≡ settle m tick w g levels)) is (
+      levels,
+      allowed,
+      reached o refl ∙ ap (λ p. world_unless p (end_of m tick w h levels)) over,
+    )
+  where
+    reached : (p : Option ℕ) → o ≡ p → world_unless o next ≡ world_unless o (end_of m tick w h levels)
+    reached None e = ap (world_unless o) (end e)
+    reached (Some var) e = ap (λ p. world_unless p next) e ∙ sym (ap (λ p. world_unless p (end_of m tick w h levels)) e)
+
+module _ (m : Machine) (tick : ℕ) (agenda : List (Option ℕ)) (s : Store) (taken : IsTaken m tick agenda s) (in_time : tick < m.last) where
+  abbrev before : Store
+  before = record s { agenda = agenda }
+
+  for : StandsFor m tick (world_of tick s) (line_at s.lines.items) (watch_at s.watches.items) agenda
+  for = taken.stands.stands_for
+
+  nothing : HasNothingBefore (tick + 1) agenda
+  nothing place t e = omega (arith, dues_later m tick before taken.stands place t e)
+
+  not_due : (j : ℕ) → j < state_count m → is_among s.moved.items j ≡ false → due_at agenda j ≢ Some (tick + 1)
+  not_due j h none e = let some = taken.due.all j h e in absurd (cc)
+
+  later_due : (j : ℕ) → j < state_count m → is_among s.moved.items j ≡ false → (u : ℕ) → due_at agenda j ≡ Some u → tick + 1 < u
+  later_due j h none u e =
+      let ne : u ≢ tick + 1 = λ q. not_due j h none (e ∙ ap (λ n. Some n) q) in
+      omega (arith, nothing j u e, ne)
+
+  in_limit : tick + 1 ≤ tick_limit
+  in_limit = omega (arith, in_time, m.has_units.last_tick)
+
+  -- where the lines lead
+  pub leads : (j : ℕ) → j < state_count m → int_at (states_at s.lines.items (tick + 1)) j ≡ state_at (line_at s.lines.items j) (tick + 1)
+  leads j h = int_at-tabulate (length s.lines.items) (λ i. state_at (line_at s.lines.items i) (tick + 1)) j (omega (arith, h, taken.stands.fits.lines))
+
+  -- states that were not due are within the limit on arrival, and near their levels
+  pub rest_small : (j : ℕ) → j < state_count m → is_among s.moved.items j ≡ false → IsWithin 88 (state_at (line_at s.lines.items j) (tick + 1))
+  rest_small j h none =
+      subst (IsWithin 88) (sym (line_state_at m tick (world_of tick s) (line_at s.lines.items) (watch_at s.watches.items) agenda for j 1 h))
+      (only_due_states_pass m tick (world_of tick s) (line_at s.lines.items) (watch_at s.watches.items) agenda (tick + 1) 1 j for (omega arith) (omega arith) (omega (arith, in_time)) nothing h
+      (not_due j h none))
+
+  pub rest_near : (j : ℕ) → j < state_count m → is_among s.moved.items j ≡ false → is_near m j (state_at (line_at s.lines.items j) (tick + 1)) (int_at s.levels.items j) ≡ true
+  rest_near j h none =
+      subst (λ x. is_near m j x (int_at s.levels.items j) ≡ true) (sym (line_state_at m tick (world_of tick s) (line_at s.lines.items) (watch_at s.watches.items) agenda for j 1 h))
+      (still_near m tick (world_of tick s) (line_at s.lines.items) (watch_at s.watches.items) agenda (tick + 1) 1 j for (omega arith) (omega arith) in_limit h (later_due j h none))
+
+  -- lines come from an earlier tick, at the slopes that are kept
+  pub earlier : (j : ℕ) → j < state_count m → (line_at s.lines.items j).tick < tick + 1
+  earlier j h = omega (arith, (for.lines j h).not_later)
+
+  pub own_slope : (j : ℕ) → j < state_count m → (line_at s.lines.items j).slope ≡ int_at s.slopes.items j
+  own_slope j h =
+      (for.lines j h).own_slope
+      ∙ sym (ap (λ xs. int_at xs j) taken.stands.own_slopes ∙ int_at-tabulate (state_count m) (λ i. slope_at m i s.levels.items s.work.d) j h)
+
+  pub arrived : states_at s.lines.items (tick + 1) ≡ moved_states m (world_of tick s)
+  arrived = arrives m tick before taken.stands
+
+  -- the handlers only see the states on arrival
+  pub handled : handling_at m (tick + 1) (world_of tick s)
+      ≡ record { states = states_at s.lines.items (tick + 1); discretes = s.work.d; rows = []; overflow = first_past 88 (states_at s.lines.items (tick + 1)) }
+  handled =
+      only_moves m tick (world_of tick s) (line_at s.lines.items) (watch_at s.watches.items) agenda for taken.only_states in_limit
+      ∙ ap (λ (x : List ℤ). record { states = x; discretes = s.work.d; rows = []; overflow = first_past 88 x }) (sym arrived)
+
+  -- ---- with new levels
+
+  module _ (name : Option Rule) (levels : List ℤ) (allowed : AreNextLevels (IsRuled name) m (states_at s.lines.items (tick + 1)) s.levels.items levels) where
+    pub near : (j : ℕ) → j < state_count m → IsNear (level_unit m) (state_at (line_at s.lines.items j) (tick + 1)) (int_at levels j) (quantum_of m j (int_at levels j))
+    near j h =
+        subst (λ x. IsNear (level_unit m) x (int_at levels j) (quantum_of m j (int_at levels j))) (leads j h)
+        (next_is_near name m j (int_at (states_at s.lines.items (tick + 1)) j) (int_at s.levels.items j) (int_at levels j) h (allowed.each j h))
+
+    -- a line at its level keeps its due tick, and then its state was not due
+    pub kept_due : (j : ℕ) → j < state_count m → (line_at s.lines.items j).level ≡ int_at levels j → IsDue m (tick + 1) j (line_at s.lines.items j) (due_at s.agenda j)
+    kept_due j h own =
+        let stays : IsDue m (tick + 1) j (line_at s.lines.items j) (due_at agenda j) =
+        due_stays m tick before taken.stands j (state_at (line_at s.lines.items j) (tick + 1)) (int_at levels j) h (near j h) refl own in
+        elim (cases_Bool (is_among s.moved.items j)) [
+          | inl among ↦ absurd (omega (arith, later_of _ (tick + 1) (tick + 1) (due_at agenda j) stays (taken.due.own j among)))
+          | inr not ↦ subst (IsDue m (tick + 1) j (line_at s.lines.items j)) (sym (taken.without.others j not)) stays
+        ]
+
+  -- the slopes and the lines are those at the levels before the moved states took theirs
+  pub levels_before : (levels : List ℤ) → IsOff s.moved.items s.levels.items levels → AreLevelsBefore m s.moved.items levels s.work.d s.slopes.items s.lines.items s.levels.items
+  levels_before levels off = record {
+    off = off;
+    small = λ k d h.
+        let inside : k < state_count m = omega (arith, h, taken.stands.fits.levels) in
+        subst (IsWithin 43) (get_or_default s.levels.items k (pos 0) d h) (for.left.small_levels k inside);
+    light = for.left.light;
+    own_slopes = taken.stands.own_slopes;
+    own_levels = λ j h. (for.lines j h).own_level;
+  }
+
+  -- ---- conditions
+
+  beyond : (place : ℕ) → state_count m ≤ place → due_at s.agenda place ≡ due_at agenda place
+  beyond place past = taken.without.others place (not_among (state_count m) s.moved.items place taken.due.numbers past)
+
+  -- the conditions are as after the last handlers
+  pub same_truths : s.settled.items ≡ truths m (states_at s.lines.items (tick + 1)) s.work.d (tick + 1)
+  same_truths =
+      sym (quiet_truths m tick (world_of tick s) (line_at s.lines.items) (watch_at s.watches.items) agenda for taken.only_states in_limit)
+      ∙ ap (λ x. truths m x s.work.d (tick + 1)) (sym arrived)
+
+  -- they are watched as before, at the states on arrival
+  pub watched : (place : ℕ) → place < length (conditions m) →
+      IsWatched m (tick + 1) (states_at s.lines.items (tick + 1)) s.work.d s.slopes.items place (watch_at s.watches.items place) (due_at s.agenda (state_count m + place))
+  watched place h =
+      subst (IsWatched m (tick + 1) (states_at s.lines.items (tick + 1)) s.work.d s.slopes.items place (watch_at s.watches.items place)) (sym (beyond (state_count m + place) (omega arith)))
+      (subst (λ x. IsWatched m (tick + 1) x s.work.d s.slopes.items place (watch_at s.watches.items place) (due_at agenda (state_count m + place))) (sym arrived)
+      (subst (λ v. IsWatched m (tick + 1) (moved_states m (world_of tick s)) s.work.d v place (watch_at s.watches.items place) (due_at agenda (state_count m + place))) (sym taken.stands.own_slopes)
+      (watched_then m tick (world_of tick s) (line_at s.lines.items) (watch_at s.watches.items) agenda for taken.only_states in_limit place h)))
+
+  -- and none became true through the handlers
+  pub rising : (after : List (Option ℕ)) (next : World) → next.arrived ≡ s.settled.items → next.settled ≡ s.settled.items →
+      due_at after (state_count m + length (conditions m)) ≡ due_at s.agenda (state_count m + length (conditions m)) →
+      due_at after (state_count m + length (conditions m)) ≡ rising_tick (tick + 1) next
+  rising after next as_arrived as_settled same =
+      same
+      ∙ beyond (state_count m + length (conditions m)) (omega arith)
+      ∙ none_rises_then m tick (world_of tick s) (line_at s.lines.items) (watch_at s.watches.items) agenda for taken.only_states in_limit next as_arrived as_settled
+
+  -- the rows of the tick
+  pub rows_then : (next : World) → tick_rows m (tick + 1) (world_of tick s) next ≡ level_rows (tick + 1) s.levels.items next.levels next.states
+  rows_then next = ap (λ (h : Handling). h.rows ++ level_rows (tick + 1) s.levels.items next.levels next.states) handled
+
+-- where a row reads no moved state its slope stays
+pub slopes_stay : (m : Machine) (moved : List ℕ) (old levels d before slopes : List ℤ) → IsOff moved old levels → before ≡ tabulate (state_count m) (λ j. slope_at m j old d) →
+    slopes ≡ tabulate (state_count m) (λ j. slope_at m j levels d) → (j : ℕ) → j < state_count m → reads_moved m moved j ≡ false → int_at slopes j ≡ int_at before j
+slopes_stay m moved old levels d before slopes off was is j h unread =
+    ap (λ xs. int_at xs j) is
+    ∙ int_at-tabulate (state_count m) (λ i. slope_at m i levels d) j h
+    ∙ unread_slope m.f (row_at m j) moved old levels d (unread_at moved (row_at m j) unread) off
+    ∙ sym (int_at-tabulate (state_count m) (λ i. slope_at m i old d) j h)
+    ∙ ap (λ xs. int_at xs j) (sym was)

@@ -1,0 +1,140 @@
+-- Slopes where states take their levels one after another.
+use Rattle.std.proofs.Common.{◌≡◌, ◌≢◌, ℕ, zero, suc, ◌+◌, ◌*◌, ◌^◌, ◌<◌, ◌≤◌, Bool, true, false, List, [], ◌∷◌, length, get_or, set, take, fold, ℤ, pos, ◌+ℤ◌, ◌-ℤ◌, ◌*ℤ◌, refl, sym, ◌∙◌, ap, subst, arith, add-one, inl, inr, ◌==◌}
+use Rattle.std.proofs.lemmas.Bool.{or_parts, or_cases, cases_Bool, cases_lt}
+use Rattle.std.proofs.lemmas.List.{length-set, get_or-set_other, get_or-set_same, take_more}
+use Rattle.std.proofs.lemmas.List.Sums.{fold-append}
+use Rattle.std.specs.List.Sorted.{IsStrictlyIncreasing}
+use Rattle.std.specs.Prelude.{◌||◌, unsigned_abs, if◌then◌else◌}
+use Rattle.mu_num.proofs.Tests.{eqb-true, eqb-false, eqb-yes}
+use Rattle.qss_machine.specs.declared.parts.SlopeRow.{SlopeRow}
+use Rattle.qss_machine.specs.declared.system.Machine.{Machine}
+use Rattle.qss_machine.specs.Machines.{state_count, row_at, mode_coefficient_at, slope_at}
+use Rattle.qss_machine.specs.Numbers.{int_at}
+use Rattle.qss_machine.specs.Slopes.{mode_coefficient, slope_of}
+use Rattle.qss_machine.specs.Uses.{row_reads, places_from, reading_rows}
+use Rattle.qss_run.specs.Moves.{is_among, AreNumbers, IsOff}
+use Rattle.qss_run.specs.Turnings.{HasFollowed}
+use Rattle.qss_run.specs.Writes.{IsWritten}
+use Rattle.qss_run.proofs.Among.{among_rows, before_first}
+use Rattle.qss_run.proofs.Changes.{slopes_follow_levels}
+use Rattle.qss_run.proofs.DueFirsts.{not_before}
+use Rattle.qss_run.proofs.Firsts.{same_lists}
+use Rattle.qss_run.proofs.Speeds.{rows_known}
+use Rattle.qss_run.proofs.Unread.{unread_slope}
+use Rattle.qss_run.proofs.Writes.{among_at}
+
+-- ---- the rows that read a state rise
+
+rising_cons : (x : ℕ) (xs : List ℕ) → (0 < length xs → x < get_or xs 0 0) → IsStrictlyIncreasing xs → IsStrictlyIncreasing (x ∷ xs)
+rising_cons x xs head rest zero h = head (omega (arith, h))
+rising_cons x xs head rest (suc k) h =
+    let next : get_or xs k 0 < get_or xs (k + 1) 0 = rest k (omega (arith, h)) in
+    let e : suc k + 1 ≡ suc (k + 1) = omega arith in
+    subst (λ (i : ℕ). get_or xs k 0 < get_or (x ∷ xs) i 0) (sym e) next
+
+places_rise : {X : Type 0} (test : X → Bool) (i : ℕ) (xs : List X) → IsStrictlyIncreasing (places_from test i xs)
+places_rise test i [] = λ k h. absurd (omega (arith, h))
+places_rise test i (x ∷ xs) = by_test (test x) (places_rise test (i + 1) xs)
+  where
+    after : (0 < length (places_from test (i + 1) xs)) → i < get_or (places_from test (i + 1) xs) 0 0
+    after h =
+        let rest : List ℕ = places_from test (i + 1) xs in
+        elim (cases_lt i (get_or rest 0 0)) [
+          | inl less ↦ less
+          | inr past ↦
+              let no : is_among rest (get_or rest 0 0) ≡ false = before_first test (i + 1) xs (get_or rest 0 0) (omega (arith, past)) in
+              let yes : is_among rest (get_or rest 0 0) ≡ true = among_at rest 0 h in
+              absurd (cc)
+        ]
+
+    by_test : (b : Bool) → IsStrictlyIncreasing (places_from test (i + 1) xs) → IsStrictlyIncreasing (if b then i ∷ places_from test (i + 1) xs else places_from test (i + 1) xs)
+    by_test true rest = rising_cons i (places_from test (i + 1) xs) after rest
+    by_test false rest = rest
+
+pub reading_numbers : (m : Machine) (j : ℕ) → AreNumbers (state_count m) (reading_rows m j)
+reading_numbers m j = record { rising = places_rise (row_reads j) 0 m.rows; below = rows_known m j }
+
+-- ---- levels that are taken one after another
+
+-- these states have their levels, and the others those from before
+abbrev pub levels_along : List ℕ → List ℤ → List ℤ → List ℤ
+levels_along moved levels old = fold (λ at j. set at j (int_at levels j)) old moved
+
+pub along_more : (moved : List ℕ) (levels old : List ℤ) (i : ℕ) → i < length moved →
+    levels_along (take (i + 1) moved) levels old ≡ set (levels_along (take i moved) levels old) (get_or moved i 0) (int_at levels (get_or moved i 0))
+along_more moved levels old i h =
+    ap (λ (js : List ℕ). levels_along js levels old) (take_more moved i 0 h)
+    ∙ fold-append (λ (at : List ℤ) (j : ℕ). set at j (int_at levels j)) old (take i moved) (get_or moved i 0 ∷ [])
+
+pub length-along : (moved : List ℕ) (levels old : List ℤ) → length (levels_along moved levels old) ≡ length old
+length-along [] levels old = refl
+length-along (j ∷ moved) levels old = length-along moved levels (set old j (int_at levels j)) ∙ length-set old j (int_at levels j)
+
+pub along_other : (moved : List ℕ) (levels old : List ℤ) (j : ℕ) → is_among moved j ≡ false → int_at (levels_along moved levels old) j ≡ int_at old j
+along_other [] levels old j none = refl
+along_other (i ∷ moved) levels old j none =
+    let parts = or_parts (i == j) (is_among moved j) none in
+    let other : j ≢ i = λ e. eqb-false i j parts.0 (sym e) in
+    along_other moved levels (set old i (int_at levels i)) j parts.1 ∙ get_or-set_other old i j (int_at levels i) (pos 0) other
+
+along_own : (moved : List ℕ) (levels old : List ℤ) (j : ℕ) → j < length old → is_among moved j ≡ true → int_at (levels_along moved levels old) j ≡ int_at levels j
+along_own [] levels old j h among = absurd (cc)
+along_own (i ∷ moved) levels old j h among =
+    let next : List ℤ = set old i (int_at levels i) in
+    let inside : j < length next = omega (arith, h, length-set old i (int_at levels i)) in
+    elim (cases_Bool (is_among moved j)) [
+      | inl later ↦ along_own moved levels next j inside later
+      | inr last ↦
+          along_other moved levels next j last
+          ∙ elim (or_cases (i == j) (is_among moved j) among) [
+            | inl same ↦
+                let e : i ≡ j = eqb-true i j same in
+                subst (λ (k : ℕ). int_at next k ≡ int_at levels k) e (get_or-set_same old i (int_at levels i) (pos 0) (subst (λ (k : ℕ). k < length old) (sym e) h))
+            | inr later ↦ absurd (cc)
+          ]
+    ]
+
+-- where all have taken theirs, the levels are the new ones
+pub along_all : (moved : List ℕ) (levels old : List ℤ) → IsOff moved old levels → levels_along moved levels old ≡ levels
+along_all moved levels old off =
+    let many : length (levels_along moved levels old) ≡ length levels = length-along moved levels old ∙ sym off.as_many in
+    same_lists (pos 0) (levels_along moved levels old) levels many
+    (λ j h. elim (cases_Bool (is_among moved j)) [
+      | inl among ↦ along_own moved levels old j (omega (arith, h, off.as_many)) among
+      | inr none ↦ along_other moved levels old j none ∙ sym (off.others j none)
+    ])
+
+-- ---- slopes that follow
+
+module _ (m : Machine) (state : ℕ) (at discretes before after : List ℤ) (many : length at ≡ state_count m) (known : state < state_count m) (new : ℤ)
+    (written : IsWritten (pos 0) (HasFollowed m state (int_at at state) new discretes before) (reading_rows m state) before after) where
+  -- the slopes are those where one more state has taken its level
+  pub slopes_follow : (j : ℕ) → j < state_count m → int_at before j ≡ slope_at m j at discretes → int_at after j ≡ slope_at m j (set at state new) discretes
+  slopes_follow j h own = elim (cases_Bool (is_among (reading_rows m state) j)) [
+    | inl reads ↦
+        let follows : slope_of m.f (row_at m j) (set at state new) discretes ≡
+        slope_of m.f (row_at m j) at discretes +ℤ mode_coefficient m.f (length at) (row_at m j) discretes state *ℤ (new -ℤ int_at at state) =
+        slopes_follow_levels.slope m.f (row_at m j) at discretes state new (omega (arith, known, many)) in
+        (written.each j reads).0
+        ∙ ap (λ z. z +ℤ mode_coefficient_at m j state discretes *ℤ (new -ℤ int_at at state)) own
+        ∙ ap (λ (n : ℕ). slope_at m j at discretes +ℤ mode_coefficient m.f n (row_at m j) discretes state *ℤ (new -ℤ int_at at state)) (sym many)
+        ∙ sym follows
+    | inr none ↦
+        let unread : row_reads state (row_at m j) ≡ false = sym (among_rows m state j h) ∙ none in
+        let off : IsOff (state ∷ []) at (set at state new) = record {
+          as_many = length-set at state new;
+          others = λ i other. get_or-set_other at state i new (pos 0) (λ e. eqb-false state i ((or_parts (state == i) false other).0) (sym e));
+        } in
+        written.others j none ∙ own
+        ∙ sym (unread_slope m.f (row_at m j) (state ∷ []) at (set at state new) discretes
+        (λ i among. elim (or_cases (state == i) false among) [
+          | inl same ↦ subst (λ (k : ℕ). row_reads k (row_at m j) ≡ false) (eqb-true state i same) unread
+          | inr never ↦ absurd (cc)
+        ]) off)
+  ]
+
+  pub slopes_near : (j : ℕ) → unsigned_abs (int_at after j) ≤ unsigned_abs (int_at before j) + 2 ^ 88
+  slopes_near j = elim (cases_Bool (is_among (reading_rows m state) j)) [
+    | inl reads ↦ (written.each j reads).1
+    | inr none ↦ let same : int_at after j ≡ int_at before j = written.others j none in omega (arith, ap unsigned_abs same)
+  ]

@@ -1,0 +1,49 @@
+-- Slopes and values are small, and conditions were watched before.
+use Rattle.std.proofs.Common.{◌≡◌, ◌+◌, List, ℤ, sym, ◌∙◌, ap, subst, arith}
+use Rattle.qss_machine.specs.Numbers.{tabulate}
+use Rattle.qss_machine.specs.Machines.{state_count, slope_at}
+use Rattle.qss_cross.specs.Crossing.{IsSmall}
+use Rattle.qss_hand.specs.Values.{Values}
+use Rattle.qss_run.specs.Places.{watch_at, IsWatched}
+use Rattle.qss_run.specs.Sims.{condition_at}
+use Rattle.qss_run.specs.Speeds.{AreWatchedBefore}
+use Rattle.qss_run.specs.Stores.{states_at}
+use Rattle.qss_run.proofs.QuietTick.{value_small, condition_bounded}
+use Rattle.qss_run.proofs.QuietVisits.{slopes_stay}
+use Rattle.qss_run.proofs.Turning.{slopes_small}
+use Rattle.qss_run.proofs.Visits.{state_within}
+use Rattle.qss_run.proofs.sparse.go_on_moved.Goals as goal
+
+pub reslope_of-requires-clause-small_states : goal.reslope_of-requires-clause-small_states
+reslope_of-requires-clause-small_states g c j h = state_within c.args.lines.now c.args.tick j (omega (arith, h, c.requires.lines)) c.requires.small_states
+
+pub rewatch_of-requires-clause-small_slopes : goal.rewatch_of-requires-clause-small_slopes
+rewatch_of-requires-clause-small_slopes g c =
+    slopes_small c.args.m.now c.args.levels.now c.args.work.now.d c.as_slice-d.result.now c.reslope_of.new.slopes c.requires.light
+    (c.as_slice-d.ensures.value ∙ ap (λ (v : Values). v.d) c.work.view_is) c.reslope_of.ensures.slopes
+
+pub rewatch_of-requires-clause-small : goal.rewatch_of-requires-clause-small
+rewatch_of-requires-clause-small g c place h =
+    let m = c.args.m.now in
+    let watched = c.requires.watched place h in
+    subst IsSmall (sym watched.here)
+    (value_small m (condition_at m place).form (states_at c.args.lines.now c.args.tick) c.args.work.now.d c.args.tick (condition_bounded m c.args.branches.now c.requires.branches place h)
+    c.requires.small_states c.requires.small_discretes c.requires.in_time)
+
+pub returns-clause-watches : goal.returns-clause-watches
+returns-clause-watches g c place h =
+    let m = c.args.m.now in
+    let t = c.args.tick in
+    let x : List ℤ = states_at c.args.lines.now t in
+    let d : List ℤ = c.args.work.now.d in
+    let of_d : c.as_slice-d.result.now ≡ d = c.as_slice-d.ensures.value ∙ ap (λ (v : Values). v.d) c.work.view_is in
+    let slopes : c.reslope_of.new.slopes ≡ tabulate (state_count m) (λ j. slope_at m j c.args.levels.now d) =
+    c.reslope_of.ensures.slopes ∙ ap (λ e. tabulate (state_count m) (λ j. slope_at m j c.args.levels.now e)) of_d in
+    let before : AreWatchedBefore m t x d c.args.slopes.now c.reslope_of.new.slopes c.args.moved.now c.args.watches.now c.reslope_of.new.agenda = record {
+      each = λ place inside.
+          subst (IsWatched m t x d c.args.slopes.now place (watch_at c.args.watches.now place)) (sym (c.reslope_of.ensures.others (state_count m + place) (omega arith)))
+          (c.requires.watched place (omega (arith, inside, c.requires.branches.as_many)));
+      as_many = c.requires.slopes;
+      others = slopes_stay m c.args.moved.now c.requires.before.0 c.args.levels.now d c.args.slopes.now c.reslope_of.new.slopes c.requires.before.1.off c.requires.before.1.own_slopes slopes;
+    } in
+    c.rewatch_of.ensures.watches x d c.args.slopes.now before place h

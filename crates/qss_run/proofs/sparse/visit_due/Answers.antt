@@ -1,0 +1,394 @@
+-- A tick at which nothing but states is due.
+use Rattle.std.proofs.Common.{◌≡◌, ℕ, ◌+◌, ◌<◌, List, Bool, [], length, ℤ, pos, refl, sym, ◌∙◌, ap, subst, arith}
+use Rattle.std.proofs.lemmas.List.{with_items_is}
+use Rattle.std.proofs.lemmas.List.FromFn.{length-map-range_with_len}
+use Rattle.std.specs.Option.{option_or}
+use Rattle.std.specs.Prelude.{Option, None, All, position}
+use Rattle.std.specs.Vec.{with_items}
+use Rattle.mu_num.specs.Sizes.{IsWithin}
+use Rattle.qss_machine.specs.Numbers.{int_at, tabulate, first_past}
+use Rattle.qss_machine.specs.Machines.{state_count, level_unit, slope_at, quantum_of}
+use Rattle.qss_machine.specs.Handlers.{Handling, conditions, truths}
+use Rattle.qss_machine.specs.Ticks.{World, moved_states, handling_at, is_overweight, AreNextLevels}
+use Rattle.qss_machine.specs.Runs.{level_rows}
+use Rattle.qss_quant.specs.Lines.{state_at, IsNear}
+use Rattle.qss_sched.specs.Ranks.{due_at}
+use Rattle.qss_hand.specs.Values.{Values}
+use Rattle.qss_run.specs.declared.store.Store.{Store}
+use Rattle.qss_run.specs.Moves.{is_among, IsOff}
+use Rattle.qss_run.specs.Places.{line_at, watch_at, IsTurned, IsWatched}
+use Rattle.qss_run.specs.Rules.{IsRuled}
+use Rattle.qss_run.specs.Sims.{IsDue}
+use Rattle.qss_run.specs.Stores.{states_at, world_of, FitsMachine}
+use Rattle.qss_run.proofs.Handled.{not_some, clash, all_within}
+use Rattle.qss_run.specs.Turnings.{AreLevelsBefore}
+use Rattle.qss_run.proofs.QuietVisits.{steps_or, leads, rest_small, own_slope, levels_before, handled, arrived, near, kept_due, same_truths, watched, rising, rows_then}
+use Rattle.qss_run.proofs.Turns.{conditions_few}
+use Rattle.qss_run.proofs.Visits.{stands_again, end_of, both_none, same_length}
+use Rattle.qss_run.proofs.sparse.visit_due.Goals as goal
+
+pub requantize_moved-over-requires-clause-others_small : goal.requantize_moved-over-requires-clause-others_small
+requantize_moved-over-requires-clause-others_small g c j h none =
+    let m = c.args.m.now in
+    let t = c.args.tick + 1 in
+    let s : Store = c.args.s.now in
+    let agenda : List (Option ℕ) = c.requires.taken.0 in
+    let taken = c.requires.taken.1 in
+    subst (λ ls. IsWithin 88 (state_at (line_at ls j) t)) (sym c.as_slice.ensures.value)
+    (rest_small m c.args.tick agenda s taken c.requires.in_time j h (ap (λ l. is_among l j) (sym c.as_slice-2.ensures.value) ∙ none))
+
+pub returns-then-is_some-clause-stepped : goal.returns-then-is_some-clause-stepped
+returns-then-is_some-clause-stepped g c =
+    let m = c.args.m.now in
+    let t = c.args.tick + 1 in
+    let s : Store = c.args.s.now in
+    let agenda : List (Option ℕ) = c.requires.taken.0 in
+    let taken = c.requires.taken.1 in
+    let x : List ℤ = states_at s.lines.items t in
+    let fresh : List ℤ = c.requantize_moved-over.new.fresh in
+    let h : Handling = record { states = x; discretes = s.work.d; rows = []; overflow = first_past 88 x } in
+    let is_h : h ≡ handling_at m t (world_of c.args.tick s) = sym (handled m c.args.tick agenda s taken c.requires.in_time) in
+    let allowed : first_past 88 x ≡ None → AreNextLevels (IsRuled c.args.q.now.name) m x s.levels.items fresh = λ none.
+    subst (λ ls. AreNextLevels (IsRuled c.args.q.now.name) m (states_at ls t) s.levels.items fresh) c.as_slice.ensures.value
+    (subst (λ l. AreNextLevels (IsRuled c.args.q.now.name) m (states_at c.as_slice.result.now t) l fresh) c.as_mut_slice.ensures.value
+    (c.requantize_moved-over.ensures.allowed (ap (λ ls. first_past 88 (states_at ls t)) c.as_slice.ensures.value ∙ none))) in
+    let over : c.requantize_moved-over.result ≡ option_or (first_past 88 x) (option_or (first_past 43 fresh) (position (is_overweight m fresh s.work.d) m.rows)) =
+    c.requantize_moved-over.ensures.over
+    ∙ ap (λ ls. option_or (first_past 88 (states_at ls t)) (option_or (first_past 43 fresh) (position (is_overweight m fresh s.work.d) m.rows))) c.as_slice.ensures.value in
+    steps_or (IsRuled c.args.q.now.name) m t (world_of c.args.tick s) _ h fresh c.requantize_moved-over.result is_h allowed over
+    (λ none. clash c.requantize_moved-over.result (sym c.is_some.ensures ∙ c.if-is_some.true) none)
+
+pub go_on_moved-requires-clause-few : goal.go_on_moved-requires-clause-few
+go_on_moved-requires-clause-few g c =
+    omega (arith, ap length c.as_slice-3.ensures.value, c.requires.taken.1.stands.fits.branches.as_many, conditions_few c.args.m.now)
+
+pub go_on_moved-requires-clause-small_states : goal.go_on_moved-requires-clause-small_states
+go_on_moved-requires-clause-small_states g c =
+    let m = c.args.m.now in
+    let t = c.args.tick + 1 in
+    let s : Store = c.args.s.now in
+    let agenda : List (Option ℕ) = c.requires.taken.0 in
+    let taken = c.requires.taken.1 in
+    let calm : c.requantize_moved-over.result ≡ None = not_some c.requantize_moved-over.result (sym c.is_some.ensures ∙ c.if-is_some.false) in
+    let x : List ℤ = states_at s.lines.items t in
+    let fresh : List ℤ = c.requantize_moved-over.new.fresh in
+    let h : Handling = record { states = x; discretes = s.work.d; rows = []; overflow = first_past 88 x } in
+    let is_h : h ≡ handling_at m t (world_of c.args.tick s) = sym (handled m c.args.tick agenda s taken c.requires.in_time) in
+    let allowed : first_past 88 x ≡ None → AreNextLevels (IsRuled c.args.q.now.name) m x s.levels.items fresh = λ none.
+    subst (λ ls. AreNextLevels (IsRuled c.args.q.now.name) m (states_at ls t) s.levels.items fresh) c.as_slice.ensures.value
+    (subst (λ l. AreNextLevels (IsRuled c.args.q.now.name) m (states_at c.as_slice.result.now t) l fresh) c.as_mut_slice.ensures.value
+    (c.requantize_moved-over.ensures.allowed (ap (λ ls. first_past 88 (states_at ls t)) c.as_slice.ensures.value ∙ none))) in
+    let over : c.requantize_moved-over.result ≡ option_or (first_past 88 x) (option_or (first_past 43 fresh) (position (is_overweight m fresh s.work.d) m.rows)) =
+    c.requantize_moved-over.ensures.over
+    ∙ ap (λ ls. option_or (first_past 88 (states_at ls t)) (option_or (first_past 43 fresh) (position (is_overweight m fresh s.work.d) m.rows))) c.as_slice.ensures.value in
+    let none_both = both_none (first_past 88 x) (option_or (first_past 43 fresh) (position (is_overweight m fresh s.work.d) m.rows)) (sym calm ∙ over) in
+    let many : length c.requantize_moved-over.new.levels ≡ s.levels.len = c.requantize_moved-over.auto.levels ∙ c.as_mut_slice.ensures.len in
+    let levels : c.as_slice-5.result.now ≡ fresh =
+    c.as_slice-5.ensures.value ∙ with_items_is s.levels c.requantize_moved-over.new.levels many ∙ c.requantize_moved-over.ensures.levels calm in
+    let of_d : c.requantize_moved-over.new.work.d ≡ s.work.d = ap (λ (v : Values). v.d) c.requantize_moved-over.ensures.work in
+    subst (λ ls. All (IsWithin 88) (states_at ls t)) (sym c.as_mut_slice-4.ensures.value) (all_within 88 x none_both.0)
+
+pub go_on_moved-requires-clause-small_levels : goal.go_on_moved-requires-clause-small_levels
+go_on_moved-requires-clause-small_levels g c =
+    let m = c.args.m.now in
+    let t = c.args.tick + 1 in
+    let s : Store = c.args.s.now in
+    let agenda : List (Option ℕ) = c.requires.taken.0 in
+    let taken = c.requires.taken.1 in
+    let calm : c.requantize_moved-over.result ≡ None = not_some c.requantize_moved-over.result (sym c.is_some.ensures ∙ c.if-is_some.false) in
+    let x : List ℤ = states_at s.lines.items t in
+    let fresh : List ℤ = c.requantize_moved-over.new.fresh in
+    let h : Handling = record { states = x; discretes = s.work.d; rows = []; overflow = first_past 88 x } in
+    let is_h : h ≡ handling_at m t (world_of c.args.tick s) = sym (handled m c.args.tick agenda s taken c.requires.in_time) in
+    let allowed : first_past 88 x ≡ None → AreNextLevels (IsRuled c.args.q.now.name) m x s.levels.items fresh = λ none.
+    subst (λ ls. AreNextLevels (IsRuled c.args.q.now.name) m (states_at ls t) s.levels.items fresh) c.as_slice.ensures.value
+    (subst (λ l. AreNextLevels (IsRuled c.args.q.now.name) m (states_at c.as_slice.result.now t) l fresh) c.as_mut_slice.ensures.value
+    (c.requantize_moved-over.ensures.allowed (ap (λ ls. first_past 88 (states_at ls t)) c.as_slice.ensures.value ∙ none))) in
+    let over : c.requantize_moved-over.result ≡ option_or (first_past 88 x) (option_or (first_past 43 fresh) (position (is_overweight m fresh s.work.d) m.rows)) =
+    c.requantize_moved-over.ensures.over
+    ∙ ap (λ ls. option_or (first_past 88 (states_at ls t)) (option_or (first_past 43 fresh) (position (is_overweight m fresh s.work.d) m.rows))) c.as_slice.ensures.value in
+    let none_both = both_none (first_past 88 x) (option_or (first_past 43 fresh) (position (is_overweight m fresh s.work.d) m.rows)) (sym calm ∙ over) in
+    let many : length c.requantize_moved-over.new.levels ≡ s.levels.len = c.requantize_moved-over.auto.levels ∙ c.as_mut_slice.ensures.len in
+    let levels : c.as_slice-5.result.now ≡ fresh =
+    c.as_slice-5.ensures.value ∙ with_items_is s.levels c.requantize_moved-over.new.levels many ∙ c.requantize_moved-over.ensures.levels calm in
+    let of_d : c.requantize_moved-over.new.work.d ≡ s.work.d = ap (λ (v : Values). v.d) c.requantize_moved-over.ensures.work in
+    subst (All (IsWithin 43)) (sym (levels ∙ sym (c.requantize_moved-over.ensures.levels calm))) (c.requantize_moved-over.ensures.small calm)
+
+pub go_on_moved-requires-clause-light : goal.go_on_moved-requires-clause-light
+go_on_moved-requires-clause-light g c =
+    let m = c.args.m.now in
+    let t = c.args.tick + 1 in
+    let s : Store = c.args.s.now in
+    let agenda : List (Option ℕ) = c.requires.taken.0 in
+    let taken = c.requires.taken.1 in
+    let calm : c.requantize_moved-over.result ≡ None = not_some c.requantize_moved-over.result (sym c.is_some.ensures ∙ c.if-is_some.false) in
+    let x : List ℤ = states_at s.lines.items t in
+    let fresh : List ℤ = c.requantize_moved-over.new.fresh in
+    let h : Handling = record { states = x; discretes = s.work.d; rows = []; overflow = first_past 88 x } in
+    let is_h : h ≡ handling_at m t (world_of c.args.tick s) = sym (handled m c.args.tick agenda s taken c.requires.in_time) in
+    let allowed : first_past 88 x ≡ None → AreNextLevels (IsRuled c.args.q.now.name) m x s.levels.items fresh = λ none.
+    subst (λ ls. AreNextLevels (IsRuled c.args.q.now.name) m (states_at ls t) s.levels.items fresh) c.as_slice.ensures.value
+    (subst (λ l. AreNextLevels (IsRuled c.args.q.now.name) m (states_at c.as_slice.result.now t) l fresh) c.as_mut_slice.ensures.value
+    (c.requantize_moved-over.ensures.allowed (ap (λ ls. first_past 88 (states_at ls t)) c.as_slice.ensures.value ∙ none))) in
+    let over : c.requantize_moved-over.result ≡ option_or (first_past 88 x) (option_or (first_past 43 fresh) (position (is_overweight m fresh s.work.d) m.rows)) =
+    c.requantize_moved-over.ensures.over
+    ∙ ap (λ ls. option_or (first_past 88 (states_at ls t)) (option_or (first_past 43 fresh) (position (is_overweight m fresh s.work.d) m.rows))) c.as_slice.ensures.value in
+    let none_both = both_none (first_past 88 x) (option_or (first_past 43 fresh) (position (is_overweight m fresh s.work.d) m.rows)) (sym calm ∙ over) in
+    let many : length c.requantize_moved-over.new.levels ≡ s.levels.len = c.requantize_moved-over.auto.levels ∙ c.as_mut_slice.ensures.len in
+    let levels : c.as_slice-5.result.now ≡ fresh =
+    c.as_slice-5.ensures.value ∙ with_items_is s.levels c.requantize_moved-over.new.levels many ∙ c.requantize_moved-over.ensures.levels calm in
+    let of_d : c.requantize_moved-over.new.work.d ≡ s.work.d = ap (λ (v : Values). v.d) c.requantize_moved-over.ensures.work in
+    ap (λ l. position (is_overweight m l c.requantize_moved-over.new.work.d) m.rows) levels
+    ∙ ap (λ d. position (is_overweight m fresh d) m.rows) of_d
+    ∙ (both_none (first_past 43 fresh) (position (is_overweight m fresh s.work.d) m.rows) (sym none_both.1)).1
+
+pub go_on_moved-requires-clause-near : goal.go_on_moved-requires-clause-near
+go_on_moved-requires-clause-near g c j inside =
+    let m = c.args.m.now in
+    let t = c.args.tick + 1 in
+    let s : Store = c.args.s.now in
+    let agenda : List (Option ℕ) = c.requires.taken.0 in
+    let taken = c.requires.taken.1 in
+    let calm : c.requantize_moved-over.result ≡ None = not_some c.requantize_moved-over.result (sym c.is_some.ensures ∙ c.if-is_some.false) in
+    let x : List ℤ = states_at s.lines.items t in
+    let fresh : List ℤ = c.requantize_moved-over.new.fresh in
+    let h : Handling = record { states = x; discretes = s.work.d; rows = []; overflow = first_past 88 x } in
+    let is_h : h ≡ handling_at m t (world_of c.args.tick s) = sym (handled m c.args.tick agenda s taken c.requires.in_time) in
+    let allowed : first_past 88 x ≡ None → AreNextLevels (IsRuled c.args.q.now.name) m x s.levels.items fresh = λ none.
+    subst (λ ls. AreNextLevels (IsRuled c.args.q.now.name) m (states_at ls t) s.levels.items fresh) c.as_slice.ensures.value
+    (subst (λ l. AreNextLevels (IsRuled c.args.q.now.name) m (states_at c.as_slice.result.now t) l fresh) c.as_mut_slice.ensures.value
+    (c.requantize_moved-over.ensures.allowed (ap (λ ls. first_past 88 (states_at ls t)) c.as_slice.ensures.value ∙ none))) in
+    let over : c.requantize_moved-over.result ≡ option_or (first_past 88 x) (option_or (first_past 43 fresh) (position (is_overweight m fresh s.work.d) m.rows)) =
+    c.requantize_moved-over.ensures.over
+    ∙ ap (λ ls. option_or (first_past 88 (states_at ls t)) (option_or (first_past 43 fresh) (position (is_overweight m fresh s.work.d) m.rows))) c.as_slice.ensures.value in
+    let none_both = both_none (first_past 88 x) (option_or (first_past 43 fresh) (position (is_overweight m fresh s.work.d) m.rows)) (sym calm ∙ over) in
+    let many : length c.requantize_moved-over.new.levels ≡ s.levels.len = c.requantize_moved-over.auto.levels ∙ c.as_mut_slice.ensures.len in
+    let levels : c.as_slice-5.result.now ≡ fresh =
+    c.as_slice-5.ensures.value ∙ with_items_is s.levels c.requantize_moved-over.new.levels many ∙ c.requantize_moved-over.ensures.levels calm in
+    let of_d : c.requantize_moved-over.new.work.d ≡ s.work.d = ap (λ (v : Values). v.d) c.requantize_moved-over.ensures.work in
+    subst (λ ls. IsNear (level_unit m) (state_at (line_at ls j) t) (int_at c.as_slice-5.result.now j) (quantum_of m j (int_at c.as_slice-5.result.now j))) (sym c.as_mut_slice-4.ensures.value)
+    (subst (λ l. IsNear (level_unit m) (state_at (line_at s.lines.items j) t) (int_at l j) (quantum_of m j (int_at l j))) (sym levels)
+    (near m c.args.tick agenda s taken c.requires.in_time c.args.q.now.name fresh (allowed none_both.0) j inside))
+
+pub go_on_moved-requires-clause-before : goal.go_on_moved-requires-clause-before
+go_on_moved-requires-clause-before g c =
+    let m = c.args.m.now in
+    let t = c.args.tick + 1 in
+    let s : Store = c.args.s.now in
+    let agenda : List (Option ℕ) = c.requires.taken.0 in
+    let taken = c.requires.taken.1 in
+    let calm : c.requantize_moved-over.result ≡ None = not_some c.requantize_moved-over.result (sym c.is_some.ensures ∙ c.if-is_some.false) in
+    let x : List ℤ = states_at s.lines.items t in
+    let fresh : List ℤ = c.requantize_moved-over.new.fresh in
+    let h : Handling = record { states = x; discretes = s.work.d; rows = []; overflow = first_past 88 x } in
+    let is_h : h ≡ handling_at m t (world_of c.args.tick s) = sym (handled m c.args.tick agenda s taken c.requires.in_time) in
+    let allowed : first_past 88 x ≡ None → AreNextLevels (IsRuled c.args.q.now.name) m x s.levels.items fresh = λ none.
+    subst (λ ls. AreNextLevels (IsRuled c.args.q.now.name) m (states_at ls t) s.levels.items fresh) c.as_slice.ensures.value
+    (subst (λ l. AreNextLevels (IsRuled c.args.q.now.name) m (states_at c.as_slice.result.now t) l fresh) c.as_mut_slice.ensures.value
+    (c.requantize_moved-over.ensures.allowed (ap (λ ls. first_past 88 (states_at ls t)) c.as_slice.ensures.value ∙ none))) in
+    let over : c.requantize_moved-over.result ≡ option_or (first_past 88 x) (option_or (first_past 43 fresh) (position (is_overweight m fresh s.work.d) m.rows)) =
+    c.requantize_moved-over.ensures.over
+    ∙ ap (λ ls. option_or (first_past 88 (states_at ls t)) (option_or (first_past 43 fresh) (position (is_overweight m fresh s.work.d) m.rows))) c.as_slice.ensures.value in
+    let none_both = both_none (first_past 88 x) (option_or (first_past 43 fresh) (position (is_overweight m fresh s.work.d) m.rows)) (sym calm ∙ over) in
+    let many : length c.requantize_moved-over.new.levels ≡ s.levels.len = c.requantize_moved-over.auto.levels ∙ c.as_mut_slice.ensures.len in
+    let levels : c.as_slice-5.result.now ≡ fresh =
+    c.as_slice-5.ensures.value ∙ with_items_is s.levels c.requantize_moved-over.new.levels many ∙ c.requantize_moved-over.ensures.levels calm in
+    let of_d : c.requantize_moved-over.new.work.d ≡ s.work.d = ap (λ (v : Values). v.d) c.requantize_moved-over.ensures.work in
+    let off : IsOff s.moved.items s.levels.items fresh =
+    subst (λ l. IsOff l s.levels.items fresh) c.as_slice-2.ensures.value (subst (λ l. IsOff c.as_slice-2.result.now l fresh) c.as_mut_slice.ensures.value c.requantize_moved-over.ensures.others) in (
+      s.levels.items,
+      subst (λ js. AreLevelsBefore m js c.as_slice-5.result.now c.requantize_moved-over.new.work.d c.as_mut_slice-3.result.now c.as_mut_slice-4.result.now s.levels.items) (sym c.as_slice-4.ensures.value)
+          (subst (λ l. AreLevelsBefore m s.moved.items l c.requantize_moved-over.new.work.d c.as_mut_slice-3.result.now c.as_mut_slice-4.result.now s.levels.items) (sym levels)
+          (subst (λ d. AreLevelsBefore m s.moved.items fresh d c.as_mut_slice-3.result.now c.as_mut_slice-4.result.now s.levels.items) (sym of_d)
+          (subst (λ v. AreLevelsBefore m s.moved.items fresh s.work.d v c.as_mut_slice-4.result.now s.levels.items) (sym c.as_mut_slice-3.ensures.value)
+          (subst (λ ls. AreLevelsBefore m s.moved.items fresh s.work.d s.slopes.items ls s.levels.items) (sym c.as_mut_slice-4.ensures.value)
+          (levels_before m c.args.tick agenda s taken c.requires.in_time fresh off))))),
+    )
+
+pub go_on_moved-requires-clause-own_slope : goal.go_on_moved-requires-clause-own_slope
+go_on_moved-requires-clause-own_slope g c j inside =
+    let m = c.args.m.now in
+    let t = c.args.tick + 1 in
+    let s : Store = c.args.s.now in
+    let agenda : List (Option ℕ) = c.requires.taken.0 in
+    let taken = c.requires.taken.1 in
+    ap (λ ls. (line_at ls j).slope) c.as_mut_slice-4.ensures.value
+    ∙ own_slope m c.args.tick agenda s taken c.requires.in_time j inside
+    ∙ ap (λ l. int_at l j) (sym c.as_mut_slice-3.ensures.value)
+
+pub go_on_moved-requires-clause-due : goal.go_on_moved-requires-clause-due
+go_on_moved-requires-clause-due g c j inside own =
+    let m = c.args.m.now in
+    let t = c.args.tick + 1 in
+    let s : Store = c.args.s.now in
+    let agenda : List (Option ℕ) = c.requires.taken.0 in
+    let taken = c.requires.taken.1 in
+    let calm : c.requantize_moved-over.result ≡ None = not_some c.requantize_moved-over.result (sym c.is_some.ensures ∙ c.if-is_some.false) in
+    let x : List ℤ = states_at s.lines.items t in
+    let fresh : List ℤ = c.requantize_moved-over.new.fresh in
+    let h : Handling = record { states = x; discretes = s.work.d; rows = []; overflow = first_past 88 x } in
+    let is_h : h ≡ handling_at m t (world_of c.args.tick s) = sym (handled m c.args.tick agenda s taken c.requires.in_time) in
+    let allowed : first_past 88 x ≡ None → AreNextLevels (IsRuled c.args.q.now.name) m x s.levels.items fresh = λ none.
+    subst (λ ls. AreNextLevels (IsRuled c.args.q.now.name) m (states_at ls t) s.levels.items fresh) c.as_slice.ensures.value
+    (subst (λ l. AreNextLevels (IsRuled c.args.q.now.name) m (states_at c.as_slice.result.now t) l fresh) c.as_mut_slice.ensures.value
+    (c.requantize_moved-over.ensures.allowed (ap (λ ls. first_past 88 (states_at ls t)) c.as_slice.ensures.value ∙ none))) in
+    let over : c.requantize_moved-over.result ≡ option_or (first_past 88 x) (option_or (first_past 43 fresh) (position (is_overweight m fresh s.work.d) m.rows)) =
+    c.requantize_moved-over.ensures.over
+    ∙ ap (λ ls. option_or (first_past 88 (states_at ls t)) (option_or (first_past 43 fresh) (position (is_overweight m fresh s.work.d) m.rows))) c.as_slice.ensures.value in
+    let none_both = both_none (first_past 88 x) (option_or (first_past 43 fresh) (position (is_overweight m fresh s.work.d) m.rows)) (sym calm ∙ over) in
+    let many : length c.requantize_moved-over.new.levels ≡ s.levels.len = c.requantize_moved-over.auto.levels ∙ c.as_mut_slice.ensures.len in
+    let levels : c.as_slice-5.result.now ≡ fresh =
+    c.as_slice-5.ensures.value ∙ with_items_is s.levels c.requantize_moved-over.new.levels many ∙ c.requantize_moved-over.ensures.levels calm in
+    let of_d : c.requantize_moved-over.new.work.d ≡ s.work.d = ap (λ (v : Values). v.d) c.requantize_moved-over.ensures.work in
+    subst (λ ls. IsDue m t j (line_at ls j) (due_at s.agenda j)) (sym c.as_mut_slice-4.ensures.value)
+    (kept_due m c.args.tick agenda s taken c.requires.in_time c.args.q.now.name fresh (allowed none_both.0) j inside
+    (ap (λ ls. (line_at ls j).level) (sym c.as_mut_slice-4.ensures.value) ∙ own ∙ ap (λ l. int_at l j) levels))
+
+pub go_on_moved-requires-clause-watched : goal.go_on_moved-requires-clause-watched
+go_on_moved-requires-clause-watched g c place inside =
+    let m = c.args.m.now in
+    let t = c.args.tick + 1 in
+    let s : Store = c.args.s.now in
+    let agenda : List (Option ℕ) = c.requires.taken.0 in
+    let taken = c.requires.taken.1 in
+    let calm : c.requantize_moved-over.result ≡ None = not_some c.requantize_moved-over.result (sym c.is_some.ensures ∙ c.if-is_some.false) in
+    let x : List ℤ = states_at s.lines.items t in
+    let fresh : List ℤ = c.requantize_moved-over.new.fresh in
+    let h : Handling = record { states = x; discretes = s.work.d; rows = []; overflow = first_past 88 x } in
+    let is_h : h ≡ handling_at m t (world_of c.args.tick s) = sym (handled m c.args.tick agenda s taken c.requires.in_time) in
+    let allowed : first_past 88 x ≡ None → AreNextLevels (IsRuled c.args.q.now.name) m x s.levels.items fresh = λ none.
+    subst (λ ls. AreNextLevels (IsRuled c.args.q.now.name) m (states_at ls t) s.levels.items fresh) c.as_slice.ensures.value
+    (subst (λ l. AreNextLevels (IsRuled c.args.q.now.name) m (states_at c.as_slice.result.now t) l fresh) c.as_mut_slice.ensures.value
+    (c.requantize_moved-over.ensures.allowed (ap (λ ls. first_past 88 (states_at ls t)) c.as_slice.ensures.value ∙ none))) in
+    let over : c.requantize_moved-over.result ≡ option_or (first_past 88 x) (option_or (first_past 43 fresh) (position (is_overweight m fresh s.work.d) m.rows)) =
+    c.requantize_moved-over.ensures.over
+    ∙ ap (λ ls. option_or (first_past 88 (states_at ls t)) (option_or (first_past 43 fresh) (position (is_overweight m fresh s.work.d) m.rows))) c.as_slice.ensures.value in
+    let none_both = both_none (first_past 88 x) (option_or (first_past 43 fresh) (position (is_overweight m fresh s.work.d) m.rows)) (sym calm ∙ over) in
+    let many : length c.requantize_moved-over.new.levels ≡ s.levels.len = c.requantize_moved-over.auto.levels ∙ c.as_mut_slice.ensures.len in
+    let levels : c.as_slice-5.result.now ≡ fresh =
+    c.as_slice-5.ensures.value ∙ with_items_is s.levels c.requantize_moved-over.new.levels many ∙ c.requantize_moved-over.ensures.levels calm in
+    let of_d : c.requantize_moved-over.new.work.d ≡ s.work.d = ap (λ (v : Values). v.d) c.requantize_moved-over.ensures.work in
+    let known : place < length (conditions m) = omega (arith, inside, ap length c.as_slice-3.ensures.value, taken.stands.fits.branches.as_many) in
+    subst (λ ls. IsWatched m t (states_at ls t) c.requantize_moved-over.new.work.d c.as_mut_slice-3.result.now place (watch_at c.as_mut_slice-5.result.now place) (due_at s.agenda (state_count m + place))) (sym c.as_mut_slice-4.ensures.value)
+    (subst (λ ws. IsWatched m t x c.requantize_moved-over.new.work.d c.as_mut_slice-3.result.now place (watch_at ws place) (due_at s.agenda (state_count m + place))) (sym c.as_mut_slice-5.ensures.value)
+    (subst (λ v. IsWatched m t x c.requantize_moved-over.new.work.d v place (watch_at s.watches.items place) (due_at s.agenda (state_count m + place))) (sym c.as_mut_slice-3.ensures.value)
+    (subst (λ d. IsWatched m t x d s.slopes.items place (watch_at s.watches.items place) (due_at s.agenda (state_count m + place))) (sym of_d)
+    (watched m c.args.tick agenda s taken c.requires.in_time place known))))
+
+pub returns : goal.returns
+returns g c =
+    let m = c.args.m.now in
+    let t = c.args.tick + 1 in
+    let s : Store = c.args.s.now in
+    let agenda : List (Option ℕ) = c.requires.taken.0 in
+    let taken = c.requires.taken.1 in
+    let calm : c.requantize_moved-over.result ≡ None = not_some c.requantize_moved-over.result (sym c.is_some.ensures ∙ c.if-is_some.false) in
+    let x : List ℤ = states_at s.lines.items t in
+    let fresh : List ℤ = c.requantize_moved-over.new.fresh in
+    let h : Handling = record { states = x; discretes = s.work.d; rows = []; overflow = first_past 88 x } in
+    let is_h : h ≡ handling_at m t (world_of c.args.tick s) = sym (handled m c.args.tick agenda s taken c.requires.in_time) in
+    let allowed : first_past 88 x ≡ None → AreNextLevels (IsRuled c.args.q.now.name) m x s.levels.items fresh = λ none.
+    subst (λ ls. AreNextLevels (IsRuled c.args.q.now.name) m (states_at ls t) s.levels.items fresh) c.as_slice.ensures.value
+    (subst (λ l. AreNextLevels (IsRuled c.args.q.now.name) m (states_at c.as_slice.result.now t) l fresh) c.as_mut_slice.ensures.value
+    (c.requantize_moved-over.ensures.allowed (ap (λ ls. first_past 88 (states_at ls t)) c.as_slice.ensures.value ∙ none))) in
+    let over : c.requantize_moved-over.result ≡ option_or (first_past 88 x) (option_or (first_past 43 fresh) (position (is_overweight m fresh s.work.d) m.rows)) =
+    c.requantize_moved-over.ensures.over
+    ∙ ap (λ ls. option_or (first_past 88 (states_at ls t)) (option_or (first_past 43 fresh) (position (is_overweight m fresh s.work.d) m.rows))) c.as_slice.ensures.value in
+    let none_both = both_none (first_past 88 x) (option_or (first_past 43 fresh) (position (is_overweight m fresh s.work.d) m.rows)) (sym calm ∙ over) in
+    let many : length c.requantize_moved-over.new.levels ≡ s.levels.len = c.requantize_moved-over.auto.levels ∙ c.as_mut_slice.ensures.len in
+    let levels : c.as_slice-5.result.now ≡ fresh =
+    c.as_slice-5.ensures.value ∙ with_items_is s.levels c.requantize_moved-over.new.levels many ∙ c.requantize_moved-over.ensures.levels calm in
+    let of_d : c.requantize_moved-over.new.work.d ≡ s.work.d = ap (λ (v : Values). v.d) c.requantize_moved-over.ensures.work in
+    let fits = taken.stands.fits in
+    let work : c.requantize_moved-over.new.work ≡ record s.work { x = c.requantize_moved-over.new.work.x } = c.requantize_moved-over.ensures.work in
+    let next : Store = record s {
+      levels = with_items s.levels c.requantize_moved-over.new.levels;
+      slopes = with_items s.slopes c.go_on_moved.new.slopes;
+      lines = with_items s.lines c.go_on_moved.new.lines;
+      watches = with_items s.watches c.go_on_moved.new.watches;
+      arrived = with_items s.arrived c.catch_up.new.arrived;
+      fresh = with_items s.fresh fresh;
+      calm = c.catch_up.new.calm;
+      agenda = c.go_on_moved.new.agenda;
+      work = c.requantize_moved-over.new.work;
+      rows = c.requantize_moved-over.new.rows;
+    } in
+    let good : FitsMachine m next = record {
+      branches = fits.branches;
+      uses = fits.uses;
+      lines = same_length s.lines c.go_on_moved.new.lines ∙ fits.lines;
+      levels = same_length s.levels c.requantize_moved-over.new.levels ∙ fits.levels;
+      slopes = same_length s.slopes c.go_on_moved.new.slopes ∙ fits.slopes;
+      fresh = same_length s.fresh fresh ∙ fits.fresh;
+      moved_room = fits.moved_room;
+      watches = same_length s.watches c.go_on_moved.new.watches ∙ fits.watches;
+      arrived = same_length s.arrived c.catch_up.new.arrived ∙ fits.arrived;
+      settled = fits.settled;
+      now = fits.now;
+      due = fits.due;
+      places = c.go_on_moved.ensures.places ∙ taken.without.as_many ∙ fits.places;
+      states = c.requantize_moved-over.ensures.states ∙ fits.states;
+      discretes = ap length of_d ∙ fits.discretes;
+      before = ap (λ (v : Values). length v.pre) work ∙ fits.before;
+      small_discretes = subst (All (IsWithin 43)) (sym of_d) fits.small_discretes;
+      work_room = omega (arith, ap (λ (v : Values). v.room) work, fits.work_room);
+      row_room = omega (arith, c.requantize_moved-over.ensures.room, fits.row_room);
+    } in
+    let of_slopes : next.slopes.items ≡ c.go_on_moved.new.slopes = with_items_is s.slopes c.go_on_moved.new.slopes (c.go_on_moved.auto.slopes ∙ c.as_mut_slice-3.ensures.len) in
+    let of_lines : next.lines.items ≡ c.go_on_moved.new.lines = with_items_is s.lines c.go_on_moved.new.lines (c.go_on_moved.auto.lines ∙ c.as_mut_slice-4.ensures.len) in
+    let of_watches : next.watches.items ≡ c.go_on_moved.new.watches = with_items_is s.watches c.go_on_moved.new.watches (c.go_on_moved.auto.watches ∙ c.as_mut_slice-5.ensures.len) in
+    let of_arrived : next.arrived.items ≡ s.settled.items =
+    with_items_is s.arrived c.catch_up.new.arrived (c.catch_up.auto.arrived ∙ c.as_mut_slice-6.ensures.len) ∙ c.catch_up.ensures.arrived ∙ c.as_slice-settled.ensures.value in
+    let own_levels : next.levels.items ≡ c.as_slice-5.result.now = sym c.as_slice-5.ensures.value in
+    let branches : length c.as_slice-3.result.now ≡ length (conditions m) = ap length c.as_slice-3.ensures.value ∙ fits.branches.as_many in
+    let light : position (is_overweight m next.levels.items next.work.d) m.rows ≡ None =
+    ap (λ l. position (is_overweight m l next.work.d) m.rows) (own_levels ∙ levels)
+    ∙ ap (λ d. position (is_overweight m fresh d) m.rows) of_d
+    ∙ (both_none (first_past 43 fresh) (position (is_overweight m fresh s.work.d) m.rows) (sym none_both.1)).1 in
+    let many_states : length x ≡ state_count m = length-map-range_with_len (λ j. state_at (line_at s.lines.items j) t) 0 (length s.lines.items) ∙ fits.lines in
+    let settled : s.settled.items ≡ truths m x next.work.d t =
+    same_truths m c.args.tick agenda s taken c.requires.in_time ∙ ap (λ d. truths m x d t) (sym of_d) in
+    let again = stands_again m t next x many_states good
+    (λ j inside. subst (λ l. IsWithin 43 (int_at l j)) (sym (own_levels ∙ levels ∙ sym (c.requantize_moved-over.ensures.levels calm)))
+    (c.requantize_moved-over.ensures.small calm j (pos 0) (omega (arith, inside, many, s.levels.ok.0, fits.levels))))
+    light
+    (of_slopes ∙ c.go_on_moved.ensures.slopes ∙ ap (λ l. tabulate (state_count m) (λ j. slope_at m j l next.work.d)) (sym own_levels))
+    (λ j inside.
+    subst (λ ls. IsTurned m t (int_at x j) (int_at next.levels.items j) (slope_at m j next.levels.items next.work.d) j (line_at ls j) (due_at next.agenda j)) (sym of_lines)
+    (subst (λ l. IsTurned m t (int_at x j) (int_at l j) (slope_at m j l next.work.d) j (line_at c.go_on_moved.new.lines j) (due_at next.agenda j)) (sym own_levels)
+    (subst (λ y. IsTurned m t y (int_at c.as_slice-5.result.now j) (slope_at m j c.as_slice-5.result.now next.work.d) j (line_at c.go_on_moved.new.lines j) (due_at next.agenda j))
+    (ap (λ ls. state_at (line_at ls j) t) c.as_mut_slice-4.ensures.value ∙ sym (leads m c.args.tick agenda s taken c.requires.in_time j inside)) (c.go_on_moved.ensures.lines j inside))))
+    settled
+    (λ place inside.
+    subst (λ ws. IsWatched m t x next.work.d next.slopes.items place (watch_at ws place) (due_at next.agenda (state_count m + place))) (sym of_watches)
+    (subst (λ sl. IsWatched m t x next.work.d sl place (watch_at c.go_on_moved.new.watches place) (due_at next.agenda (state_count m + place))) (sym of_slopes)
+    (subst (λ ls. IsWatched m t (states_at ls t) next.work.d c.go_on_moved.new.slopes place (watch_at c.go_on_moved.new.watches place) (due_at next.agenda (state_count m + place))) c.as_mut_slice-4.ensures.value
+    (c.go_on_moved.ensures.watches place (omega (arith, inside, branches))))))
+    (rising m c.args.tick agenda s taken c.requires.in_time next.agenda (world_of t next) of_arrived refl
+    (c.go_on_moved.ensures.beyond (state_count m + length (conditions m)) (omega (arith, branches))))
+    (with_items_is s.fresh fresh (c.requantize_moved-over.auto.fresh ∙ c.as_mut_slice-2.ensures.len) ∙ sym (own_levels ∙ levels))
+    (λ e. of_arrived) in
+    let w : World = world_of c.args.tick s in
+    let new_levels : next.levels.items ≡ fresh = own_levels ∙ levels in
+    let still : s.settled.items ≡ truths m (moved_states m w) s.work.d t =
+    same_truths m c.args.tick agenda s taken c.requires.in_time ∙ ap (λ y. truths m y s.work.d t) (arrived m c.args.tick agenda s taken c.requires.in_time) in
+    let end : world_of t next ≡ end_of m t w h fresh =
+    ap (λ (y : List ℤ). record { states = y; levels = next.levels.items; discretes = next.work.d; arrived = next.arrived.items; settled = s.settled.items }) again.0
+    ∙ ap (λ (l : List ℤ). record { states = x; levels = l; discretes = next.work.d; arrived = next.arrived.items; settled = s.settled.items }) new_levels
+    ∙ ap (λ (d : List ℤ). record { states = x; levels = fresh; discretes = d; arrived = next.arrived.items; settled = s.settled.items }) of_d
+    ∙ ap (λ (a : List Bool). record { states = x; levels = fresh; discretes = s.work.d; arrived = a; settled = s.settled.items }) (of_arrived ∙ still)
+    ∙ ap (λ (b : List Bool). record { states = x; levels = fresh; discretes = s.work.d; arrived = truths m (moved_states m w) s.work.d t; settled = b })
+    (same_truths m c.args.tick agenda s taken c.requires.in_time) in
+    record {
+      stepped = steps_or (IsRuled c.args.q.now.name) m t w (world_of t next) h fresh None is_h allowed (sym calm ∙ over) (λ none. end);
+      rows = λ none.
+          c.requantize_moved-over.ensures.rows calm
+          ∙ ap (λ l. level_rows t l c.requantize_moved-over.new.levels (states_at c.as_slice.result.now t)) c.as_mut_slice.ensures.value
+          ∙ ap (λ l. level_rows t s.levels.items l (states_at c.as_slice.result.now t)) (c.requantize_moved-over.ensures.levels calm ∙ sym new_levels)
+          ∙ ap (λ ls. level_rows t s.levels.items next.levels.items (states_at ls t)) c.as_slice.ensures.value
+          ∙ ap (λ y. level_rows t s.levels.items next.levels.items y) (sym again.0)
+          ∙ sym (rows_then m c.args.tick agenda s taken c.requires.in_time (world_of t next));
+      stands = λ none. again.1;
+      room = c.requantize_moved-over.ensures.room;
+      counted = c.go_on_moved.ensures.counted;
+    }

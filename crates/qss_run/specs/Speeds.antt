@@ -1,0 +1,47 @@
+-- Conditions at new speeds, where few states moved.
+use Rattle.std.specs.Prelude.{◌≡◌, ℕ, ◌+◌, ◌<◌, ◌≤◌, Bool, false, List, length, ℤ, Option, Some}
+use Rattle.std.specs.List.{list_any}
+use Rattle.qss_machine.specs.declared.system.Machine.{Machine}
+use Rattle.qss_machine.specs.Numbers.{int_at}
+use Rattle.qss_machine.specs.Machines.{state_count, row_at, speed_of}
+use Rattle.qss_machine.specs.Handlers.{conditions}
+use Rattle.qss_machine.specs.Uses.{row_reads}
+use Rattle.qss_cross.specs.Crossing.{Watch, value_at, holds_at}
+use Rattle.qss_sched.specs.Ranks.{due_at}
+use Rattle.qss_run.specs.Sims.{condition_at, IsChange}
+use Rattle.qss_run.specs.Places.{watch_at, IsWatched}
+
+-- whether a state's row reads one of the moved states
+abbrev pub reads_moved : Machine → List ℕ → ℕ → Bool
+reads_moved m moved j = list_any (λ i. row_reads i (row_at m j)) moved
+
+-- conditions watched at the speeds of slopes before, of which those of states whose rows read no moved state are as they were
+pub record AreWatchedBefore (m : Machine) (tick : ℕ) (x d before slopes : List ℤ) (moved : List ℕ) (watches : List Watch) (due : List (Option ℕ)) : Type 0 where
+  pub each : (place : ℕ) → place < length (conditions m) → IsWatched m tick x d before place (watch_at watches place) (due_at due (state_count m + place))
+  pub as_many : length before ≡ state_count m
+  pub others : (j : ℕ) → j < state_count m → reads_moved m moved j ≡ false → int_at slopes j ≡ int_at before j
+
+-- a watch has the speed of its condition
+abbrev pub HasSpeed : Machine → List ℤ → List Watch → ℕ → Type 0
+HasSpeed m slopes watches place = (watch_at watches place).speed ≡ speed_of m (condition_at m place).form slopes
+
+-- a watch goes on from the same value at a tick, with the due tick of its first change, and keeps a speed that is wanted
+pub record GoesOn (tick : ℕ) (speed : ℤ) (old new : Watch) (old_due new_due : Option ℕ) : Type 0 where
+  pub not_later : new.tick ≤ tick
+  pub here : value_at new tick ≡ value_at old tick
+  pub same_rel : new.rel ≡ old.rel
+  pub kept_speed : old.speed ≡ speed → new.speed ≡ speed
+  pub is_change : IsChange tick (holds_at old tick) old old_due → IsChange tick (holds_at old tick) new new_due
+
+-- each watch goes on at a tick, and the agenda has no other changes
+pub record AreGoingOn (m : Machine) (tick : ℕ) (slopes : List ℤ) (old new : List Watch) (old_due new_due : List (Option ℕ)) : Type 0 where
+  pub as_many : length new ≡ length old
+  pub places : length new_due ≡ length old_due
+  pub each : (place : ℕ) → place < length old →
+      GoesOn tick (speed_of m (condition_at m place).form slopes) (watch_at old place) (watch_at new place) (due_at old_due (state_count m + place)) (due_at new_due (state_count m + place))
+  pub others : (place : ℕ) → place < state_count m → due_at new_due place ≡ due_at old_due place
+  pub beyond : (place : ℕ) → state_count m + length old ≤ place → due_at new_due place ≡ due_at old_due place
+
+-- nothing but states is due at the next tick
+abbrev pub OnlyStatesAreDue : Machine → ℕ → List (Option ℕ) → Type 0
+OnlyStatesAreDue m tick due = (place later : ℕ) → state_count m ≤ place → due_at due place ≡ Some later → tick + 1 < later

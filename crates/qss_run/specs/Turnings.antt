@@ -1,0 +1,63 @@
+-- States of which some go on from a tick at new slopes, and the others as they were.
+use Rattle.std.specs.Prelude.{◌≡◌, ℕ, ◌+◌, ◌^◌, ◌<◌, ◌≤◌, ◌⊎◌, List, ◌∷◌, length, ℤ, ◌+ℤ◌, ◌-ℤ◌, ◌*ℤ◌, unsigned_abs, Option, None, All, flat_map, sum_by, position, ◌==◌, true, if◌then◌else◌}
+use Rattle.mu_num.specs.Sizes.{IsWithin}
+use Rattle.qss_machine.specs.declared.system.Machine.{Machine}
+use Rattle.qss_machine.specs.Machines.{state_count, level_unit, mode_coefficient_at, slope_at, quantum_of}
+use Rattle.qss_machine.specs.Numbers.{int_at, tabulate}
+use Rattle.qss_machine.specs.Ticks.{is_overweight}
+use Rattle.qss_machine.specs.Uses.{reading_rows}
+use Rattle.qss_quant.specs.Lines.{Line, state_at, IsNear}
+use Rattle.qss_sched.specs.Ranks.{due_at}
+use Rattle.qss_run.specs.Moves.{is_among, IsOff}
+use Rattle.qss_run.specs.Places.{line_at, IsTurned}
+use Rattle.qss_run.specs.Sims.{IsDue}
+
+-- the moved states, and those whose rows read one of them
+abbrev pub turning_states : Machine → List ℕ → List ℕ
+turning_states m moved = flat_map (λ j. j ∷ reading_rows m j) moved
+
+-- how many of one line come from a tick, and how many of all lines
+abbrev pub comes_from : ℕ → Line → ℕ
+comes_from tick line = if line.tick == tick then 1 else 0
+
+abbrev pub come_from : ℕ → List Line → ℕ
+come_from tick lines = sum_by (comes_from tick) lines
+
+-- a line that may go on from a tick at this level and slope: it is near the level, its due tick holds where its level stays, and where it comes from the tick it goes on so already
+pub record MayTurn (m : Machine) (tick : ℕ) (level slope : ℤ) (j : ℕ) (line : Line) (found : Option ℕ) : Type 0 where
+  pub not_later : line.tick ≤ tick
+  pub small : IsWithin 88 (state_at line tick)
+  pub near : IsNear (level_unit m) (state_at line tick) level (quantum_of m j level)
+  pub due : line.level ≡ level → IsDue m tick j line found
+  pub once : line.tick ≡ tick → (line.slope ≡ slope) × (line.level ≡ level)
+
+-- a state's line and due tick are as they were, or it goes on from a tick at this level and slope
+abbrev pub GoesOn : Machine → ℕ → ℤ → ℤ → ℕ → Line → Line → Option ℕ → Option ℕ → Type 0
+GoesOn m tick level slope j old new due_old due_new = ((new ≡ old) × (due_new ≡ due_old)) ⊎ IsTurned m tick (state_at old tick) level slope j new due_new
+
+-- lines and due ticks of the states
+pub record Courses : Type 0 where
+  pub lines : List Line
+  pub dues : List (Option ℕ)
+
+-- each state goes on as it did or at these levels and slopes, and these states do at these
+pub record AreTurned (m : Machine) (tick : ℕ) (levels slopes : List ℤ) (states : List ℕ) (old new : Courses) : Type 0 where
+  pub each : (k : ℕ) → k < state_count m →
+      GoesOn m tick (int_at levels k) (int_at slopes k) k (line_at old.lines k) (line_at new.lines k) (due_at old.dues k) (due_at new.dues k)
+  pub turned : (k : ℕ) → k < state_count m → is_among states k ≡ true →
+      IsTurned m tick (state_at (line_at old.lines k) tick) (int_at levels k) (int_at slopes k) k (line_at new.lines k) (due_at new.dues k)
+  pub as_many : length new.dues ≡ length old.dues
+  pub others : (place : ℕ) → state_count m ≤ place → due_at new.dues place ≡ due_at old.dues place
+
+-- the levels before those of the moved states changed: within their limit, no row past its limits there, and the slopes and the lines are theirs
+pub record AreLevelsBefore (m : Machine) (moved : List ℕ) (levels discretes slopes : List ℤ) (lines : List Line) (old : List ℤ) : Type 0 where
+  pub off : IsOff moved old levels
+  pub small : All (IsWithin 43) old
+  pub light : position (is_overweight m old discretes) m.rows ≡ None
+  pub own_slopes : slopes ≡ tabulate (state_count m) (λ j. slope_at m j old discretes)
+  pub own_levels : (j : ℕ) → j < state_count m → (line_at lines j).level ≡ int_at old j
+
+-- the slope of a row after a state took another level, and how much greater its size may be
+abbrev pub HasFollowed : Machine → ℕ → ℤ → ℤ → List ℤ → List ℤ → ℕ → ℤ → Type 0
+HasFollowed m state old new discretes slopes j slope =
+    (slope ≡ int_at slopes j +ℤ mode_coefficient_at m j state discretes *ℤ (new -ℤ old)) × (unsigned_abs slope ≤ unsigned_abs (int_at slopes j) + 2 ^ 88)

@@ -1,0 +1,249 @@
+//! A tick at which nothing but states is due.
+
+ghost use Rattle.std.specs.Prelude.{◌≡◌, ℕ, ◌+◌, ◌<◌, ◌≤◌, ◌^◌, All, length, position, List, ℤ, Option, Some, None, true, false, vec_capacity};
+ghost use Rattle.std.specs.Option.{option_or};
+ghost use Rattle.mu_num.specs.Sizes.{IsWithin};
+ghost use Rattle.qss_machine.specs.Numbers.{int_at, tabulate, first_past};
+ghost use Rattle.qss_machine.specs.Machines.{state_count, discrete_count, level_unit, slope_at, quantum_of};
+ghost use Rattle.qss_machine.specs.Ticks.{AreNextLevels, is_near, is_overweight, world_unless, Step};
+ghost use Rattle.qss_machine.specs.Runs.{level_rows, tick_rows};
+ghost use Rattle.qss_machine.specs.Uses.{uses_of};
+ghost use Rattle.qss_quant.specs.Lines.{state_at, IsNear};
+ghost use Rattle.qss_sched.specs.Ranks.{due_at};
+ghost use Rattle.qss_run.specs.Moves.{is_among, AreNumbers, AreDue, IsWithout, IsOff};
+ghost use Rattle.qss_run.specs.Places.{AreBranches, line_at, watch_at, IsTurned, IsWatched};
+ghost use Rattle.qss_run.specs.Rules.{IsRuled};
+ghost use Rattle.qss_run.specs.Sims.{IsDue};
+ghost use Rattle.qss_run.specs.Stores.{states_at, world_of, Stands, IsTaken};
+ghost use Rattle.qss_run.specs.Turnings.{AreLevelsBefore};
+
+use crate::calm::catch_up;
+use crate::conditions::BranchPlace;
+use crate::due::{give_back, take_due};
+use crate::readers::first_overweight_of;
+use crate::relevel::requantize_due;
+use crate::store::Store;
+use crate::turned::reslope_of;
+use crate::watching::rewatch_of;
+use qss_cross::Detector;
+use qss_hand::Work;
+use qss_machine::{Machine, Row, Uses};
+use qss_quant::{Integrator, Quantizer, Steps};
+use qss_sched::Agenda;
+use std::sync::ledger::Ledger;
+
+// Whether something is due by a tick.
+fn is_due_by(agenda: &Agenda, tick: u64) -> bool
+    ensures { result ≡ false → (place due : ℕ) → due_at agenda.now place ≡ Some due → tick < due }
+{
+    match agenda.next() {
+        Some((due, _)) => due <= tick,
+        None => false,
+    }
+}
+
+/// Takes the states that are due at a tick out of the agenda, unless something else is due then.
+pub(crate) fn take_alone(agenda: &mut Agenda, tick: u64, states: u32, moved: &mut Vec<u32>) -> bool
+    requires room { states ≤ vec_capacity moved.old }
+    requires places { states ≤ length agenda.old }
+    requires none_before { (place due : ℕ) → due_at agenda.old place ≡ Some due → tick ≤ due }
+    ensures due { AreDue states tick agenda.old moved.new.items }
+    ensures without { result ≡ true → IsWithout moved.new.items agenda.old agenda.new }
+    ensures only_states { result ≡ true → (place due : ℕ) → states ≤ place → due_at agenda.old place ≡ Some due → tick < due }
+    ensures back { result ≡ false → agenda.new ≡ agenda.old }
+    ensures room { vec_capacity moved.new ≡ vec_capacity moved.old }
+{
+    take_due(agenda, tick, states, moved);
+    if is_due_by(agenda, tick) {
+        give_back(agenda, tick, moved.as_slice());
+        return false;
+    }
+    true
+}
+
+// The due states arrive and take their new levels.
+fn requantize_in(
+    m: &Machine,
+    q: &Quantizer,
+    tick: u64,
+    lines: &[Integrator],
+    moved: &[u32],
+    work: &mut Work,
+    levels: &mut [i64],
+    fresh: &mut [i128],
+    rows: &mut Vec<Row>,
+) -> Option<u32>
+    requires lines { length lines.now ≡ state_count m.now }
+    requires states { length work.old.x ≡ state_count m.now }
+    requires levels { length levels.old ≡ state_count m.now }
+    requires fresh { fresh.old ≡ levels.old }
+    requires small_levels { All (IsWithin 43) levels.old }
+    requires moved { AreNumbers (state_count m.now) moved.now }
+    requires later { (j : ℕ) → j < length lines.now → (line_at lines.now j).tick ≤ tick }
+    requires in_time { tick < 2 ^ 32 }
+    requires others_small { (j : ℕ) → j < state_count m.now → is_among moved.now j ≡ false → IsWithin 88 (state_at (line_at lines.now j) tick) }
+    requires others_near { (j : ℕ) → j < state_count m.now → is_among moved.now j ≡ false → is_near m.now j (state_at (line_at lines.now j) tick) (int_at levels.old j) ≡ true }
+    requires room { state_count m.now ≤ vec_capacity rows.old }
+    ensures over { result ≡ option_or (first_past 88 (states_at lines.now tick)) (first_past 43 fresh.new) }
+    ensures allowed { first_past 88 (states_at lines.now tick) ≡ None → AreNextLevels (IsRuled q.now.name) m.now (states_at lines.now tick) levels.old fresh.new }
+    ensures levels { result ≡ None → levels.new ≡ fresh.new }
+    ensures small { result ≡ None → All (IsWithin 43) levels.new }
+    ensures rows { result ≡ None → rows.new.items ≡ level_rows tick levels.old levels.new (states_at lines.now tick) }
+    ensures others { (j : ℕ) → is_among moved.now j ≡ false → int_at fresh.new j ≡ int_at levels.old j }
+    ensures work { work.new ≡ record work.old { x = work.new.x } }
+    ensures states { length work.new.x ≡ length work.old.x }
+    ensures room { vec_capacity rows.new ≡ vec_capacity rows.old }
+{
+    let x = work.x.as_mut_slice();
+    requantize_due(m, q, tick, lines, moved, x, levels, fresh, rows)
+}
+
+// The due states arrive and take their new levels. It gives the variable that overflows, on arrival, by its level or by
+// its row.
+fn requantize_moved(
+    m: &Machine,
+    uses: &Uses,
+    q: &Quantizer,
+    tick: u64,
+    lines: &[Integrator],
+    moved: &[u32],
+    work: &mut Work,
+    levels: &mut [i64],
+    fresh: &mut [i128],
+    rows: &mut Vec<Row>,
+) -> Option<u32>
+    requires uses { uses.now ≡ uses_of m.now }
+    requires lines { length lines.now ≡ state_count m.now }
+    requires states { length work.old.x ≡ state_count m.now }
+    requires discretes { length work.old.d ≡ discrete_count m.now }
+    requires levels { length levels.old ≡ state_count m.now }
+    requires fresh { fresh.old ≡ levels.old }
+    requires small_levels { All (IsWithin 43) levels.old }
+    requires small_discretes { All (IsWithin 43) work.old.d }
+    requires light { position (is_overweight m.now levels.old work.old.d) m.now.rows ≡ None }
+    requires moved { AreNumbers (state_count m.now) moved.now }
+    requires later { (j : ℕ) → j < length lines.now → (line_at lines.now j).tick ≤ tick }
+    requires in_time { tick < 2 ^ 32 }
+    requires others_small { (j : ℕ) → j < state_count m.now → is_among moved.now j ≡ false → IsWithin 88 (state_at (line_at lines.now j) tick) }
+    requires others_near { (j : ℕ) → j < state_count m.now → is_among moved.now j ≡ false → is_near m.now j (state_at (line_at lines.now j) tick) (int_at levels.old j) ≡ true }
+    requires room { state_count m.now ≤ vec_capacity rows.old }
+    ensures over { result ≡ option_or (first_past 88 (states_at lines.now tick)) (option_or (first_past 43 fresh.new) (position (is_overweight m.now fresh.new work.old.d) m.now.rows)) }
+    ensures allowed { first_past 88 (states_at lines.now tick) ≡ None → AreNextLevels (IsRuled q.now.name) m.now (states_at lines.now tick) levels.old fresh.new }
+    ensures levels { result ≡ None → levels.new ≡ fresh.new }
+    ensures small { result ≡ None → All (IsWithin 43) levels.new }
+    ensures rows { result ≡ None → rows.new.items ≡ level_rows tick levels.old levels.new (states_at lines.now tick) }
+    ensures others { IsOff moved.now levels.old fresh.new }
+    ensures work { work.new ≡ record work.old { x = work.new.x } }
+    ensures states { length work.new.x ≡ length work.old.x }
+    ensures room { vec_capacity rows.new ≡ vec_capacity rows.old }
+{
+    let over = requantize_in(m, q, tick, lines, moved, work, levels, fresh, rows);
+    if over.is_some() {
+        return over;
+    }
+    first_overweight_of(m, uses, moved, levels, work.d.as_slice())
+}
+
+// The moved states and those whose rows read one of them go on from a tick at their new slopes, and the conditions that
+// read these at their new speeds.
+fn go_on_moved<L: Ledger>(
+    m: &Machine,
+    uses: &Uses,
+    branches: &[BranchPlace],
+    tick: u64,
+    moved: &[u32],
+    levels: &[i64],
+    work: &Work,
+    slopes: &mut [i128],
+    lines: &mut [Integrator],
+    watches: &mut [Detector],
+    agenda: &mut Agenda,
+    steps: &mut Steps<L>,
+)
+    requires uses { uses.now ≡ uses_of m.now }
+    requires branches { AreBranches m.now branches.now }
+    requires few { length branches.now ≤ 16384 }
+    requires moved { AreNumbers (state_count m.now) moved.now }
+    requires levels { length levels.now ≡ state_count m.now }
+    requires discretes { length work.now.d ≡ discrete_count m.now }
+    requires slopes { length slopes.old ≡ state_count m.now }
+    requires lines { length lines.old ≡ state_count m.now }
+    requires watches { length watches.old ≡ length branches.now }
+    requires places { state_count m.now + length branches.now ≤ length agenda.old }
+    requires small_states { All (IsWithin 88) (states_at lines.old tick) }
+    requires small_levels { All (IsWithin 43) levels.now }
+    requires small_discretes { All (IsWithin 43) work.now.d }
+    requires light { position (is_overweight m.now levels.now work.now.d) m.now.rows ≡ None }
+    requires in_time { tick < 2 ^ 32 }
+    requires earlier { (j : ℕ) → j < state_count m.now → (line_at lines.old j).tick < tick }
+    requires near { (j : ℕ) → j < state_count m.now → IsNear (level_unit m.now) (state_at (line_at lines.old j) tick) (int_at levels.now j) (quantum_of m.now j (int_at levels.now j)) }
+    requires before { (old : List ℤ) × AreLevelsBefore m.now moved.now levels.now work.now.d slopes.old lines.old old }
+    requires own_slope { (j : ℕ) → j < state_count m.now → (line_at lines.old j).slope ≡ int_at slopes.old j }
+    requires due { (j : ℕ) → j < state_count m.now → (line_at lines.old j).level ≡ int_at levels.now j → IsDue m.now tick j (line_at lines.old j) (due_at agenda.old j) }
+    requires watched { (place : ℕ) → place < length branches.now → IsWatched m.now tick (states_at lines.old tick) work.now.d slopes.old place (watch_at watches.old place) (due_at agenda.old (state_count m.now + place)) }
+    ensures slopes { slopes.new ≡ tabulate (state_count m.now) (λ j. slope_at m.now j levels.now work.now.d) }
+    ensures lines { (j : ℕ) → j < state_count m.now → IsTurned m.now tick (state_at (line_at lines.old j) tick) (int_at levels.now j) (slope_at m.now j levels.now work.now.d) j (line_at lines.new j) (due_at agenda.new j) }
+    ensures watches { (place : ℕ) → place < length branches.now → IsWatched m.now tick (states_at lines.old tick) work.now.d slopes.new place (watch_at watches.new place) (due_at agenda.new (state_count m.now + place)) }
+    ensures places { length agenda.new ≡ length agenda.old }
+    ensures beyond { (place : ℕ) → state_count m.now + length branches.now ≤ place → due_at agenda.new place ≡ due_at agenda.old place }
+    ensures counted { steps.new ≤ steps.old + state_count m.now }
+{
+    let d = work.d.as_slice();
+    reslope_of(
+        m, uses, tick, moved, levels, d, slopes, lines, agenda, steps,
+    );
+    rewatch_of(m, uses, branches, tick, moved, slopes, watches, agenda);
+}
+
+/// One tick after the one at which the store stands, from an agenda without the states that are due there, where nothing
+/// else is due. It gives the variable that overflows, if one does; the store is then good for nothing but its memory for
+/// rows.
+pub(crate) fn visit_due<L: Ledger>(
+    m: &Machine,
+    q: &Quantizer,
+    tick: u64,
+    s: &mut Store,
+    steps: &mut Steps<L>,
+) -> Option<u32>
+    requires taken { (agenda : List (Option ℕ)) × IsTaken m.now tick agenda s.old }
+    requires in_time { tick < m.now.last }
+    ensures stepped { Step (IsRuled q.now.name) m.now (tick + 1) (world_of tick s.old) (world_unless result (world_of (tick + 1) s.new)) }
+    ensures rows { result ≡ None → s.new.rows.items ≡ tick_rows m.now (tick + 1) (world_of tick s.old) (world_of (tick + 1) s.new) }
+    ensures stands { result ≡ None → Stands m.now (tick + 1) s.new }
+    ensures room { vec_capacity s.new.rows ≡ vec_capacity s.old.rows }
+    ensures counted { steps.new ≤ steps.old + state_count m.now }
+{
+    let next = tick + 1;
+    let over = requantize_moved(
+        m,
+        &s.uses,
+        q,
+        next,
+        s.lines.as_slice(),
+        s.moved.as_slice(),
+        &mut s.work,
+        s.levels.as_mut_slice(),
+        s.fresh.as_mut_slice(),
+        &mut s.rows,
+    );
+    if over.is_some() {
+        return over;
+    }
+    go_on_moved(
+        m,
+        &s.uses,
+        s.branches.as_slice(),
+        next,
+        s.moved.as_slice(),
+        s.levels.as_slice(),
+        &s.work,
+        s.slopes.as_mut_slice(),
+        s.lines.as_mut_slice(),
+        s.watches.as_mut_slice(),
+        &mut s.agenda,
+        steps,
+    );
+    let settled = s.settled.as_slice();
+    catch_up(true, settled, s.arrived.as_mut_slice(), &mut s.calm);
+    None
+}
