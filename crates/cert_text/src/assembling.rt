@@ -8,7 +8,7 @@ ghost use Rattle.cert_text.specs.Layout.{layout};
 ghost use Rattle.cert_text.specs.Rows.{AreAllRows, lines_from};
 ghost use Rattle.cert_text.specs.Parts.{IsBound, AreRoots, IsBasin, IsEllipsoid};
 
-use crate::parts::{Basin, Bound, Ellipsoid, Roots, basin_of, bound_of, ellipsoid_of, roots_of};
+use crate::parts::{basin_of, bound_of, ellipsoid_of, roots_of};
 use cert_check::Certificate;
 use mu_io::Items;
 use std::alloc::{AllocError, Global};
@@ -27,49 +27,26 @@ pub fn assemble(alloc: Global, n: u8, rows: &[Items<i128>]) -> Result<Certificat
     let basin = basin_of(alloc, n, rows)?;
     let ellipsoid = ellipsoid_of(alloc, n, rows)?;
     let roots = roots_of(n, rows);
-    let Bound {
-        pm,
-        p,
-        mu,
-        lambda,
-        h1,
-    } = bound;
-    let Roots { g1, h2, g2 } = roots;
-    let Basin {
-        c,
-        r,
-        z,
-        s,
-        sigma_r,
-    } = basin;
-    let Ellipsoid {
-        cc,
-        sigma_c,
-        e,
-        start1,
-        start2,
-        q,
-    } = ellipsoid;
     Ok(Certificate {
         n,
-        pm,
-        p,
-        mu,
-        lambda,
-        h1,
-        g1,
-        h2,
-        g2,
-        c,
-        r,
-        z,
-        s,
-        sigma_r,
-        cc,
-        sigma_c,
-        e,
-        start1,
-        start2,
-        q,
+        pm: bound.pm,
+        p: bound.p,
+        mu: bound.mu,
+        lambda: bound.lambda,
+        h1: bound.h1,
+        g1: roots.g1,
+        h2: roots.h2,
+        g2: roots.g2,
+        c: basin.c,
+        r: basin.r,
+        z: basin.z,
+        s: basin.s,
+        sigma_r: basin.sigma_r,
+        cc: ellipsoid.cc,
+        sigma_c: ellipsoid.sigma_c,
+        e: ellipsoid.e,
+        start1: ellipsoid.start1,
+        start2: ellipsoid.start2,
+        q: ellipsoid.q,
     })
 }

@@ -12,6 +12,14 @@ pub struct Due {
     pub count: u8,
 }
 
+// This keyword, and this many numbers after it.
+fn due_of(keyword: &'static [u8], count: u8) -> Due
+    ensures keyword { result.keyword.now ≡ keyword.now }
+    ensures count { result.count ≡ count }
+{
+    Due { keyword, count }
+}
+
 /// What is due at one of the lines between those of P and G1.
 fn due_after_p(n: u8, i: u8) -> Due
     requires { i < 4 }
@@ -20,22 +28,10 @@ fn due_after_p(n: u8, i: u8) -> Due
     ensures some { 1 ≤ length result.keyword.now }
 {
     match i {
-        0 => Due {
-            keyword: b"p",
-            count: n,
-        },
-        1 => Due {
-            keyword: b"mu",
-            count: n,
-        },
-        2 => Due {
-            keyword: b"lambda",
-            count: 1,
-        },
-        _ => Due {
-            keyword: b"h1",
-            count: 1,
-        },
+        0 => due_of(b"p", n),
+        1 => due_of(b"mu", n),
+        2 => due_of(b"lambda", 1),
+        _ => due_of(b"h1", 1),
     }
 }
 
@@ -47,50 +43,17 @@ fn due_after_g2(n: u8, i: u8) -> Due
     ensures some { 1 ≤ length result.keyword.now }
 {
     match i {
-        0 => Due {
-            keyword: b"c",
-            count: n,
-        },
-        1 => Due {
-            keyword: b"R",
-            count: 1,
-        },
-        2 => Due {
-            keyword: b"Z",
-            count: n,
-        },
-        3 => Due {
-            keyword: b"S",
-            count: n,
-        },
-        4 => Due {
-            keyword: b"sigmaR",
-            count: n,
-        },
-        5 => Due {
-            keyword: b"C",
-            count: 1,
-        },
-        6 => Due {
-            keyword: b"sigmaC",
-            count: n,
-        },
-        7 => Due {
-            keyword: b"E",
-            count: n,
-        },
-        8 => Due {
-            keyword: b"start1",
-            count: n,
-        },
-        9 => Due {
-            keyword: b"start2",
-            count: n,
-        },
-        _ => Due {
-            keyword: b"Q",
-            count: n,
-        },
+        0 => due_of(b"c", n),
+        1 => due_of(b"R", 1),
+        2 => due_of(b"Z", n),
+        3 => due_of(b"S", n),
+        4 => due_of(b"sigmaR", n),
+        5 => due_of(b"C", 1),
+        6 => due_of(b"sigmaC", n),
+        7 => due_of(b"E", n),
+        8 => due_of(b"start1", n),
+        9 => due_of(b"start2", n),
+        _ => due_of(b"Q", n),
     }
 }
 
@@ -103,32 +66,17 @@ pub fn due_at_place(n: u8, k: u8) -> Due
     ensures some { 1 ≤ length result.keyword.now }
 {
     if k == 0 {
-        Due {
-            keyword: b"form",
-            count: 1,
-        }
+        due_of(b"form", 1)
     } else if k <= n {
-        Due {
-            keyword: b"P",
-            count: n,
-        }
+        due_of(b"P", n)
     } else if k < n + 5 {
         due_after_p(n, k - n - 1)
     } else if k < 2 * n + 5 {
-        Due {
-            keyword: b"G1",
-            count: n,
-        }
+        due_of(b"G1", n)
     } else if k == 2 * n + 5 {
-        Due {
-            keyword: b"h2",
-            count: 1,
-        }
+        due_of(b"h2", 1)
     } else if k < 3 * n + 6 {
-        Due {
-            keyword: b"G2",
-            count: n,
-        }
+        due_of(b"G2", n)
     } else {
         due_after_g2(n, k - 3 * n - 6)
     }

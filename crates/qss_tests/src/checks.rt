@@ -225,8 +225,8 @@ fn out_of_range(numbers: Numbers, number: u32, place: u32) -> Case {
     }
 }
 
-// A case for each of the first five inequalities: the form, its bounds and the starts.
-fn form_cases() -> [Case; 9] {
+// Cases for the first four inequalities: the signs of the numbers, and the form with its bounds.
+fn form_cases() -> [Case; 5] {
     let n = decay_numbers();
     [
         accepted(n),
@@ -234,6 +234,13 @@ fn form_cases() -> [Case; 9] {
         rejected(Numbers { e: -1, ..n }, 1, 12, -1, 0),
         rejected(Numbers { p: 2, ..n }, 3, 1, -1, 0),
         rejected(Numbers { mu: 129, ..n }, 4, 1, -1, 0),
+    ]
+}
+
+// Cases for the fifth inequality: each start within the basin, and both within the ellipsoid.
+fn start_cases() -> [Case; 4] {
+    let n = decay_numbers();
+    [
         rejected(
             Numbers {
                 start1: 262145,
@@ -271,8 +278,8 @@ fn form_cases() -> [Case; 9] {
     ]
 }
 
-// A case for each of the other inequalities that one state has, and two sums out of range.
-fn slope_cases() -> [Case; 10] {
+// A case for each inequality of the basin after the starts.
+fn basin_cases() -> [Case; 4] {
     let n = decay_numbers();
     [
         rejected(Numbers { z: 63, ..n }, 6, 1, 3969, 4096),
@@ -297,6 +304,13 @@ fn slope_cases() -> [Case; 10] {
             1572864,
             1572865,
         ),
+    ]
+}
+
+// A case for each inequality of the ellipsoid and of the quanta, and two sums out of range.
+fn ellipsoid_cases() -> [Case; 6] {
+    let n = decay_numbers();
+    [
         rejected(
             Numbers {
                 sigma_c: 165887,
@@ -362,7 +376,9 @@ fn the_first_failing_place_is_told(rt: HostRuntime) -> Result<(), Fail> {
     let m = decay(rt.alloc())?;
     assert_eq!(rt; scope(&m), Ok(1));
     assert!(rt; finds(rt.alloc(), &m, &form_cases())?);
-    assert!(rt; finds(rt.alloc(), &m, &slope_cases())?);
+    assert!(rt; finds(rt.alloc(), &m, &start_cases())?);
+    assert!(rt; finds(rt.alloc(), &m, &basin_cases())?);
+    assert!(rt; finds(rt.alloc(), &m, &ellipsoid_cases())?);
     let m = relative_decay(rt.alloc())?;
     assert!(rt; finds(rt.alloc(), &m, &relative_cases())?);
     let m = empty(rt.alloc());
