@@ -1,0 +1,23 @@
+// Numbers that a seed gives, one after another.
+
+/// A generator of numbers: each is a linear function of the one before, in 64 bits, of which the upper ones are taken.
+#[derive(Drop)]
+pub(crate) struct Chance {
+    number: u64,
+}
+
+impl Chance {
+    pub(crate) fn new(seed: u64) -> Chance {
+        Chance { number: seed }
+    }
+
+    /// A number below a bound.
+    pub(crate) fn below(&mut self, bound: usize) -> usize {
+        self.number = self
+            .number
+            .wrapping_mul(6_364_136_223_846_793_005)
+            .wrapping_add(1_442_695_040_888_963_407);
+        let upper = (self.number >> 33) as usize;
+        upper.checked_rem(bound).unwrap_or(0)
+    }
+}
