@@ -10,7 +10,7 @@ pub type LevelRule = fn(i128, i64, i128) -> i128;
 /// A rule, with the fact that its answers are close, and those of its name where it has one.
 #[derive(Clone, Copy)]
 pub struct Quantizer {
-    rule: LevelRule,
+    pub rule: LevelRule,
     pub name: Option<Rule>,
     pub ghost callable: { (state old unit : ℤ) → IsAsked state old unit → LevelRule.pre rule state old unit },
     pub ghost keeps: { (state old unit answer : ℤ) → IsAsked state old unit → LevelRule.post rule state old unit answer → IsAnswer name state old unit answer },
@@ -24,7 +24,8 @@ impl Quantizer {
     pub fn new(rule: LevelRule, name: Option<Rule>) -> Quantizer
         requires callable { (state old unit : ℤ) → IsAsked state old unit → LevelRule.pre rule state old unit }
         requires keeps { (state old unit answer : ℤ) → IsAsked state old unit → LevelRule.post rule state old unit answer → IsAnswer name state old unit answer }
-        ensures { result.name ≡ name }
+        ensures rule { result.rule ≡ rule }
+        ensures name { result.name ≡ name }
     {
         Quantizer { rule, name }
     }
@@ -35,6 +36,7 @@ impl Quantizer {
         requires quantum { IsPositiveWithin 43 quantum }
         ensures kept { IsNear unit x old quantum → result ≡ old }
         ensures taken { IsAway unit x old quantum → IsAnswer self.now.name x old unit result }
+        ensures ruled { IsAway unit x old quantum → LevelRule.post self.now.rule x old unit result }
     {
         if is_inside(gap_of(x, old, unit), limit_of(quantum, unit)) {
             return i128::from(old);
@@ -45,7 +47,8 @@ impl Quantizer {
     // The rule's answer.
     fn answer(&self, x: i128, old: i64, unit: i128) -> i128
         requires { IsAsked x old unit }
-        ensures { IsAnswer self.now.name x old unit result }
+        ensures answer { IsAnswer self.now.name x old unit result }
+        ensures ruled { LevelRule.post self.now.rule x old unit result }
     {
         (self.rule)(x, old, unit)
     }

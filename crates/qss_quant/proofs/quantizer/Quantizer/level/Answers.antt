@@ -1,12 +1,16 @@
 -- The state is within the quantum exactly where the code's test says so.
-use Rattle.std.proofs.Common.{◌≡◌, pos, ◌-ℤ◌, ◌*ℤ◌, ◌<ℤ◌, unsigned_abs, IsTrue, true, false, rules, arith}
+use Rattle.std.proofs.Common.{◌≡◌, pos, ◌-ℤ◌, ◌*ℤ◌, ◌<ℤ◌, ℤ, unsigned_abs, IsTrue, false, rules, arith}
 use Rattle.std.proofs.lemmas.Int.{ints, to_z-of_z}
 use Rattle.std.specs.Int.RustNames.{FitsSigned}
+use Rattle.qss_quant.specs.Lines.{IsAway}
 use Rattle.qss_quant.proofs.quantizer.Quantizer.level.Goals as goal
 use mir.Syntax.{w128}
 
 not_true : {A : Type 0} → IsTrue false → A
 not_true h = absurd (search (rules, h))
+
+not_away : {A : Type 0} (gap limit x old quantum unit : ℤ) → gap ≡ x -ℤ unit *ℤ old → limit ≡ unit *ℤ quantum → pos (unsigned_abs gap) <ℤ limit → IsAway unit x old quantum → A
+not_away gap limit x old quantum unit e f inside away = let near = rw (e, f) at inside in absurd (omega (arith, ints, away, near))
 
 pub returns-then-is_inside-clause-taken : goal.returns-then-is_inside-clause-taken
 returns-then-is_inside-clause-taken g c away =
@@ -19,9 +23,20 @@ returns-then-is_inside-clause-taken g c away =
     let gap : c.gap_of.result ≡ c.args.x -ℤ c.args.unit *ℤ c.args.old = simp to_z-of_z at c.gap_of.ensures.value in
     let limit : c.limit_of.result ≡ c.args.unit *ℤ c.args.quantum = simp to_z-of_z at c.limit_of.ensures.value in
     let test = simp to_z-of_z at c.if-is_inside.ensures in
-    let true_is : IsTrue true = search rules in
-    let inside = rw (gap, limit) at (test.0 true_is) in
-    absurd (omega (arith, ints, away, inside))
+    not_away _ _ c.args.x c.args.old c.args.quantum c.args.unit gap limit (test.0 (search rules)) away
+
+pub returns-then-is_inside-clause-ruled : goal.returns-then-is_inside-clause-ruled
+returns-then-is_inside-clause-ruled g c away =
+    let of_x = c.ranges.x in
+    let of_old = c.ranges.old in
+    let of_quantum = c.ranges.quantum in
+    let of_unit = c.ranges.unit in
+    let of_gap : FitsSigned w128 c.gap_of.result = record { sfits = c.gap_of.type_inv } in
+    let of_limit : FitsSigned w128 c.limit_of.result = record { sfits = c.limit_of.type_inv } in
+    let gap : c.gap_of.result ≡ c.args.x -ℤ c.args.unit *ℤ c.args.old = simp to_z-of_z at c.gap_of.ensures.value in
+    let limit : c.limit_of.result ≡ c.args.unit *ℤ c.args.quantum = simp to_z-of_z at c.limit_of.ensures.value in
+    let test = simp to_z-of_z at c.if-is_inside.ensures in
+    not_away _ _ c.args.x c.args.old c.args.quantum c.args.unit gap limit (test.0 (search rules)) away
 
 pub returns-clause-kept : goal.returns-clause-kept
 returns-clause-kept g c near =
