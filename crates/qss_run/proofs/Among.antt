@@ -1,16 +1,15 @@
 -- Which numbers stand in a list of places.
-use Rattle.std.proofs.Common.{◌≡◌, ℕ, zero, suc, ◌+◌, ◌<◌, ◌≤◌, Bool, true, false, ◌&&◌, List, [], ◌∷◌, ◌++◌, length, get_or, take, pos, refl, sym, ◌∙◌, ap, arith, append-nil, inl, inr, ◌==◌}
-use Rattle.std.proofs.lemmas.Bool.{or_from, and_right, cases_lt}
+use Rattle.std.proofs.Common.{◌≡◌, ℕ, zero, suc, ◌+◌, ◌<◌, Bool, true, false, ◌&&◌, List, [], ◌∷◌, ◌++◌, length, get_or, take, pos, refl, sym, ◌∙◌, ap, arith, append-nil, ◌==◌}
+use Rattle.std.proofs.lemmas.Bool.{or_from, and_right}
 use Rattle.std.proofs.lemmas.Grind.{flat_map-append}
 use Rattle.std.proofs.lemmas.List.{take_more}
-use Rattle.std.proofs.lemmas.List.Folds.{list_any-append, list_any_at}
-use Rattle.std.proofs.lemmas.List.FromFn.{length-map-range_with_len, get_or-map-range_with_len}
+use Rattle.std.proofs.lemmas.List.Folds.{list_any-append}
 use Rattle.std.specs.List.{list_any}
-use Rattle.std.specs.Prelude.{◌||◌, All, flat_map, if◌then◌else◌}
+use Rattle.std.specs.Prelude.{◌||◌, flat_map, if◌then◌else◌}
 use Rattle.mu_num.proofs.Tests.{eqb-yes, eqb-no}
 use Rattle.qss_machine.specs.declared.parts.SlopeRow.{SlopeRow}
 use Rattle.qss_machine.specs.declared.system.Machine.{Machine}
-use Rattle.qss_machine.specs.Machines.{state_count, discrete_count, row_at}
+use Rattle.qss_machine.specs.Machines.{state_count, row_at}
 use Rattle.qss_machine.specs.Uses.{row_reads, places_from, reading_rows, uses_of}
 use Rattle.qss_run.specs.Moves.{is_among}
 use Rattle.qss_run.proofs.Speeds.{rows_of, rows_many}

@@ -1,13 +1,11 @@
 -- States of which some go on at new slopes, step by step.
-use Rattle.std.proofs.Common.{◌≡◌, ◌≢◌, ℕ, ◌+◌, ◌*◌, ◌<◌, ◌≤◌, true, false, List, [], ◌∷◌, ◌++◌, length, get_or, set, take, ℤ, pos, refl, sym, ◌∙◌, ap, subst, arith, append_assoc, inl, inr, ◌==◌}
+use Rattle.std.proofs.Common.{◌≡◌, ℕ, ◌+◌, ◌<◌, ◌≤◌, false, List, [], ◌∷◌, ◌++◌, length, get_or, take, ℤ, pos, refl, sym, ◌∙◌, ap, subst, arith, append_assoc, inl, inr, ◌==◌}
 use Rattle.std.proofs.lemmas.Bool.{or_parts, or_cases, or_from, cases_Bool, cases_eq}
-use Rattle.std.proofs.lemmas.List.{get_or-set_other, get_or-set_same}
 use Rattle.std.proofs.lemmas.List.Folds.{list_any-append}
 use Rattle.std.proofs.lemmas.List.FromFn.{get_or-map-range_with_len}
-use Rattle.std.proofs.lemmas.List.Sums.{sum_by-set, sum_by-le}
 use Rattle.std.specs.List.{list_any}
-use Rattle.std.specs.Prelude.{Option, ◌||◌, if◌then◌else◌}
-use Rattle.mu_num.proofs.Tests.{if_cases, if-true, if-false, eqb-true, eqb-yes, eqb-no}
+use Rattle.std.specs.Prelude.{Option}
+use Rattle.mu_num.proofs.Tests.{eqb-true}
 use Rattle.mu_num.specs.Sizes.{IsWithin}
 use Rattle.qss_machine.specs.declared.system.Machine.{Machine}
 use Rattle.qss_machine.specs.Machines.{state_count, level_unit, row_at, slope_at, quantum_of}
@@ -15,29 +13,12 @@ use Rattle.qss_machine.specs.Numbers.{int_at, tabulate}
 use Rattle.qss_machine.specs.Uses.{row_reads, reading_rows}
 use Rattle.qss_quant.specs.Lines.{Line, state_at, IsNear}
 use Rattle.qss_sched.specs.Ranks.{due_at}
-use Rattle.qss_run.specs.Moves.{is_among, IsOff}
+use Rattle.qss_run.specs.Moves.{is_among}
 use Rattle.qss_run.specs.Places.{line_at, IsTurned}
 use Rattle.qss_run.specs.Sims.{IsDue}
-use Rattle.qss_run.specs.Turnings.{turning_states, comes_from, come_from, MayTurn, GoesOn, Courses, AreTurned, AreLevelsBefore}
+use Rattle.qss_run.specs.Turnings.{turning_states, MayTurn, GoesOn, Courses, AreTurned, AreLevelsBefore}
 use Rattle.qss_run.proofs.Among.{among_rows, among_all, lists_more}
-use Rattle.qss_run.proofs.Turning.{no_line}
 use Rattle.qss_run.proofs.Unread.{unread_at, unread_slope}
-
--- ---- how many lines come from a tick
-
--- one more line comes from a tick
-pub counted_once : (tick : ℕ) (old new : Line) (before after : ℕ) → after ≡ before + 1 → new.tick ≡ tick → old.tick ≢ tick → after + comes_from tick old ≤ before + comes_from tick new
-counted_once tick old new before after e here other =
-    omega (arith, e, if-true {A = ℕ} (new.tick == tick) 1 0 (eqb-yes new.tick tick here), if-false {A = ℕ} (old.tick == tick) 1 0 (eqb-no old.tick tick other))
-
-pub come_from-set : (tick : ℕ) (lines : List Line) (j : ℕ) (line : Line) → j < length lines →
-    come_from tick (set lines j line) + comes_from tick (line_at lines j) ≡ come_from tick lines + comes_from tick line
-come_from-set tick lines j line h = sum_by-set (comes_from tick) lines j line no_line h
-
-pub come_from_few : (tick : ℕ) (lines : List Line) → come_from tick lines ≤ length lines
-come_from_few tick lines =
-    let each = sum_by-le (comes_from tick) 1 lines (λ k d h. if_cases (λ n. n ≤ 1) ((get_or lines k d).tick == tick) 1 0 (λ e. omega arith) (λ e. omega arith)) in
-    omega (arith, each)
 
 -- ---- one state
 
@@ -57,7 +38,6 @@ module _ (m : Machine) (tick : ℕ) (level slope : ℤ) (j : ℕ) where
     small = subst (IsWithin 88) (sym turned.here) may.small;
     near = subst (λ x. IsNear (level_unit m) x level (quantum_of m j level)) (sym turned.here) may.near;
     due = λ e. turned.is_due;
-    once = λ e. (turned.own_slope, turned.own_level);
   }
 
   -- a line at its new slope stays at it
@@ -161,7 +141,7 @@ module _ (m : Machine) (k : ℕ) (h : k < state_count m) where
 pub may_turn : (m : Machine) (tick : ℕ) (level slope : ℤ) (j : ℕ) (line : Line) (found : Option ℕ) → line.tick < tick → IsWithin 88 (state_at line tick) →
     IsNear (level_unit m) (state_at line tick) level (quantum_of m j level) → (line.level ≡ level → IsDue m tick j line found) → MayTurn m tick level slope j line found
 may_turn m tick level slope j line found earlier small near due =
-    record { not_later = omega (arith, earlier); small = small; near = near; due = due; once = λ e. absurd (omega (arith, earlier, e)) }
+    record { not_later = omega (arith, earlier); small = small; near = near; due = due }
 
 -- the states that turn where one more moved
 pub turning_more : (m : Machine) (moved : List ℕ) (i : ℕ) → i < length moved →

@@ -14,7 +14,7 @@ module _ (Rule : ℤ → ℤ → ℤ → ℤ → Type 0) (m : Machine) (from : �
       leads_on Rule m from w0 silent more are.leads
       (subst (λ v. LeadsSilently Rule m (from + length silent) v more) (sym are.reached) (subst (λ t. LeadsSilently Rule m t w more) are.as_many leads))
 
-  more_last : (more : List World) → last_world w0 (silent ++ more) ≡ last_world w more
+  pub more_last : (more : List World) → last_world w0 (silent ++ more) ≡ last_world w more
   more_last more = last-append w0 silent more ∙ ap (λ v. last_world v more) are.reached
 
   -- a visit, from where the first of them began

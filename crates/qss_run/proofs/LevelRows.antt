@@ -15,7 +15,8 @@ row_of tick j old new state = if int_eq old new then [] else record { tick = tic
 abbrev pub level_row : ℕ → List ℤ → List ℤ → List ℤ → ℕ → List Row
 level_row tick old new states j = row_of tick j (int_at old j) (int_at new j) (int_at states j)
 
-range_more : (a n : ℕ) → range_with_len a (suc n) ≡ range_with_len a n ++ (a + n) ∷ []
+-- one number more
+pub range_more : (a n : ℕ) → range_with_len a (suc n) ≡ range_with_len a n ++ (a + n) ∷ []
 range_more a zero = let e : a ≡ a + 0 = omega arith in ap (λ k. k ∷ []) e
 range_more a (suc n) = let e : (a + 1) + n ≡ a + suc n = omega arith in ap (λ xs. a ∷ xs) (range_more (a + 1) n ∙ ap (λ k. range_with_len (a + 1) n ++ k ∷ []) e)
 

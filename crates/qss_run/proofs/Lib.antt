@@ -36,3 +36,10 @@ pub mod Least
 pub mod PlainRows
 pub mod Courses
 pub mod Shifting
+pub mod Counting
+pub mod Renewed
+pub mod Reinits
+pub mod SameSlopes
+pub mod Touched
+pub mod Spans
+pub mod NamedTouches

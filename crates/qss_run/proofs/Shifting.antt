@@ -1,12 +1,11 @@
 -- Slopes where states take their levels one after another.
-use Rattle.std.proofs.Common.{◌≡◌, ◌≢◌, ℕ, zero, suc, ◌+◌, ◌*◌, ◌^◌, ◌<◌, ◌≤◌, Bool, true, false, List, [], ◌∷◌, length, get_or, set, take, fold, ℤ, pos, ◌+ℤ◌, ◌-ℤ◌, ◌*ℤ◌, refl, sym, ◌∙◌, ap, subst, arith, add-one, inl, inr, ◌==◌}
+use Rattle.std.proofs.Common.{◌≡◌, ◌≢◌, ℕ, zero, suc, ◌+◌, ◌^◌, ◌<◌, ◌≤◌, Bool, true, false, List, [], ◌∷◌, length, get_or, set, take, fold, ℤ, pos, ◌+ℤ◌, ◌-ℤ◌, ◌*ℤ◌, refl, sym, ◌∙◌, ap, subst, arith, inl, inr, ◌==◌}
 use Rattle.std.proofs.lemmas.Bool.{or_parts, or_cases, cases_Bool, cases_lt}
 use Rattle.std.proofs.lemmas.List.{length-set, get_or-set_other, get_or-set_same, take_more}
 use Rattle.std.proofs.lemmas.List.Sums.{fold-append}
 use Rattle.std.specs.List.Sorted.{IsStrictlyIncreasing}
-use Rattle.std.specs.Prelude.{◌||◌, unsigned_abs, if◌then◌else◌}
-use Rattle.mu_num.proofs.Tests.{eqb-true, eqb-false, eqb-yes}
-use Rattle.qss_machine.specs.declared.parts.SlopeRow.{SlopeRow}
+use Rattle.std.specs.Prelude.{unsigned_abs, if◌then◌else◌}
+use Rattle.mu_num.proofs.Tests.{eqb-true, eqb-false}
 use Rattle.qss_machine.specs.declared.system.Machine.{Machine}
 use Rattle.qss_machine.specs.Machines.{state_count, row_at, mode_coefficient_at, slope_at}
 use Rattle.qss_machine.specs.Numbers.{int_at}
@@ -17,7 +16,6 @@ use Rattle.qss_run.specs.Turnings.{HasFollowed}
 use Rattle.qss_run.specs.Writes.{IsWritten}
 use Rattle.qss_run.proofs.Among.{among_rows, before_first}
 use Rattle.qss_run.proofs.Changes.{slopes_follow_levels}
-use Rattle.qss_run.proofs.DueFirsts.{not_before}
 use Rattle.qss_run.proofs.Firsts.{same_lists}
 use Rattle.qss_run.proofs.Speeds.{rows_known}
 use Rattle.qss_run.proofs.Unread.{unread_slope}

@@ -1,9 +1,9 @@
 -- A row that reads none of the moved states gives the same at levels that differ only there.
-use Rattle.std.proofs.Common.{◌≡◌, ℕ, ◌+◌, ◌^◌, Bool, true, false, not, List, [], ◌∷◌, length, ℤ, pos, ◌+ℤ◌, ◌*ℤ◌, refl, sym, ◌∙◌, ap, subst, inl, inr, ◌==◌}
+use Rattle.std.proofs.Common.{◌≡◌, ℕ, ◌+◌, ◌^◌, true, false, not, List, [], ◌∷◌, length, ℤ, pos, ◌+ℤ◌, ◌*ℤ◌, refl, sym, ◌∙◌, ap, subst, inl, inr, ◌==◌}
 use Rattle.std.proofs.Math.IntN.{zero-*ℤ, +ℤ_idl}
 use Rattle.std.proofs.lemmas.Bool.{or_parts, or_cases, cases_Bool}
 use Rattle.std.specs.List.{list_any}
-use Rattle.std.specs.Prelude.{◌||◌, if◌then◌else◌}
+use Rattle.std.specs.Prelude.{◌||◌}
 use Rattle.mu_num.proofs.Quotients.{nearest-zero}
 use Rattle.mu_num.proofs.Tests.{if-false, eqb-true}
 use Rattle.mu_num.specs.Rounding.{nearest_of}
@@ -21,7 +21,8 @@ use Rattle.qss_machine.specs.Ticks.{is_overweight}
 use Rattle.qss_machine.specs.Uses.{has_entry, row_reads}
 use Rattle.qss_run.specs.Moves.{is_among, IsOff}
 
-no_coefficient : (entries : List Entry) (var : ℕ) → has_entry var entries ≡ false → coefficient_of entries var ≡ pos 0
+-- entries without a variable have the coefficient 0 of it
+pub no_coefficient : (entries : List Entry) (var : ℕ) → has_entry var entries ≡ false → coefficient_of entries var ≡ pos 0
 no_coefficient [] var none = refl
 no_coefficient (entry ∷ entries) var none =
     let parts = or_parts (entry.var == var) (has_entry var entries) none in
@@ -38,7 +39,7 @@ no_product (product ∷ products) first discretes var none =
     ∙ +ℤ_idl (products_of products first discretes var) ∙ no_product products first discretes var parts.1
 
 -- a variable that a row does not read has the mode coefficient 0
-unread_mode : (bits n : ℕ) (row : SlopeRow) (discretes : List ℤ) (var : ℕ) → row_reads var row ≡ false → mode_coefficient bits n row discretes var ≡ pos 0
+pub unread_mode : (bits n : ℕ) (row : SlopeRow) (discretes : List ℤ) (var : ℕ) → row_reads var row ≡ false → mode_coefficient bits n row discretes var ≡ pos 0
 unread_mode bits n row discretes var none =
     let parts = or_parts (has_entry var row.entries) (list_any (λ (p : Product). p.state == var || p.discrete == var) row.products) none in
     ap (λ z. z +ℤ nearest_of (products_of row.products n discretes var) (pos (2 ^ bits))) (no_coefficient row.entries var parts.0)

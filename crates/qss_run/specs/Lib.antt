@@ -13,3 +13,5 @@ pub mod Writes
 pub mod Speeds
 pub mod Overweights
 pub mod Turnings
+pub mod Touches
+pub mod Renewals

@@ -1,5 +1,5 @@
 -- States of which some go on from a tick at new slopes, and the others as they were.
-use Rattle.std.specs.Prelude.{◌≡◌, ℕ, ◌+◌, ◌^◌, ◌<◌, ◌≤◌, ◌⊎◌, List, ◌∷◌, length, ℤ, ◌+ℤ◌, ◌-ℤ◌, ◌*ℤ◌, unsigned_abs, Option, None, All, flat_map, sum_by, position, ◌==◌, true, if◌then◌else◌}
+use Rattle.std.specs.Prelude.{◌≡◌, ℕ, ◌+◌, ◌^◌, ◌<◌, ◌≤◌, ◌⊎◌, List, ◌∷◌, length, ℤ, ◌+ℤ◌, ◌-ℤ◌, ◌*ℤ◌, unsigned_abs, Option, None, All, flat_map, position, true}
 use Rattle.mu_num.specs.Sizes.{IsWithin}
 use Rattle.qss_machine.specs.declared.system.Machine.{Machine}
 use Rattle.qss_machine.specs.Machines.{state_count, level_unit, mode_coefficient_at, slope_at, quantum_of}
@@ -16,20 +16,12 @@ use Rattle.qss_run.specs.Sims.{IsDue}
 abbrev pub turning_states : Machine → List ℕ → List ℕ
 turning_states m moved = flat_map (λ j. j ∷ reading_rows m j) moved
 
--- how many of one line come from a tick, and how many of all lines
-abbrev pub comes_from : ℕ → Line → ℕ
-comes_from tick line = if line.tick == tick then 1 else 0
-
-abbrev pub come_from : ℕ → List Line → ℕ
-come_from tick lines = sum_by (comes_from tick) lines
-
--- a line that may go on from a tick at this level and slope: it is near the level, its due tick holds where its level stays, and where it comes from the tick it goes on so already
+-- a line that may go on from a tick at this level and slope: it is near the level, and its due tick holds where its level stays
 pub record MayTurn (m : Machine) (tick : ℕ) (level slope : ℤ) (j : ℕ) (line : Line) (found : Option ℕ) : Type 0 where
   pub not_later : line.tick ≤ tick
   pub small : IsWithin 88 (state_at line tick)
   pub near : IsNear (level_unit m) (state_at line tick) level (quantum_of m j level)
   pub due : line.level ≡ level → IsDue m tick j line found
-  pub once : line.tick ≡ tick → (line.slope ≡ slope) × (line.level ≡ level)
 
 -- a state's line and due tick are as they were, or it goes on from a tick at this level and slope
 abbrev pub GoesOn : Machine → ℕ → ℤ → ℤ → ℕ → Line → Line → Option ℕ → Option ℕ → Type 0

@@ -1,13 +1,13 @@
 //! The next event.
 
-ghost use Rattle.std.specs.Prelude.{◌≡◌, ℕ, ◌+◌, ◌-◌, ◌*◌, ◌<◌, ◌≤◌, None, vec_capacity};
-ghost use Rattle.qss_machine.specs.Machines.{state_count};
+ghost use Rattle.std.specs.Prelude.{◌≡◌, ◌-◌, ◌<◌, ◌≤◌, None};
 ghost use Rattle.qss_run.specs.Rules.{IsRuled};
 ghost use Rattle.qss_machine.specs.declared.rows.RowKind.TheVariants as kind;
 ghost use Rattle.qss_machine.specs.Runs.{world_rows};
 ghost use Rattle.qss_run.specs.Stores.{world_of, Stands};
 ghost use Rattle.qss_run.specs.Events.{IsNext};
 ghost use Rattle.qss_run.specs.Calls.{standing_of, tick_of, end_of};
+ghost use Rattle.qss_run.specs.Touches.{MovesTouched};
 
 use crate::ends::{set_overflow_row, set_world_rows};
 use crate::jump::go_to_visit;
@@ -30,7 +30,7 @@ pub(crate) fn advance<L: Ledger>(
     requires in_time { from ≤ m.now.last }
     ensures next { IsNext (IsRuled q.now.name) (standing_of m.now from s.old None) (standing_of m.now (tick_of m.now.last result) s.new (end_of result)) result }
     ensures stands { end_of result ≡ None → Stands m.now (tick_of m.now.last result) s.new }
-    ensures counted { steps.new ≤ steps.old + state_count m.now * (tick_of m.now.last result - from) }
+    ensures counted { MovesTouched (IsRuled q.now.name) (standing_of m.now from s.old None) (standing_of m.now (tick_of m.now.last result) s.new (end_of result)) result (steps.new - steps.old) }
 {
     let mut tick = from;
     while tick < m.last {

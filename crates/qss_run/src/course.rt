@@ -35,9 +35,8 @@ impl Model for Course {
 }
 
 impl Course {
-    ghost use Rattle.std.specs.Prelude.{◌≡◌, ℕ, ◌+◌, ◌-◌, ◌*◌, ◌≤◌, ◌++◌, None, Some, IfOk};
+    ghost use Rattle.std.specs.Prelude.{◌≡◌, ◌+◌, ◌-◌, ◌≤◌, ◌++◌, None, Some, IfOk};
     ghost use Rattle.qss_machine.specs.declared.rows.RowKind.TheVariants as kind;
-    ghost use Rattle.qss_machine.specs.Machines.{state_count};
     ghost use Rattle.qss_machine.specs.Ticks.{start_world};
     ghost use Rattle.qss_machine.specs.Runs.{world_rows};
     ghost use Rattle.qss_quant.specs.declared.rule.Rule.{Rule};
@@ -45,6 +44,7 @@ impl Course {
     ghost use Rattle.qss_run.specs.declared.outcome.Outcome.{Outcome};
     ghost use Rattle.qss_run.specs.Rules.{IsRuled};
     ghost use Rattle.qss_run.specs.Events.{IsNext, rows_left};
+    ghost use Rattle.qss_run.specs.Touches.{MovesTouched, touches_left};
 
     /// A machine at tick 0, with the start rows. It takes all the memory that it ever needs.
     pub fn new(alloc: Global, m: Machine) -> Result<Course, AllocError>
@@ -66,7 +66,8 @@ impl Course {
         ensures again { (end : Outcome) → self.old.end ≡ Some end → (result ≡ end) × (self.new ≡ self.old) × (steps.new ≡ steps.old) }
         ensures next { self.old.end ≡ None → IsNext (IsRuled q.now.name) self.old self.new result }
         ensures rows { (rule : Rule) → q.now.name ≡ Some rule → self.old.end ≡ None → rows_left (level_by rule) self.old ≡ self.new.rows ++ rows_left (level_by rule) self.new }
-        ensures counted { steps.new ≤ steps.old + state_count self.old.machine * (self.new.tick - self.old.tick) }
+        ensures counted { self.old.end ≡ None → MovesTouched (IsRuled q.now.name) self.old self.new result (steps.new - steps.old) }
+        ensures touched { (rule : Rule) → q.now.name ≡ Some rule → self.old.end ≡ None → (steps.new - steps.old) + touches_left (level_by rule) self.new ≤ touches_left (level_by rule) self.old }
     {
         if let Some(end) = self.end {
             return end;

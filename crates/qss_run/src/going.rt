@@ -11,6 +11,7 @@ ghost use Rattle.qss_quant.specs.Lines.{state_at, IsNear};
 ghost use Rattle.qss_sched.specs.Ranks.{due_at};
 ghost use Rattle.qss_hand.specs.Works.{AreValuesOf};
 ghost use Rattle.qss_run.specs.Places.{AreBranches, line_at, watch_at, IsTurned, IsWatched};
+ghost use Rattle.qss_run.specs.Renewals.{renewals_from};
 ghost use Rattle.qss_run.specs.Sims.{IsDue};
 
 use crate::conditions::{BranchPlace, set_due};
@@ -76,7 +77,7 @@ pub(crate) fn go_on<L: Ledger>(
     ensures watches { (place : ℕ) → place < length branches.now → IsWatched m.now tick work.now.x work.now.d slopes.new place (watch_at watches.new place) (due_at agenda.new (state_count m.now + place)) }
     ensures rising { due_at agenda.new (state_count m.now + length branches.now) ≡ (if list_any (λ flag. flag) (due_flags settled.new now.now settled.new) then Some (tick + 1) else None) }
     ensures places { length agenda.new ≡ length agenda.old }
-    ensures counted { steps.new ≤ steps.old + state_count m.now }
+    ensures counted { steps.new ≡ steps.old + renewals_from (state_count m.now) tick work.now.x levels.now slopes.new lines.old }
 {
     let x = work.x.as_slice();
     let d = work.d.as_slice();

@@ -1,13 +1,14 @@
 //! From one event to the next: ticks at which nothing happens, and one at which something may.
 
-ghost use Rattle.std.specs.Prelude.{◌≡◌, ℕ, ◌+◌, ◌<◌, ◌≤◌, List, None, Option, length, vec_capacity};
-ghost use Rattle.qss_machine.specs.Machines.{state_count};
+ghost use Rattle.std.specs.Prelude.{◌≡◌, ℕ, ◌+◌, ◌<◌, ◌≤◌, List, None, Option, length, vec_capacity, Some};
 ghost use Rattle.qss_machine.specs.Ticks.{World, world_unless};
 ghost use Rattle.qss_machine.specs.Runs.{last_world, tick_rows};
 ghost use Rattle.qss_quant.specs.declared.rule.Rule.{Rule};
+ghost use Rattle.qss_sched.specs.Ranks.{due_at};
 ghost use Rattle.qss_run.specs.Rules.{IsRuled};
 ghost use Rattle.qss_run.specs.Stores.{world_of, Stands};
 ghost use Rattle.qss_run.specs.Events.{AreSilent, IsVisit};
+ghost use Rattle.qss_run.specs.Touches.{touches_at};
 
 use crate::calm::catch_up;
 use crate::held::next_visit;
@@ -23,6 +24,7 @@ fn jump(m: &Machine, tick: u64, s: &mut Store) -> u64
     requires in_time { tick < m.now.last }
     ensures later { tick ≤ result }
     ensures before { result < m.now.last }
+    ensures reached { result + 1 < m.now.last → (place : ℕ) × (due_at s.old.agenda place ≡ Some (result + 1)) }
     ensures silent { (name : Option Rule) → (silent : List World) × AreSilent (IsRuled name) m.now tick (world_of tick s.old) silent result (world_of result s.new) }
     ensures stands { Stands m.now result s.new }
     ensures room { vec_capacity s.new.rows ≡ vec_capacity s.old.rows }
@@ -56,10 +58,10 @@ pub(crate) fn go_to_visit<L: Ledger>(
     requires in_time { tick < m.now.last }
     ensures later { tick < result.tick }
     ensures in_time { result.tick ≤ m.now.last }
-    ensures visited { (silent : List World) × IsVisit (IsRuled q.now.name) m.now tick (world_of tick s.old) silent result.tick (world_unless result.over (world_of result.tick s.new)) × (result.over ≡ None → s.new.rows.items ≡ tick_rows m.now result.tick (last_world (world_of tick s.old) silent) (world_of result.tick s.new)) }
+    ensures due { result.tick < m.now.last → (place : ℕ) × (due_at s.old.agenda place ≡ Some result.tick) }
+    ensures visited { (silent : List World) × IsVisit (IsRuled q.now.name) m.now tick (world_of tick s.old) silent result.tick (world_unless result.over (world_of result.tick s.new)) × (result.over ≡ None → s.new.rows.items ≡ tick_rows m.now result.tick (last_world (world_of tick s.old) silent) (world_of result.tick s.new)) × (steps.new ≤ steps.old + touches_at m.now result.tick (last_world (world_of tick s.old) silent) (world_unless result.over (world_of result.tick s.new))) }
     ensures stands { result.over ≡ None → Stands m.now result.tick s.new }
     ensures room { vec_capacity s.new.rows ≡ vec_capacity s.old.rows }
-    ensures counted { steps.new ≤ steps.old + state_count m.now }
 {
     let before = jump(m, tick, s);
     let over = visit(m, q, before, s, steps);

@@ -17,9 +17,8 @@ pub struct Sim {
 }
 
 impl Sim {
-    ghost use Rattle.std.specs.Prelude.{◌≡◌, ℕ, ◌+◌, ◌-◌, ◌*◌, ◌≤◌, ◌++◌, None, Some, IfOk};
+    ghost use Rattle.std.specs.Prelude.{◌≡◌, ◌+◌, ◌-◌, ◌≤◌, ◌++◌, None, Some, IfOk};
     ghost use Rattle.qss_machine.specs.declared.rows.RowKind.TheVariants as kind;
-    ghost use Rattle.qss_machine.specs.Machines.{state_count};
     ghost use Rattle.qss_machine.specs.Ticks.{start_world};
     ghost use Rattle.qss_machine.specs.Runs.{world_rows};
     ghost use Rattle.qss_quant.specs.declared.rule.Rule.{Rule};
@@ -27,11 +26,12 @@ impl Sim {
     ghost use Rattle.qss_run.specs.declared.outcome.Outcome.{Outcome};
     ghost use Rattle.qss_run.specs.Rules.{IsRuled};
     ghost use Rattle.qss_run.specs.Events.{IsNext, rows_left};
+    ghost use Rattle.qss_run.specs.Touches.{MovesTouched, touches_left};
 
     /// A simulator at tick 0, with the start rows. It takes all the memory that it ever needs.
     pub fn new(alloc: Global, m: Machine, q: Quantizer) -> Result<Sim, AllocError>
         ensures start { IfOk result (λ sim. sim.course ≡ record { machine = m; tick = 0; world = start_world m; rows = world_rows kind.Start 0 (start_world m); end = None }) }
-        ensures rule { IfOk result (λ sim. sim.quantizer.name ≡ q.name) }
+        ensures rule { IfOk result (λ sim. sim.quantizer ≡ q) }
     {
         let course = Course::new(alloc, m)?;
         Ok(Sim {
@@ -47,7 +47,8 @@ impl Sim {
         ensures again { (end : Outcome) → self.old.course.end ≡ Some end → (result ≡ end) × (self.new.course ≡ self.old.course) × (steps.new ≡ steps.old) }
         ensures next { self.old.course.end ≡ None → IsNext (IsRuled self.old.quantizer.name) self.old.course self.new.course result }
         ensures rows { (rule : Rule) → self.old.quantizer.name ≡ Some rule → self.old.course.end ≡ None → rows_left (level_by rule) self.old.course ≡ self.new.course.rows ++ rows_left (level_by rule) self.new.course }
-        ensures counted { steps.new ≤ steps.old + state_count self.old.course.machine * (self.new.course.tick - self.old.course.tick) }
+        ensures counted { self.old.course.end ≡ None → MovesTouched (IsRuled self.old.quantizer.name) self.old.course self.new.course result (steps.new - steps.old) }
+        ensures touched { (rule : Rule) → self.old.quantizer.name ≡ Some rule → self.old.course.end ≡ None → (steps.new - steps.old) + touches_left (level_by rule) self.new.course ≤ touches_left (level_by rule) self.old.course }
     {
         self.course.next_event(&self.quantizer, steps)
     }

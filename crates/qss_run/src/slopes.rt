@@ -1,6 +1,6 @@
 //! Lines at new slopes.
 
-ghost use Rattle.std.specs.Prelude.{◌≡◌, ℕ, ◌+◌, ◌<◌, ◌≤◌, All, length, position, None, true, false};
+ghost use Rattle.std.specs.Prelude.{◌≡◌, ℕ, ◌+◌, ◌<◌, ◌≤◌, All, length, position, None, true, false, if◌then◌else◌};
 ghost use Rattle.mu_num.specs.Sizes.{IsWithin};
 ghost use Rattle.mu_num.specs.Ticks.{tick_limit};
 ghost use Rattle.qss_machine.specs.Numbers.{int_at, tabulate};
@@ -10,7 +10,7 @@ ghost use Rattle.qss_quant.specs.Lines.{state_at, IsNear};
 ghost use Rattle.qss_sched.specs.Ranks.{due_at};
 ghost use Rattle.qss_run.specs.Places.{line_at, IsTurned};
 ghost use Rattle.qss_run.specs.Sims.{IsDue};
-ghost use Rattle.qss_run.specs.Turnings.{comes_from};
+ghost use Rattle.qss_run.specs.Renewals.{goes_from, renewals_from};
 
 use crate::levels::level_unit;
 use qss_machine::Machine;
@@ -80,8 +80,7 @@ pub(crate) fn reslope<L: Ledger>(
     ensures as_many { length agenda.new ≡ length agenda.old }
     ensures others { (place : ℕ) → (place ≡ j → ⊥) → due_at agenda.new place ≡ due_at agenda.old place }
     ensures due { IsDue m.now tick j line.new (due_at agenda.new j) }
-    ensures counted { steps.new ≤ steps.old + 1 }
-    ensures once { state_at line.old tick ≡ x → (line.old.tick ≡ tick → (line.old.slope ≡ slope) × (line.old.level ≡ level)) → steps.new + comes_from tick line.old ≤ steps.old + comes_from tick line.new }
+    ensures counted { steps.new ≡ steps.old + (if goes_from tick x level slope line.old then 0 else 1) }
 {
     if renew(line, tick, x, slope, level, steps) {
         let quantum = m.quantum_at(j, level);
@@ -120,7 +119,7 @@ pub(crate) fn reslope_all<L: Ledger>(
     ensures lines { (j : ℕ) → j < state_count m.now → IsTurned m.now tick (int_at x.now j) (int_at levels.now j) (slope_at m.now j levels.now d.now) j (line_at lines.new j) (due_at agenda.new j) }
     ensures places { length agenda.new ≡ length agenda.old }
     ensures others { (place : ℕ) → state_count m.now ≤ place → due_at agenda.new place ≡ due_at agenda.old place }
-    ensures counted { steps.new ≤ steps.old + state_count m.now }
+    ensures counted { steps.new ≡ steps.old + renewals_from (state_count m.now) tick x.now levels.now slopes.new lines.old }
 {
     for j in 0..lines.len() {
         let slope = m.slope(j as u32, levels, d);

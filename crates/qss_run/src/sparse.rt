@@ -12,9 +12,11 @@ ghost use Rattle.qss_quant.specs.Lines.{state_at, IsNear};
 ghost use Rattle.qss_sched.specs.Ranks.{due_at};
 ghost use Rattle.qss_run.specs.Moves.{is_among, AreNumbers, AreDue, IsWithout, IsOff};
 ghost use Rattle.qss_run.specs.Places.{AreBranches, line_at, watch_at, IsTurned, IsWatched};
+ghost use Rattle.qss_run.specs.Renewals.{renewals};
 ghost use Rattle.qss_run.specs.Rules.{IsRuled};
 ghost use Rattle.qss_run.specs.Sims.{IsDue};
 ghost use Rattle.qss_run.specs.Stores.{states_at, world_of, Stands, IsTaken};
+ghost use Rattle.qss_run.specs.Touches.{touches_at};
 ghost use Rattle.qss_run.specs.Turnings.{AreLevelsBefore};
 
 use crate::calm::catch_up;
@@ -186,7 +188,7 @@ fn go_on_moved<L: Ledger>(
     ensures watches { (place : ℕ) → place < length branches.now → IsWatched m.now tick (states_at lines.old tick) work.now.d slopes.new place (watch_at watches.new place) (due_at agenda.new (state_count m.now + place)) }
     ensures places { length agenda.new ≡ length agenda.old }
     ensures beyond { (place : ℕ) → state_count m.now + length branches.now ≤ place → due_at agenda.new place ≡ due_at agenda.old place }
-    ensures counted { steps.new ≤ steps.old + state_count m.now }
+    ensures counted { steps.new ≡ steps.old + renewals (state_count m.now) levels.now slopes.new lines.old }
 {
     let d = work.d.as_slice();
     reslope_of(
@@ -211,7 +213,7 @@ pub(crate) fn visit_due<L: Ledger>(
     ensures rows { result ≡ None → s.new.rows.items ≡ tick_rows m.now (tick + 1) (world_of tick s.old) (world_of (tick + 1) s.new) }
     ensures stands { result ≡ None → Stands m.now (tick + 1) s.new }
     ensures room { vec_capacity s.new.rows ≡ vec_capacity s.old.rows }
-    ensures counted { steps.new ≤ steps.old + state_count m.now }
+    ensures counted { steps.new ≤ steps.old + touches_at m.now (tick + 1) (world_of tick s.old) (world_unless result (world_of (tick + 1) s.new)) }
 {
     let next = tick + 1;
     let over = requantize_moved(

@@ -1,6 +1,6 @@
 //! Lines at new slopes, of the states that moved and of those whose rows read one of them.
 
-ghost use Rattle.std.specs.Prelude.{◌≡◌, ℕ, ◌+◌, ◌<◌, ◌≤◌, List, ℤ, All, length, position, None, false, slice_set};
+ghost use Rattle.std.specs.Prelude.{◌≡◌, ℕ, ◌+◌, ◌<◌, ◌≤◌, List, ℤ, All, length, position, None};
 ghost use Rattle.mu_num.specs.Sizes.{IsWithin};
 ghost use Rattle.mu_num.specs.Ticks.{tick_limit};
 ghost use Rattle.qss_machine.specs.Numbers.{int_at, tabulate};
@@ -12,7 +12,8 @@ ghost use Rattle.qss_sched.specs.Ranks.{due_at};
 ghost use Rattle.qss_run.specs.Moves.{AreNumbers};
 ghost use Rattle.qss_run.specs.Places.{line_at, IsTurned};
 ghost use Rattle.qss_run.specs.Sims.{IsDue};
-ghost use Rattle.qss_run.specs.Turnings.{turning_states, come_from, MayTurn, AreTurned, AreLevelsBefore};
+ghost use Rattle.qss_run.specs.Renewals.{renewals};
+ghost use Rattle.qss_run.specs.Turnings.{turning_states, MayTurn, AreTurned, AreLevelsBefore};
 
 use crate::shifts::shift_slopes;
 use crate::slopes::reslope;
@@ -45,7 +46,7 @@ fn turn<L: Ledger>(
     ensures lines { (k : ℕ) → (k ≡ j → ⊥) → line_at lines.new k ≡ line_at lines.old k }
     ensures places { length agenda.new ≡ length agenda.old }
     ensures dues { (place : ℕ) → (place ≡ j → ⊥) → due_at agenda.new place ≡ due_at agenda.old place }
-    ensures counted { steps.new + come_from tick lines.old ≤ steps.old + come_from tick lines.new }
+    ensures counted { steps.new + renewals (state_count m.now) levels.now slopes.now lines.new ≡ steps.old + renewals (state_count m.now) levels.now slopes.now lines.old }
 {
     let slope = slopes[j as usize];
     let level = levels[j as usize];
@@ -75,7 +76,7 @@ fn turn_each<L: Ledger>(
     requires in_time { tick ≤ tick_limit }
     requires ready { (j : ℕ) → j < state_count m.now → MayTurn m.now tick (int_at levels.now j) (int_at slopes.now j) j (line_at lines.old j) (due_at agenda.old j) }
     ensures turned { AreTurned m.now tick levels.now slopes.now states.now (record { lines = lines.old; dues = agenda.old }) (record { lines = lines.new; dues = agenda.new }) }
-    ensures counted { steps.new + come_from tick lines.old ≤ steps.old + come_from tick lines.new }
+    ensures counted { steps.new + renewals (state_count m.now) levels.now slopes.now lines.new ≡ steps.old + renewals (state_count m.now) levels.now slopes.now lines.old }
 {
     for j in states {
         turn(m, tick, *j, levels, slopes, lines, agenda, steps);
@@ -105,7 +106,7 @@ fn turn_moved<L: Ledger>(
     requires in_time { tick ≤ tick_limit }
     requires ready { (j : ℕ) → j < state_count m.now → MayTurn m.now tick (int_at levels.now j) (int_at slopes.now j) j (line_at lines.old j) (due_at agenda.old j) }
     ensures turned { AreTurned m.now tick levels.now slopes.now (turning_states m.now moved.now) (record { lines = lines.old; dues = agenda.old }) (record { lines = lines.new; dues = agenda.new }) }
-    ensures counted { steps.new + come_from tick lines.old ≤ steps.old + come_from tick lines.new }
+    ensures counted { steps.new + renewals (state_count m.now) levels.now slopes.now lines.new ≡ steps.old + renewals (state_count m.now) levels.now slopes.now lines.old }
 {
     for j in moved {
         turn(m, tick, *j, levels, slopes, lines, agenda, steps);
@@ -148,7 +149,7 @@ pub(crate) fn reslope_of<L: Ledger>(
     ensures lines { (j : ℕ) → j < state_count m.now → IsTurned m.now tick (state_at (line_at lines.old j) tick) (int_at levels.now j) (slope_at m.now j levels.now d.now) j (line_at lines.new j) (due_at agenda.new j) }
     ensures places { length agenda.new ≡ length agenda.old }
     ensures others { (place : ℕ) → state_count m.now ≤ place → due_at agenda.new place ≡ due_at agenda.old place }
-    ensures counted { steps.new ≤ steps.old + state_count m.now }
+    ensures counted { steps.new ≡ steps.old + renewals (state_count m.now) levels.now slopes.new lines.old }
 {
     shift_slopes(m, uses, moved, levels, d, lines, slopes);
     turn_moved(m, uses, tick, moved, levels, slopes, lines, agenda, steps);

@@ -12,6 +12,7 @@ ghost use Rattle.qss_hand.specs.Works.{AreValuesOf, row_room};
 ghost use Rattle.qss_run.specs.Places.{AreBranches, line_at};
 ghost use Rattle.qss_run.specs.Rules.{IsRuled};
 ghost use Rattle.qss_run.specs.Stores.{states_at, handling_from, world_of, Stands};
+ghost use Rattle.qss_run.specs.Touches.{touches_at};
 
 use crate::conditions::{BranchPlace, read_conditions, set_due};
 use crate::going::go_on;
@@ -161,7 +162,7 @@ fn visit_all<L: Ledger>(
     ensures rows { result ≡ None → s.new.rows.items ≡ tick_rows m.now (tick + 1) (world_of tick s.old) (world_of (tick + 1) s.new) }
     ensures stands { result ≡ None → Stands m.now (tick + 1) s.new }
     ensures room { vec_capacity s.new.rows ≡ vec_capacity s.old.rows }
-    ensures counted { steps.new ≤ steps.old + state_count m.now }
+    ensures counted { steps.new ≤ steps.old + touches_at m.now (tick + 1) (world_of tick s.old) (world_unless result (world_of (tick + 1) s.new)) }
 {
     let next = tick + 1;
     let over = handle(
@@ -225,7 +226,7 @@ pub(crate) fn visit<L: Ledger>(
     ensures rows { result ≡ None → s.new.rows.items ≡ tick_rows m.now (tick + 1) (world_of tick s.old) (world_of (tick + 1) s.new) }
     ensures stands { result ≡ None → Stands m.now (tick + 1) s.new }
     ensures room { vec_capacity s.new.rows ≡ vec_capacity s.old.rows }
-    ensures counted { steps.new ≤ steps.old + state_count m.now }
+    ensures counted { steps.new ≤ steps.old + touches_at m.now (tick + 1) (world_of tick s.old) (world_unless result (world_of (tick + 1) s.new)) }
 {
     let states = s.lines.len() as u32;
     if take_alone(&mut s.agenda, tick + 1, states, &mut s.moved) {

@@ -1,18 +1,17 @@
 -- Visits without rows are silent; the first with rows is the next event.
-use Rattle.std.proofs.Common.{◌≡◌, ◌≢◌, ℕ, ◌+◌, ◌-◌, ◌*◌, ◌<◌, ◌≤◌, ◌++◌, ◌∷◌, [], List, true, false, length, refl, sym, ◌∙◌, ap, subst, arith, add-one}
+use Rattle.std.proofs.Common.{◌≡◌, ◌≢◌, ◌+◌, ◌≤◌, ◌++◌, ◌∷◌, [], List, true, false, length, refl, sym, ◌∙◌, ap, subst, arith}
 use Rattle.std.proofs.Common.{Vec, Global}
-use Rattle.std.proofs.lemmas.Nat.{mul-le}
-use Rattle.std.proofs.Math.Nat.{mul-suc}
 use Rattle.std.specs.Prelude.{vec_len, ◌==◌}
 use Rattle.mu_num.proofs.Tests.{eqb-true, eqb-false}
 use Rattle.qss_machine.specs.declared.rows.Row.{Row}
-use Rattle.qss_machine.specs.Machines.{state_count}
 use Rattle.qss_machine.specs.Ticks.{Step, world_unless}
 use Rattle.qss_machine.specs.Runs.{last_world}
 use Rattle.qss_run.specs.Rules.{IsRuled}
 use Rattle.qss_run.specs.Stores.{world_of, Stands}
-use Rattle.qss_run.specs.Events.{IsVisit}
+use Rattle.qss_run.specs.Events.{AreSilent, IsVisit}
+use Rattle.qss_run.specs.Touches.{touches_at}
 use Rattle.qss_run.proofs.Goings.{visit_on, rows_on, silent_visit}
+use Rattle.qss_run.proofs.Spans.{touches_on, touches_end}
 use Rattle.qss_run.proofs.advance.advance.Goals as goal
 
 some_rows : (v : Vec Row Global) → (vec_len v == 0) ≡ false → v.items ≢ []
@@ -27,11 +26,13 @@ empty_list (x ∷ xs) e = absurd (omega (arith, e))
 no_rows : (v : Vec Row Global) → (vec_len v == 0) ≡ true → v.items ≡ []
 no_rows v e = empty_list v.items (sym v.ok.0 ∙ eqb-true v.len 0 e)
 
-steps_more : (n x y : ℕ) → x < y → n * x + n ≤ n * y
-steps_more n x y h =
-    let more : n * (x + 1) ≤ n * y = mul-le n (x + 1) n y (omega arith) (omega (arith, h)) in
-    let split : n * (x + 1) ≡ n * x + n = ap (λ k. n * k) (add-one x) ∙ mul-suc n x in
-    omega (arith, more, split)
+pub loop-tick-init : goal.loop-tick-init
+loop-tick-init g c = record {
+  stands = c.requires.stands;
+  later = omega arith;
+  in_time = c.requires.in_time;
+  are_silent = ([], record { leads = tt; as_many = omega arith; reached = refl }, omega arith);
+}
 
 pub returns-in-Some-clause-next : goal.returns-in-Some-clause-next
 returns-in-Some-clause-next g c =
@@ -92,20 +93,62 @@ loop-tick-preserved g c =
     let stepped = subst (λ o. IsVisit Rule m c.args.from w0 (before.0 ++ visited.0) t (world_unless o next)) c.in_default.is all in
     let none = sym (visited.2 c.in_default.is ∙ rows_on Rule m c.args.from w0 before.0 c.loop-tick.tick w before.1 visited.0 t next)
     ∙ no_rows c.go_to_visit-visited.new.s.rows (sym c.is_empty.ensures ∙ c.if-not-is_empty.false) in
+    let here = subst (λ o. c.go_to_visit-visited.new.steps ≤ c.loop-tick.steps + touches_at m t (last_world w visited.0) (world_unless o next)) c.in_default.is visited.3 in
+    let few = touches_on Rule m c.args.from w0 before.0 c.loop-tick.tick w before.1 visited.0 t c.args.steps.now c.loop-tick.steps c.go_to_visit-visited.new.steps before.2 next stepped here in
     record {
       stands = c.go_to_visit-visited.ensures.stands c.in_default.is;
       later = omega (arith, c.loop-tick.invariant.later, c.go_to_visit-visited.ensures.later);
       in_time = c.go_to_visit-visited.ensures.in_time;
-      are_silent = ((before.0 ++ visited.0) ++ next ∷ [], silent_visit Rule m c.args.from w0 (before.0 ++ visited.0) t next stepped none);
-      few_steps = omega (
-        arith,
-        c.loop-tick.invariant.few_steps,
-        c.go_to_visit-visited.ensures.counted,
-        steps_more (state_count m) (c.loop-tick.tick - c.args.from) (t - c.args.from) (omega (arith, c.loop-tick.invariant.later, c.go_to_visit-visited.ensures.later)),
-      );
+      are_silent = ((before.0 ++ visited.0) ++ next ∷ [], silent_visit Rule m c.args.from w0 (before.0 ++ visited.0) t next stepped none, omega (arith, few));
     }
 
 pub finish-requires : goal.finish-requires
 finish-requires g c =
     let at_last : c.loop-tick.tick ≡ c.args.m.now.last = omega (arith, c.loop-tick-test.false, c.loop-tick.invariant.in_time) in
     subst (λ t. Stands c.args.m.now t c.loop-tick.s) at_last c.loop-tick.invariant.stands
+
+pub returns-in-Some-clause-counted : goal.returns-in-Some-clause-counted
+returns-in-Some-clause-counted g c =
+    let Rule = IsRuled c.args.q.now.name in
+    let m = c.args.m.now in
+    let before = c.loop-tick.invariant.are_silent in
+    let visited = c.go_to_visit-visited.ensures.visited in
+    let t = c.go_to_visit-visited.result.tick in
+    let w0 = world_of c.args.from c.args.s.now in
+    let w = world_of c.loop-tick.tick c.loop-tick.s in
+    let next = world_of t c.go_to_visit-visited.new.s in
+    let all = visit_on Rule m c.args.from w0 before.0 c.loop-tick.tick w before.1 visited.0 t (world_unless c.go_to_visit-visited.result.over next) visited.1 in
+    let here = subst (λ o. c.go_to_visit-visited.new.steps ≤ c.loop-tick.steps + touches_at m t (last_world w visited.0) (world_unless o next)) c.in-Some.is visited.3 in (
+      before.0 ++ visited.0,
+      subst (λ o. IsVisit Rule m c.args.from w0 (before.0 ++ visited.0) t (world_unless o next)) c.in-Some.is all,
+      touches_end Rule m c.args.from w0 before.0 c.loop-tick.tick w before.1 visited.0 t c.args.steps.now c.loop-tick.steps c.go_to_visit-visited.new.steps before.2 c.in-Some.var here,
+    )
+
+pub returns-then-not-is_empty-clause-counted : goal.returns-then-not-is_empty-clause-counted
+returns-then-not-is_empty-clause-counted g c =
+    let Rule = IsRuled c.args.q.now.name in
+    let m = c.args.m.now in
+    let before = c.loop-tick.invariant.are_silent in
+    let visited = c.go_to_visit-visited.ensures.visited in
+    let t = c.go_to_visit-visited.result.tick in
+    let w0 = world_of c.args.from c.args.s.now in
+    let w = world_of c.loop-tick.tick c.loop-tick.s in
+    let next = world_of t c.go_to_visit-visited.new.s in
+    let all = visit_on Rule m c.args.from w0 before.0 c.loop-tick.tick w before.1 visited.0 t (world_unless c.go_to_visit-visited.result.over next) visited.1 in
+    let stepped = subst (λ o. IsVisit Rule m c.args.from w0 (before.0 ++ visited.0) t (world_unless o next)) c.in_default.is all in
+    let here = subst (λ o. c.go_to_visit-visited.new.steps ≤ c.loop-tick.steps + touches_at m t (last_world w visited.0) (world_unless o next)) c.in_default.is visited.3 in (
+      before.0 ++ visited.0,
+      stepped,
+      touches_on Rule m c.args.from w0 before.0 c.loop-tick.tick w before.1 visited.0 t c.args.steps.now c.loop-tick.steps c.go_to_visit-visited.new.steps before.2 next stepped here,
+    )
+
+pub returns-clause-counted : goal.returns-clause-counted
+returns-clause-counted g c =
+    let Rule = IsRuled c.args.q.now.name in
+    let m = c.args.m.now in
+    let w0 = world_of c.args.from c.args.s.now in
+    let before = c.loop-tick.invariant.are_silent in
+    let end : c.loop-tick.tick ≡ m.last = omega (arith, c.loop-tick.invariant.in_time, c.loop-tick-test.false) in
+    let there : AreSilent Rule m c.args.from w0 before.0 m.last (world_of m.last c.loop-tick.s) =
+    subst (λ t. AreSilent Rule m c.args.from w0 before.0 t (world_of t c.loop-tick.s)) end before.1 in
+    (before.0, subst (AreSilent Rule m c.args.from w0 before.0 m.last) (sym c.finish.ensures.world) there, omega (arith, before.2))

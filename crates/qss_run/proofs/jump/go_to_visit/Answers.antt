@@ -1,9 +1,10 @@
 -- The quiet ticks, and then the visit.
-use Rattle.std.proofs.Common.{◌+◌, sym, ◌∙◌, ap, subst}
+use Rattle.std.proofs.Common.{◌+◌, ◌≤◌, sym, ◌∙◌, ap, subst}
 use Rattle.qss_machine.specs.Ticks.{world_unless, Step}
 use Rattle.qss_machine.specs.Runs.{tick_rows}
 use Rattle.qss_run.specs.Rules.{IsRuled}
 use Rattle.qss_run.specs.Stores.{world_of}
+use Rattle.qss_run.specs.Touches.{touches_at}
 use Rattle.qss_run.proofs.jump.go_to_visit.Goals as goal
 
 pub returns-clause-visited : goal.returns-clause-visited
@@ -18,4 +19,5 @@ returns-clause-visited g c =
         is_step = subst (λ w. Step (IsRuled c.args.q.now.name) c.args.m.now t w (world_unless c.visit-over.result (world_of t c.visit-over.new.s))) (sym are.reached) c.visit-over.ensures.stepped;
       },
       (λ none. c.visit-over.ensures.rows none ∙ ap (λ w. tick_rows c.args.m.now t w (world_of t c.visit-over.new.s)) (sym are.reached)),
+      subst (λ w. c.visit-over.new.steps ≤ c.args.steps.now + touches_at c.args.m.now t w (world_unless c.visit-over.result (world_of t c.visit-over.new.s))) (sym are.reached) c.visit-over.ensures.counted,
     )

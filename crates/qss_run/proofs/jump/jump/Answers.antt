@@ -42,6 +42,10 @@ returns c =
     record {
       later = omega (arith, later);
       before = omega (arith, later, c.next_visit-next.ensures.at_most);
+      reached = λ early.
+          let there : (next - 1) + 1 ≡ next = omega (arith, later) in
+          let found = c.next_visit-next.ensures.reached (omega (arith, early, there)) in
+          (found.0, found.1 ∙ ap (λ (t : ℕ). Some t) (sym there));
       silent = λ name. (
         quiet_worlds m (world_of tick s) k,
         subst (λ t. AreSilent (IsRuled name) m tick (world_of tick s) (quiet_worlds m (world_of tick s) k) t (world_of t (record s { arrived = arrived; calm = calm }))) e

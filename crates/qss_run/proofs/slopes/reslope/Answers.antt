@@ -8,8 +8,8 @@ use Rattle.mu_num.specs.Sizes.{IsPositiveWithin}
 use Rattle.qss_quant.specs.Lines.{Line, state_at}
 use Rattle.qss_sched.specs.Ranks.{due_at}
 use Rattle.qss_run.specs.Sims.{IsDue}
-use Rattle.qss_run.proofs.Courses.{counted_once}
 use Rattle.qss_run.proofs.Ranges.{quantum_fits, unit_fits}
+use Rattle.qss_run.proofs.Renewed.{counted_otherwise, counted_still}
 use Rattle.qss_run.proofs.Turning.{line_here, due_here}
 use Rattle.qss_run.proofs.slopes.reslope.Goals as goal
 use mir.Syntax.{w64, w128}
@@ -50,13 +50,20 @@ returns-then-renew-clause-due g c =
     (due_here c.args.m.now c.args.tick c.args.j c.renew.new.line c.args.x c.args.slope c.args.level c.level_unit.result c.quantum_at-quantum.result c.due.result
     is c.level_unit.ensures.value own first)
 
-pub returns-then-renew-clause-once : goal.returns-then-renew-clause-once
-returns-then-renew-clause-once g c here once =
+pub returns-then-renew-clause-counted : goal.returns-then-renew-clause-counted
+returns-then-renew-clause-counted g c =
     let of_x = c.ranges.x in
     let of_slope = c.ranges.slope in
     let of_level = c.ranges.level in
     let moved = c.renew.ensures.moved c.if-renew.true in
-    let is : c.renew.new.line ≡ record { tick = c.args.tick; x = c.args.x; slope = c.args.slope; level = c.args.level } = simp to_z-of_z at moved.0 in
     let kept = simp to_z-of_z at c.renew.ensures.kept in
-    counted_once c.args.tick c.args.line.now c.renew.new.line c.args.steps.now c.renew.new.steps moved.1 (ap (λ (l : Line). l.tick) is)
-    (λ e. let no : c.renew.result ≡ false = kept here (once e).0 (once e).1 in let yes = c.if-renew.true in cc)
+    counted_otherwise c.args.tick c.args.x c.args.level c.args.slope c.args.line.now c.args.steps.now c.renew.new.steps moved.1
+    (λ here own_slope own_level. let no : c.renew.result ≡ false = kept here own_slope own_level in let yes = c.if-renew.true in cc)
+
+pub returns-else-renew-clause-counted : goal.returns-else-renew-clause-counted
+returns-else-renew-clause-counted g c =
+    let of_x = c.ranges.x in
+    let of_slope = c.ranges.slope in
+    let of_level = c.ranges.level in
+    let left = simp to_z-of_z at (c.renew.ensures.left c.if-renew.false) in
+    counted_still c.args.tick c.args.x c.args.level c.args.slope c.args.line.now c.args.steps.now c.renew.new.steps left.4 left.1 left.2 left.3

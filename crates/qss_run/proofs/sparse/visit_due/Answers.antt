@@ -1,9 +1,9 @@
 -- A tick at which nothing but states is due.
-use Rattle.std.proofs.Common.{◌≡◌, ℕ, ◌+◌, ◌<◌, List, Bool, [], length, ℤ, pos, refl, sym, ◌∙◌, ap, subst, arith}
+use Rattle.std.proofs.Common.{◌≡◌, ℕ, ◌+◌, ◌<◌, ◌≤◌, List, Bool, [], length, ℤ, pos, refl, sym, ◌∙◌, ap, subst, arith}
 use Rattle.std.proofs.lemmas.List.{with_items_is}
 use Rattle.std.proofs.lemmas.List.FromFn.{length-map-range_with_len}
 use Rattle.std.specs.Option.{option_or}
-use Rattle.std.specs.Prelude.{Option, None, All, position}
+use Rattle.std.specs.Prelude.{Option, None, Ok, All, position}
 use Rattle.std.specs.Vec.{with_items}
 use Rattle.mu_num.specs.Sizes.{IsWithin}
 use Rattle.qss_machine.specs.Numbers.{int_at, tabulate, first_past}
@@ -17,12 +17,15 @@ use Rattle.qss_hand.specs.Values.{Values}
 use Rattle.qss_run.specs.declared.store.Store.{Store}
 use Rattle.qss_run.specs.Moves.{is_among, IsOff}
 use Rattle.qss_run.specs.Places.{line_at, watch_at, IsTurned, IsWatched}
+use Rattle.qss_run.specs.Renewals.{renewals}
 use Rattle.qss_run.specs.Rules.{IsRuled}
 use Rattle.qss_run.specs.Sims.{IsDue}
 use Rattle.qss_run.specs.Stores.{states_at, world_of, FitsMachine}
+use Rattle.qss_run.specs.Touches.{touches_at}
 use Rattle.qss_run.proofs.Handled.{not_some, clash, all_within}
 use Rattle.qss_run.specs.Turnings.{AreLevelsBefore}
 use Rattle.qss_run.proofs.QuietVisits.{steps_or, leads, rest_small, own_slope, levels_before, handled, arrived, near, kept_due, same_truths, watched, rising, rows_then}
+use Rattle.qss_run.proofs.Touched.{renewals_touched}
 use Rattle.qss_run.proofs.Turns.{conditions_few}
 use Rattle.qss_run.proofs.Visits.{stands_again, end_of, both_none, same_length}
 use Rattle.qss_run.proofs.sparse.visit_due.Goals as goal
@@ -379,6 +382,13 @@ returns g c =
     ∙ ap (λ (a : List Bool). record { states = x; levels = fresh; discretes = s.work.d; arrived = a; settled = s.settled.items }) (of_arrived ∙ still)
     ∙ ap (λ (b : List Bool). record { states = x; levels = fresh; discretes = s.work.d; arrived = truths m (moved_states m w) s.work.d t; settled = b })
     (same_truths m c.args.tick agenda s taken c.requires.in_time) in
+    let counted : c.go_on_moved.new.steps ≡ c.args.steps.now + renewals (state_count m) next.levels.items c.go_on_moved.new.slopes s.lines.items =
+    subst (λ ls. c.go_on_moved.new.steps ≡ c.args.steps.now + renewals (state_count m) next.levels.items c.go_on_moved.new.slopes ls) c.as_mut_slice-4.ensures.value
+    (subst (λ l. c.go_on_moved.new.steps ≡ c.args.steps.now + renewals (state_count m) l c.go_on_moved.new.slopes c.as_mut_slice-4.result.now) (sym own_levels) c.go_on_moved.ensures.counted) in
+    let touched : renewals (state_count m) next.levels.items c.go_on_moved.new.slopes s.lines.items ≤ touches_at m t w (Ok (world_of t next)) =
+    renewals_touched m t w (world_of t next) taken.stands.stands_for.left.one_each good.levels fits.discretes good.discretes s.lines.items c.go_on_moved.new.slopes
+    (λ j inside. (taken.stands.stands_for.lines j inside).own_level) (λ j inside. (taken.stands.stands_for.lines j inside).own_slope)
+    (c.go_on_moved.ensures.slopes ∙ ap (λ l. tabulate (state_count m) (λ j. slope_at m j l next.work.d)) (sym own_levels)) in
     record {
       stepped = steps_or (IsRuled c.args.q.now.name) m t w (world_of t next) h fresh None is_h allowed (sym calm ∙ over) (λ none. end);
       rows = λ none.
@@ -390,5 +400,5 @@ returns g c =
           ∙ sym (rows_then m c.args.tick agenda s taken c.requires.in_time (world_of t next));
       stands = λ none. again.1;
       room = c.requantize_moved-over.ensures.room;
-      counted = c.go_on_moved.ensures.counted;
+      counted = omega (arith, counted, touched);
     }

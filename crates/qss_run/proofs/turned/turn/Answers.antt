@@ -1,15 +1,15 @@
 -- The line of one state is turned.
-use Rattle.std.proofs.Common.{◌≡◌, ◌+◌, ◌<◌, ◌≤◌, pos, length, get_or, ◌∙◌, sym, ap, subst, arith}
+use Rattle.std.proofs.Common.{◌≡◌, ◌<◌, pos, length, get_or, ◌∙◌, sym, ap, subst, arith}
 use Rattle.std.proofs.lemmas.Int.{ints, to_z-of_z}
 use Rattle.std.proofs.lemmas.List.{get_or-set_same, get_or_default}
 use Rattle.std.specs.Int.RustNames.{FitsSigned}
 use Rattle.mu_num.specs.Sizes.{IsWithin}
 use Rattle.qss_machine.specs.Numbers.{int_at}
+use Rattle.qss_machine.specs.Machines.{state_count}
 use Rattle.qss_quant.specs.Lines.{Line, state_at}
 use Rattle.qss_sched.specs.Ranks.{due_at}
 use Rattle.qss_run.specs.Places.{line_at, IsTurned}
-use Rattle.qss_run.specs.Turnings.{comes_from}
-use Rattle.qss_run.proofs.Courses.{come_from-set}
+use Rattle.qss_run.proofs.Renewed.{counted_at, renewed}
 use Rattle.qss_run.proofs.Turning.{no_line}
 use Rattle.qss_run.proofs.turned.turn.Goals as goal
 use mir.Syntax.{w64, w128}
@@ -48,12 +48,8 @@ returns-clause-counted g c =
     let inside : j < length c.args.lines.now = omega (arith, c.requires.lines, c.requires.state) in
     let old : Line = get_or c.args.lines.now j c.index-lines-j.result in
     let read : old ≡ line_at c.args.lines.now j = get_or_default c.args.lines.now j c.index-lines-j.result no_line inside in
-    let once : c.reslope.new.steps + comes_from c.args.tick old ≤ c.args.steps.now + comes_from c.args.tick c.reslope.new.line =
-    c.reslope.ensures.once (sym c.value_at-x.ensures ∙ sym (to_z-of_z w128 c.value_at-x.result x))
-    (λ e.
-    let before = c.requires.ready.once (ap (λ (l : Line). l.tick) (sym read) ∙ e) in (
-      ap (λ (l : Line). l.slope) read ∙ before.0 ∙ sym (to_z-of_z w128 (int_at c.args.slopes.now j) slope),
-      ap (λ (l : Line). l.level) read ∙ before.1 ∙ sym (to_z-of_z w64 (int_at c.args.levels.now j) level),
-    )) in
-    let same : comes_from c.args.tick old ≡ comes_from c.args.tick (line_at c.args.lines.now j) = ap (comes_from c.args.tick) read in
-    omega (arith, once, same, come_from-set c.args.tick c.args.lines.now j c.reslope.new.line inside)
+    let few = counted_at c.args.tick (state_at (line_at c.args.lines.now j) c.args.tick) (int_at c.args.levels.now j) (int_at c.args.slopes.now j) (line_at c.args.lines.now j) _ _ _ _ c.args.steps.now c.reslope.new.steps
+    (to_z-of_z w128 c.value_at-x.result x ∙ c.value_at-x.ensures ∙ ap (λ (l : Line). state_at l c.args.tick) read) (to_z-of_z w64 (int_at c.args.levels.now j) level)
+    (to_z-of_z w128 (int_at c.args.slopes.now j) slope) read c.reslope.ensures.counted in
+    renewed (state_count m) j c.args.tick c.args.levels.now c.args.slopes.now c.args.lines.now c.reslope.new.line c.args.steps.now c.reslope.new.steps c.requires.state inside
+    (c.reslope.ensures.own_level ∙ to_z-of_z w64 (int_at c.args.levels.now j) level) (c.reslope.ensures.own_slope ∙ to_z-of_z w128 (int_at c.args.slopes.now j) slope) few

@@ -1,6 +1,7 @@
-use Rattle.std.proofs.Common.{◌≡◌, ◌+◌, ◌≤◌, length, take}
+use Rattle.std.proofs.Common.{◌≡◌, ◌+◌, length, take}
 use Rattle.qss_machine.specs.Machines.{state_count}
-use Rattle.qss_run.specs.Turnings.{come_from, AreTurned}
+use Rattle.qss_run.specs.Renewals.{renewals}
+use Rattle.qss_run.specs.Turnings.{AreTurned}
 use Rattle.qss_run.proofs.turned.turn_each.Given as goal
 
 -- the states so far
@@ -8,5 +9,5 @@ abbrev pub invariant-loop-j : goal.invariant-loop-j
 invariant-loop-j g l = record {
   turned : AreTurned l.m l.tick l.levels l.slopes (take l.j-index l.states) (record { lines = l.fn.lines; dues = l.fn.agenda }) (record { lines = l.lines; dues = l.agenda });
   line_count : length l.lines ≡ state_count l.m;
-  counted : l.steps + come_from l.tick l.fn.lines ≤ l.fn.steps + come_from l.tick l.lines;
+  counted : l.steps + renewals (state_count l.m) l.levels l.slopes l.lines ≡ l.fn.steps + renewals (state_count l.m) l.levels l.slopes l.fn.lines;
 }

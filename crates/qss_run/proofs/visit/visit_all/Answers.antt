@@ -3,7 +3,7 @@ use Rattle.std.proofs.Common.{◌≡◌, ℕ, ◌+◌, ◌<◌, ◌≤◌, ◌++
 use Rattle.std.proofs.lemmas.List.{with_items_is}
 use Rattle.std.specs.Option.{option_or}
 use Rattle.std.specs.List.{list_any}
-use Rattle.std.specs.Prelude.{Some, None, All, position, if◌then◌else◌}
+use Rattle.std.specs.Prelude.{Some, None, Ok, All, position, if◌then◌else◌}
 use Rattle.std.specs.Vec.{with_items}
 use Rattle.mu_num.specs.Sizes.{IsWithin}
 use Rattle.qss_machine.specs.Numbers.{int_at, tabulate, first_past}
@@ -16,10 +16,15 @@ use Rattle.qss_sched.specs.Ranks.{due_at}
 use Rattle.qss_hand.specs.Values.{Values}
 use Rattle.qss_run.specs.declared.store.Store.{Store}
 use Rattle.qss_run.specs.Places.{line_at, watch_at, IsTurned, IsWatched}
+use Rattle.qss_run.specs.Renewals.{renewals_from}
 use Rattle.qss_run.specs.Rules.{IsRuled}
 use Rattle.qss_run.specs.Sims.{IsDue}
 use Rattle.qss_run.specs.Stores.{states_at, handling_from, world_of, FitsMachine}
+use Rattle.qss_run.specs.Touches.{touches_at}
+use Rattle.qss_run.proofs.DueLevels.{int_at-states_at}
 use Rattle.qss_run.proofs.Handled.{not_some, clash, rows_handled}
+use Rattle.qss_run.proofs.Reinits.{kept_state}
+use Rattle.qss_run.proofs.Touched.{renewals_from_touched}
 use Rattle.qss_run.proofs.Turns.{conditions_few}
 use Rattle.qss_run.proofs.Visits.{arrives, handles, due_stays, next_is_near, stands_again, end_of, steps_to, both_none, early, late, same_length, levels_small, state_small}
 use Rattle.qss_run.proofs.visit.visit_all.Goals as goal
@@ -284,6 +289,16 @@ returns g c =
     ∙ ap (λ (d : List ℤ). record { states = h.states; levels = c.requantize-over.new.fresh; discretes = d; arrived = next.arrived.items; settled = next.settled.items }) of_d
     ∙ ap (λ (a : List Bool). record { states = h.states; levels = c.requantize-over.new.fresh; discretes = h.discretes; arrived = a; settled = next.settled.items }) arrived
     ∙ ap (λ (b : List Bool). record { states = h.states; levels = c.requantize-over.new.fresh; discretes = h.discretes; arrived = truths m (moved_states m w) s.work.d t; settled = b }) settled in
+    let counted : c.go_on.new.steps ≡ c.args.steps.now + renewals_from (state_count m) t next.work.x next.levels.items c.go_on.new.slopes s.lines.items =
+    subst (λ ls. c.go_on.new.steps ≡ c.args.steps.now + renewals_from (state_count m) t next.work.x next.levels.items c.go_on.new.slopes ls) c.as_mut_slice-6.ensures.value
+    (subst (λ l. c.go_on.new.steps ≡ c.args.steps.now + renewals_from (state_count m) t next.work.x l c.go_on.new.slopes c.as_mut_slice-6.result.now) (sym own_levels) c.go_on.ensures.counted) in
+    let touched : renewals_from (state_count m) t next.work.x next.levels.items c.go_on.new.slopes s.lines.items ≤ touches_at m t w (Ok (world_of t next)) =
+    renewals_from_touched m t w (world_of t next) stands.stands_for.left.one_each good.levels fits.discretes values.discretes s.lines.items c.go_on.new.slopes
+    (λ j inside. (stands.stands_for.lines j inside).own_level) (λ j inside. (stands.stands_for.lines j inside).own_slope)
+    (c.go_on.ensures.slopes ∙ ap (λ l. tabulate (state_count m) (λ j. slope_at m j l next.work.d)) (sym own_levels)) next.work.x
+    (λ j inside none.
+    sym (int_at-states_at s.lines.items t j (omega (arith, inside, fits.lines))) ∙ ap (λ xs. int_at xs j) (arrives m c.args.tick s stands) ∙ sym (kept_state m t w j none)
+    ∙ ap (λ (k : Handling). int_at k.states j) (sym is_h) ∙ ap (λ xs. int_at xs j) (sym of_x)) in
     record {
       stepped = steps_to (IsRuled c.args.q.now.name) m t w (world_of t next) h c.requantize-over.new.fresh is_h calm_h allowed (sym light_both ∙ over_late) end;
       rows = λ e.
@@ -294,5 +309,5 @@ returns g c =
           ∙ ap (λ x. (handling_at m t w).rows ++ level_rows t s.levels.items next.levels.items x) (sym again.0);
       stands = λ e. again.1;
       room = c.requantize-over.ensures.room;
-      counted = c.go_on.ensures.counted;
+      counted = omega (arith, counted, touched);
     }

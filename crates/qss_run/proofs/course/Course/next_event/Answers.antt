@@ -1,5 +1,5 @@
--- Under a rule with a name the rows of a call are the first of those that were to come.
-use Rattle.std.proofs.Common.{◌≡◌, ℕ, ◌++◌, sym, ◌∙◌, ap, subst}
+-- Under a rule with a name the rows and the touches of a call are the first of those that were to come.
+use Rattle.std.proofs.Common.{◌≡◌, ℕ, ◌-◌, ◌++◌, sym, ◌∙◌, ap, subst, arith}
 use Rattle.std.specs.Prelude.{Option, Some, None}
 use Rattle.qss_machine.specs.declared.system.Machine.{Machine}
 use Rattle.qss_quant.specs.Rules.{level_by}
@@ -10,7 +10,9 @@ use Rattle.qss_run.specs.Stores.{world_of}
 use Rattle.qss_run.specs.Standings.{Standing}
 use Rattle.qss_run.specs.Calls.{standing_of, tick_of, end_of}
 use Rattle.qss_run.specs.Events.{IsNext, rows_left}
+use Rattle.qss_run.specs.Touches.{MovesTouched, touches_left}
 use Rattle.qss_run.proofs.NamedRows.{named_rows}
+use Rattle.qss_run.proofs.NamedTouches.{named_touches}
 use Rattle.qss_run.proofs.course.Course.next_event.Goals as goal
 
 pub returns-clause-rows : goal.returns-clause-rows
@@ -29,3 +31,24 @@ returns-clause-rows g c rule named going =
     ∙ named_rows rule m from (world_of from s) s.rows.items outcome to (world_of to after) after.rows.items (end_of outcome) next
     ∙ ap (λ (t : ℕ). after.rows.items ++ rows_left (level_by rule) (standing_of m t after (end_of outcome))) (sym c.tick-self-inside.ensures)
     ∙ ap (λ (e : Option Outcome). after.rows.items ++ rows_left (level_by rule) (standing_of m c.tick-self-inside.result after e)) (sym c.end-self-inside.ensures)
+
+pub returns-clause-touched : goal.returns-clause-touched
+returns-clause-touched g c rule named going =
+    let m : Machine = c.self.inside.machine in
+    let from : ℕ = c.self.inside.tick in
+    let s : Store = c.self.inside.store in
+    let outcome : Outcome = c.advance-outcome.result in
+    let after : Store = c.advance-outcome.new.s in
+    let to : ℕ = tick_of m.last outcome in
+    let moves : ℕ = c.advance-outcome.new.steps - c.args.steps.now in
+    let none : c.self.inside.end ≡ None = ap (λ (v : Standing). v.end) c.self.view_is ∙ going in
+    let next : IsNext (IsRuled (Some rule)) (standing_of m from s None) (standing_of m to after (end_of outcome)) outcome =
+    subst (λ name. IsNext (IsRuled name) (standing_of m from s None) (standing_of m to after (end_of outcome)) outcome) named c.advance-outcome.ensures.next in
+    let few : MovesTouched (IsRuled (Some rule)) (standing_of m from s None) (standing_of m to after (end_of outcome)) outcome moves =
+    subst (λ name. MovesTouched (IsRuled name) (standing_of m from s None) (standing_of m to after (end_of outcome)) outcome moves) named c.advance-outcome.ensures.counted in
+    let old : touches_left (level_by rule) c.args.self.now ≡ touches_left (level_by rule) (standing_of m from s None) =
+    ap (touches_left (level_by rule)) (sym c.self.view_is) ∙ ap (λ (e : Option Outcome). touches_left (level_by rule) (standing_of m from s e)) none in
+    let new : touches_left (level_by rule) (standing_of m to after (end_of outcome)) ≡ touches_left (level_by rule) (standing_of m c.tick-self-inside.result after c.end-self-inside.result) =
+    ap (λ (t : ℕ). touches_left (level_by rule) (standing_of m t after (end_of outcome))) (sym c.tick-self-inside.ensures)
+    ∙ ap (λ (e : Option Outcome). touches_left (level_by rule) (standing_of m c.tick-self-inside.result after e)) (sym c.end-self-inside.ensures) in
+    omega (arith, old, new, named_touches rule m from (world_of from s) s.rows.items outcome to (world_of to after) after.rows.items (end_of outcome) moves next few)

@@ -1,0 +1,60 @@
+-- Lines go on otherwise only where a tick touches their states.
+use Rattle.std.proofs.Common.{◌≡◌, ℕ, ◌<◌, ◌≤◌, true, false, not, List, length, ℤ, sym, ◌∙◌, ap, ◌==◌}
+use Rattle.std.proofs.lemmas.Bool.{or_parts, and_from, not_from_true}
+use Rattle.std.proofs.lemmas.Bool.Decides.{Decides-int_eq}
+use Rattle.std.specs.List.{list_any}
+use Rattle.std.specs.Prelude.{Ok, ◌||◌}
+use Rattle.qss_machine.specs.Counts.{has_changed, reads_change, is_touched}
+use Rattle.qss_machine.specs.declared.system.Machine.{Machine}
+use Rattle.qss_machine.specs.Machines.{state_count, discrete_count, row_at, slope_at}
+use Rattle.qss_machine.specs.Numbers.{int_at, tabulate}
+use Rattle.qss_machine.specs.Ticks.{World, handling_at}
+use Rattle.qss_quant.specs.Lines.{Line, state_at}
+use Rattle.qss_run.specs.Places.{line_at}
+use Rattle.qss_run.specs.Renewals.{goes_at, goes_from, renewals, renewals_from}
+use Rattle.qss_run.specs.Touches.{touches_at}
+use Rattle.qss_run.proofs.Counting.{count_less}
+use Rattle.qss_run.proofs.Quiet.{int_at-tabulate}
+use Rattle.qss_run.proofs.Reinits.{is_of}
+use Rattle.qss_run.proofs.Renewed.{goes_so}
+use Rattle.qss_run.proofs.SameSlopes.{level_stays, same_slope}
+
+-- a state that a tick does not touch
+record IsUntouched (m : Machine) (t : ℕ) (w next : World) (j : ℕ) : Type 0 where
+  pub level : has_changed m w next j ≡ false
+  pub own : list_any (is_of j) (handling_at m t w).rows ≡ false
+  pub reads : reads_change m w next (row_at m j) ≡ false
+
+untouched : (m : Machine) (t : ℕ) (w next : World) (j : ℕ) → is_touched m t w next j ≡ false → IsUntouched m t w next j
+untouched m t w next j none =
+    let all = or_parts (has_changed m w next j || list_any (is_of j) (handling_at m t w).rows || reads_change m w next (row_at m j)) (t == m.last) none in
+    let reads = or_parts (has_changed m w next j || list_any (is_of j) (handling_at m t w).rows) (reads_change m w next (row_at m j)) all.0 in
+    let own = or_parts (has_changed m w next j) (list_any (is_of j) (handling_at m t w).rows) reads.0 in
+    record { level = own.0; own = own.1; reads = reads.1 }
+
+module _ (m : Machine) (t : ℕ) (w next : World) (old_levels : length w.levels ≡ state_count m) (new_levels : length next.levels ≡ state_count m)
+    (old_discretes : length w.discretes ≡ discrete_count m) (new_discretes : length next.discretes ≡ discrete_count m) (lines : List Line) (slopes : List ℤ)
+    (own_levels : (j : ℕ) → j < state_count m → (line_at lines j).level ≡ int_at w.levels j)
+    (own_slopes : (j : ℕ) → j < state_count m → (line_at lines j).slope ≡ slope_at m j w.levels w.discretes)
+    (are_slopes : slopes ≡ tabulate (state_count m) (λ j. slope_at m j next.levels next.discretes)) where
+  -- a line of a state that is not touched goes on as it did
+  goes_on : (j : ℕ) → j < state_count m → IsUntouched m t w next j → goes_at (int_at next.levels j) (int_at slopes j) (line_at lines j) ≡ true
+  goes_on j h still =
+      let slope : int_at slopes j ≡ slope_at m j w.levels w.discretes =
+      ap (λ xs. int_at xs j) are_slopes ∙ int_at-tabulate (state_count m) (λ i. slope_at m i next.levels next.discretes) j h
+      ∙ same_slope m w next j h old_levels new_levels old_discretes new_discretes still.reads in
+      goes_so (int_at next.levels j) (int_at slopes j) (line_at lines j) (own_levels j h ∙ level_stays m w next j h still.level) (own_slopes j h ∙ sym slope)
+
+  pub renewals_touched : renewals (state_count m) next.levels slopes lines ≤ touches_at m t w (Ok next)
+  renewals_touched =
+      count_less (state_count m) (λ j. not (goes_at (int_at next.levels j) (int_at slopes j) (line_at lines j))) (is_touched m t w next)
+      (λ j h none. not_from_true _ (goes_on j h (untouched m t w next j none)))
+
+  -- and one that is not reinitialized is at its state on arrival
+  pub renewals_from_touched : (x : List ℤ) → ((j : ℕ) → j < state_count m → list_any (is_of j) (handling_at m t w).rows ≡ false → state_at (line_at lines j) t ≡ int_at x j) →
+      renewals_from (state_count m) t x next.levels slopes lines ≤ touches_at m t w (Ok next)
+  renewals_from_touched x here =
+      count_less (state_count m) (λ j. not (goes_from t (int_at x j) (int_at next.levels j) (int_at slopes j) (line_at lines j))) (is_touched m t w next)
+      (λ j h none.
+      let still = untouched m t w next j none in
+      not_from_true _ (and_from _ _ ((Decides-int_eq (state_at (line_at lines j) t) (int_at x j)).1 (here j h still.own)) (goes_on j h still)))
