@@ -1,10 +1,11 @@
 -- How calls end.
-use Rattle.std.proofs.Common.{◌≡◌, ℕ, inl, inr, List, refl, sym, subst}
+use Rattle.std.proofs.Common.{◌≡◌, ℕ, ◌≤◌, inl, inr, List, length, refl, sym, subst, arith}
 use Rattle.std.specs.declared.option.Option.{Option}
 use Rattle.std.specs.Io.KnownBytes.{Appends}
 use Rattle.qss_machine.specs.declared.system.Machine.{Machine}
 use Rattle.cert_check.specs.Promises.{IsPromised, AdmitsRuns}
 use Rattle.cert_check.specs.Reading.{claim}
+use Rattle.cert_check.specs.Scope.{IsInScope}
 use Rattle.cert_check.specs.Systems.{system_of}
 use Rattle.cert_check.specs.declared.certificate.Certificate.{Certificate}
 use Rattle.cert_check.specs.declared.verdict.Verdict.{Verdict}
@@ -12,13 +13,39 @@ use Rattle.cert_check.specs.declared.verdict.Verdict.TheVariants as verdict
 use Rattle.cert_laws.specs.Verdicts.{IsVerdict}
 use Rattle.cert_lines.specs.Bounds.{bounds_text}
 use Rattle.cert_text.specs.Texts.{IsTextOf}
-use Rattle.cert_answer.specs.Answers.{Answer, refused, written, IsAnswer, IsCertified, certified, IsCertification}
-use Rattle.cert_answer.specs.Endings.{Ends, MayEnd, RefusesBy, ending_of, text_of}
+use Rattle.cert_answer.specs.Answers.{Answer, refused, written, limit, IsRefusal, IsAnswer, IsCertified, certified, IsCertification, upgraded}
+use Rattle.cert_answer.specs.Endings.{Ends, MayEnd, TakesMemory, RefusesBy, ending_of, text_of}
 use Rattle.cert_answer.specs.declared.ending.CertificateRefusal.{CertificateRefusal}
-use Rattle.cert_answer.specs.declared.ending.CertificateRefusal.TheVariants.{Rejected}
+use Rattle.cert_answer.specs.declared.ending.CertificateRefusal.TheVariants.{Outside, TooLong, Unread, Rejected}
 use Rattle.cert_answer.specs.declared.ending.Ending.{Ending}
 use Rattle.cert_answer.specs.declared.ending.Ending.TheVariants as ending
 use Rattle.cert_answer.proofs.Bounds.{bounds}
+use Rattle.cert_answer.proofs.Scopes.{not_outside}
+
+-- a refusal of bytes that are not too many, by a machine in scope, takes memory
+refusal-takes : (m : Machine) (bytes : List ℕ) (why : CertificateRefusal) → IsRefusal m bytes why → IsInScope m → length bytes ≤ limit → TakesMemory (refused why)
+refusal-takes m bytes (Outside why) is scope short = not_outside m why is scope
+refusal-takes m bytes TooLong is scope short = omega (arith, is.1, short)
+refusal-takes m bytes (Unread why) is scope short = tt
+refusal-takes m bytes (Rejected v) is scope short = tt
+
+-- so does any answer to such bytes, where one to a certificate does
+answer-takes : (m : Machine) (bytes : List ℕ) (IsSuch : Certificate → Answer → Type 0) → ((c : Certificate) (a : Answer) → IsSuch c a → TakesMemory a) → (a : Answer)
+    → IsAnswer m IsSuch bytes a → IsInScope m → length bytes ≤ limit → TakesMemory a
+answer-takes m bytes IsSuch takes a (inl (why, is, e)) scope short = subst TakesMemory (sym e) (refusal-takes m bytes why is scope short)
+answer-takes m bytes IsSuch takes a (inr (c, read, such)) scope short = takes c a such
+
+-- the answer to a certificate that is checked, and to one that is upgraded
+pub certified-takes : (m : Machine) (c : Certificate) (a : Answer) → IsCertified m c a → TakesMemory a
+certified-takes m c a (v, is, e) = subst TakesMemory (sym e) (by v)
+  where
+    by : (v : Verdict) → TakesMemory (certified m c v)
+    by verdict.Accepted = tt
+    by (verdict.Rejected a b l r) = tt
+    by (verdict.Range a b) = tt
+
+pub upgraded-takes : (c : Certificate) (a : Answer) → a ≡ upgraded c → TakesMemory a
+upgraded-takes c a e = subst TakesMemory (sym e) tt
 
 module _ {K : Type 0} (known : K → Option (List ℕ)) (faults : K → ℕ) where
   -- an answer of one kind is one of another
@@ -35,11 +62,11 @@ module _ {K : Type 0} (known : K → Option (List ℕ)) (faults : K → ℕ) whe
   }
 
   -- memory was wanting, and nothing is written
-  pub memory_wanted : (IsSuch : Answer → Type 0) → (a : Answer) → IsSuch a → (sink : K) → Ends known faults IsSuch ending.Memory sink sink
-  memory_wanted IsSuch a is sink = record {
+  pub memory_wanted : (IsSuch : Answer → Type 0) → (a : Answer) → IsSuch a → TakesMemory a → (sink : K) → Ends known faults IsSuch ending.Memory sink sink
+  memory_wanted IsSuch a is takes sink = record {
     answer = a;
     is = is;
-    told = tt;
+    told = takes;
     whole = λ e. absurd (cc e);
     prefix = λ e. absurd (cc e);
     untouched = λ e. refl;
@@ -61,12 +88,13 @@ module _ {K : Type 0} (known : K → Option (List ℕ)) (faults : K → ℕ) whe
   }
 
   -- the bytes are not read
-  pub not_read : (m : Machine) (bytes : List ℕ) (IsSuch : Certificate → Answer → Type 0) (a : Answer) → IsAnswer m IsSuch bytes a → (end : Ending) → RefusesBy m bytes end → (sink : K)
+  pub not_read : (m : Machine) (bytes : List ℕ) (IsSuch : Certificate → Answer → Type 0) → ((c : Certificate) (a : Answer) → IsSuch c a → TakesMemory a) → (a : Answer) → IsAnswer m IsSuch bytes a
+      → (end : Ending) → RefusesBy m bytes end → (sink : K)
       → Ends known faults (IsAnswer m IsSuch bytes) end sink sink
-  not_read m bytes IsSuch a is end (inl e) sink =
+  not_read m bytes IsSuch takes a is end (inl (e, scope, short)) sink =
       let P : Ending → Type 0 = λ x. Ends known faults (IsAnswer m IsSuch bytes) x sink sink in
-      subst P (sym e) (memory_wanted (IsAnswer m IsSuch bytes) a is sink)
-  not_read m bytes IsSuch a is end (inr (why, h, e)) sink =
+      subst P (sym e) (memory_wanted (IsAnswer m IsSuch bytes) a is (answer-takes m bytes IsSuch takes a is scope short) sink)
+  not_read m bytes IsSuch takes a is end (inr (why, h, e)) sink =
       let P : Ending → Type 0 = λ x. Ends known faults (IsAnswer m IsSuch bytes) x sink sink in
       subst P (sym e) (refusal_told (IsAnswer m IsSuch bytes) why (inl (why, h, refl)) sink)
 

@@ -1,10 +1,11 @@
 -- How a call ends that answers to a certificate, and what becomes of the sink.
-use Rattle.std.specs.Prelude.{◌≡◌, ◌≢◌, ℕ, ◌⊎◌, Bool, true, false, List, [], Option, codes}
+use Rattle.std.specs.Prelude.{◌≡◌, ◌≢◌, ℕ, ◌≤◌, ◌⊎◌, Bool, true, false, List, [], length, Option, codes}
 use Rattle.std.specs.Io.KnownBytes.{Appends}
 use Rattle.mu_io.specs.Sinks.{AppendsPrefix, EndsByFault}
 use Rattle.qss_machine.specs.declared.system.Machine.{Machine}
+use Rattle.cert_check.specs.Scope.{IsInScope}
 use Rattle.cert_lines.specs.Refusals.{outside_line, verdict_line, cause_line}
-use Rattle.cert_answer.specs.Answers.{Answer, refused, written, IsRefusal}
+use Rattle.cert_answer.specs.Answers.{Answer, refused, written, limit, IsRefusal}
 use Rattle.cert_answer.specs.declared.ending.CertificateRefusal.{CertificateRefusal}
 use Rattle.cert_answer.specs.declared.ending.CertificateRefusal.TheVariants.{Outside, TooLong, Unread, Rejected}
 use Rattle.cert_answer.specs.declared.ending.Ending.{Ending}
@@ -15,21 +16,29 @@ abbrev pub ending_of : Answer → Ending
 ending_of (refused why) = ending.Refused why
 ending_of (written text) = ending.Written
 
--- the bytes are not read, and the ending tells why: a refusal, or want of memory
+-- the bytes are not read, and the ending tells why: a refusal, or want of memory, which only a machine in scope and bytes that are not too many take
 abbrev pub RefusesBy : Machine → List ℕ → Ending → Type 0
-RefusesBy m bytes end = (end ≡ ending.Memory) ⊎ ((why : CertificateRefusal) × IsRefusal m bytes why × (end ≡ ending.Refused why))
+RefusesBy m bytes end = ((end ≡ ending.Memory) × IsInScope m × (length bytes ≤ limit)) ⊎ ((why : CertificateRefusal) × IsRefusal m bytes why × (end ≡ ending.Refused why))
 
 -- what an answer writes
 abbrev pub text_of : Answer → List ℕ
 text_of (refused why) = []
 text_of (written text) = text
 
--- a call with this answer may end so: as the answer tells, for want of memory, or by a fault where there is a text to write
+-- a call with this answer takes memory: not where no certificate can speak of the machine, nor where the bytes are too many
+abbrev pub TakesMemory : Answer → Type 0
+TakesMemory (refused (Outside why)) = ⊥
+TakesMemory (refused TooLong) = ⊥
+TakesMemory (refused (Unread why)) = Unit {0}
+TakesMemory (refused (Rejected verdict)) = Unit {0}
+TakesMemory (written text) = Unit {0}
+
+-- a call with this answer may end so: as the answer tells, for want of memory where it takes some, or by a fault where there is a text to write
 abbrev pub MayEnd : Answer → Ending → Type 0
 MayEnd answer ending.Written = ending_of answer ≡ ending.Written
 MayEnd answer (ending.Refused why) = answer ≡ refused why
 MayEnd answer ending.Fault = ending_of answer ≡ ending.Written
-MayEnd answer ending.Memory = Unit {0}
+MayEnd answer ending.Memory = TakesMemory answer
 
 -- whether the sink is left as it is
 abbrev pub leaves_out : Ending → Bool

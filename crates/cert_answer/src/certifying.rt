@@ -3,8 +3,12 @@
 ghost use Rattle.std.specs.Prelude.{◌≡◌};
 ghost use Rattle.std.specs.Io.KnownBytes.{Appends};
 ghost use Rattle.qss_machine.specs.Machines.{state_count};
+ghost use Rattle.cert_check.specs.Certificate.{Holds};
+ghost use Rattle.cert_check.specs.Inequality.{AreSumsInRange};
 ghost use Rattle.cert_check.specs.Promises.{IsPromised, AdmitsRuns};
+ghost use Rattle.cert_check.specs.Reading.{claim};
 ghost use Rattle.cert_check.specs.Scope.{IsInScope};
+ghost use Rattle.cert_check.specs.Systems.{system_of};
 ghost use Rattle.cert_check.specs.declared.certificate.Certificate.{Certificate};
 ghost use Rattle.cert_lines.specs.Bounds as Bounds;
 ghost use Rattle.cert_text.specs.Texts.{IsTextOf};
@@ -39,7 +43,10 @@ pub fn certify<O: Sink>(alloc: Global, m: &Machine, bytes: &[u8], out: &mut O) -
 fn judge<O: Sink>(alloc: Global, m: &Machine, c: &Certificate, out: &mut O) -> Ending
     requires scope { IsInScope m.now }
     requires size { c.now.n ≡ state_count m.now }
-    ensures { Ends O.written O.faults (IsCertified m.now c.now) result out.old out.new }
+    ensures answered { Ends O.written O.faults (IsCertified m.now c.now) result out.old out.new }
+
+    // The check takes no memory: only the bounds do.
+    ensures accepted { result ≡ Ending.Memory → Holds (system_of m.now) (claim c.now) × AreSumsInRange (system_of m.now) (claim c.now) }
 {
     match check(m, c) {
         Verdict::Accepted => write_bounds(alloc, m, c, out),

@@ -1,6 +1,6 @@
 //! The reading of a certificate of a machine.
 
-ghost use Rattle.std.specs.Prelude.{◌≤◌, ℕ, List, length, IfOk, IfErr};
+ghost use Rattle.std.specs.Prelude.{◌≡◌, ◌≢◌, ◌≤◌, ℕ, List, length, IfOk, IfErr};
 ghost use Rattle.qss_machine.specs.declared.system.Machine.{Machine};
 ghost use Rattle.cert_check.specs.Scope.{IsInScope};
 ghost use Rattle.cert_text.specs.Texts.{IsRefusedFor};
@@ -44,7 +44,8 @@ fn read_short(alloc: Global, m: &Machine, bytes: &[u8]) -> Result<Certificate, E
 
 // How a call ends that cannot read a certificate for this.
 fn unread(why: CertErr) -> Ending
-    ensures { (m : Machine) (bytes : List ℕ) → IsInScope m → length bytes ≤ limit → IsRefusedFor m bytes why → RefusesBy m bytes result }
+    ensures refused { (m : Machine) (bytes : List ℕ) → IsInScope m → length bytes ≤ limit → IsRefusedFor m bytes why → RefusesBy m bytes result }
+    ensures told { why ≢ CertErr.Memory → result ≡ Ending.Refused (CertificateRefusal.Unread why) }
 {
     match why {
         CertErr::Memory => Ending::Memory,

@@ -4,7 +4,7 @@ use Rattle.std.proofs.lemmas.List.{take_more, drop_more, map-append, get_or-drop
 use Rattle.std.proofs.lemmas.Bool.{cases_lt, ne_eqb}
 use Rattle.std.specs.List.{position_from}
 use Rattle.cert_check.specs.Limits.{IsNumber, IsVector}
-use Rattle.std.specs.Prelude.{◌==◌, bytes_eq}
+use Rattle.std.specs.Prelude.{◌==◌, bytes_eq, is_none}
 use Rattle.csv.specs.Records.{field_at}
 use Rattle.cert_text.specs.Numbers.{number_in}
 use Rattle.cert_text.specs.Layout.{is_no_number, keyword_of}
@@ -64,6 +64,18 @@ vector-more n row z before small = record {
     by : (k : ℕ) (d : ℤ) → k < length row + 1 → (k < length row) ⊎ (length row ≤ k) → IsNumber (get_or (row ++ z ∷ []) k d)
     by k d h (inl l) = rw (get_or_append_left row (z ∷ []) d k l) (before.each k d l)
     by k d h (inr l) = let e : length row ≡ k = omega arith in rw (get_or_at row z [] d k e) small
+
+-- where some field after the keyword spells a number and those before it do, the first one does
+pub first-number : (fields : List (List ℕ)) (place : ℕ) (z : ℤ) → 1 ≤ place → (1 < place → is_no_number (get_or fields 1 []) ≡ false)
+    → number_in (get_or fields place []) ≡ Some z → is_no_number (get_or fields 1 []) ≡ false
+first-number fields place z low before e = by (cases_lt 1 place)
+  where
+    by : (1 < place) ⊎ (place ≤ 1) → is_no_number (get_or fields 1 []) ≡ false
+    by (inl h) = before h
+    by (inr h) =
+        let here : place ≡ 1 = omega arith in
+        let P : ℕ → Type 0 = λ k. is_no_number (get_or fields k []) ≡ false in
+        subst P here (ap is_none e)
 
 -- no bytes are only the same as none
 pub empty-same : (keyword : List ℕ) → (length keyword == 0) ≡ bytes_eq [] keyword

@@ -2,6 +2,7 @@ pub mod Digits
 pub mod Places
 pub mod Faults
 pub mod Fields
+pub mod Kept
 pub mod Turns
 pub mod Assembled
 pub mod Spelt

@@ -6,7 +6,7 @@ use Rattle.std.specs.Prelude.{Result, Ok, Err, IsErrAnd, IfErr, All}
 use Rattle.csv.specs.Records.{Row, fields_of}
 use Rattle.cert_text.specs.declared.fault.CertErr.{CertErr}
 use Rattle.cert_text.specs.Layout.{Expected, expected, layout, record_fault, first_fault}
-use Rattle.cert_text.specs.Rows.{due_at, IsReadAs}
+use Rattle.cert_text.specs.Rows.{due_at, IsReadAs, TakesMemory}
 use Rattle.cert_text.proofs.Places.{none, length-layout}
 use Rattle.cert_text.proofs.Faults.{LeftAt, left-more, refused-here}
 
@@ -46,6 +46,12 @@ module _ (n count k : ℕ) (records : List Row) (x : Row) (few : count ≤ 3 * n
       let P : Expected → Type 0 = λ d. IsReadAs d (get_or (map fields_of records) k []) row in
       let Q : List (List ℕ) → Type 0 = λ f. IsReadAs due f row in
       subst P e (subst Q (sym (fields-at records k x l is)) read)
+
+  pub read-takes : (due : Expected) → due ≡ due_at n k → TakesMemory due (fields_of x) → TakesMemory (due_at n k) (get_or (map fields_of records) k [])
+  read-takes due e takes =
+      let P : Expected → Type 0 = λ d. TakesMemory d (get_or (map fields_of records) k []) in
+      let Q : List (List ℕ) → Type 0 = λ f. TakesMemory due f in
+      subst P e (subst Q (sym (fields-at records k x l is)) takes)
 
 -- one more row
 pub rows-more : (n k : ℕ) (fields : List (List (List ℕ))) (rows : List (List ℤ)) (row : List ℤ) → length rows ≡ k

@@ -1,11 +1,11 @@
 -- The rows of numbers that the records of a certificate spell.
-use Rattle.std.specs.Prelude.{◌≡◌, ℕ, ◌+◌, ◌*◌, ◌<◌, List, [], ◌∷◌, length, drop, map, slice_index_or, ℤ, Some, ◌++◌, ◌==◌, nat_lt, if◌then◌else◌}
+use Rattle.std.specs.Prelude.{◌≡◌, ℕ, ◌+◌, ◌*◌, ◌<◌, List, [], ◌∷◌, length, drop, map, slice_index_or, ℤ, Some, false, ◌++◌, ◌==◌, nat_lt, codes, if◌then◌else◌}
 use Rattle.qss_machine.specs.declared.system.Machine.{Machine}
 use Rattle.qss_machine.specs.Machines.{start_states, quanta}
 use Rattle.cert_check.specs.Limits.{IsVector}
 use Rattle.cert_text.specs.Numbers.{number_in}
 use Rattle.cert_text.specs.Lines.{Line, line}
-use Rattle.cert_text.specs.Layout.{Expected, expected, layout}
+use Rattle.cert_text.specs.Layout.{Expected, expected, layout, keyword_of, is_no_number}
 
 -- what is due at place k of a text with all lines
 abbrev pub due_at : ℕ → ℕ → Expected
@@ -16,6 +16,16 @@ pub record IsReadAs (due : Expected) (fields : List (List ℕ)) (row : List ℤ)
   pub keyword : fields ≡ due.keyword ∷ drop 1 fields
   pub spelt : map number_in (drop 1 fields) ≡ map (λ z. Some z) row
   pub numbers : IsVector due.count row
+
+-- the record has the keyword and the fields that are due, and a first number: its numbers are kept, which takes memory
+pub record TakesMemory (due : Expected) (fields : List (List ℕ)) : Type 0 where
+  pub keyword : keyword_of fields ≡ due.keyword
+  pub count : length fields ≡ due.count + 1
+  pub some : is_no_number (slice_index_or fields 1 []) ≡ false
+
+-- some records are due, and the first of the text takes memory
+abbrev pub FirstTakesMemory : ℕ → List (List (List ℕ)) → Type 0
+FirstTakesMemory count records = (0 < count) × TakesMemory (expected (codes "form") 1) (slice_index_or records 0 [])
 
 -- there are `count` records, and a row for each
 pub record AreReadAs (n count : ℕ) (records : List (List (List ℕ))) (rows : List (List ℤ)) : Type 0 where

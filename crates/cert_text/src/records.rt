@@ -1,6 +1,6 @@
 //! The numbers of a certificate's records, against what is due there.
 
-ghost use Rattle.std.specs.Prelude.{◌≡◌, ◌+◌, ◌*◌, ◌^◌, ◌<◌, ◌≤◌, ◌⊎◌, ℕ, List, [], Some, None, IfOk, IfErr, length, drop, map, take, slice_index_or, pos, All, IfSome, unsigned_abs, bytes_eq};
+ghost use Rattle.std.specs.Prelude.{◌≡◌, ◌+◌, ◌*◌, ◌^◌, ◌<◌, ◌≤◌, ◌⊎◌, ℕ, List, [], Some, None, false, IfOk, IfErr, length, drop, map, take, slice_index_or, pos, All, IfSome, unsigned_abs, bytes_eq};
 ghost use Rattle.std.specs.Option.{option_map};
 ghost use Rattle.std.specs.List.{position_from};
 ghost use Rattle.csv.specs.Records.{fields_of};
@@ -8,7 +8,7 @@ ghost use Rattle.cert_check.specs.Limits.{IsSize, IsVector};
 ghost use Rattle.cert_text.specs.Numbers.{number_in};
 ghost use Rattle.cert_text.specs.Lines.{line_count};
 ghost use Rattle.cert_text.specs.Layout.{expected, keyword_of, is_no_number, record_fault, first_fault, first_number, form_in, layout, text_fault};
-ghost use Rattle.cert_text.specs.Rows.{IsReadAs, AreReadAs};
+ghost use Rattle.cert_text.specs.Rows.{IsReadAs, AreReadAs, TakesMemory, FirstTakesMemory};
 
 use crate::fault::CertErr;
 use crate::layout::due_at_place;
@@ -35,7 +35,7 @@ fn numbers_of(alloc: Global, line: u32, found: &ByteRecord) -> Result<Items<i128
     requires few { length (fields_of found.now) ≤ 2 ^ 20 }
     ensures spelt { IfOk result (λ row. map number_in (drop 1 (fields_of found.now)) ≡ map (λ z. Some z) row) }
     ensures numbers { IfOk result (λ row. IsVector (length (drop 1 (fields_of found.now))) row) }
-    ensures refused { IfErr result (λ why. (why ≡ CertErr.Memory)
+    ensures refused { IfErr result (λ why. ((why ≡ CertErr.Memory) × (is_no_number (slice_index_or (fields_of found.now) 1 []) ≡ false))
         ⊎ (option_map (λ field. CertErr.Number line field) (position_from is_no_number 2 (drop 1 (fields_of found.now))) ≡ Some why)) }
     ensures read { IfOk result (λ row. position_from is_no_number 2 (drop 1 (fields_of found.now)) ≡ None) }
 {
@@ -76,7 +76,7 @@ fn read_record(
     requires few { length (fields_of found.now) ≤ 2 ^ 20 }
     ensures read { IfOk result (λ row. IsReadAs (expected keyword.now count) (fields_of found.now) row) }
     ensures sound { IfOk result (λ row. record_fault line (expected keyword.now count) (fields_of found.now) ≡ None) }
-    ensures refused { IfErr result (λ why. (why ≡ CertErr.Memory) ⊎ (record_fault line (expected keyword.now count) (fields_of found.now) ≡ Some why)) }
+    ensures refused { IfErr result (λ why. ((why ≡ CertErr.Memory) × TakesMemory (expected keyword.now count) (fields_of found.now)) ⊎ (record_fault line (expected keyword.now count) (fields_of found.now) ≡ Some why)) }
 {
     if !has_keyword(found, keyword) {
         return Err(CertErr::Keyword { line });
@@ -112,7 +112,7 @@ pub fn form_of(alloc: Global, records: &[ByteRecord]) -> Result<u8, CertErr>
     ensures named { IfOk result (λ form. first_number (slice_index_or (map fields_of records.now) 0 []) ≡ pos form) }
     ensures sound { IfOk result (λ form. (n : ℕ) → text_fault n (map fields_of records.now) ≡ first_fault 1 (take (line_count n form) (layout n)) (map fields_of records.now)) }
     ensures one_of_three { IfOk result (λ form. (1 ≤ form) × (form ≤ 3)) }
-    ensures refused { IfErr result (λ why. (why ≡ CertErr.Memory) ⊎ ((n : ℕ) → text_fault n (map fields_of records.now) ≡ Some why)) }
+    ensures refused { IfErr result (λ why. ((why ≡ CertErr.Memory) × FirstTakesMemory 1 (map fields_of records.now)) ⊎ ((n : ℕ) → text_fault n (map fields_of records.now) ≡ Some why)) }
 {
     if records.is_empty() {
         return Err(CertErr::Missing { line: 1 });
@@ -133,7 +133,7 @@ pub fn read_rows(
     requires count { count ≤ 3 * n + 17 }
     requires few { All (λ found. length (fields_of found) ≤ 2 ^ 20) records.now }
     ensures read { IfOk result (λ rows. AreReadAs n count (map fields_of records.now) rows.items) }
-    ensures refused { IfErr result (λ why. (why ≡ CertErr.Memory) ⊎ (first_fault 1 (take count (layout n)) (map fields_of records.now) ≡ Some why)) }
+    ensures refused { IfErr result (λ why. ((why ≡ CertErr.Memory) × FirstTakesMemory count (map fields_of records.now)) ⊎ (first_fault 1 (take count (layout n)) (map fields_of records.now) ≡ Some why)) }
 {
     let mut rows = Vec::new(alloc);
     for k in 0..count {

@@ -14,5 +14,5 @@ by_fault : (why : CertErr) → (why ≡ Memory → ⊥) → (m : Machine) (bytes
 by_fault why other m bytes scope short (inl e) = absurd (other e)
 by_fault why other m bytes scope short (inr fault) = inr (Unread why, (scope, short, fault), refl)
 
-pub returns-in_default : goal.returns-in_default
-returns-in_default c m bytes scope short h = by_fault c.args.why c.in_default.not-Memory m bytes scope short h
+pub returns-in_default-clause-refused : goal.returns-in_default-clause-refused
+returns-in_default-clause-refused c m bytes scope short h = by_fault c.args.why c.in_default.not-Memory m bytes scope short h

@@ -1,7 +1,7 @@
 use Rattle.std.proofs.Common.{◌≡◌, inr, refl}
 use Rattle.cert_check.specs.declared.certificate.Certificate.{Certificate}
 use Rattle.cert_answer.specs.Answers.{Answer, IsUpgrade, upgraded}
-use Rattle.cert_answer.proofs.Finished.{ends_as, not_read}
+use Rattle.cert_answer.proofs.Finished.{ends_as, not_read, upgraded-takes}
 use Rattle.cert_answer.proofs.Sameness.{some_answer}
 use Rattle.cert_answer.proofs.upgrading.upgrade.Goals as goal
 
@@ -13,5 +13,5 @@ returns-in-Ok g c =
 pub returns-in-Err : goal.returns-in-Err
 returns-in-Err g c =
     let some = some_answer c.args.m.now c.args.bytes.now (λ (x : Certificate) (a : Answer). a ≡ upgraded x) (λ x. (upgraded x, refl)) in
-    not_read (λ k. g.O.Sink.written k) (λ k. g.O.Sink.faults k) c.args.m.now c.args.bytes.now (λ (x : Certificate) (a : Answer). a ≡ upgraded x) some.0 some.1 c.in-Err.ending
+    not_read (λ k. g.O.Sink.written k) (λ k. g.O.Sink.faults k) c.args.m.now c.args.bytes.now (λ (x : Certificate) (a : Answer). a ≡ upgraded x) upgraded-takes some.0 some.1 c.in-Err.ending
     c.in-Err.ensures.refused c.args.out.now

@@ -1,9 +1,14 @@
-use Rattle.std.proofs.Common.{◌≡◌, ◌<◌, ◌+◌, ◌-◌, ◌++◌, ◌∷◌, [], ℤ, FitsSigned, ◌∙◌, sym, ap, length, arith, rules, to_z-of_z, to_z, of_z}
+use Rattle.std.proofs.Common.{◌≡◌, ◌<◌, ◌+◌, ◌-◌, ◌⊎◌, inl, ◌++◌, ◌∷◌, [], ℤ, Some, false, FitsSigned, ◌∙◌, refl, sym, ap, length, drop, get_or, arith, rules, to_z-of_z, to_z, of_z}
 use Rattle.std.specs.Int.{w128}
+use Rattle.std.specs.List.{position_from}
+use Rattle.std.specs.Option.{option_map}
 use Rattle.csv.specs.Records.{fields_of}
 use Rattle.cert_check.specs.Limits.{IsVector}
+use Rattle.cert_text.specs.declared.fault.CertErr.TheVariants.{Number, Memory}
 use Rattle.cert_text.specs.Numbers.{number_in}
-use Rattle.cert_text.proofs.Fields.{spelt-more, faults-more, vector-more}
+use Rattle.cert_text.specs.Layout.{is_no_number}
+use Rattle.cert_text.proofs.Fields.{spelt-more, faults-more, vector-more, first-number}
+use Rattle.cert_text.proofs.Turns.{err-as}
 use Rattle.cert_text.proofs.records.numbers_of.Goals as goal
 
 pub loop-place-preserved : goal.loop-place-preserved
@@ -21,5 +26,14 @@ loop-place-preserved c =
       spelt = rw items
           (spelt-more fields c.loop-place.place c.loop-place.invariant.some inside c.loop-place.row.items c.in-Some.number c.loop-place.invariant.spelt number);
       numbers = rw (items, ← k) more;
+      first = λ h. first-number fields c.loop-place.place c.in-Some.number c.loop-place.invariant.some c.loop-place.invariant.first number;
       faults = c.loop-place.invariant.faults ∙ faults-more fields c.loop-place.place c.loop-place.invariant.some inside c.in-Some.number number;
     }
+
+pub returns-in_err-push-in-Some-clause-refused : goal.returns-in_err-push-in-Some-clause-refused
+returns-in_err-push-in-Some-clause-refused c =
+    let fields = fields_of c.args.found.now in
+    let first = first-number fields c.loop-place.place c.in-Some.number c.loop-place.invariant.some c.loop-place.invariant.first (sym c.in-Some.ensures.value) in
+    err-as c.from_residual.result Memory
+    (λ why. ((why ≡ Memory) × (is_no_number (get_or fields 1 []) ≡ false)) ⊎ (option_map (λ field. Number c.args.line field) (position_from is_no_number 2 (drop 1 fields)) ≡ Some why))
+    c.from_residual.ensures.1 (inl (refl, first))
