@@ -21,8 +21,8 @@ use Rattle.qss_run.specs.Standings.{Standing}
 use Rattle.qss_run.proofs.Silences.{named_step}
 use Rattle.qss_play.specs.declared.written.Stop.{Stop}
 use Rattle.qss_play.specs.Ahead.{run_ahead, rows_ahead, EndsFrom}
-use Rattle.qss_play.specs.Writings.{IsWriting}
-use Rattle.qss_play.proofs.Writing.{lines_passed-append, writes_later, stops_early}
+use Rattle.qss_play.specs.Writings.{IsWriting, StopsBefore}
+use Rattle.qss_play.proofs.Writing.{lines_passed-append, writes_later, stops_early, stops_sooner, stops_later}
 
 -- ---- parts of lists
 
@@ -179,6 +179,13 @@ module _ {K : Type 0} (written : K → Option (List ℕ)) (faults : K → ℕ) (
         (lines_passed only first.machine new.rows ++ lines_passed only first.machine (rows_left (level_by rule) new)) way.appended way.calm
         (stops_early written faults s mid last (lines_passed only first.machine new.rows) (lines_passed only first.machine (rows_left (level_by rule) new)) w))
 
+    -- memory is not found for the line of a row
+    pub halts : (last : K) → StopsBefore written [] only first.machine new.rows mid last → StopsBefore written [] only first.machine (rows_ahead rule first) old last
+    halts last s =
+        subst (λ (l : List Row). StopsBefore written [] only first.machine l old last) (ap (λ (l : List Row). way.done ++ l) (sym ahead) ∙ way.rows)
+        (stops_later written only first.machine [] way.done (rows_ahead rule new) old mid last way.appended
+        (stops_sooner written only first.machine [] new.rows (rows_left (level_by rule) new) mid last s))
+
     -- the run ends
     pub ends : (last : K) → rows_left (level_by rule) new ≡ [] → IsWriting written faults None mid last (lines_passed only first.machine new.rows) →
         IsWriting written faults None old last (lines_passed only first.machine (rows_ahead rule first))
@@ -202,6 +209,12 @@ pub written_of : {K : Type 0} (written : K → Option (List ℕ)) (faults : K �
     IsWriting written faults stop old new (lines_passed only m xs) → IsWriting written faults stop old new (lines_passed only n ys)
 written_of written faults stop old new only m n xs ys e f w =
     subst (λ (k : Machine). IsWriting written faults stop old new (lines_passed only k ys)) e (subst (λ (l : List Row). IsWriting written faults stop old new (lines_passed only m l)) f w)
+
+-- a row of a simulator is not written
+pub stops_of : {K : Type 0} (written : K → Option (List ℕ)) (old new : K) (head : List ℕ) (only : Option (List ℕ)) (m n : Machine) (xs ys : List Row) → m ≡ n → xs ≡ ys →
+    StopsBefore written head only m xs old new → StopsBefore written head only n ys old new
+stops_of written old new head only m n xs ys e f s =
+    subst (λ (k : Machine). StopsBefore written head only k ys old new) e (subst (λ (l : List Row). StopsBefore written head only m l old new) f s)
 
 -- the rows are of variables of the machine
 pub known_of : (m n : Machine) (xs ys : List Row) → m ≡ n → xs ≡ ys → All (HasVariable m) xs → All (HasVariable n) ys

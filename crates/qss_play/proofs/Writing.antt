@@ -14,7 +14,7 @@ use Rattle.qss_rows.specs.Filters.{passes, lines_passed}
 use Rattle.qss_rows.specs.Lines.{line_of, lines_of}
 use Rattle.qss_play.specs.declared.written.Stop.{Stop}
 use Rattle.qss_play.specs.declared.written.Stop.TheVariants.{Memory}
-use Rattle.qss_play.specs.Writings.{IsWriting}
+use Rattle.qss_play.specs.Writings.{IsWriting, StopsBefore}
 
 -- ---- lines
 
@@ -135,3 +135,33 @@ module _ {K : Type 0} (written : K → Option (List ℕ)) (faults : K → ℕ) w
         subst (IsWriting written faults (Some s) old new) (sym lines_cut)
         (writes_later (Some s) old mid new (lines_passed only m (take i rows)) (lines_passed only m (get_or rows i d ∷ []) ++ lines_passed only m (drop (suc i) rows)) appended calm
         (stops_early s mid new (lines_passed only m (get_or rows i d ∷ [])) (lines_passed only m (drop (suc i) rows)) w))
+
+    -- memory is not found for the line of a row
+    pub stops_at : passes only m (get_or rows i d) ≡ true → StopsBefore written [] only m rows old mid
+    stops_at passed = record { front = take i rows; row = get_or rows i d; rest = drop (suc i) rows; parts = sym rows_cut; passed = passed; appended = appended }
+
+module _ {K : Type 0} (written : K → Option (List ℕ)) (only : Option (List ℕ)) (m : Machine) where
+  -- a call that stopped before a row of these stopped before one of more
+  pub stops_sooner : (head : List ℕ) (rows more : List Row) (old new : K) → StopsBefore written head only m rows old new → StopsBefore written head only m (rows ++ more) old new
+  stops_sooner head rows more old new s = record {
+    front = s.front;
+    row = s.row;
+    rest = s.rest ++ more;
+    parts = sym (append_assoc s.front (s.row ∷ s.rest) more) ∙ ap (λ (l : List Row). l ++ more) s.parts;
+    passed = s.passed;
+    appended = s.appended;
+  }
+
+  -- what was written before stands in front
+  pub stops_later : (head : List ℕ) (done rows : List Row) (old mid new : K) → Appends (written old) (written mid) (head ++ lines_passed only m done) → StopsBefore written [] only m rows mid new →
+      StopsBefore written head only m (done ++ rows) old new
+  stops_later head done rows old mid new before s = record {
+    front = done ++ s.front;
+    row = s.row;
+    rest = s.rest;
+    parts = append_assoc done s.front (s.row ∷ s.rest) ∙ ap (λ (l : List Row). done ++ l) s.parts;
+    passed = s.passed;
+    appended = subst (Appends (written old) (written new))
+        (append_assoc head (lines_passed only m done) (lines_passed only m s.front) ∙ ap (λ (l : List ℕ). head ++ l) (sym (lines_passed-append only m done s.front)))
+        (Appends-trans (written old) (written mid) (written new) (head ++ lines_passed only m done) (lines_passed only m s.front) before s.appended);
+  }

@@ -1,7 +1,10 @@
 -- What becomes of a sink that bytes are written to.
-use Rattle.std.specs.Prelude.{◌≡◌, ◌≢◌, ℕ, List, Option, Some, None}
+use Rattle.std.specs.Prelude.{◌≡◌, ◌≢◌, ℕ, true, List, ◌∷◌, ◌++◌, Option, Some, None}
 use Rattle.std.specs.Io.KnownBytes.{Appends}
 use Rattle.mu_io.specs.Sinks.{AppendsPrefix, EndsByFault}
+use Rattle.qss_machine.specs.declared.rows.Row.{Row}
+use Rattle.qss_machine.specs.declared.system.Machine.{Machine}
+use Rattle.qss_rows.specs.Filters.{passes, lines_passed}
 use Rattle.qss_play.specs.declared.written.Stop.{Stop}
 use Rattle.qss_play.specs.declared.written.Stop.TheVariants.{Fault}
 
@@ -11,3 +14,12 @@ pub record IsWriting {K : Type 0} (written : K → Option (List ℕ)) (faults : 
   pub prefix : AppendsPrefix (written old) (written new) bytes
   pub calm : stop ≢ Some Fault → faults new ≡ faults old
   pub last : stop ≡ Some Fault → EndsByFault written faults old new
+
+-- a call wrote this head and the lines of the first rows, whole, and stopped before the line of a row that passes
+pub record StopsBefore {K : Type 0} (written : K → Option (List ℕ)) (head : List ℕ) (only : Option (List ℕ)) (m : Machine) (rows : List Row) (old new : K) : Type 0 where
+  pub front : List Row
+  pub row : Row
+  pub rest : List Row
+  pub parts : front ++ (row ∷ rest) ≡ rows
+  pub passed : passes only m row ≡ true
+  pub appended : Appends (written old) (written new) (head ++ lines_passed only m front)

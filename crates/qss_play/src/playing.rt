@@ -10,7 +10,7 @@ ghost use Rattle.qss_rows.specs.Filters.{lines_passed};
 ghost use Rattle.qss_rows.specs.Lines.{HasVariable, header as header_line};
 ghost use Rattle.qss_play.specs.Ahead.{first, rows_ahead, run_ahead, EndsFrom, IsEndOf};
 ghost use Rattle.qss_play.specs.Plays.{run_under, text_of, EndsSo, is_whole, IsPlayed};
-ghost use Rattle.qss_play.specs.Writings.{IsWriting};
+ghost use Rattle.qss_play.specs.Writings.{IsWriting, StopsBefore};
 
 use crate::events::write_events;
 use crate::played::Played;
@@ -119,6 +119,7 @@ fn write_run<L: Ledger, O: Sink>(
     requires known { (rule : Rule) → sim.old.quantizer.name ≡ Some rule → All (HasVariable sim.old.course.machine) (rows_ahead rule sim.old.course) }
     ensures machine { sim.new.course.machine ≡ sim.old.course.machine }
     ensures written { (rule : Rule) → sim.old.quantizer.name ≡ Some rule → IsWriting O.written O.faults (result_err result) out.old out.new (header_line ++ lines_passed filter.now sim.old.course.machine (rows_ahead rule sim.old.course)) }
+    ensures stopped { (rule : Rule) → sim.old.quantizer.name ≡ Some rule → result_err result ≡ Some Stop.Memory → StopsBefore O.written header_line filter.now sim.old.course.machine (rows_ahead rule sim.old.course) out.old out.new }
     ensures end { (rule : Rule) → sim.old.quantizer.name ≡ Some rule → IfOk result (λ outcome. EndsFrom outcome sim.old.course.tick (run_ahead rule sim.old.course)) }
 {
     write_bytes(header(), out)?;
@@ -130,6 +131,7 @@ fn write_run<L: Ledger, O: Sink>(
 fn ended(alloc: Global, m: &Machine, outcome: Outcome) -> Played
     requires { IsEndOf m.now outcome }
     ensures end { (run : Run) → EndsFrom outcome 0 run → EndsSo m.now run result }
+    ensures done { outcome ≡ Outcome.Done → result ≡ Played.Ended }
     ensures no_fault { result ≢ Played.Fault }
 {
     match outcome {

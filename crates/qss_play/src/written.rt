@@ -1,10 +1,10 @@
 //! The writing of rows.
 
-ghost use Rattle.std.specs.Prelude.{◌∷◌, [], All};
+ghost use Rattle.std.specs.Prelude.{◌≡◌, ◌≢◌, ◌∷◌, [], All, Some, true};
 ghost use Rattle.std.specs.Result.{result_err};
-ghost use Rattle.qss_rows.specs.Filters.{lines_passed};
+ghost use Rattle.qss_rows.specs.Filters.{passes, lines_passed};
 ghost use Rattle.qss_rows.specs.Lines.{HasVariable, line_of};
-ghost use Rattle.qss_play.specs.Writings.{IsWriting};
+ghost use Rattle.qss_play.specs.Writings.{IsWriting, StopsBefore};
 
 use mu_io::{Sink, WriteErr, write_all};
 use qss_machine::{Machine, Row};
@@ -19,7 +19,8 @@ pub enum Stop {
 
 /// Writes all of the bytes.
 pub(crate) fn write_bytes<O: Sink>(bytes: &[u8], out: &mut O) -> Result<(), Stop>
-    ensures { IsWriting O.written O.faults (result_err result) out.old out.new bytes.now }
+    ensures written { IsWriting O.written O.faults (result_err result) out.old out.new bytes.now }
+    ensures no_memory { result_err result ≢ Some Stop.Memory }
 {
     match write_all(out, bytes) {
         Ok(()) => Ok(()),
@@ -27,7 +28,7 @@ pub(crate) fn write_bytes<O: Sink>(bytes: &[u8], out: &mut O) -> Result<(), Stop
     }
 }
 
-// Writes the line of a row.
+// Writes the line of a row, none of it where memory was not found.
 fn write_line<O: Sink>(
     lines: &mut LineWriter,
     m: &Machine,
@@ -35,7 +36,8 @@ fn write_line<O: Sink>(
     out: &mut O,
 ) -> Result<(), Stop>
     requires { HasVariable m.now row.now }
-    ensures { IsWriting O.written O.faults (result_err result) out.old out.new (line_of m.now row.now) }
+    ensures written { IsWriting O.written O.faults (result_err result) out.old out.new (line_of m.now row.now) }
+    ensures nothing { result_err result ≡ Some Stop.Memory → out.new ≡ out.old }
 {
     match lines.write(row, m) {
         Ok(()) => write_bytes(lines.line(), out),
@@ -43,7 +45,7 @@ fn write_line<O: Sink>(
     }
 }
 
-// Writes the line of a row that passes.
+// Writes the line of a row that passes, none of it where memory was not found.
 fn write_row<O: Sink>(
     lines: &mut LineWriter,
     m: &Machine,
@@ -52,7 +54,9 @@ fn write_row<O: Sink>(
     out: &mut O,
 ) -> Result<(), Stop>
     requires { HasVariable m.now row.now }
-    ensures { IsWriting O.written O.faults (result_err result) out.old out.new (lines_passed filter.now m.now (row.now ∷ [])) }
+    ensures written { IsWriting O.written O.faults (result_err result) out.old out.new (lines_passed filter.now m.now (row.now ∷ [])) }
+    ensures nothing { result_err result ≡ Some Stop.Memory → out.new ≡ out.old }
+    ensures passed { result_err result ≡ Some Stop.Memory → passes filter.now m.now row.now ≡ true }
 {
     if filter.passes(row, m) {
         write_line(lines, m, row, out)
@@ -70,7 +74,8 @@ pub(crate) fn write_rows<O: Sink>(
     out: &mut O,
 ) -> Result<(), Stop>
     requires { All (HasVariable m.now) rows.now }
-    ensures { IsWriting O.written O.faults (result_err result) out.old out.new (lines_passed filter.now m.now rows.now) }
+    ensures written { IsWriting O.written O.faults (result_err result) out.old out.new (lines_passed filter.now m.now rows.now) }
+    ensures stopped { result_err result ≡ Some Stop.Memory → StopsBefore O.written [] filter.now m.now rows.now out.old out.new }
 {
     for row in rows {
         write_row(lines, m, filter, row, out)?;

@@ -1,12 +1,13 @@
-use Rattle.std.proofs.Common.{◌≡◌, sym, ◌∙◌, subst, rules}
+use Rattle.std.proofs.Common.{◌≡◌, [], sym, ◌∙◌, subst, rules}
 use Rattle.std.specs.Prelude.{None, Some, Err, All}
 use Rattle.std.specs.Result.{result_err}
 use Rattle.qss_quant.specs.Rules.{level_by}
 use Rattle.qss_rows.specs.Filters.{lines_passed}
 use Rattle.qss_rows.specs.Lines.{HasVariable}
 use Rattle.qss_run.specs.Events.{rows_left}
+use Rattle.qss_play.specs.declared.written.Stop.TheVariants.{Memory}
 use Rattle.qss_play.specs.Writings.{IsWriting}
-use Rattle.qss_play.proofs.UnderWay.{all_front, known_of, written_of}
+use Rattle.qss_play.proofs.UnderWay.{all_front, known_of, written_of, stops_of}
 use Rattle.qss_play.proofs.events.write_event.Goals as goal
 
 pub write_rows-requires : goal.write_rows-requires
@@ -30,7 +31,10 @@ returns-in_err-write_rows g c =
       ahead = λ rule e. c.next_event-outcome.ensures.rows rule e c.requires.unended;
       written = subst (λ r. IsWriting (λ k. g.O.Sink.written k) (λ k. g.O.Sink.faults k) (result_err r) c.args.out.now c.write_rows.new.out (lines_passed c.args.filter.now c.args.sim.now.course.machine new.rows)) (sym given)
           (written_of (λ k. g.O.Sink.written k) (λ k. g.O.Sink.faults k) (Some c.in_err-write_rows.field-0.0) c.args.out.now c.write_rows.new.out c.args.filter.now c.machine.result.now c.args.sim.now.course.machine
-          c.rows.result.now new.rows (c.machine.ensures ∙ c.next_event-outcome.ensures.same.0) c.rows.ensures c.in_err-write_rows.ensures);
+          c.rows.result.now new.rows (c.machine.ensures ∙ c.next_event-outcome.ensures.same.0) c.rows.ensures c.in_err-write_rows.ensures.written);
+      stopped = λ e.
+          stops_of (λ k. g.O.Sink.written k) c.args.out.now c.write_rows.new.out [] c.args.filter.now c.machine.result.now c.args.sim.now.course.machine c.rows.result.now new.rows
+          (c.machine.ensures ∙ c.next_event-outcome.ensures.same.0) c.rows.ensures (c.in_err-write_rows.ensures.stopped (subst (λ r. result_err r ≡ Some Memory) given e));
     }
 
 pub returns : goal.returns
@@ -42,5 +46,6 @@ returns g c =
       next = c.next_event-outcome.ensures.next c.requires.unended;
       ahead = λ rule e. c.next_event-outcome.ensures.rows rule e c.requires.unended;
       written = written_of (λ k. g.O.Sink.written k) (λ k. g.O.Sink.faults k) None c.args.out.now c.write_rows.new.out c.args.filter.now c.machine.result.now c.args.sim.now.course.machine
-          c.rows.result.now new.rows (c.machine.ensures ∙ c.next_event-outcome.ensures.same.0) c.rows.ensures c.in_ok-write_rows.ensures;
+          c.rows.result.now new.rows (c.machine.ensures ∙ c.next_event-outcome.ensures.same.0) c.rows.ensures c.in_ok-write_rows.ensures.written;
+      stopped = λ e. absurd (cc e);
     }

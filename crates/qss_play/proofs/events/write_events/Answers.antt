@@ -1,4 +1,4 @@
-use Rattle.std.proofs.Common.{◌≡◌, refl, sym, ◌∙◌, subst, rules}
+use Rattle.std.proofs.Common.{◌≡◌, [], refl, sym, ◌∙◌, subst, rules}
 use Rattle.std.specs.Prelude.{None, Some, Err}
 use Rattle.std.specs.Result.{result_err}
 use Rattle.qss_quant.specs.Rules.{level_by}
@@ -7,9 +7,10 @@ use Rattle.qss_rows.specs.Lines.{HasVariable}
 use Rattle.qss_run.specs.declared.outcome.Outcome.TheVariants.{Events, Done, Over}
 use Rattle.qss_run.specs.Events.{rows_left}
 use Rattle.qss_play.specs.Ahead.{rows_ahead}
+use Rattle.qss_play.specs.declared.written.Stop.TheVariants.{Memory}
 use Rattle.qss_play.specs.Writings.{IsWriting}
-use Rattle.qss_play.proofs.Writing.{stops_early, lines_passed-append}
-use Rattle.qss_play.proofs.UnderWay.{all_front, known_of, written_of, begins, goes_on, fails, ends, ends_so, call_of, event_unended, event_later, event_end, done_left, done_end, over_left, over_end}
+use Rattle.qss_play.proofs.Writing.{stops_early, stops_sooner, lines_passed-append}
+use Rattle.qss_play.proofs.UnderWay.{all_front, known_of, written_of, stops_of, begins, goes_on, fails, halts, ends, ends_so, call_of, event_unended, event_later, event_end, done_left, done_end, over_left, over_end}
 use Rattle.qss_play.proofs.events.write_events.Goals as goal
 
 pub write_rows-requires : goal.write_rows-requires
@@ -25,7 +26,7 @@ returns-in_err-write_rows g c =
     let given : c.from_residual.result ≡ Err c.in_err-write_rows.field-0.0 = search rules in
     let now = c.args.sim.now.course in
     let first = written_of (λ k. g.O.Sink.written k) (λ k. g.O.Sink.faults k) (Some c.in_err-write_rows.field-0.0) c.args.out.now c.write_rows.new.out c.args.filter.now c.machine.result.now now.machine
-    c.rows.result.now now.rows c.machine.ensures c.rows.ensures c.in_err-write_rows.ensures in
+    c.rows.result.now now.rows c.machine.ensures c.rows.ensures c.in_err-write_rows.ensures.written in
     record {
       machine = refl;
       written = λ rule e.
@@ -34,6 +35,10 @@ returns-in_err-write_rows g c =
           (sym (lines_passed-append c.args.filter.now now.machine now.rows (rows_left (level_by rule) now)))
           (stops_early (λ k. g.O.Sink.written k) (λ k. g.O.Sink.faults k) c.in_err-write_rows.field-0.0 c.args.out.now c.write_rows.new.out
           (lines_passed c.args.filter.now now.machine now.rows) (lines_passed c.args.filter.now now.machine (rows_left (level_by rule) now)) first));
+      stopped = λ rule e f.
+          stops_sooner (λ k. g.O.Sink.written k) c.args.filter.now now.machine [] now.rows (rows_left (level_by rule) now) c.args.out.now c.write_rows.new.out
+          (stops_of (λ k. g.O.Sink.written k) c.args.out.now c.write_rows.new.out [] c.args.filter.now c.machine.result.now now.machine c.rows.result.now now.rows c.machine.ensures c.rows.ensures
+          (c.in_err-write_rows.ensures.stopped (subst (λ r. result_err r ≡ Some Memory) given f)));
       end = λ rule e. search rules;
     }
 
@@ -41,7 +46,7 @@ pub events-init : goal.events-init
 events-init g c =
     let now = c.args.sim.now.course in
     let first = written_of (λ k. g.O.Sink.written k) (λ k. g.O.Sink.faults k) None c.args.out.now c.write_rows.new.out c.args.filter.now c.machine.result.now now.machine
-    c.rows.result.now now.rows c.machine.ensures c.rows.ensures c.in_ok-write_rows.ensures in
+    c.rows.result.now now.rows c.machine.ensures c.rows.ensures c.in_ok-write_rows.ensures.written in
     record {
       machine = refl;
       named = refl;
@@ -77,6 +82,11 @@ returns-in_err-write_event g c =
           subst (λ r. IsWriting (λ k. g.O.Sink.written k) (λ k. g.O.Sink.faults k) (result_err r) c.args.out.now c.write_event.new.out (lines_passed c.args.filter.now first.machine (rows_ahead rule first))) (sym given)
           (fails (λ k. g.O.Sink.written k) (λ k. g.O.Sink.faults k) rule c.args.filter.now first c.args.out.now now new c.events.out (inv.under_way rule e) (c.in_err-write_event.ensures.ahead rule named)
           c.in_err-write_event.field-0.0 c.write_event.new.out piece);
+      stopped = λ rule e f.
+          halts (λ k. g.O.Sink.written k) (λ k. g.O.Sink.faults k) rule c.args.filter.now first c.args.out.now now new c.events.out (inv.under_way rule e) (c.in_err-write_event.ensures.ahead rule (inv.named ∙ e))
+          c.write_event.new.out
+          (stops_of (λ k. g.O.Sink.written k) c.events.out c.write_event.new.out [] c.args.filter.now now.machine first.machine new.rows new.rows inv.machine refl
+          (c.in_err-write_event.ensures.stopped (subst (λ r. result_err r ≡ Some Memory) given f)));
       end = λ rule e. search rules;
     }
 
@@ -125,6 +135,7 @@ returns-in-Done g c =
           let call = call_of c.events.sim.quantizer.name rule now new c.in_ok-write_event.field-0 Done named event.machine c.in-Done.is event.next in
           ends (λ k. g.O.Sink.written k) (λ k. g.O.Sink.faults k) rule c.args.filter.now first c.args.out.now now new c.events.out (inv.under_way rule e) (event.ahead rule named)
           c.write_event.new.out (done_left rule now new call) piece;
+      stopped = λ rule e f. absurd (cc f);
       end = λ rule e.
           let named = inv.named ∙ e in
           let call = call_of c.events.sim.quantizer.name rule now new c.in_ok-write_event.field-0 Done named event.machine c.in-Done.is event.next in
@@ -148,6 +159,7 @@ returns-in-Over g c =
           let call = call_of c.events.sim.quantizer.name rule now new c.in_ok-write_event.field-0 over named event.machine c.in-Over.is event.next in
           ends (λ k. g.O.Sink.written k) (λ k. g.O.Sink.faults k) rule c.args.filter.now first c.args.out.now now new c.events.out (inv.under_way rule e) (event.ahead rule named)
           c.write_event.new.out (over_left rule now new c.in-Over.tick c.in-Over.var call) piece;
+      stopped = λ rule e f. absurd (cc f);
       end = λ rule e.
           let named = inv.named ∙ e in
           let call = call_of c.events.sim.quantizer.name rule now new c.in_ok-write_event.field-0 over named event.machine c.in-Over.is event.next in

@@ -8,7 +8,7 @@ use Rattle.qss_play.proofs.playing.play.Goals as goal
 
 pub returns-in-Floor : goal.returns-in-Floor
 returns-in-Floor g c =
-    let played = c.play_by.ensures Floor c.new-quantizer.ensures in
+    let played = c.play_by.ensures Floor c.new-quantizer.ensures.name in
     record {
       end = subst (λ (r : Rule). EndsSo c.args.m (run_under r c.args.m) c.play_by.result) (sym c.in-Floor.is) played.end;
       whole = λ e. subst (λ (r : Rule). Appends (g.O.Sink.written c.args.out.now) (g.O.Sink.written c.play_by.new.out) (text_of c.args.only c.args.m (run_under r c.args.m))) (sym c.in-Floor.is) (played.whole e);
@@ -19,7 +19,7 @@ returns-in-Floor g c =
 
 pub returns-in-Near : goal.returns-in-Near
 returns-in-Near g c =
-    let played = c.play_by-in-Near.ensures Near c.new-quantizer-in-Near.ensures in
+    let played = c.play_by-in-Near.ensures Near c.new-quantizer-in-Near.ensures.name in
     record {
       end = subst (λ (r : Rule). EndsSo c.args.m (run_under r c.args.m) c.play_by-in-Near.result) (sym c.in-Near.is) played.end;
       whole = λ e. subst (λ (r : Rule). Appends (g.O.Sink.written c.args.out.now) (g.O.Sink.written c.play_by-in-Near.new.out) (text_of c.args.only c.args.m (run_under r c.args.m))) (sym c.in-Near.is) (played.whole e);
@@ -30,7 +30,7 @@ returns-in-Near g c =
 
 pub returns-in-Inward : goal.returns-in-Inward
 returns-in-Inward g c =
-    let played = c.play_by-in-Inward.ensures Inward c.new-quantizer-in-Inward.ensures in
+    let played = c.play_by-in-Inward.ensures Inward c.new-quantizer-in-Inward.ensures.name in
     record {
       end = subst (λ (r : Rule). EndsSo c.args.m (run_under r c.args.m) c.play_by-in-Inward.result) (sym c.in-Inward.is) played.end;
       whole = λ e. subst (λ (r : Rule). Appends (g.O.Sink.written c.args.out.now) (g.O.Sink.written c.play_by-in-Inward.new.out) (text_of c.args.only c.args.m (run_under r c.args.m))) (sym c.in-Inward.is) (played.whole e);

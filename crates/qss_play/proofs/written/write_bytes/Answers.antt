@@ -2,12 +2,12 @@ use Rattle.std.proofs.Common.{refl}
 use Rattle.qss_play.proofs.Writing.{writes_all}
 use Rattle.qss_play.proofs.written.write_bytes.Goals as goal
 
-pub returns-in-Ok : goal.returns-in-Ok
-returns-in-Ok g c =
+pub returns-in-Ok-clause-written : goal.returns-in-Ok-clause-written
+returns-in-Ok-clause-written g c =
     writes_all (λ k. g.O.Sink.written k) (λ k. g.O.Sink.faults k) c.args.out.now c.write_all.new.sink c.args.bytes.now c.in-Ok.ensures.whole c.in-Ok.ensures.calm
 
-pub returns-in-Err-Fault : goal.returns-in-Err-Fault
-returns-in-Err-Fault g c =
+pub returns-in-Err-Fault-clause-written : goal.returns-in-Err-Fault-clause-written
+returns-in-Err-Fault-clause-written g c =
     let last = c.in-Err-Fault.ensures.last in
     record {
       whole = λ e. absurd (cc e);
