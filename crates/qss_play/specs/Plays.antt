@@ -1,5 +1,5 @@
 -- The text of a run, and how it ends.
-use Rattle.std.specs.Prelude.{◌≡◌, ◌≢◌, ℕ, ◌+◌, Bool, true, false, List, ◌++◌, length, Option, Some, None}
+use Rattle.std.specs.Prelude.{◌≡◌, ◌≢◌, ◌⊎◌, ℕ, ◌+◌, Bool, true, false, List, ◌++◌, length, Option, Some, None}
 use Rattle.std.specs.Io.KnownBytes.{Appends}
 use Rattle.mu_io.specs.Sinks.{AppendsPrefix, EndsByFault}
 use Rattle.qss_machine.specs.Runs.{Run, run_by, run_rows}
@@ -10,6 +10,7 @@ use Rattle.qss_rows.specs.Filters.{lines_passed}
 use Rattle.qss_rows.specs.Lines.{header, name_of}
 use Rattle.qss_play.specs.declared.played.Played.{Played}
 use Rattle.qss_play.specs.declared.played.Played.TheVariants.{Ended, Overflowed, Fault, Memory}
+use Rattle.qss_play.specs.Writings.{StopsBefore}
 
 -- the run of a machine by a rule with a name
 abbrev pub run_under : Rule → Machine → Run
@@ -33,10 +34,16 @@ is_whole (Overflowed name tick) = true
 is_whole Fault = false
 is_whole Memory = false
 
+-- memory was not found: nothing was written, or whole lines up to that of a row that passes, or all, where a variable overflowed whose name was to be given
+abbrev pub IsShort : {K : Type 0} → (K → Option (List ℕ)) → Option (List ℕ) → Machine → Run → K → K → Type 0
+IsShort written only m run old new =
+    (new ≡ old) ⊎ (StopsBefore written header only m (run_rows m run) old new ⊎ (((var : ℕ) × (run.overflow ≡ Some var)) × Appends (written old) (written new) (text_of only m run)))
+
 -- a call played a run: how it ended, and what became of the sink
 pub record IsPlayed {K : Type 0} (written : K → Option (List ℕ)) (faults : K → ℕ) (m : Machine) (run : Run) (only : Option (List ℕ)) (result : Played) (old new : K) : Type 0 where
   pub end : EndsSo m run result
   pub whole : is_whole result ≡ true → Appends (written old) (written new) (text_of only m run)
   pub prefix : AppendsPrefix (written old) (written new) (text_of only m run)
+  pub short : result ≡ Memory → IsShort written only m run old new
   pub calm : result ≢ Fault → faults new ≡ faults old
   pub last : result ≡ Fault → EndsByFault written faults old new

@@ -9,7 +9,7 @@ ghost use Rattle.qss_quant.specs.declared.rule.Rule.{Rule};
 ghost use Rattle.qss_rows.specs.Filters.{lines_passed};
 ghost use Rattle.qss_rows.specs.Lines.{HasVariable, header as header_line};
 ghost use Rattle.qss_play.specs.Ahead.{first, rows_ahead, run_ahead, EndsFrom, IsEndOf};
-ghost use Rattle.qss_play.specs.Plays.{run_under, text_of, EndsSo, is_whole, IsPlayed};
+ghost use Rattle.qss_play.specs.Plays.{run_under, text_of, EndsSo, is_whole, IsShort, IsPlayed};
 ghost use Rattle.qss_play.specs.Writings.{IsWriting, StopsBefore};
 
 use crate::events::write_events;
@@ -39,6 +39,9 @@ pub fn play<O: Sink>(
     // Where the run ends or overflows, all its rows are written; otherwise a prefix of that text.
     ensures whole { is_whole result ≡ true → Appends (O.written out.old) (O.written out.new) (text_of only m (run_under rule m)) }
     ensures prefix { AppendsPrefix (O.written out.old) (O.written out.new) (text_of only m (run_under rule m)) }
+
+    // Where memory is not found, nothing is written, or whole lines with one still to come, or all up to an overflow.
+    ensures short { result ≡ Played.Memory → IsShort O.written only m (run_under rule m) out.old out.new }
 
     // Out fails only where that is told, and is not written to afterwards.
     ensures calm { result ≢ Played.Fault → O.faults out.new ≡ O.faults out.old }

@@ -3,7 +3,7 @@ use Rattle.std.specs.Io.KnownBytes.{Appends}
 use Rattle.mu_io.specs.Sinks.{AppendsPrefix}
 use Rattle.qss_quant.specs.declared.rule.Rule.{Rule}
 use Rattle.qss_quant.specs.declared.rule.Rule.TheVariants.{Floor, Near, Inward}
-use Rattle.qss_play.specs.Plays.{run_under, text_of, EndsSo}
+use Rattle.qss_play.specs.Plays.{run_under, text_of, EndsSo, IsShort}
 use Rattle.qss_play.proofs.playing.play.Goals as goal
 
 pub returns-in-Floor : goal.returns-in-Floor
@@ -13,6 +13,7 @@ returns-in-Floor g c =
       end = subst (λ (r : Rule). EndsSo c.args.m (run_under r c.args.m) c.play_by.result) (sym c.in-Floor.is) played.end;
       whole = λ e. subst (λ (r : Rule). Appends (g.O.Sink.written c.args.out.now) (g.O.Sink.written c.play_by.new.out) (text_of c.args.only c.args.m (run_under r c.args.m))) (sym c.in-Floor.is) (played.whole e);
       prefix = subst (λ (r : Rule). AppendsPrefix (g.O.Sink.written c.args.out.now) (g.O.Sink.written c.play_by.new.out) (text_of c.args.only c.args.m (run_under r c.args.m))) (sym c.in-Floor.is) played.prefix;
+      short = λ e. subst (λ (r : Rule). IsShort (λ k. g.O.Sink.written k) c.args.only c.args.m (run_under r c.args.m) c.args.out.now c.play_by.new.out) (sym c.in-Floor.is) (played.short e);
       calm = played.calm;
       last = played.last;
     }
@@ -24,6 +25,7 @@ returns-in-Near g c =
       end = subst (λ (r : Rule). EndsSo c.args.m (run_under r c.args.m) c.play_by-in-Near.result) (sym c.in-Near.is) played.end;
       whole = λ e. subst (λ (r : Rule). Appends (g.O.Sink.written c.args.out.now) (g.O.Sink.written c.play_by-in-Near.new.out) (text_of c.args.only c.args.m (run_under r c.args.m))) (sym c.in-Near.is) (played.whole e);
       prefix = subst (λ (r : Rule). AppendsPrefix (g.O.Sink.written c.args.out.now) (g.O.Sink.written c.play_by-in-Near.new.out) (text_of c.args.only c.args.m (run_under r c.args.m))) (sym c.in-Near.is) played.prefix;
+      short = λ e. subst (λ (r : Rule). IsShort (λ k. g.O.Sink.written k) c.args.only c.args.m (run_under r c.args.m) c.args.out.now c.play_by-in-Near.new.out) (sym c.in-Near.is) (played.short e);
       calm = played.calm;
       last = played.last;
     }
@@ -35,6 +37,7 @@ returns-in-Inward g c =
       end = subst (λ (r : Rule). EndsSo c.args.m (run_under r c.args.m) c.play_by-in-Inward.result) (sym c.in-Inward.is) played.end;
       whole = λ e. subst (λ (r : Rule). Appends (g.O.Sink.written c.args.out.now) (g.O.Sink.written c.play_by-in-Inward.new.out) (text_of c.args.only c.args.m (run_under r c.args.m))) (sym c.in-Inward.is) (played.whole e);
       prefix = subst (λ (r : Rule). AppendsPrefix (g.O.Sink.written c.args.out.now) (g.O.Sink.written c.play_by-in-Inward.new.out) (text_of c.args.only c.args.m (run_under r c.args.m))) (sym c.in-Inward.is) played.prefix;
+      short = λ e. subst (λ (r : Rule). IsShort (λ k. g.O.Sink.written k) c.args.only c.args.m (run_under r c.args.m) c.args.out.now c.play_by-in-Inward.new.out) (sym c.in-Inward.is) (played.short e);
       calm = played.calm;
       last = played.last;
     }

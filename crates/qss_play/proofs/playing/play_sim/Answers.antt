@@ -2,9 +2,10 @@ use Rattle.std.proofs.Common.{sym, ap, ◌∙◌, subst}
 use Rattle.std.specs.Prelude.{None, Some}
 use Rattle.qss_machine.specs.declared.system.Machine.{Machine}
 use Rattle.qss_run.specs.Standings.{Standing}
+use Rattle.qss_play.specs.declared.written.Stop.{Stop}
 use Rattle.qss_play.specs.Ahead.{IsEndOf}
 use Rattle.qss_play.specs.Plays.{EndsSo}
-use Rattle.qss_play.proofs.FromStart.{course_known, course_writing, course_end, variable_known, plays_all, plays_fault, plays_memory}
+use Rattle.qss_play.proofs.FromStart.{course_known, course_writing, course_short, course_end, variable_known, plays_all, plays_fault, plays_memory}
 use Rattle.qss_play.proofs.playing.play_sim.Goals as goal
 
 pub write_run-requires : goal.write_run-requires
@@ -31,6 +32,7 @@ returns-in-Ok g c rule e =
     plays_all (λ k. g.O.Sink.written k) (λ k. g.O.Sink.faults k) c.args.filter.now rule course.machine c.args.out.now c.write_run.new.out c.in-Ok.outcome c.ended.result
     (course_end rule course.machine course c.in-Ok.outcome c.requires.start (c.in-Ok.ensures.end rule e))
     (λ run h. subst (λ (m : Machine). EndsSo m run c.ended.result) machine (c.ended.ensures.end run h))
+    c.ended.ensures.done
     c.ended.ensures.no_fault
     (course_writing (λ k. g.O.Sink.written k) (λ k. g.O.Sink.faults k) None c.args.out.now c.write_run.new.out c.args.filter.now rule course.machine course c.requires.start (c.in-Ok.ensures.written rule e))
 
@@ -45,3 +47,5 @@ returns-in-Err-Memory g c rule e =
     let course = c.args.sim.now.course in
     plays_memory (λ k. g.O.Sink.written k) (λ k. g.O.Sink.faults k) c.args.filter.now rule course.machine c.args.out.now c.write_run.new.out c.in-Err-Memory.field-0 c.in-Err-Memory.field-0-is
     (course_writing (λ k. g.O.Sink.written k) (λ k. g.O.Sink.faults k) (Some c.in-Err-Memory.field-0) c.args.out.now c.write_run.new.out c.args.filter.now rule course.machine course c.requires.start (c.in-Err-Memory.ensures.written rule e))
+    (course_short (λ k. g.O.Sink.written k) c.args.out.now c.write_run.new.out c.args.filter.now rule course.machine course c.requires.start
+    (c.in-Err-Memory.ensures.stopped rule e (ap (λ (s : Stop). Some s) c.in-Err-Memory.field-0-is)))
