@@ -217,27 +217,3 @@ fn what_means_no_machine(rt: HostRuntime) -> Result<(), Fail> {
     }
     Ok(())
 }
-
-const CHAIN: &str =
-    "model rc\n  parameter Integer N = 1000;\n  parameter Real g = 10;\n  Real u[N](each start = 0) \"volts\";\nequation\n  der(u[1]) = g*(1 - 2*u[1] + u[2]);\n  for i in 2:N-1 loop\n    der(u[i]) = g*(u[i-1] - 2*u[i] + u[i+1]);\n  end for;\n  der(u[N]) = g*(u[N-1] - u[N]);\n  annotation(experiment(MMO_Solver = QSS2, StopTime = 1.0, Tolerance = {1e-3}));\nend rc;\n";
-
-// A chain of 1,000 cells; out has room for the start rows and two more.
-#[test]
-fn a_chain_begins_at_its_first_cell(rt: HostRuntime) -> Result<(), Fail> {
-    let alloc = rt.alloc();
-    let mut text = HEADER.as_bytes().to_vec(alloc)?;
-    for cell in 1..=1000u32 {
-        let row = format!(in alloc; "0,start,u[{}],0,0\n", cell)?;
-        text.extend_from_slice(row.as_bytes())?;
-    }
-    text.extend_from_slice(b"1,level,u[1],640,10995116277760\n2,level,u[1],1267,21775484190720\n")?;
-    let setting = Setting {
-        room: text.len(),
-        ..run_of(CHAIN)
-    };
-    let (got, out, err) = outcome(alloc, &setting)?;
-    assert_eq!(rt; got, Status::WriteFault);
-    assert_eq!(rt; out.bytes(), text.as_slice());
-    assert_eq!(rt; err.bytes(), b"write fault\n".as_slice());
-    Ok(())
-}
