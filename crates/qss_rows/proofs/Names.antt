@@ -1,5 +1,5 @@
 -- What follows the name that is kept in a name.
-use Rattle.std.proofs.Common.{◌≡◌, ◌≢◌, Bool, true, false, ◌||◌, ℕ, ◌<◌, List, [], ◌∷◌, ◌++◌, length, drop, refl, sym, ap, ◌∙◌, subst, append_assoc, append-nil, arith}
+use Rattle.std.proofs.Common.{◌≡◌, ◌≢◌, Bool, true, false, ◌||◌, ℕ, ◌<◌, List, [], ◌∷◌, ◌++◌, length, drop, refl, sym, ◌∙◌, subst, append_assoc, append-nil, arith}
 use Rattle.std.specs.List.{starts_with}
 use Rattle.std.specs.Prelude.{bytes_eq, codes, nat_eq, slice_index_or}
 use Rattle.std.proofs.lemmas.Bool.Decides.{Decides-eqb}

@@ -20,7 +20,7 @@ pub fn row_bytes(alloc: Global, r: &Row, m: &Machine) -> Result<Vec<u8>, AllocEr
     ensures { IfOk result (λ line. line.items ≡ Spec.line_of m.now r.now) }
 {
     let mut writer = new_writer(alloc);
-    add_row(alloc, &mut writer, r, m)?;
+    add_row(&mut writer, r, m)?;
     match writer.into_inner() {
         Ok(line) => Ok(line),
         Err(_) => Err(AllocError),

@@ -1,14 +1,18 @@
 //! The records of rows, as `csv` writes them.
 
-ghost use Rattle.std.specs.Prelude.{◌≡◌, ◌+◌, ◌<◌, [], ◌∷◌, IfOk, OnOk, map, string_bytes};
+ghost use Rattle.std.specs.Prelude.{◌≡◌, ◌+◌, ◌<◌, [], ◌∷◌, OnOk, map};
 ghost use Rattle.csv.specs.Writing.{default_writer, row_text};
 ghost use Rattle.qss_machine.specs.Machines.{state_count, discrete_count};
 ghost use Rattle.qss_rows.specs.Lines as Spec;
 ghost use Rattle.qss_rows.specs.Writers.{IsBetween, Gains, written_by};
 
 use csv::{Error, Writer, WriterBuilder};
+use itoa::{Buffer, write_digits};
 use qss_machine::{Machine, Row, RowKind};
 use std::alloc::{AllocError, Global};
+
+// The most bytes that the numbers of a clause and of its branch take, with a point between them.
+const FIRING_LENGTH: usize = 21;
 
 /// A writer into memory that has written nothing.
 pub(crate) fn new_writer(alloc: Global) -> Writer<Vec<u8>>
@@ -18,25 +22,34 @@ pub(crate) fn new_writer(alloc: Global) -> Writer<Vec<u8>>
     WriterBuilder::new().from_writer(Vec::new(alloc))
 }
 
+/// Puts a writer that has written nothing in the place of one. It is a function of its own so that a row
+/// does not pay for the room of a writer on the stack.
+#[cold]
+#[inline(never)]
+pub(crate) fn renew(alloc: Global, writer: &mut Writer<Vec<u8>>)
+    ensures between { IsBetween writer.new }
+    ensures empty { written_by writer.new ≡ [] }
+{
+    *writer = new_writer(alloc);
+}
+
 /// Adds the record of a row of a machine to what a writer has written.
-pub(crate) fn add_row(
-    alloc: Global,
-    writer: &mut Writer<Vec<u8>>,
-    r: &Row,
-    m: &Machine,
-) -> Result<(), AllocError>
+pub(crate) fn add_row(writer: &mut Writer<Vec<u8>>, r: &Row, m: &Machine) -> Result<(), AllocError>
     requires between { IsBetween writer.old }
     requires var { Spec.HasVariable m.now r.now }
     ensures { OnOk result (Gains writer.old writer.new (Spec.line_of m.now r.now)) }
 {
     let is_state = (r.var as usize) < m.states.as_slice().len();
-    match r.kind {
-        RowKind::When { clause, branch } => {
-            let name = firing_text(alloc, clause, branch)?;
-            add_named(alloc, writer, *r, name.as_bytes(), is_state)
-        }
-        _ => add_named(alloc, writer, *r, variable_name(m, r.var), is_state),
-    }
+    let mut firing = [0; FIRING_LENGTH];
+    let name = name_text(m, r, &mut firing);
+    add_fields(
+        writer,
+        Buffer::new().format(r.tick).as_bytes(),
+        word(r.kind),
+        name,
+        level_text(r.kind, r.level, &mut Buffer::new()),
+        state_text(is_state, r.kind, r.state, &mut Buffer::new()),
+    )
 }
 
 /// The name of a variable, by its number: the states come first, then the discrete variables.
@@ -53,39 +66,25 @@ pub fn variable_name(m: &Machine, var: u32) -> &[u8]
     }
 }
 
-// The numbers of a clause and of its branch, both counted from 1.
-fn firing_text(alloc: Global, clause: u32, branch: u32) -> Result<String, AllocError>
-    ensures { IfOk result (λ text. string_bytes text ≡ Spec.firing_field clause branch) }
+// The text of the name: that of the variable, or the numbers of a branch that fired.
+fn name_text<'a>(m: &'a Machine, r: &Row, firing: &'a mut [u8; FIRING_LENGTH]) -> &'a [u8]
+    requires { Spec.HasVariable m.now r.now }
+    ensures { result.now ≡ Spec.name_field m.now r.now.kind r.now.var }
 {
-    let mut text = (u64::from(clause) + 1).to_string(alloc)?;
-    let branch = (u64::from(branch) + 1).to_string(alloc)?;
-    text.push_str(".")?;
-    text.push_str(&branch)?;
-    Ok(text)
+    match r.kind {
+        RowKind::When { clause, branch } => firing_text(clause, branch, firing),
+        _ => variable_name(m, r.var),
+    }
 }
 
-// Adds the record of a row with this name.
-fn add_named(
-    alloc: Global,
-    writer: &mut Writer<Vec<u8>>,
-    row: Row,
-    name: &[u8],
-    is_state: bool,
-) -> Result<(), AllocError>
-    requires { IsBetween writer.old }
-    ensures { OnOk result (Gains writer.old writer.new (row_text default_writer (Spec.fields_with name.now is_state row))) }
+// The numbers of a clause and of its branch, both counted from 1, at the end of a buffer.
+fn firing_text(clause: u32, branch: u32, buffer: &mut [u8; FIRING_LENGTH]) -> &[u8]
+    ensures { result.now ≡ Spec.firing_field clause branch }
 {
-    let tick = row.tick.to_string(alloc)?;
-    let level = level_text(alloc, row.kind, row.level)?;
-    let state = state_text(alloc, is_state, row.kind, row.state)?;
-    add_fields(
-        writer,
-        tick.as_bytes(),
-        word(row.kind),
-        name,
-        level.as_bytes(),
-        state.as_bytes(),
-    )
+    let point = write_digits(u64::from(branch) + 1, buffer, FIRING_LENGTH) - 1;
+    buffer[point] = b'.';
+    let start = write_digits(u64::from(clause) + 1, buffer, point);
+    &buffer[start..]
 }
 
 // Adds the record of five fields.
@@ -117,28 +116,25 @@ fn add_record(writer: &mut Writer<Vec<u8>>, fields: &[&[u8]]) -> Result<(), Erro
 }
 
 // The text of the level or of the discrete value, where a row of this kind prints one.
-fn level_text(alloc: Global, kind: RowKind, level: i64) -> Result<String, AllocError>
-    ensures { IfOk result (λ text. string_bytes text ≡ Spec.level_field kind level) }
+fn level_text(kind: RowKind, level: i64, buffer: &mut Buffer) -> &[u8]
+    ensures { result.now ≡ Spec.level_field kind level }
 {
     match kind {
-        RowKind::Start | RowKind::Set | RowKind::Level | RowKind::End => level.to_string(alloc),
-        RowKind::When { .. } | RowKind::Reinit | RowKind::Overflow => Ok(String::new(alloc)),
+        RowKind::Start | RowKind::Set | RowKind::Level | RowKind::End => {
+            buffer.format(level).as_bytes()
+        }
+        RowKind::When { .. } | RowKind::Reinit | RowKind::Overflow => b"",
     }
 }
 
 // The text of the state, where a row of this kind prints one.
-fn state_text(
-    alloc: Global,
-    is_state: bool,
-    kind: RowKind,
-    state: i128,
-) -> Result<String, AllocError>
-    ensures { IfOk result (λ text. string_bytes text ≡ Spec.state_field is_state kind state) }
+fn state_text(is_state: bool, kind: RowKind, state: i128, buffer: &mut Buffer) -> &[u8]
+    ensures { result.now ≡ Spec.state_field is_state kind state }
 {
     match kind {
-        RowKind::Start | RowKind::End if is_state => state.to_string(alloc),
-        RowKind::Reinit | RowKind::Level => state.to_string(alloc),
-        _ => Ok(String::new(alloc)),
+        RowKind::Start | RowKind::End if is_state => buffer.format(state).as_bytes(),
+        RowKind::Reinit | RowKind::Level => buffer.format(state).as_bytes(),
+        _ => b"",
     }
 }
 

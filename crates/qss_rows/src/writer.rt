@@ -3,7 +3,7 @@
 ghost use Rattle.std.specs.Prelude.{◌≤◌, length};
 ghost use Rattle.qss_rows.specs.Writers.{IsBetween, written_by};
 
-use crate::record::{add_row, new_writer};
+use crate::record::{add_row, new_writer, renew};
 use csv::Writer;
 use qss_machine::{Machine, Row};
 use std::alloc::{AllocError, Global};
@@ -44,13 +44,13 @@ impl LineWriter {
         ensures err { OnErr result (line_in self.new ≡ []) }
     {
         if self.writer.get_ref().len() >= RENEWED {
-            self.writer = new_writer(self.alloc);
+            renew(self.alloc, &mut self.writer);
         }
         self.from = self.writer.get_ref().len();
-        match add_row(self.alloc, &mut self.writer, r, m) {
+        match add_row(&mut self.writer, r, m) {
             Ok(()) => Ok(()),
             Err(e) => {
-                self.writer = new_writer(self.alloc);
+                renew(self.alloc, &mut self.writer);
                 self.from = 0;
                 Err(e)
             }

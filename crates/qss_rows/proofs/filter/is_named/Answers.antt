@@ -2,7 +2,7 @@ use Rattle.std.proofs.Common.{arith, sym}
 use Rattle.std.specs.Prelude.{Some, None}
 use Rattle.std.proofs.lemmas.Bool.Decides.{Decides-eqb, nat_tests}
 use Rattle.std.proofs.lemmas.Slice.Eq.{strip_prefix_is}
-use Rattle.qss_rows.proofs.Names.{named_test, named_whole, named_never}
+use Rattle.qss_rows.proofs.Names.{named_test, named_never}
 use Rattle.qss_rows.proofs.filter.is_named.Goals as goal
 
 pub returns-else-is_empty : goal.returns-else-is_empty
