@@ -1,9 +1,12 @@
 -- Words and files define an answer.
-use Rattle.std.proofs.Common.{◌≡◌, ◌≤◌, ◌⊎◌, ℕ, List, [], ◌∷◌, refl, inl, inr, None, Some, arith}
+use Rattle.std.proofs.Common.{◌≡◌, ◌≤◌, ◌<◌, ◌+◌, ◌^◌, ◌⊎◌, ℕ, List, [], ◌∷◌, length, refl, inl, inr, None, Some, arith}
 use Rattle.std.specs.declared.option.Option.{Option}
 use Rattle.std.specs.Prelude.{IfSome}
+use Rattle.std.proofs.lemmas.List.{length-replicate}
+use Rattle.std.proofs.Math.ListN.{replicate}
 use Rattle.mu_io.specs.Files.{Files, file_of}
 use Rattle.mu_tree.specs.ModelTree.{ModelTree}
+use Rattle.qss_compile.specs.Meanings.{IsRefused, IsUnspelled}
 use Rattle.qss_machine.specs.declared.system.Machine.{Machine}
 use Rattle.cert_check.specs.Scope.{IsInScope, IsOutsideBy}
 use Rattle.cert_check.specs.declared.outside.Outside.{Outside}
@@ -13,11 +16,12 @@ use Rattle.cert_answer.specs.declared.ending.CertificateRefusal.TheVariants as c
 use Rattle.cert_answer.proofs.Sameness.{one_each}
 use Rattle.cert_answer.proofs.Scopes.{scope_of}
 use Rattle.qss_top.specs.Commands.{RunOptions, Command, run_model, print_model, certify_model, upgrade_model, command_of, files_of}
-use Rattle.qss_top.specs.Answers.{Answer, Told, refusal, printed, printed_text, usage, answered, absent, untold, IsSourceRefusal, IsTreeRefusal, IsSourceMachine, IsSourceTree, IsRunAnswer, IsPrintAnswer, uncertifying, certificate_answer, Says, ReadsThen, Finds, Reads, InScope, ByMachine, ReadsBoth, LeadsTo, Defines}
+use Rattle.qss_top.specs.Answers.{Answer, Told, Reply, refusal, printed, printed_text, usage, quiet, too_long, answered, absent, untold, IsSourceRefusal, IsTreeRefusal, IsSourceMachine, IsSourceTree, IsRunAnswer, IsPrintAnswer, uncertifying, certificate_answer, IsCertificateAnswer, Says, ReadsThen, Finds, Reads, InScope, ByMachine, ReadsCertificate, ReadsBoth, LeadsTo, Defines}
 use Rattle.qss_top.specs.Laws.{AnswersExist}
+use Rattle.qss_top.specs.TopCall.{Replies}
 use Rattle.qss_top.specs.declared.status.Status.TheVariants as ends
 use Rattle.qss_top.proofs.CommandShares.{HasShare, command_share}
-use Rattle.qss_top.proofs.Sources.{source_judged, tree_judged}
+use Rattle.qss_top.proofs.Sources.{source_judged, tree_judged, long_for, long_refusal}
 
 -- each source has an answer
 pub run_answer : (options : RunOptions) → options.share ≤ 2048 → (bytes : List ℕ) → (answer : Answer) × IsRunAnswer options bytes answer
@@ -98,3 +102,63 @@ all_told (Some command) few (Some files) = command_told command few files
 
 pub answers_exist : AnswersExist
 answers_exist words files = all_told (command_of words) (command_share words) files
+
+-- ---- files that are not told
+
+-- an answer may be replied
+abbrev pub MayReply : (Told → Type 0) → Type 0
+MayReply Leads = (told : Told) × (answer : Answer) × Leads told × (told.reply ≡ answered answer)
+
+pub says_reply : (Is : Answer → Type 0) → (answer : Answer) × Is answer → MayReply (Says Is)
+says_reply Is such = (record { arrivals = []; reply = answered such.0 }, such.0, (such.0, such.1, refl), refl)
+
+-- to bytes that may be read
+bytes_reply : (name : List ℕ) (Leads : List ℕ → Told → Type 0) (bytes : List ℕ) → MayReply (Leads bytes) → MayReply (Reads None name Leads)
+bytes_reply name Leads bytes later = (record { arrivals = name ∷ later.0.arrivals; reply = later.0.reply }, later.1, (Some bytes, refl, (later.0, later.2, refl)), later.3)
+
+pub reads_reply : (name : List ℕ) (Leads : List ℕ → Told → Type 0) → ((bytes : List ℕ) → MayReply (Leads bytes)) → MayReply (Reads None name Leads)
+reads_reply name Leads some = bytes_reply name Leads [] (some [])
+
+pub certificate_reply : (share : ℕ) → share ≤ 2048 → (bytes certificate : List ℕ) (Is : Machine → List ℕ → Certificates.Answer → Type 0) → ((m : Machine) (text : List ℕ) → (such : Certificates.Answer) × Is m text such)
+    → MayReply (ByMachine share bytes (λ m. ReadsCertificate certificate Is m None))
+certificate_reply share few bytes certificate Is some = by (source_judged share few bytes)
+  where
+    read : (m : Machine) (text : List ℕ) → MayReply (Says (IsCertificateAnswer (Is m text)))
+    read m text = let such = some m text in says_reply (IsCertificateAnswer (Is m text)) (certificate_answer such.0, (such.0, such.1, refl))
+
+    scope : (m : Machine) → ((why : Outside) × IsOutsideBy m why) ⊎ IsInScope m → MayReply (ReadsCertificate certificate Is m None)
+    scope m (inl out) = let a = uncertifying (certs.Outside out.0) in (record { arrivals = []; reply = answered a }, a, inl (out.0, out.1, (a, refl, refl)), refl)
+    scope m (inr inside) = let p = reads_reply certificate (λ text. Says (IsCertificateAnswer (Is m text))) (read m) in (p.0, p.1, inr (inside, p.2), p.3)
+
+    by : ((a : Answer) × IsSourceRefusal bytes a) ⊎ ((m : Machine) × IsSourceMachine share bytes m) → MayReply (ByMachine share bytes (λ m. ReadsCertificate certificate Is m None))
+    by (inl fails) = (record { arrivals = []; reply = answered fails.0 }, fails.0, inl (fails.0, fails.1, refl), refl)
+    by (inr found) = let p = scope found.0 (scope_of found.0) in (p.0, p.1, inr (found.0, found.1, p.2), p.3)
+
+-- there are bytes of each length
+pub bytes_of : (n : ℕ) → (bytes : List ℕ) × (length bytes ≡ n)
+bytes_of n = (replicate n 32, length-replicate n 32)
+
+pub longer : (n : ℕ) (bytes : List ℕ) → length bytes ≡ n + 1 → n < length bytes
+longer n bytes e = omega arith
+
+-- each command may be answered: its model may be too long
+refuses_long : (command : Command) (bytes : List ℕ) → 2 ^ 20 < length bytes → MayReply (LeadsTo command None)
+refuses_long (run_model model options) bytes long =
+    bytes_reply model (λ bytes. Says (IsRunAnswer options bytes)) bytes (says_reply (IsRunAnswer options bytes) (refusal ends.ModelRefused too_long, inl (long_for IsRefused bytes long)))
+refuses_long (print_model model) bytes long =
+    bytes_reply model (λ bytes. Says (IsPrintAnswer bytes)) bytes (says_reply (IsPrintAnswer bytes) (refusal ends.ModelRefused too_long, inl (long_for IsUnspelled bytes long)))
+refuses_long (certify_model model certificate share) bytes long =
+    let p = says_reply (IsSourceRefusal bytes) (refusal ends.ModelRefused too_long, long_refusal bytes long) in
+    bytes_reply model (λ bytes. ByMachine share bytes (λ m. ReadsCertificate certificate IsCertification m None)) bytes (p.0, p.1, inl p.2, p.3)
+refuses_long (upgrade_model model certificate) bytes long =
+    let p = says_reply (IsSourceRefusal bytes) (refusal ends.ModelRefused too_long, long_refusal bytes long) in
+    bytes_reply model (λ bytes. ByMachine 0 bytes (λ m. ReadsCertificate certificate IsUpgrade m None)) bytes (p.0, p.1, inl p.2, p.3)
+
+-- what holds of each answer is so of each reply
+pub replies_all : (Is : Answer → Type 0) → ((answer : Answer) → Is answer) → (reply : Reply) → Replies Is reply
+replies_all Is all (answered answer) = all answer
+replies_all Is all absent = all (refusal ends.ReadFault quiet)
+replies_all Is all (untold command) =
+    let long = bytes_of (2 ^ 20 + 1) in
+    let p = refuses_long command long.0 (longer (2 ^ 20) long.0 long.1) in
+    (p.0, p.1, p.2, p.3, all p.1)

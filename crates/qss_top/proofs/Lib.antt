@@ -9,3 +9,4 @@ pub mod Tellings
 pub mod TopFacts
 pub mod TwoFiles
 pub mod Certified
+pub mod WordLaws

@@ -1,23 +1,91 @@
 -- The outcomes of running a machine.
-use Rattle.std.proofs.Common.{◌≡◌, ℕ, List, [], refl, subst}
+use Rattle.std.proofs.Common.{◌≡◌, false, ℕ, List, [], ◌∷◌, ◌++◌, refl, sym, ap, ◌∙◌, subst, append_assoc, append-nil, inl, inr}
 use Rattle.std.specs.declared.option.Option.{Option}
+use Rattle.std.specs.Prelude.{codes, true, filter}
 use Rattle.std.proofs.KnownBytes.{Appends-nil}
 use Rattle.std.specs.Io.KnownBytes.{Appends}
+use Rattle.csv.specs.Writing.{default_writer, row_text, row_body, end_text}
 use Rattle.mu_io.specs.Sinks.{AppendsPrefix}
+use Rattle.qss_machine.specs.declared.rows.Row.{Row}
 use Rattle.qss_machine.specs.declared.system.Machine.{Machine}
-use Rattle.qss_play.specs.Plays.{run_under, text_of, EndsSo}
+use Rattle.qss_play.specs.Plays.{run_under, text_of, EndsSo, IsShort}
 use Rattle.qss_play.specs.declared.played.Played.TheVariants as played
-use Rattle.qss_top.specs.Answers.{printed}
+use Rattle.qss_play.proofs.Writing.{lines_passed-append, lines_passed-true}
+use Rattle.qss_rows.specs.Filters.{passes, lines_passed}
+use Rattle.qss_rows.specs.Lines.{header, fields_of, line_of, lines_of}
+use Rattle.qss_top.specs.Answers.{Answer, printed}
 use Rattle.qss_top.specs.Commands.{RunOptions}
-use Rattle.qss_top.specs.Outcomes.{IsOutcome}
+use Rattle.qss_top.specs.Outcomes.{IsOutcome, status_of}
+use Rattle.qss_top.specs.Statuses.{is_defined}
+use Rattle.qss_top.specs.TopCall.{IsCutShort}
+use Rattle.qss_top.specs.declared.outcome.Outcome.{Outcome}
 use Rattle.qss_top.specs.declared.outcome.Outcome.TheVariants as outcome
 
 pub no_prefix : (old : Option (List ℕ)) (xs : List ℕ) → AppendsPrefix old old xs
 no_prefix old xs = record { front = []; rest = xs; parts = refl; appended = Appends-nil old }
 
+-- nothing was written, and nothing is told of the answer
+pub nothing_outcome : (a : Answer) (what : Outcome) (old : Option (List ℕ)) (before : ℕ) → is_defined (status_of what) ≡ false → IsOutcome a what old old before before
+nothing_outcome a what old before e = record { defined = λ d. absurd (cc (e, d)); prefix = no_prefix old a.out; short = λ d. inl (Appends-nil old); quiet = λ e. refl }
+
 -- nothing was written of a run, since memory was wanting
 pub not_begun : (options : RunOptions) (m : Machine) (old : Option (List ℕ)) (before : ℕ) → IsOutcome (printed options m) outcome.Memory old old before before
-not_begun options m old before = record { defined = λ e. absurd (cc e); prefix = no_prefix old (printed options m).out; quiet = λ e. refl }
+not_begun options m old before = nothing_outcome (printed options m) outcome.Memory old before refl
+
+-- ---- lines
+
+pub append_none : (xs ys : List ℕ) → xs ++ ys ≡ [] → (xs ≡ []) × (ys ≡ [])
+append_none [] ys e = (refl, e)
+append_none (x ∷ xs) ys e = absurd (cc)
+
+-- a record has a text
+pub row_none : (fields : List (List ℕ)) → row_text default_writer fields ≡ [] → ⊥
+row_none fields e =
+    let tail = (append_none (row_body default_writer fields) _ e).1 in
+    let end = (append_none _ (end_text default_writer.terminator) tail).1 in
+    cc
+
+-- the bytes end a line
+abbrev EndsLine : List ℕ → Type 0
+EndsLine bytes = (front : List ℕ) × (bytes ≡ front ++ codes "\n")
+
+line_ends : (head body blank : List ℕ) → EndsLine (head ++ (body ++ (blank ++ codes "\n")))
+line_ends head body blank =
+    (head ++ (body ++ blank), sym (append_assoc head (body ++ blank) (codes "\n") ∙ ap (λ (l : List ℕ). head ++ l) (append_assoc body blank (codes "\n"))))
+
+lines_end : (m : Machine) (head : List ℕ) → EndsLine head → (rows : List Row) → EndsLine (head ++ lines_of m rows)
+lines_end m head ended [] = subst EndsLine (sym (append-nil head)) ended
+lines_end m head ended (row ∷ rows) =
+    subst EndsLine (append_assoc head (line_of m row) (lines_of m rows)) (lines_end m (head ++ line_of m row) (line_ends head (row_body default_writer (fields_of m row)) _) rows)
+
+-- a row that passes has a line
+passed_some : (only : Option (List ℕ)) (m : Machine) (row : Row) (rows : List Row) → passes only m row ≡ true → lines_passed only m (row ∷ rows) ≡ [] → ⊥
+passed_some only m row rows passed e =
+    let first = (append_none (lines_passed only m (row ∷ [])) (lines_passed only m rows) (sym (lines_passed-append only m (row ∷ []) rows) ∙ e)).0 in
+    row_none (fields_of m row) (sym (lines_passed-true only m row passed) ∙ first)
+
+-- a run that stopped for want of memory is cut short
+module _ {K : Type 0} (written : K → Option (List ℕ)) (options : RunOptions) (m : Machine) (old new : K) where
+  abbrev by_name : Option (List ℕ) → Answer
+  by_name only = printed (record { rule = options.rule; only = only; share = options.share }) m
+
+  cut_by : (only : Option (List ℕ)) → IsShort written only m (run_under options.rule m) old new → IsCutShort (written old) (written new) (by_name only)
+  cut_by only (inl same) = inl (subst (λ (k : K). Appends (written old) (written k) []) (sym same) (Appends-nil (written old)))
+  cut_by only (inr (inl s)) = inr (inl (record {
+    lines = header ++ lines_passed only m s.front;
+    rest = lines_passed only m (s.row ∷ s.rest);
+    parts = append_assoc header (lines_passed only m s.front) (lines_passed only m (s.row ∷ s.rest))
+        ∙ ap (λ (l : List ℕ). header ++ l) (sym (lines_passed-append only m s.front (s.row ∷ s.rest)) ∙ ap (lines_passed only m) s.parts);
+    ended = lines_end m header (codes "tick,event,name,level,state", refl) (filter (passes only m) s.front);
+    more = passed_some only m s.row s.rest s.passed;
+    appended = s.appended;
+  }))
+  cut_by only (inr (inr (over, all))) = inr (inr (rw (over.1) refl, all))
+
+  pub run_cut : (only : Option (List ℕ)) → only ≡ options.only → IsShort written only m (run_under options.rule m) old new → IsCutShort (written old) (written new) (printed options m)
+  run_cut only same short = subst (λ (o : Option (List ℕ)). IsCutShort (written old) (written new) (by_name o)) same (cut_by only short)
+
+-- ---- outcomes
 
 -- the name of a filter is the one that is said
 module _ (options : RunOptions) (m : Machine) (only : Option (List ℕ)) (same : only ≡ options.only) (old now : Option (List ℕ)) (before later : ℕ)
@@ -27,10 +95,10 @@ module _ (options : RunOptions) (m : Machine) (only : Option (List ℕ)) (same :
 
   -- out gained a part of the text, and then a write failed or memory was wanting
   pub cut_short : IsOutcome (printed options m) outcome.WriteFault old now before later
-  cut_short = record { defined = λ e. absurd (cc e); prefix = prefix; quiet = λ e. absurd (cc e) }
+  cut_short = record { defined = λ e. absurd (cc e); prefix = prefix; short = λ e. absurd (cc e); quiet = λ e. absurd (cc e) }
 
-  pub out_of_memory : IsOutcome (printed options m) outcome.Memory old now before later
-  out_of_memory = record { defined = λ e. absurd (cc e); prefix = prefix; quiet = λ e. absurd (cc e) }
+  pub out_of_memory : IsCutShort old now (printed options m) → IsOutcome (printed options m) outcome.Memory old now before later
+  out_of_memory cut = record { defined = λ e. absurd (cc e); prefix = prefix; short = λ e. cut; quiet = λ e. absurd (cc e) }
 
   -- out gained the whole text
   module _ (all : Appends old now (text_of only m (run_under options.rule m))) where
@@ -38,11 +106,12 @@ module _ (options : RunOptions) (m : Machine) (only : Option (List ℕ)) (same :
     whole = subst (λ (o : Option (List ℕ)). Appends old now (text_of o m (run_under options.rule m))) same all
 
     pub run_done : EndsSo m (run_under options.rule m) played.Ended → IsOutcome (printed options m) outcome.Done old now before later
-    run_done end = record { defined = λ e. (rw end refl, rw end refl, whole); prefix = prefix; quiet = λ e. absurd (cc e) }
+    run_done end = record { defined = λ e. (rw end refl, rw end refl, whole); prefix = prefix; short = λ e. absurd (cc e); quiet = λ e. absurd (cc e) }
 
     pub run_over : (name : List ℕ) (tick : ℕ) → EndsSo m (run_under options.rule m) (played.Overflowed name tick) → IsOutcome (printed options m) (outcome.Overflow name tick) old now before later
     run_over name tick end = record {
       defined = λ e. (rw (end.1) refl, rw (end.1, end.2, end.3) refl, whole);
       prefix = prefix;
+      short = λ e. absurd (cc e);
       quiet = λ e. absurd (cc e);
     }

@@ -2,6 +2,7 @@
 use Rattle.std.proofs.Common.{◌≡◌, ◌≢◌, ◌⊎◌, ◌<◌, Bool, true, false, zero, suc, ℕ, List, [], ◌∷◌, length, refl, sym, ap, ◌∙◌, subst, arith, inl, inr, None, Some}
 use Rattle.std.specs.declared.option.Option.{Option}
 use Rattle.std.specs.Prelude.{IfSome, IsSomeAnd, Contains, bytes_eq}
+use Rattle.std.proofs.KnownBytes.{Appends-nil}
 use Rattle.std.proofs.lemmas.Slice.Eq.{bytes_eq-Decides}
 use Rattle.mu_io.specs.Faults.{Rose, OnlyCounts}
 use Rattle.mu_io.specs.Files.{Files, file_of}
@@ -10,12 +11,13 @@ use Rattle.qss_top.specs.Answers.{Answer, Told, Reply, answered, absent, untold,
 use Rattle.qss_top.specs.Commands.{Command, files_of}
 use Rattle.qss_top.specs.Outcomes.{IsOutcome, Meets, Serves, status_of}
 use Rattle.qss_top.specs.Statuses.{is_defined}
-use Rattle.qss_top.specs.TopCall.{IsReplied, text_of, SomeRose}
+use Rattle.qss_top.specs.TopCall.{IsReplied, Replies, IsCutShort, SomeRose}
 use Rattle.qss_top.specs.declared.outcome.Outcome.{Outcome}
 use Rattle.qss_top.specs.declared.outcome.Outcome.TheVariants as outcome
 use Rattle.qss_top.specs.declared.status.Status.{Status}
 use Rattle.qss_top.specs.declared.status.Status.TheVariants as ends
-use Rattle.qss_top.proofs.OutcomeFacts.{no_prefix}
+use Rattle.qss_top.proofs.Existence.{MayReply, reads_reply, replies_all}
+use Rattle.qss_top.proofs.OutcomeFacts.{no_prefix, nothing_outcome}
 
 some_text : (out : List ℕ) → Some out ≡ Some [] → out ≡ []
 some_text out e = cc
@@ -46,15 +48,23 @@ rose_earlier names before mid now same rose = (rose.0, rose.1, subst (λ (n : �
 rose_among : (name : List ℕ) (names : List (List ℕ)) (before now : List ℕ → ℕ) → SomeRose names before now → SomeRose (name ∷ names) before now
 rose_among name names before now rose = (rose.0, later_of name rose.0 names rose.1, rose.2)
 
+-- nothing is written
+pub unwritten : (reply : Reply) (old : Option (List ℕ)) → Replies (λ answer. AppendsPrefix old old answer.out) reply
+unwritten reply old = replies_all (λ answer. AppendsPrefix old old answer.out) (λ answer. no_prefix old answer.out) reply
+
+pub uncut : (reply : Reply) (old : Option (List ℕ)) → Replies (IsCutShort old old) reply
+uncut reply old = replies_all (IsCutShort old old) (λ answer. inl (Appends-nil old)) reply
+
 -- ---- a whole command
 
 told_meets : (command : Command) (files : Option Files) (what : Outcome) (old new : Option (List ℕ)) (out_before out_now : ℕ) (before now : List ℕ → ℕ)
     → Serves files (files_of command) (LeadsTo command) what old new out_before out_now before now → (told : Told) → LeadsFrom command files told → Meets told what old new out_before out_now before now
 told_meets command None what old new out_before out_now before now h told leads =
     subst (λ (t : Told). Meets t what old new out_before out_now before now) (sym leads) (record {
-      replied = λ e. let p = h.some e in let d = p.4.defined e in (p.0, p.1, p.2, p.3, (d.0, d.2));
-      line = λ e. let p = h.some e in let d = p.4.defined e in (p.0, p.1, p.2, p.3, (d.0, d.2, d.1));
-      prefix = tt;
+      replied = λ e. let p = h.some in let d = p.4.defined e in (p.0, p.1, p.2, p.3, (d.0, d.2));
+      line = λ e. let p = h.some in let d = p.4.defined e in (p.0, p.1, p.2, p.3, (d.0, d.2, d.1));
+      prefix = let p = h.some in (p.0, p.1, p.2, p.3, p.4.prefix);
+      short = λ e. let p = h.some in (p.0, p.1, p.2, p.3, p.4.short e);
       quiet = λ e. absurd (cc e);
       read_fault = h.read_fault;
       others = h.others;
@@ -73,7 +83,7 @@ pub says_served : (files : Option Files) (Is : Answer → Type 0) (what : Outcom
     → ((a : Answer) → Is a → IsOutcome a what old new out_before out_now) → (a : Answer) × Is a → what ≢ outcome.ReadFault → Serves files [] (λ fs. Says Is) what old new out_before out_now before before
 says_served files Is what old new out_before out_now before h a not_read = record {
   known = λ fs e told leads. subst (λ (t : Told). Meets t what old new out_before out_now before before) (sym leads.2) (meets leads.0 (h leads.0 leads.1));
-  some = λ d. (record { arrivals = []; reply = answered a.0 }, a.0, (a.0, a.1, refl), refl, h a.0 a.1);
+  some = (record { arrivals = []; reply = answered a.0 }, a.0, (a.0, a.1, refl), refl, h a.0 a.1);
   read_fault = λ e. absurd (not_read e);
   others = λ name apart. refl;
 }
@@ -83,6 +93,7 @@ says_served files Is what old new out_before out_now before h a not_read = recor
       replied = λ e. let d = is.defined e in (d.0, d.2);
       line = λ e. (is.defined e).1;
       prefix = is.prefix;
+      short = is.short;
       quiet = λ e. is.quiet (some_text b.out e);
       read_fault = λ e. absurd (not_read e);
       others = λ name apart. refl;
@@ -104,7 +115,7 @@ module _ (name : List ℕ) (names : List (List ℕ)) (Leads : List ℕ → Optio
       → Serves files names (Leads bytes) what old new out_before out_now mid now → Serves files (name ∷ names) ReadsName what old new out_before out_now before now
   read_served bytes what old new out_before out_now before mid now counts calm told h = record {
     known = λ fs e t leads. by fs e t leads.0 leads.1 leads.2;
-    some = λ d. let p = h.some d in (behind p.0, p.1, (Some bytes, refl, (p.0, p.2, refl)), p.3, p.4);
+    some = let p = h.some in (behind p.0, p.1, (Some bytes, refl, (p.0, p.2, refl)), p.3, p.4);
     read_fault = λ e. rose_among name names before now (rose_earlier names before mid now same (h.read_fault e));
     others = λ other apart. h.others other (λ c. apart (later_of name other names c)) ∙ same other;
   }
@@ -120,6 +131,7 @@ module _ (name : List ℕ) (names : List (List ℕ)) (Leads : List ℕ → Optio
         replied = is.replied;
         line = is.line;
         prefix = is.prefix;
+        short = is.short;
         quiet = is.quiet;
         read_fault = λ e. rose_among name later.arrivals before now (rose_earlier later.arrivals before mid now same (is.read_fault e));
         others = λ other apart. is.others other (λ c. apart (later_of name other later.arrivals c)) ∙ same other;
@@ -143,34 +155,32 @@ module _ (name : List ℕ) (names : List (List ℕ)) (Leads : List ℕ → Optio
   untelling absent status old e is = is
   untelling (untold command) status old e is = λ d. absurd (cc (e, d))
 
-  unwritten : (reply : Reply) (old : Option (List ℕ)) → IfSome (text_of reply) (λ text. AppendsPrefix old old text)
-  unwritten (answered answer) old = no_prefix old answer.out
-  unwritten absent old = no_prefix old []
-  unwritten (untold command) old = tt
-
   -- the file was not read
   stopped : (what : Outcome) (old : Option (List ℕ)) (out_before : ℕ) (before now : List ℕ → ℕ) → OnlyCounts name before now → is_defined (status_of what) ≡ false
-      → (status_of what ≡ ends.ReadFault) ⊎ (status_of what ≡ ends.Memory) → (what ≡ outcome.ReadFault → Rose (before name) (now name)) → Serves files (name ∷ names) ReadsName what old old out_before out_before before now
-  stopped what old out_before before now counts silent is rose = record {
+      → (status_of what ≡ ends.ReadFault) ⊎ (status_of what ≡ ends.Memory) → (what ≡ outcome.ReadFault → Rose (before name) (now name)) → ((bytes : List ℕ) → MayReply (Leads bytes None))
+      → Serves files (name ∷ names) ReadsName what old old out_before out_before before now
+  stopped what old out_before before now counts silent is rose some = record {
     known = λ fs e t leads. let here = arrived t (λ bytes. Leads bytes (Some fs)) leads.0 leads.2 in record {
       replied = untelling t.reply (status_of what) old silent is;
       line = λ d. absurd (cc (silent, d));
       prefix = unwritten t.reply old;
+      short = λ d. uncut t.reply old;
       quiet = λ d. refl;
       read_fault = λ d. (name, here, rose d);
       others = λ other apart. counts.others other (λ same. apart (subst (λ (n : List ℕ). Contains t.arrivals n) (sym same) here));
     };
-    some = λ d. absurd (cc (silent, d));
+    some = let p = reads_reply name (λ bytes. Leads bytes None) some in (p.0, p.1, p.2, p.3, nothing_outcome p.1 what old out_before silent);
     read_fault = λ d. (name, first_of name names, rose d);
     others = λ other apart. apart_first name other names before now counts apart;
   }
 
-  pub fault_served : (old : Option (List ℕ)) (out_before : ℕ) (before now : List ℕ → ℕ) → OnlyCounts name before now → Rose (before name) (now name)
+  pub fault_served : (old : Option (List ℕ)) (out_before : ℕ) (before now : List ℕ → ℕ) → OnlyCounts name before now → Rose (before name) (now name) → ((bytes : List ℕ) → MayReply (Leads bytes None))
       → Serves files (name ∷ names) ReadsName outcome.ReadFault old old out_before out_before before now
-  fault_served old out_before before now counts rose = stopped outcome.ReadFault old out_before before now counts refl (inl refl) (λ e. rose)
+  fault_served old out_before before now counts rose some = stopped outcome.ReadFault old out_before before now counts refl (inl refl) (λ e. rose) some
 
-  pub memory_served : (old : Option (List ℕ)) (out_before : ℕ) (before now : List ℕ → ℕ) → OnlyCounts name before now → Serves files (name ∷ names) ReadsName outcome.Memory old old out_before out_before before now
-  memory_served old out_before before now counts = stopped outcome.Memory old out_before before now counts refl (inr refl) (λ e. absurd (cc e))
+  pub memory_served : (old : Option (List ℕ)) (out_before : ℕ) (before now : List ℕ → ℕ) → OnlyCounts name before now → ((bytes : List ℕ) → MayReply (Leads bytes None))
+      → Serves files (name ∷ names) ReadsName outcome.Memory old old out_before out_before before now
+  memory_served old out_before before now counts some = stopped outcome.Memory old out_before before now counts refl (inr refl) (λ e. absurd (cc e)) some
 
   -- the file is too long: all that long bytes lead to is this answer
   pub long_served : (limit : ℕ) (a : Answer) (what : Outcome) (old : Option (List ℕ)) (out_before : ℕ) (before now : List ℕ → ℕ) → OnlyCounts name before now → now name ≡ before name
@@ -180,7 +190,7 @@ module _ (name : List ℕ) (names : List (List ℕ)) (Leads : List ℕ → Optio
       → IsOutcome a what old old out_before out_before → what ≢ outcome.ReadFault → Serves files (name ∷ names) ReadsName what old old out_before out_before before now
   long_served limit a what old out_before before now counts calm told only all long is not_read = record {
     known = λ fs e t leads. by fs e t leads.0 leads.1 leads.2;
-    some = λ d. (record { arrivals = name ∷ []; reply = answered a }, a, (Some long.0, refl, (record { arrivals = []; reply = answered a }, all long.0 long.1, refl)), refl, is);
+    some = (record { arrivals = name ∷ []; reply = answered a }, a, (Some long.0, refl, (record { arrivals = []; reply = answered a }, all long.0 long.1, refl)), refl, is);
     read_fault = λ d. absurd (not_read d);
     others = λ other apart. same other;
   }
@@ -196,6 +206,7 @@ module _ (name : List ℕ) (names : List (List ℕ)) (Leads : List ℕ → Optio
         replied = λ d. let p = is.defined d in (p.0, p.2);
         line = λ d. (is.defined d).1;
         prefix = is.prefix;
+        short = is.short;
         quiet = λ d. refl;
         read_fault = λ d. absurd (not_read d);
         others = λ other apart. same other;

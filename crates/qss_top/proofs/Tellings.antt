@@ -1,10 +1,8 @@
 -- What became of a command meets what is told.
-use Rattle.std.proofs.Common.{◌≡◌, ◌≢◌, ◌+◌, ◌<◌, ◌≤◌, ◌^◌, false, ℕ, List, [], ◌∷◌, length, refl, sym, ap, ◌∙◌, subst, arith, inl, inr, Some}
+use Rattle.std.proofs.Common.{◌≡◌, ◌≢◌, ◌+◌, ◌<◌, ◌≤◌, ◌^◌, ℕ, List, [], ◌∷◌, length, refl, sym, ap, ◌∙◌, subst, inl, inr, Some}
 use Rattle.std.specs.declared.option.Option.{Option}
 use Rattle.std.specs.Prelude.{IfSome, IsSomeAnd}
 use Rattle.std.proofs.KnownBytes.{Appends-nil}
-use Rattle.std.proofs.lemmas.List.{length-replicate}
-use Rattle.std.proofs.Math.ListN.{replicate}
 use Rattle.mu_io.specs.Faults.{Rose, OnlyCounts}
 use Rattle.mu_io.specs.Files.{Files, file_of}
 use Rattle.mu_tree.specs.ModelTree.{ModelTree}
@@ -17,23 +15,18 @@ use Rattle.qss_top.specs.Words.{command_with, options_in, IsTaskAnswer}
 use Rattle.qss_top.specs.declared.command.Task.{Task}
 use Rattle.qss_top.specs.declared.command.Task.TheVariants as tasks
 use Rattle.qss_top.specs.Outcomes.{IsOutcome, Meets, Serves, IsRefusedFor, status_of, line_text}
-use Rattle.qss_top.specs.Statuses.{is_defined}
 use Rattle.qss_top.specs.declared.outcome.Outcome.{Outcome}
 use Rattle.qss_top.specs.declared.outcome.Outcome.TheVariants as outcome
 use Rattle.qss_top.specs.declared.status.Status.TheVariants as ends
-use Rattle.qss_top.proofs.Existence.{run_answer, print_answer}
+use Rattle.qss_top.proofs.Existence.{MayReply, says_reply, run_answer, print_answer, bytes_of, longer}
 use Rattle.qss_top.proofs.Sameness.{one_run, one_print}
 use Rattle.qss_top.proofs.Serving.{says_served, read_served, fault_served, memory_served, long_served}
 use Rattle.qss_top.proofs.Sources.{one_refusal, long_for, short_for, source_fine, tree_fine}
-use Rattle.qss_top.proofs.OutcomeFacts.{no_prefix}
+use Rattle.qss_top.proofs.OutcomeFacts.{no_prefix, nothing_outcome}
 
 -- a refusal, where nothing was written
 refusal_outcome : (line : Line) (what : Outcome) (old : Option (List ℕ)) (before : ℕ) → (status_of what ≡ ends.ModelRefused) → Tells line (line_text what) → IsOutcome (refusal ends.ModelRefused line) what old old before before
-refusal_outcome line what old before status said = record { defined = λ e. (status, said, Appends-nil old); prefix = no_prefix old []; quiet = λ e. refl }
-
--- nothing was written, and nothing is told of the answer
-pub nothing_outcome : (a : Answer) (what : Outcome) (old : Option (List ℕ)) (before : ℕ) → is_defined (status_of what) ≡ false → IsOutcome a what old old before before
-nothing_outcome a what old before e = record { defined = λ d. absurd (cc (e, d)); prefix = no_prefix old a.out; quiet = λ e. refl }
+refusal_outcome line what old before status said = record { defined = λ e. (status, said, Appends-nil old); prefix = no_prefix old []; short = λ e. inl (Appends-nil old); quiet = λ e. refl }
 
 -- a source that is refused, and the outcome of its refusal
 module _ (Refuses : List ℕ → Refused → Type 0) (bytes : List ℕ) (why : (r : Refused) → Refuses bytes r → IsRefused bytes r) (short : length bytes ≤ 2 ^ 20) (a : Answer) (old : Option (List ℕ)) (before : ℕ) where
@@ -76,9 +69,9 @@ file_answer : (task : Task) (bytes : List ℕ) → (a : Answer) × IsTaskAnswer 
 file_answer (tasks.Run options) bytes = run_answer (options_in options) options.within bytes
 file_answer tasks.Print bytes = print_answer bytes
 
--- there are sources of each length
-source_of : (n : ℕ) → (bytes : List ℕ) × (length bytes ≡ n)
-source_of n = (replicate n 32, length-replicate n 32)
+-- each source may be answered, where files are not told
+file_reply : (task : Task) (bytes : List ℕ) → MayReply (Says (IsTaskAnswer task bytes))
+file_reply task bytes = says_reply (IsTaskAnswer task bytes) (file_answer task bytes)
 
 -- the file of a command on one file
 abbrev OneFile : Task → List ℕ → Option Files → (what : Outcome) (old new : Option (List ℕ)) (out_before out_now : ℕ) (before now : List ℕ → ℕ) → Type 0
@@ -97,9 +90,6 @@ source_served task name files bytes what old new out_before out_now before now c
     (read_served name [] (λ b fs. Says (IsTaskAnswer task b)) files bytes what old new out_before out_now before now now counts calm told
     (says_served files (IsTaskAnswer task bytes) what old new out_before out_now now is (file_answer task bytes) not_read))
 
-longer : (bytes : List ℕ) → length bytes ≡ 2 ^ 20 + 1 → 2 ^ 20 < length bytes
-longer bytes e = omega arith
-
 long_answered : (task : Task) (bytes : List ℕ) → 2 ^ 20 < length bytes → IsTaskAnswer task bytes (refusal ends.ModelRefused too_long)
 long_answered (tasks.Run options) bytes h = inl (long_for IsRefused bytes h)
 long_answered tasks.Print bytes h = inl (long_for IsUnspelled bytes h)
@@ -115,23 +105,23 @@ pub long_model_served : (task : Task) (name : List ℕ) (files : Option Files) (
     → OnlyCounts name before now → now name ≡ before name → IfSome files (λ fs. IsSomeAnd (file_of fs name) (λ bytes. 2 ^ 20 < length bytes)) → OneFile task name files outcome.TooLong old old out_before out_before before now
 long_model_served task name files old out_before before now counts calm told =
     let a = refusal ends.ModelRefused too_long in
-    let long = source_of (2 ^ 20 + 1) in
+    let long = bytes_of (2 ^ 20 + 1) in
     task_served task name files outcome.TooLong old old out_before out_before before now
     (long_served name [] (λ b fs. Says (IsTaskAnswer task b)) files (2 ^ 20) a outcome.TooLong old out_before before now counts calm told
     (λ bytes h fs t leads. leads.2 ∙ ap (λ (b : Answer). record { arrivals = []; reply = answered b }) (too_long_answer task bytes leads.0 h leads.1))
-    (λ bytes h. (a, long_answered task bytes h, refl)) (long.0, longer long.0 long.1) (refusal_outcome too_long outcome.TooLong old out_before refl refl) (λ e. cc e))
+    (λ bytes h. (a, long_answered task bytes h, refl)) (long.0, longer (2 ^ 20) long.0 long.1) (refusal_outcome too_long outcome.TooLong old out_before refl refl) (λ e. cc e))
 
 pub model_fault_served : (task : Task) (name : List ℕ) (files : Option Files) (old : Option (List ℕ)) (out_before : ℕ) (before now : List ℕ → ℕ)
     → OnlyCounts name before now → Rose (before name) (now name) → OneFile task name files outcome.ReadFault old old out_before out_before before now
 model_fault_served task name files old out_before before now counts rose =
     task_served task name files outcome.ReadFault old old out_before out_before before now
-    (fault_served name [] (λ b fs. Says (IsTaskAnswer task b)) files old out_before before now counts rose)
+    (fault_served name [] (λ b fs. Says (IsTaskAnswer task b)) files old out_before before now counts rose (file_reply task))
 
 pub model_memory_served : (task : Task) (name : List ℕ) (files : Option Files) (old : Option (List ℕ)) (out_before : ℕ) (before now : List ℕ → ℕ)
     → OnlyCounts name before now → OneFile task name files outcome.Memory old old out_before out_before before now
 model_memory_served task name files old out_before before now counts =
     task_served task name files outcome.Memory old old out_before out_before before now
-    (memory_served name [] (λ b fs. Says (IsTaskAnswer task b)) files old out_before before now counts)
+    (memory_served name [] (λ b fs. Says (IsTaskAnswer task b)) files old out_before before now counts (file_reply task))
 
 -- words that are no command
 pub usage_meets : (told : Told) (old : Option (List ℕ)) (out_before : ℕ) (before : List ℕ → ℕ) → Says (λ answer. answer ≡ refusal ends.Usage usage) told → Meets told outcome.Usage old old out_before out_before before before
@@ -141,6 +131,7 @@ usage_meets told old out_before before says =
       replied = λ e. (refl, Appends-nil old);
       line = λ e. refl;
       prefix = no_prefix old [];
+      short = λ e. absurd (cc e);
       quiet = λ e. refl;
       read_fault = λ e. absurd (cc e);
       others = λ other apart. refl;

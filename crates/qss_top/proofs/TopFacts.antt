@@ -1,15 +1,18 @@
 -- The status and the line of an outcome, for what is told.
-use Rattle.std.proofs.Common.{◌≡◌, ◌≢◌, ◌⊎◌, true, ℕ, List, refl, sym, ap, ◌∙◌, subst, inl, inr}
+use Rattle.std.proofs.Common.{◌≡◌, ◌≢◌, ◌⊎◌, Bool, true, ℕ, List, refl, sym, ap, ◌∙◌, subst, inl, inr}
 use Rattle.std.specs.declared.option.Option.{Option}
+use Rattle.std.specs.Prelude.{not}
+use Rattle.cert_answer.specs.declared.ending.CertificateRefusal.{CertificateRefusal}
 use Rattle.cert_answer.specs.declared.ending.CertificateRefusal.TheVariants as certs
 use Rattle.qss_top.specs.Answers.{Reply, answered, absent, untold}
 use Rattle.qss_top.specs.Outcomes.{status_of, line_text, takes_memory, IsReported}
 use Rattle.qss_top.specs.Statuses.{is_defined, leaves_out}
-use Rattle.qss_top.specs.TopCall.{IsReplied, IsReplyLine, IsLineOf}
+use Rattle.qss_top.specs.TopCall.{IsReplied, IsReplyLine, IsLineOf, Replies, IsCutShort}
 use Rattle.qss_top.specs.declared.outcome.Outcome.{Outcome}
 use Rattle.qss_top.specs.declared.outcome.Outcome.TheVariants as outcome
 use Rattle.qss_top.specs.declared.status.Status.{Status}
 use Rattle.qss_top.specs.declared.status.Status.TheVariants as ends
+use Rattle.qss_top.proofs.Serving.{uncut}
 
 -- the status is that of the outcome, but for a line that found no memory
 abbrev pub IsStatus : Status → Outcome → Type 0
@@ -28,9 +31,27 @@ pub defined_of : (status : Status) (what : Outcome) → IsStatus status what →
 defined_of status what (inl e) d = sym (ap is_defined e) ∙ d
 defined_of status what (inr e) d = absurd (cc (ap is_defined e.0, d))
 
-pub leaves_of : (status : Status) (what : Outcome) → IsStatus status what → leaves_out status ≡ true → leaves_out (status_of what) ≡ true
-leaves_of status what (inl e) d = sym (ap leaves_out e) ∙ d
-leaves_of status what (inr e) d = absurd (cc (ap leaves_out e.0, d))
+refusal_leaves : (goes : Bool) (why : CertificateRefusal) → leaves_out goes (status_of (outcome.Uncertified why)) ≡ true
+refusal_leaves goes (certs.Outside why) = refl
+refusal_leaves goes certs.TooLong = refl
+refusal_leaves goes (certs.Unread why) = refl
+refusal_leaves goes (certs.Rejected v) = refl
+
+-- a line that found no memory is one of a refusal or an overflow
+line_leaves : (goes : Bool) (what : Outcome) → takes_memory what ≡ true → not goes ≡ true → leaves_out goes (status_of what) ≡ true
+line_leaves goes (outcome.Refused r) takes e = refl
+line_leaves goes (outcome.Overflow name tick) takes e = e
+line_leaves goes (outcome.Uncertified why) takes e = refusal_leaves goes why
+line_leaves goes outcome.Done takes e = absurd (cc takes)
+line_leaves goes outcome.Usage takes e = absurd (cc takes)
+line_leaves goes outcome.ReadFault takes e = absurd (cc takes)
+line_leaves goes outcome.WriteFault takes e = absurd (cc takes)
+line_leaves goes outcome.TooLong takes e = absurd (cc takes)
+line_leaves goes outcome.Memory takes e = absurd (cc takes)
+
+pub leaves_of : (goes : Bool) (status : Status) (what : Outcome) → IsStatus status what → leaves_out goes status ≡ true → leaves_out goes (status_of what) ≡ true
+leaves_of goes status what (inl e) d = sym (ap (leaves_out goes) e) ∙ d
+leaves_of goes status what (inr e) d = line_leaves goes what e.1 (sym (ap (leaves_out goes) e.0) ∙ d)
 
 -- a status other than want of memory is that of the outcome
 same_status : (status : Status) (what : Outcome) → IsStatus status what → status ≢ ends.Memory → status ≡ status_of what
@@ -64,6 +85,20 @@ write_is (outcome.Uncertified (certs.Outside why)) e = absurd (cc e)
 write_is (outcome.Uncertified certs.TooLong) e = absurd (cc e)
 write_is (outcome.Uncertified (certs.Unread why)) e = absurd (cc e)
 write_is (outcome.Uncertified (certs.Rejected v)) e = absurd (cc e)
+
+memory_is : (what : Outcome) → ends.Memory ≡ status_of what → what ≡ outcome.Memory
+memory_is outcome.Done e = absurd (cc e)
+memory_is outcome.Usage e = absurd (cc e)
+memory_is outcome.ReadFault e = absurd (cc e)
+memory_is outcome.WriteFault e = absurd (cc e)
+memory_is outcome.TooLong e = absurd (cc e)
+memory_is (outcome.Refused r) e = absurd (cc e)
+memory_is (outcome.Overflow name tick) e = absurd (cc e)
+memory_is outcome.Memory e = refl
+memory_is (outcome.Uncertified (certs.Outside why)) e = absurd (cc e)
+memory_is (outcome.Uncertified certs.TooLong) e = absurd (cc e)
+memory_is (outcome.Uncertified (certs.Unread why)) e = absurd (cc e)
+memory_is (outcome.Uncertified (certs.Rejected v)) e = absurd (cc e)
 
 done_is : (what : Outcome) → ends.Ok ≡ status_of what → what ≡ outcome.Done
 done_is outcome.Done e = refl
@@ -140,3 +175,31 @@ module _ (reply : Reply) (what : Outcome) (old new : Option (List ℕ)) (line : 
   line_is ends.Overflow is has h = tells_defined ends.Overflow is refl has h
   line_is ends.CertRefused is has h = tells_defined ends.CertRefused is refl has h
   line_is ends.Memory is has h = h
+
+-- what is written where memory was wanting, for the command or for its line
+module _ {K : Type 0} (written : K → Option (List ℕ)) (reply : Reply) (goes : Bool) (what : Outcome) (old new : K) where
+  -- all was written, and the line of an overflow was not made
+  over_cut : (r : Reply) → IsReplied r ends.Overflow (written old) (written new) → Replies (IsCutShort (written old) (written new)) r
+  over_cut (answered answer) h = let d = h refl in inr (inr (sym d.0, d.1))
+  over_cut absent (inl e) = absurd (cc e)
+  over_cut absent (inr e) = absurd (cc e)
+  over_cut (untold command) h = let p = h refl in (p.0, p.1, p.2, p.3, inr (inr (sym p.4.0, p.4.1)))
+
+  kept : new ≡ old → Replies (IsCutShort (written old) (written new)) reply
+  kept same = subst (λ (k : K). Replies (IsCutShort (written old) (written k)) reply) (sym same) (uncut reply (written old))
+
+  line_cut : (w : Outcome) → takes_memory w ≡ true → IsReplied reply (status_of w) (written old) (written new) → (leaves_out goes (status_of w) ≡ true → new ≡ old) → Replies (IsCutShort (written old) (written new)) reply
+  line_cut (outcome.Refused r) takes h left = kept (left refl)
+  line_cut (outcome.Overflow name tick) takes h left = over_cut reply h
+  line_cut (outcome.Uncertified why) takes h left = kept (left (refusal_leaves goes why))
+  line_cut outcome.Done takes h left = absurd (cc takes)
+  line_cut outcome.Usage takes h left = absurd (cc takes)
+  line_cut outcome.ReadFault takes h left = absurd (cc takes)
+  line_cut outcome.WriteFault takes h left = absurd (cc takes)
+  line_cut outcome.TooLong takes h left = absurd (cc takes)
+  line_cut outcome.Memory takes h left = absurd (cc takes)
+
+  pub short_of : (status : Status) → IsStatus status what → status ≡ ends.Memory → (what ≡ outcome.Memory → Replies (IsCutShort (written old) (written new)) reply) → IsReplied reply (status_of what) (written old) (written new)
+      → (leaves_out goes (status_of what) ≡ true → new ≡ old) → Replies (IsCutShort (written old) (written new)) reply
+  short_of status (inl e) memory cut h left = cut (memory_is what (sym memory ∙ e))
+  short_of status (inr e) memory cut h left = line_cut what e.1 h left

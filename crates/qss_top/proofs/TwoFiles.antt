@@ -1,13 +1,10 @@
 -- How a command on a model and a certificate serves what is told.
-use Rattle.std.proofs.Common.{◌≡◌, ◌≢◌, ◌+◌, ◌<◌, ◌≤◌, ◌^◌, Bool, true, false, ℕ, List, [], ◌∷◌, ◌++◌, length, pos, refl, sym, ap, ◌∙◌, subst, arith, inl, inr, None, Some, append-nil}
+use Rattle.std.proofs.Common.{◌≡◌, ◌≢◌, ◌+◌, ◌<◌, ◌≤◌, ◌^◌, Bool, true, false, ℕ, List, [], ◌∷◌, length, pos, refl, sym, ap, ◌∙◌, subst, arith, inl, inr, None, Some, append-nil}
 use Rattle.std.specs.declared.option.Option.{Option}
 use Rattle.std.specs.Prelude.{IfSome, IsSomeAnd, bytes_eq}
 use Rattle.std.specs.Io.KnownBytes.{Appends}
 use Rattle.std.proofs.KnownBytes.{Appends-nil}
-use Rattle.std.proofs.Math.ListN.{replicate}
-use Rattle.std.proofs.lemmas.List.{length-replicate}
 use Rattle.std.proofs.lemmas.Slice.Eq.{bytes_eq-Decides}
-use Rattle.csv.specs.Writing.{default_writer, row_text, row_body, end_text}
 use Rattle.mu_io.specs.Faults.{Rose, OnlyCounts}
 use Rattle.mu_io.specs.Files.{Files, file_of}
 use Rattle.mu_io.specs.Sinks.{AppendsPrefix}
@@ -33,7 +30,7 @@ use Rattle.qss_top.specs.Certificates.{IsDone, outcome_by, share_in}
 use Rattle.qss_top.specs.Commands.{files_of}
 use Rattle.qss_top.specs.Outcomes.{IsOutcome, IsRefusedFor, Meets, Serves, status_of, line_text as outcome_text}
 use Rattle.qss_top.specs.Statuses.{leaves_out}
-use Rattle.qss_top.specs.TopCall.{IsReplied, text_of}
+use Rattle.qss_top.specs.TopCall.{IsReplied}
 use Rattle.qss_top.specs.Words.{command_on}
 use Rattle.qss_top.specs.declared.options.Deed.{Deed}
 use Rattle.qss_top.specs.declared.options.Deed.TheVariants as deeds
@@ -42,13 +39,14 @@ use Rattle.qss_top.specs.declared.outcome.Outcome.{Outcome}
 use Rattle.qss_top.specs.declared.outcome.Outcome.TheVariants as outcome
 use Rattle.qss_top.specs.declared.status.Status.{Status}
 use Rattle.qss_top.specs.declared.status.Status.TheVariants as ends
-use Rattle.qss_top.proofs.OutcomeFacts.{no_prefix}
+use Rattle.qss_top.proofs.Existence.{MayReply, says_reply, certificate_reply, bytes_of, longer}
+use Rattle.qss_top.proofs.OutcomeFacts.{no_prefix, nothing_outcome, append_none, row_none}
 use Rattle.qss_top.proofs.Sources.{one_source_refusal, one_source_machine, source_fine, short_for, long_refusal}
-use Rattle.qss_top.proofs.Serving.{says_served, read_served, fault_served, memory_served, long_served}
+use Rattle.qss_top.proofs.Serving.{unwritten, uncut, says_served, read_served, fault_served, memory_served, long_served}
 
 -- a refusal, where nothing was written
 refused_now : (status : Status) (line : Line) (what : Outcome) (old : Option (List ℕ)) (before : ℕ) → status_of what ≡ status → Tells line (outcome_text what) → IsOutcome (refusal status line) what old old before before
-refused_now status line what old before is said = record { defined = λ e. (is, said, Appends-nil old); prefix = no_prefix old []; quiet = λ e. refl }
+refused_now status line what old before is said = record { defined = λ e. (is, said, Appends-nil old); prefix = no_prefix old []; short = λ e. inl (Appends-nil old); quiet = λ e. refl }
 
 -- all that is led to is this answer, and nothing more is read
 pub one_served : (files : Option Files) (names : List (List ℕ)) (Leads : Option Files → Told → Type 0) (a : Answer) (what : Outcome) (old : Option (List ℕ)) (out_before : ℕ) (before : List ℕ → ℕ)
@@ -59,11 +57,12 @@ one_served files names Leads a what old out_before before only all is not_read =
     replied = λ d. let p = is.defined d in (p.0, p.2);
     line = λ d. (is.defined d).1;
     prefix = is.prefix;
+    short = is.short;
     quiet = λ d. refl;
     read_fault = λ d. absurd (not_read d);
     others = λ name apart. refl;
   });
-  some = λ d. (record { arrivals = []; reply = answered a }, a, all, refl, is);
+  some = (record { arrivals = []; reply = answered a }, a, all, refl, is);
   read_fault = λ d. absurd (not_read d);
   others = λ name apart. refl;
 }
@@ -74,23 +73,19 @@ untelling (answered answer) old = λ d. absurd (cc d)
 untelling absent old = inr refl
 untelling (untold command) old = λ d. absurd (cc d)
 
-unwritten : (reply : Reply) (old : Option (List ℕ)) → IfSome (text_of reply) (λ text. AppendsPrefix old old text)
-unwritten (answered answer) old = no_prefix old answer.out
-unwritten absent old = no_prefix old []
-unwritten (untold command) old = tt
-
-pub memory_wanted : (files : Option Files) (names : List (List ℕ)) (Leads : Option Files → Told → Type 0) (old : Option (List ℕ)) (out_before : ℕ) (before : List ℕ → ℕ)
+pub memory_wanted : (files : Option Files) (names : List (List ℕ)) (Leads : Option Files → Told → Type 0) (old : Option (List ℕ)) (out_before : ℕ) (before : List ℕ → ℕ) → MayReply (Leads None)
     → Serves files names Leads outcome.Memory old old out_before out_before before before
-memory_wanted files names Leads old out_before before = record {
+memory_wanted files names Leads old out_before before p = record {
   known = λ fs e t leads. record {
     replied = untelling t.reply old;
     line = λ d. absurd (cc d);
     prefix = unwritten t.reply old;
+    short = λ d. uncut t.reply old;
     quiet = λ d. refl;
     read_fault = λ d. absurd (cc d);
     others = λ name apart. refl;
   };
-  some = λ d. absurd (cc d);
+  some = (p.0, p.1, p.2, p.3, nothing_outcome p.1 outcome.Memory old out_before refl);
   read_fault = λ d. absurd (cc d);
   others = λ name apart. refl;
 }
@@ -105,7 +100,7 @@ module _ (files : Option Files) (names : List (List ℕ)) (share : ℕ) (bytes :
       → Serves files names (Leads m) what old new out_before out_now before now → Serves files names Source what old new out_before out_now before now
   machine_served m what old new out_before out_now before now is h = record {
     known = λ fs e t leads. h.known fs e t (to_machine fs t leads);
-    some = λ d. let p = h.some d in (p.0, p.1, inr (m, is, p.2), p.3, p.4);
+    some = let p = h.some in (p.0, p.1, inr (m, is, p.2), p.3, p.4);
     read_fault = h.read_fault;
     others = h.others;
   }
@@ -129,11 +124,11 @@ module _ (files : Option Files) (names : List (List ℕ)) (share : ℕ) (bytes :
       only fs t (inr found) = absurd (source_fine share bytes (refusal ends.ModelRefused (refused bytes)) found.0 refuses found.1)
 
   -- a source that gives no machine
-  pub no_machine_served : (what : Outcome) (old : Option (List ℕ)) (out_before : ℕ) (before : List ℕ → ℕ) → length bytes ≤ 2 ^ 20 → IsRefusedFor (IsRefused bytes) what
+  pub no_machine_served : (what : Outcome) (old : Option (List ℕ)) (out_before : ℕ) (before : List ℕ → ℕ) → length bytes ≤ 2 ^ 20 → IsRefusedFor (IsRefused bytes) what → MayReply (Source None)
       → Serves files names Source what old old out_before out_before before before
-  no_machine_served what old out_before before short (inl e) =
-      subst (λ (w : Outcome). Serves files names Source w old old out_before out_before before before) (sym e) (memory_wanted files names Source old out_before before)
-  no_machine_served what old out_before before short (inr (r, is, e)) =
+  no_machine_served what old out_before before short (inl e) some =
+      subst (λ (w : Outcome). Serves files names Source w old old out_before out_before before before) (sym e) (memory_wanted files names Source old out_before before some)
+  no_machine_served what old out_before before short (inr (r, is, e)) some =
       subst (λ (w : Outcome). Serves files names Source w old old out_before out_before before before) (sym e) (refused_served r old out_before before short is)
 
 -- ---- the scope of certificates
@@ -143,7 +138,7 @@ module _ (files : Option Files) (names : List (List ℕ)) (m : Machine) (Leads :
       → Serves files names (λ fs t. InScope m (Leads fs) t) what old new out_before out_now before now
   scope_served what old new out_before out_now before now scope h = record {
     known = λ fs e t leads. by fs e t leads;
-    some = λ d. let p = h.some d in (p.0, p.1, inr (scope, p.2), p.3, p.4);
+    some = let p = h.some in (p.0, p.1, inr (scope, p.2), p.3, p.4);
     read_fault = h.read_fault;
     others = h.others;
   }
@@ -164,16 +159,6 @@ module _ (files : Option Files) (names : List (List ℕ)) (m : Machine) (Leads :
       only fs t (inr inside) = absurd (not_outside m why is inside.0)
 
 -- ---- the text of an answer
-
-append_none : (xs ys : List ℕ) → xs ++ ys ≡ [] → (xs ≡ []) × (ys ≡ [])
-append_none [] ys e = (refl, e)
-append_none (x ∷ xs) ys e = absurd (cc)
-
-row_none : (fields : List (List ℕ)) → row_text default_writer fields ≡ [] → ⊥
-row_none fields e =
-    let tail = (append_none (row_body default_writer fields) _ e).1 in
-    let end = (append_none _ (end_text default_writer.terminator) tail).1 in
-    cc
 
 lines_none : (ls : List TextLine) (l : TextLine) (rest : List TextLine) → ls ≡ l ∷ rest → lines_text ls ≡ [] → ⊥
 lines_none ls l rest is e = row_none (fields_of_line l) (append_none (line_text l) (lines_text rest) (ap lines_text (sym is) ∙ e)).0
@@ -220,6 +205,7 @@ module _ {K : Type 0} (known : K → Option (List ℕ)) (faults : K → ℕ) whe
   became ending.Written (Certificates.written text) old new told some whole prefix untouched calm = record {
     defined = λ e. (refl, refl, whole refl);
     prefix = whole_prefix (known old) (known new) text (whole refl);
+    short = λ e. absurd (cc e);
     quiet = λ e. calm (λ d. cc d);
   }
   became ending.Written (Certificates.refused why) old new told some whole prefix untouched calm = absurd (cc told)
@@ -230,12 +216,13 @@ module _ {K : Type 0} (known : K → Option (List ℕ)) (faults : K → ℕ) whe
   became ending.Fault (Certificates.written text) old new told some whole prefix untouched calm = record {
     defined = λ e. absurd (cc e);
     prefix = prefix refl;
+    short = λ e. absurd (cc e);
     quiet = λ e. absurd (some text refl e);
   }
   became ending.Fault (Certificates.refused why) old new told some whole prefix untouched calm = absurd (cc told)
   became ending.Memory a old new told some whole prefix untouched calm =
       kept (certificate_answer a) outcome.Memory old new (untouched refl)
-      (record { defined = λ e. absurd (cc e); prefix = no_prefix (known old) (certificate_answer a).out; quiet = λ e. refl })
+      (nothing_outcome (certificate_answer a) outcome.Memory (known old) (faults old) refl)
 
   -- what became of a certificate
   pub done_outcome : (deed : Deed) (m : Machine) (bytes : List ℕ) (end : Ending) (old new : K) → Ends known faults (IsDone deed m bytes) end old new
@@ -253,11 +240,11 @@ module _ {K : Type 0} (known : K → Option (List ℕ)) (faults : K → ℕ) whe
       → (answer : Answer) → IsCertificateAnswer (IsDone deeds.Upgrade m bytes) answer → Became answer (outcome_by end) old new
   upgraded_outcome m bytes end old new h answer is = done_outcome deeds.Upgrade m bytes end old new h answer is
 
-pub done_left : (end : Ending) → leaves_out (status_of (outcome_by end)) ≡ true → leaves_sink end ≡ true
+pub done_left : (end : Ending) → leaves_out false (status_of (outcome_by end)) ≡ true → leaves_sink end ≡ true
 done_left ending.Written e = e
 done_left (ending.Refused why) e = refl
 done_left ending.Fault e = e
-done_left ending.Memory e = absurd (cc e)
+done_left ending.Memory e = refl
 
 pub done_fault : (end : Ending) → outcome_by end ≡ outcome.WriteFault → end ≡ ending.Fault
 done_fault ending.Written e = absurd (cc e)
@@ -272,13 +259,6 @@ done_read ending.Fault = (λ e. cc e, λ e. cc e)
 done_read ending.Memory = (λ e. cc e, λ e. cc e)
 
 -- ---- files
-
--- there are bytes of each length
-bytes_of : (n : ℕ) → (bytes : List ℕ) × (length bytes ≡ n)
-bytes_of n = (replicate n 32, length-replicate n 32)
-
-longer : (n : ℕ) (bytes : List ℕ) → length bytes ≡ n + 1 → n < length bytes
-longer n bytes e = omega arith
 
 -- a count at one name has not fallen at any
 pub counted_later : (name : List ℕ) (before now : List ℕ → ℕ) → OnlyCounts name before now → (other : List ℕ) → before other ≤ now other
@@ -295,6 +275,9 @@ module _ (deed : Deed) (m : Machine) (certificate : List ℕ) (files : Option Fi
 
   abbrev TextFile : (what : Outcome) (old new : Option (List ℕ)) (out_before out_now : ℕ) (before now : List ℕ → ℕ) → Type 0
   TextFile = Serves files (certificate ∷ []) (λ fs. Reads fs certificate (λ text. Leads text fs))
+
+  text_reply : (text : List ℕ) → MayReply (Leads text None)
+  text_reply text = says_reply (IsCertificateAnswer (IsDone deed m text)) (some_told deed m text)
 
   pub text_served : (bytes : List ℕ) (what : Outcome) (old new : Option (List ℕ)) (out_before out_now : ℕ) (before now : List ℕ → ℕ)
       → OnlyCounts certificate before now → now certificate ≡ before certificate → IfSome files (λ fs. file_of fs certificate ≡ Some bytes) → what ≢ outcome.ReadFault
@@ -323,10 +306,18 @@ module _ (deed : Deed) (m : Machine) (certificate : List ℕ) (files : Option Fi
 
   pub text_fault_served : (old : Option (List ℕ)) (out_before : ℕ) (before now : List ℕ → ℕ) → OnlyCounts certificate before now → Rose (before certificate) (now certificate)
       → TextFile outcome.ReadFault old old out_before out_before before now
-  text_fault_served old out_before before now counts rose = fault_served certificate [] Leads files old out_before before now counts rose
+  text_fault_served old out_before before now counts rose = fault_served certificate [] Leads files old out_before before now counts rose text_reply
 
   pub text_memory_served : (old : Option (List ℕ)) (out_before : ℕ) (before now : List ℕ → ℕ) → OnlyCounts certificate before now → TextFile outcome.Memory old old out_before out_before before now
-  text_memory_served old out_before before now counts = memory_served certificate [] Leads files old out_before before now counts
+  text_memory_served old out_before before now counts = memory_served certificate [] Leads files old out_before before now counts text_reply
+
+-- each source may be answered, where files are not told
+few_in : (deed : Deed) → share_in deed ≤ 2048
+few_in (deeds.Certify share) = share.within
+few_in deeds.Upgrade = omega arith
+
+pub source_reply : (deed : Deed) (certificate bytes : List ℕ) → MayReply (ByMachine (share_in deed) bytes (λ m. ReadsCertificate certificate (IsDone deed) m None))
+source_reply deed certificate bytes = certificate_reply (share_in deed) (few_in deed) bytes certificate (IsDone deed) (some_done deed)
 
 -- the model and the certificate in files of these names
 module _ (deed : Deed) (model certificate : List ℕ) (files : Option Files) where
@@ -366,8 +357,8 @@ module _ (deed : Deed) (model certificate : List ℕ) (files : Option Files) whe
 
   pub models_fault_served : (old : Option (List ℕ)) (out_before : ℕ) (before now : List ℕ → ℕ) → OnlyCounts model before now → Rose (before model) (now model) → Both outcome.ReadFault old old out_before out_before before now
   models_fault_served old out_before before now counts rose =
-      both_served deed outcome.ReadFault old old out_before out_before before now (fault_served model (certificate ∷ []) Behind files old out_before before now counts rose)
+      both_served deed outcome.ReadFault old old out_before out_before before now (fault_served model (certificate ∷ []) Behind files old out_before before now counts rose (source_reply deed certificate))
 
   pub models_memory_served : (old : Option (List ℕ)) (out_before : ℕ) (before now : List ℕ → ℕ) → OnlyCounts model before now → Both outcome.Memory old old out_before out_before before now
   models_memory_served old out_before before now counts =
-      both_served deed outcome.Memory old old out_before out_before before now (memory_served model (certificate ∷ []) Behind files old out_before before now counts)
+      both_served deed outcome.Memory old old out_before out_before before now (memory_served model (certificate ∷ []) Behind files old out_before before now counts (source_reply deed certificate))

@@ -1,5 +1,5 @@
 -- The commands that words give.
-use Rattle.std.specs.Prelude.{Bool, ◌||◌, ◌&&◌, not, ℕ, List, [], ◌∷◌, length, bytes_eq, codes, nat_le, Option, Some, None, option_map, option_and_then, is_some, if◌then◌else◌}
+use Rattle.std.specs.Prelude.{Bool, true, false, ◌||◌, ◌&&◌, not, ℕ, List, [], ◌∷◌, length, bytes_eq, codes, nat_le, Option, Some, None, option_map, option_and_then, is_some, if◌then◌else◌}
 use Rattle.std.specs.List.{list_all}
 use Rattle.std.specs.Char.{is_ascii_digit}
 use Rattle.std.specs.Str.Parse.{digits_value}
@@ -80,6 +80,11 @@ command_said s = by s.awaited s.verb s.name s.other
 -- the command that the words give
 abbrev pub command_of : List (List ℕ) → Option Command
 command_of words = option_and_then command_said (say_all nothing_said words)
+
+-- whether the command writes as it goes: a run does, and any other has its whole text before it writes
+abbrev pub writes_as_it_goes : Option Command → Bool
+writes_as_it_goes (Some (run_model model options)) = true
+writes_as_it_goes _ = false
 
 -- the files that the words of a command name
 abbrev pub files_of : Command → List (List ℕ)

@@ -1,5 +1,5 @@
 -- What became of a command, and what it meets of what is told.
-use Rattle.std.specs.Prelude.{◌≡◌, ◌⊎◌, ℕ, List, [], codes, Contains, Bool, true, false, Option, Some, None, IfSome, if◌then◌else◌}
+use Rattle.std.specs.Prelude.{◌≡◌, ◌⊎◌, ℕ, List, [], codes, Contains, Bool, true, false, Option, Some, None, if◌then◌else◌}
 use Rattle.std.specs.Io.KnownBytes.{Appends}
 use Rattle.mu_io.specs.Files.{Files}
 use Rattle.mu_io.specs.Sinks.{AppendsPrefix}
@@ -9,7 +9,7 @@ use Rattle.qss_compile.specs.declared.fault.Refused.{Refused}
 use Rattle.cert_answer.specs.Endings.{refusal_line}
 use Rattle.qss_top.specs.Answers.{Answer, Told, Tells, answered, status_of_refusal, usage_line, too_long_line, overflow_line}
 use Rattle.qss_top.specs.Statuses.{is_defined}
-use Rattle.qss_top.specs.TopCall.{IsReplied, IsReplyLine, text_of, SomeRose}
+use Rattle.qss_top.specs.TopCall.{IsReplied, IsReplyLine, Replies, IsCutShort, text_of, SomeRose}
 use Rattle.qss_top.specs.declared.outcome.Outcome.{Outcome}
 use Rattle.qss_top.specs.declared.outcome.Outcome.TheVariants as outcome
 use Rattle.qss_top.specs.declared.status.Status.{Status}
@@ -55,21 +55,23 @@ takes_memory _ = false
 pub record IsOutcome (answer : Answer) (what : Outcome) (old new : Option (List ℕ)) (before now : ℕ) : Type 0 where
   pub defined : is_defined (status_of what) ≡ true → (status_of what ≡ answer.status) × Tells answer.line (line_text what) × Appends old new answer.out
   pub prefix : AppendsPrefix old new answer.out
+  pub short : what ≡ outcome.Memory → IsCutShort old new answer
   pub quiet : answer.out ≡ [] → now ≡ before
 
 -- the outcome is one for what is told: its status, its line and what was written, and which counts rose
 pub record Meets (told : Told) (what : Outcome) (old new : Option (List ℕ)) (out_before out_now : ℕ) (before now : List ℕ → ℕ) : Type 0 where
   pub replied : IsReplied told.reply (status_of what) old new
   pub line : is_defined (status_of what) ≡ true → IsReplyLine told.reply (status_of what) old new (line_text what)
-  pub prefix : IfSome (text_of told.reply) (λ text. AppendsPrefix old new text)
+  pub prefix : Replies (λ answer. AppendsPrefix old new answer.out) told.reply
+  pub short : what ≡ outcome.Memory → Replies (IsCutShort old new) told.reply
   pub quiet : text_of told.reply ≡ Some [] → out_now ≡ out_before
   pub read_fault : what ≡ outcome.ReadFault → SomeRose told.arrivals before now
   pub others : (name : List ℕ) → ¬ Contains told.arrivals name → now name ≡ before name
 
--- the outcome serves what is led to by files of these names: all that is led to where files are told, and else something that may be led to
+-- the outcome serves what is led to by files of these names: all that is led to where files are told, and in any case something that may be led to
 pub record Serves (files : Option Files) (names : List (List ℕ)) (Leads : Option Files → Told → Type 0) (what : Outcome) (old new : Option (List ℕ)) (out_before out_now : ℕ) (before now : List ℕ → ℕ) : Type 0 where
   pub known : (fs : Files) → files ≡ Some fs → (told : Told) → Leads (Some fs) told → Meets told what old new out_before out_now before now
-  pub some : is_defined (status_of what) ≡ true → (told : Told) × (answer : Answer) × Leads None told × (told.reply ≡ answered answer) × IsOutcome answer what old new out_before out_now
+  pub some : (told : Told) × (answer : Answer) × Leads None told × (told.reply ≡ answered answer) × IsOutcome answer what old new out_before out_now
   pub read_fault : what ≡ outcome.ReadFault → SomeRose names before now
   pub others : (name : List ℕ) → ¬ Contains names name → now name ≡ before name
 

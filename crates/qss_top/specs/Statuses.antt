@@ -1,5 +1,5 @@
 -- How the program ends.
-use Rattle.std.specs.Prelude.{Bool, true, false, ℕ}
+use Rattle.std.specs.Prelude.{Bool, true, false, not, ℕ}
 use Rattle.qss_top.specs.declared.status.Status.{Status}
 use Rattle.qss_top.specs.declared.status.Status.TheVariants as ends
 
@@ -22,11 +22,10 @@ is_defined ends.WriteFault = false
 is_defined ends.Memory = false
 is_defined _ = true
 
--- whether out is left as it is
-abbrev pub leaves_out : Status → Bool
-leaves_out ends.Rejected = true
-leaves_out ends.Usage = true
-leaves_out ends.ReadFault = true
-leaves_out ends.ModelRefused = true
-leaves_out ends.CertRefused = true
-leaves_out _ = false
+-- whether out is left as it is; only a command that writes as it goes has written where memory is wanting, and only such a one overflows
+abbrev pub leaves_out : (goes : Bool) → Status → Bool
+leaves_out goes ends.Ok = false
+leaves_out goes ends.WriteFault = false
+leaves_out goes ends.Overflow = not goes
+leaves_out goes ends.Memory = not goes
+leaves_out goes _ = true

@@ -1,9 +1,9 @@
 -- What the top call does, for what its words and files define.
-use Rattle.std.specs.Prelude.{◌≡◌, ◌⊎◌, ℕ, true, List, [], codes, Contains, Option, Some, None}
+use Rattle.std.specs.Prelude.{◌≡◌, ◌≢◌, ◌⊎◌, ℕ, true, List, [], ◌++◌, codes, Contains, Option, Some, None}
 use Rattle.std.specs.Io.KnownBytes.{Appends}
 use Rattle.mu_io.specs.Faults.{Rose}
 use Rattle.mu_io.specs.Sinks.{AppendsPrefix}
-use Rattle.qss_top.specs.Answers.{Reply, answered, absent, untold, MayAnswer, Tells}
+use Rattle.qss_top.specs.Answers.{Answer, Reply, answered, absent, untold, refusal, quiet, MayAnswer, Tells}
 use Rattle.qss_top.specs.Statuses.{is_defined}
 use Rattle.qss_top.specs.declared.status.Status.{Status}
 use Rattle.qss_top.specs.declared.status.Status.TheVariants as ends
@@ -20,6 +20,25 @@ abbrev pub text_of : Reply → Option (List ℕ)
 text_of (answered answer) = Some answer.out
 text_of absent = Some []
 text_of (untold command) = None
+
+-- such an answer is replied: where a file is absent it has no text, and where the files are not told it is that for some bytes that are read
+abbrev pub Replies : (Answer → Type 0) → Reply → Type 0
+Replies IsSuch (answered answer) = IsSuch answer
+Replies IsSuch absent = IsSuch (refusal ends.ReadFault quiet)
+Replies IsSuch (untold command) = MayAnswer command IsSuch
+
+-- whole lines of a text are written, and there are more
+pub record StopsAtLine (old new : Option (List ℕ)) (text : List ℕ) : Type 0 where
+  pub lines : List ℕ
+  pub rest : List ℕ
+  pub parts : lines ++ rest ≡ text
+  pub ended : (front : List ℕ) × (lines ≡ front ++ codes "\n")
+  pub more : rest ≢ []
+  pub appended : Appends old new lines
+
+-- what is written of an answer where memory is wanting: nothing; whole lines, with more to come; or all, where a variable overflows and the line that tells it is not made
+abbrev pub IsCutShort : Option (List ℕ) → Option (List ℕ) → Answer → Type 0
+IsCutShort old new answer = Appends old new [] ⊎ (StopsAtLine old new answer.out ⊎ ((answer.status ≡ ends.Overflow) × Appends old new answer.out))
 
 -- of some of these names the count of faults has risen
 abbrev pub SomeRose : List (List ℕ) → (List ℕ → ℕ) → (List ℕ → ℕ) → Type 0

@@ -1,5 +1,5 @@
 -- Commands as the code reads them.
-use Rattle.std.specs.Prelude.{ℕ, List, option_map}
+use Rattle.std.specs.Prelude.{Bool, true, false, ℕ, List, option_map}
 use Rattle.qss_top.specs.Answers.{Answer, IsRunAnswer, IsPrintAnswer}
 use Rattle.qss_top.specs.Commands.{RunOptions, Command, run_model, print_model, certify_model, upgrade_model}
 use Rattle.qss_top.specs.Saying as Spec
@@ -33,6 +33,11 @@ options_in options = record { rule = options.rule; only = option_map (λ name. n
 abbrev pub command_with : Task → List ℕ → Command
 command_with (task.Run options) model = run_model model (options_in options)
 command_with task.Print model = print_model model
+
+-- whether what is done with a model writes as it goes
+abbrev pub task_goes : Task → Bool
+task_goes (task.Run options) = true
+task_goes task.Print = false
 
 -- the command to do this with the model and the certificate of these names
 abbrev pub command_on : Deed → List ℕ → List ℕ → Command

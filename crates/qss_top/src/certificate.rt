@@ -1,5 +1,5 @@
 // The commands on a model and a certificate.
-ghost use Rattle.std.specs.Prelude.{length, ◌≡◌, ◌≢◌, ◌≤◌, ◌^◌, [], ◌∷◌, true, ℕ, List};
+ghost use Rattle.std.specs.Prelude.{length, ◌≡◌, ◌≢◌, ◌≤◌, ◌^◌, [], ◌∷◌, true, false, ℕ, List};
 ghost use Rattle.mu_io.specs.Sinks.{EndsByFault};
 ghost use Rattle.cert_check.specs.Scope.{IsInScope};
 ghost use Rattle.qss_top.specs.Answers.{Answer, IsCertificateAnswer, ByMachine, ReadsCertificate, Reads, Says, LeadsTo};
@@ -33,7 +33,7 @@ pub(crate) fn on_certificate<S: Shelf, O: Sink>(
 ) -> Outcome
     ensures serves { Serves (S.files shelf.old) (files_of (command_on deed model.now certificate.now)) (LeadsTo (command_on deed model.now certificate.now)) result (O.written out.old) (O.written out.new) (O.faults out.old) (O.faults out.new) (S.faults shelf.old) (S.faults shelf.new) }
     ensures not_usage { result ≢ Outcome.Usage }
-    ensures untouched { leaves_out (status_of result) ≡ true → out.new ≡ out.old }
+    ensures untouched { leaves_out false (status_of result) ≡ true → out.new ≡ out.old }
     ensures calm { result ≢ Outcome.WriteFault → O.faults out.new ≡ O.faults out.old }
     ensures last { result ≡ Outcome.WriteFault → EndsByFault O.written O.faults out.old out.new }
     ensures files { S.files shelf.new ≡ S.files shelf.old }
@@ -60,7 +60,7 @@ fn on_model<S: Shelf, O: Sink>(
     requires { length bytes.now ≤ 2 ^ 20 }
     ensures serves { Serves (S.files shelf.old) (certificate.now ∷ []) (λ files. ByMachine (share_in deed) bytes.now (λ m. ReadsCertificate certificate.now (IsDone deed) m files)) result (O.written out.old) (O.written out.new) (O.faults out.old) (O.faults out.new) (S.faults shelf.old) (S.faults shelf.new) }
     ensures not_usage { result ≢ Outcome.Usage }
-    ensures untouched { leaves_out (status_of result) ≡ true → out.new ≡ out.old }
+    ensures untouched { leaves_out false (status_of result) ≡ true → out.new ≡ out.old }
     ensures calm { result ≢ Outcome.WriteFault → O.faults out.new ≡ O.faults out.old }
     ensures last { result ≡ Outcome.WriteFault → EndsByFault O.written O.faults out.old out.new }
     ensures files { S.files shelf.new ≡ S.files shelf.old }
@@ -95,7 +95,7 @@ fn in_scope<S: Shelf, O: Sink>(
 ) -> Outcome
     ensures serves { Serves (S.files shelf.old) (certificate.now ∷ []) (ReadsCertificate certificate.now (IsDone deed) m.now) result (O.written out.old) (O.written out.new) (O.faults out.old) (O.faults out.new) (S.faults shelf.old) (S.faults shelf.new) }
     ensures not_usage { result ≢ Outcome.Usage }
-    ensures untouched { leaves_out (status_of result) ≡ true → out.new ≡ out.old }
+    ensures untouched { leaves_out false (status_of result) ≡ true → out.new ≡ out.old }
     ensures calm { result ≢ Outcome.WriteFault → O.faults out.new ≡ O.faults out.old }
     ensures last { result ≡ Outcome.WriteFault → EndsByFault O.written O.faults out.old out.new }
     ensures files { S.files shelf.new ≡ S.files shelf.old }
@@ -120,7 +120,7 @@ fn on_text_file<S: Shelf, O: Sink>(
     requires { IsInScope m.now }
     ensures serves { Serves (S.files shelf.old) (certificate.now ∷ []) (λ files. Reads files certificate.now (λ text. Says (IsCertificateAnswer (IsDone deed m.now text)))) result (O.written out.old) (O.written out.new) (O.faults out.old) (O.faults out.new) (S.faults shelf.old) (S.faults shelf.new) }
     ensures not_usage { result ≢ Outcome.Usage }
-    ensures untouched { leaves_out (status_of result) ≡ true → out.new ≡ out.old }
+    ensures untouched { leaves_out false (status_of result) ≡ true → out.new ≡ out.old }
     ensures calm { result ≢ Outcome.WriteFault → O.faults out.new ≡ O.faults out.old }
     ensures last { result ≡ Outcome.WriteFault → EndsByFault O.written O.faults out.old out.new }
     ensures files { S.files shelf.new ≡ S.files shelf.old }
@@ -140,7 +140,7 @@ fn on_text<O: Sink>(alloc: Global, deed: Deed, m: &Machine, text: &[u8], out: &m
     ensures outcome { (answer : Answer) → IsCertificateAnswer (IsDone deed m.now text.now) answer → IsOutcome answer result (O.written out.old) (O.written out.new) (O.faults out.old) (O.faults out.new) }
     ensures not_read { result ≢ Outcome.ReadFault }
     ensures not_usage { result ≢ Outcome.Usage }
-    ensures untouched { leaves_out (status_of result) ≡ true → out.new ≡ out.old }
+    ensures untouched { leaves_out false (status_of result) ≡ true → out.new ≡ out.old }
     ensures calm { result ≢ Outcome.WriteFault → O.faults out.new ≡ O.faults out.old }
     ensures last { result ≡ Outcome.WriteFault → EndsByFault O.written O.faults out.old out.new }
 {

@@ -4,10 +4,10 @@ ghost use Rattle.mu_io.specs.Faults.{OnlyCounts};
 ghost use Rattle.mu_io.specs.Sinks.{EndsByFault};
 ghost use Rattle.mu_tree.specs.ModelTree.{model};
 ghost use Rattle.qss_top.specs.Answers.{Answer, Told, IsRunAnswer, IsPrintAnswer, printed, printed_text, LeadsTo, IsTold};
-ghost use Rattle.qss_top.specs.Commands.{command_by, command_of_two, command_said, command_of, files_of};
+ghost use Rattle.qss_top.specs.Commands.{command_by, command_of_two, command_said, command_of, files_of, writes_as_it_goes};
 ghost use Rattle.qss_top.specs.Outcomes.{IsOutcome, Meets, Serves, status_of};
 ghost use Rattle.qss_top.specs.Statuses.{leaves_out};
-ghost use Rattle.qss_top.specs.Words.{command_in, command_with, options_in, said_in, IsTaskAnswer};
+ghost use Rattle.qss_top.specs.Words.{command_in, command_with, options_in, said_in, task_goes, IsTaskAnswer};
 
 use crate::certificate::on_certificate;
 use crate::options::{Deed, Options};
@@ -121,7 +121,7 @@ pub(crate) fn answer<S: Shelf, O: Sink>(
 ) -> Outcome
     ensures meets { (told : Told) → IsTold (map (λ word. word.now) words.now) (S.files shelf.old) told → Meets told result (O.written out.old) (O.written out.new) (O.faults out.old) (O.faults out.new) (S.faults shelf.old) (S.faults shelf.new) }
     ensures usage { (result ≡ Outcome.Usage) ↔ (command_of (map (λ word. word.now) words.now) ≡ None) }
-    ensures untouched { leaves_out (status_of result) ≡ true → out.new ≡ out.old }
+    ensures untouched { leaves_out (writes_as_it_goes (command_of (map (λ word. word.now) words.now))) (status_of result) ≡ true → out.new ≡ out.old }
     ensures calm { result ≢ Outcome.WriteFault → O.faults out.new ≡ O.faults out.old }
     ensures last { result ≡ Outcome.WriteFault → EndsByFault O.written O.faults out.old out.new }
     ensures files { S.files shelf.new ≡ S.files shelf.old }
@@ -151,7 +151,7 @@ fn on_file<S: Shelf, O: Sink>(
 ) -> Outcome
     ensures serves { Serves (S.files shelf.old) (files_of (command_with task.entry model.now)) (LeadsTo (command_with task.entry model.now)) result (O.written out.old) (O.written out.new) (O.faults out.old) (O.faults out.new) (S.faults shelf.old) (S.faults shelf.new) }
     ensures not_usage { result ≢ Outcome.Usage }
-    ensures untouched { leaves_out (status_of result) ≡ true → out.new ≡ out.old }
+    ensures untouched { leaves_out (task_goes task.entry) (status_of result) ≡ true → out.new ≡ out.old }
     ensures calm { result ≢ Outcome.WriteFault → O.faults out.new ≡ O.faults out.old }
     ensures last { result ≡ Outcome.WriteFault → EndsByFault O.written O.faults out.old out.new }
     ensures files { S.files shelf.new ≡ S.files shelf.old }
@@ -172,7 +172,7 @@ fn on_source<O: Sink>(alloc: Global, task: Task, bytes: &[u8], out: &mut O) -> O
     ensures outcome { (answer : Answer) → IsTaskAnswer task.entry bytes.now answer → IsOutcome answer result (O.written out.old) (O.written out.new) (O.faults out.old) (O.faults out.new) }
     ensures not_usage { result ≢ Outcome.Usage }
     ensures not_read { result ≢ Outcome.ReadFault }
-    ensures untouched { leaves_out (status_of result) ≡ true → out.new ≡ out.old }
+    ensures untouched { leaves_out (task_goes task.entry) (status_of result) ≡ true → out.new ≡ out.old }
     ensures calm { result ≢ Outcome.WriteFault → O.faults out.new ≡ O.faults out.old }
     ensures last { result ≡ Outcome.WriteFault → EndsByFault O.written O.faults out.old out.new }
 {
@@ -188,7 +188,7 @@ fn print_source<O: Sink>(alloc: Global, bytes: &[u8], out: &mut O) -> Outcome
     ensures outcome { (answer : Answer) → IsPrintAnswer bytes.now answer → IsOutcome answer result (O.written out.old) (O.written out.new) (O.faults out.old) (O.faults out.new) }
     ensures not_usage { result ≢ Outcome.Usage }
     ensures not_read { result ≢ Outcome.ReadFault }
-    ensures untouched { leaves_out (status_of result) ≡ true → out.new ≡ out.old }
+    ensures untouched { leaves_out false (status_of result) ≡ true → out.new ≡ out.old }
     ensures calm { result ≢ Outcome.WriteFault → O.faults out.new ≡ O.faults out.old }
     ensures last { result ≡ Outcome.WriteFault → EndsByFault O.written O.faults out.old out.new }
 {
@@ -201,7 +201,8 @@ fn print_source<O: Sink>(alloc: Global, bytes: &[u8], out: &mut O) -> Outcome
 // Writes the canonical text of a model.
 fn print_model<O: Sink>(alloc: Global, tree: &Model, out: &mut O) -> Outcome
     ensures outcome { IsOutcome (printed_text (model tree.now)) result (O.written out.old) (O.written out.new) (O.faults out.old) (O.faults out.new) }
-    ensures prints { leaves_out (status_of result) ≡ false }
+    ensures prints { leaves_out true (status_of result) ≡ false }
+    ensures untouched { leaves_out false (status_of result) ≡ true → out.new ≡ out.old }
     ensures calm { result ≢ Outcome.WriteFault → O.faults out.new ≡ O.faults out.old }
     ensures last { result ≡ Outcome.WriteFault → EndsByFault O.written O.faults out.old out.new }
 {
@@ -220,7 +221,7 @@ fn run_source<O: Sink>(alloc: Global, options: Options, bytes: &[u8], out: &mut 
     ensures outcome { (answer : Answer) → IsRunAnswer (options_in options.entry) bytes.now answer → IsOutcome answer result (O.written out.old) (O.written out.new) (O.faults out.old) (O.faults out.new) }
     ensures not_usage { result ≢ Outcome.Usage }
     ensures not_read { result ≢ Outcome.ReadFault }
-    ensures untouched { leaves_out (status_of result) ≡ true → out.new ≡ out.old }
+    ensures untouched { leaves_out true (status_of result) ≡ true → out.new ≡ out.old }
     ensures calm { result ≢ Outcome.WriteFault → O.faults out.new ≡ O.faults out.old }
     ensures last { result ≡ Outcome.WriteFault → EndsByFault O.written O.faults out.old out.new }
 {
@@ -246,7 +247,7 @@ fn name_of(alloc: Global, name: Option<&[u8]>) -> Result<Option<Name>, AllocErro
 // Runs a machine. The header and each row are written as they come, each by a write of its own.
 fn run_machine<O: Sink>(alloc: Global, options: Options, m: Machine, out: &mut O) -> Outcome
     ensures outcome { IsOutcome (printed (options_in options.entry) m) result (O.written out.old) (O.written out.new) (O.faults out.old) (O.faults out.new) }
-    ensures runs { leaves_out (status_of result) ≡ false }
+    ensures runs { leaves_out true (status_of result) ≡ false }
     ensures calm { result ≢ Outcome.WriteFault → O.faults out.new ≡ O.faults out.old }
     ensures last { result ≡ Outcome.WriteFault → EndsByFault O.written O.faults out.old out.new }
 {

@@ -13,6 +13,9 @@ mod top;
 mod values;
 mod words;
 
-pub use laws::{answers_are_unique, answers_exist, certified_runs_stay_near};
+pub use laws::{
+    answers_are_unique, answers_exist, certified_runs_stay_near, options_are_single,
+    words_mean_the_same,
+};
 pub use status::Status;
 pub use top::qss_main;

@@ -1,11 +1,11 @@
 // The top call.
-ghost use Rattle.std.specs.Prelude.{◌≡◌, ◌≢◌, ◌≤◌, ◌↔◌, [], true, List, ℕ, map, Some, None, IfSome, Contains};
+ghost use Rattle.std.specs.Prelude.{◌≡◌, ◌≢◌, ◌≤◌, ◌↔◌, [], true, List, ℕ, map, Some, None, Contains};
 ghost use Rattle.mu_io.specs.Faults.{Rose};
 ghost use Rattle.mu_io.specs.Sinks.{AppendsPrefix, EndsByFault};
 ghost use Rattle.qss_top.specs.Answers.{Told, IsTold};
-ghost use Rattle.qss_top.specs.Commands.{command_of};
+ghost use Rattle.qss_top.specs.Commands.{command_of, writes_as_it_goes};
 ghost use Rattle.qss_top.specs.Statuses.{leaves_out};
-ghost use Rattle.qss_top.specs.TopCall.{IsReplied, text_of, SomeRose, ReportsStatus};
+ghost use Rattle.qss_top.specs.TopCall.{IsReplied, Replies, IsCutShort, text_of, SomeRose, ReportsStatus};
 
 use crate::Status;
 use crate::command::answer;
@@ -25,23 +25,28 @@ pub fn qss_main<S: Shelf, O: Sink, E: Sink>(
     // A status that is no fault and no want of memory is that of the answer which the words and the
     // files define, and out gains exactly the answer's text. It never gains more than a prefix of it.
     ensures replied { (told : Told) → IsTold (map (λ word. word.now) words.now) (S.files shelf.old) told → IsReplied told.reply result (O.written out.old) (O.written out.new) }
-    ensures prefix { (told : Told) → IsTold (map (λ word. word.now) words.now) (S.files shelf.old) told → IfSome (text_of told.reply) (λ text. AppendsPrefix (O.written out.old) (O.written out.new) text) }
+    ensures prefix { (told : Told) → IsTold (map (λ word. word.now) words.now) (S.files shelf.old) told → Replies (λ answer. AppendsPrefix (O.written out.old) (O.written out.new) answer.out) told.reply }
     ensures quiet { (told : Told) → IsTold (map (λ word. word.now) words.now) (S.files shelf.old) told → text_of told.reply ≡ Some [] → O.faults out.new ≡ O.faults out.old }
+
+    // Where memory is wanting, out has whole lines of the answer's text, with more to come, and only
+    // of a run; or all of a run that overflows.
+    ensures short { (told : Told) → IsTold (map (λ word. word.now) words.now) (S.files shelf.old) told → result ≡ Status.Memory → Replies (IsCutShort (O.written out.old) (O.written out.new)) told.reply }
 
     // Words that are no command are told as such, and nothing else is.
     ensures usage { (result ≡ Status.Usage) ↔ (command_of (map (λ word. word.now) words.now) ≡ None) }
 
-    // A read fault comes only of a file at which the answer arrives, and no other file is asked for.
+    // A read fault comes only of a file at which the answer arrives, and no other file has one.
     ensures read_fault { (told : Told) → IsTold (map (λ word. word.now) words.now) (S.files shelf.old) told → result ≡ Status.ReadFault → SomeRose told.arrivals (S.faults shelf.old) (S.faults shelf.new) }
     ensures others { (told : Told) → IsTold (map (λ word. word.now) words.now) (S.files shelf.old) told → (name : List ℕ) → ¬ Contains told.arrivals name → S.faults shelf.new name ≡ S.faults shelf.old name }
     ensures files { S.files shelf.new ≡ S.files shelf.old }
     ensures later { (name : List ℕ) → S.faults shelf.old name ≤ S.faults shelf.new name }
     ensures unharmed { result ≢ Status.ReadFault → (name : List ℕ) → S.faults shelf.new name ≡ S.faults shelf.old name }
 
-    // A write fault comes only of out, which is not written to afterwards, and no other status of one.
+    // A write fault comes only of out, which gains nothing afterwards, and no other status of one.
+    // A refusal leaves out as it is, and so does want of memory, but in a run.
     ensures last { result ≡ Status.WriteFault → EndsByFault O.written O.faults out.old out.new }
     ensures calm { result ≢ Status.WriteFault → O.faults out.new ≡ O.faults out.old }
-    ensures untouched { leaves_out result ≡ true → out.new ≡ out.old }
+    ensures untouched { leaves_out (writes_as_it_goes (command_of (map (λ word. word.now) words.now))) result ≡ true → out.new ≡ out.old }
 
     // The line of the status goes to err, or a prefix of it where err fails; nothing goes there
     // where all was read and written.

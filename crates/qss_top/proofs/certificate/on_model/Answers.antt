@@ -2,7 +2,7 @@ use Rattle.qss_compile.specs.Meanings.{IsRefused}
 use Rattle.qss_top.specs.Answers.{ReadsCertificate}
 use Rattle.qss_top.specs.Certificates.{IsDone, share_in}
 use Rattle.qss_top.proofs.Refusals.{not_usage, not_write}
-use Rattle.qss_top.proofs.TwoFiles.{machine_served, no_machine_served}
+use Rattle.qss_top.proofs.TwoFiles.{machine_served, no_machine_served, source_reply}
 use Rattle.qss_top.proofs.certificate.on_model.Goals as goal
 
 pub returns-in-Ok-clause-serves : goal.returns-in-Ok-clause-serves
@@ -15,6 +15,7 @@ pub returns-in-Err-clause-serves : goal.returns-in-Err-clause-serves
 returns-in-Err-clause-serves g c =
     no_machine_served (g.S.Shelf.files c.args.shelf.now) _ (share_in c.args.deed) c.args.bytes.now (λ m fs. ReadsCertificate c.args.certificate.now (IsDone c.args.deed) m fs) c.in-Err.what
     (g.O.Sink.written c.args.out.now) (g.O.Sink.faults c.args.out.now) (g.S.Shelf.faults c.args.shelf.now) c.requires c.in-Err.ensures.refused
+    (source_reply c.args.deed c.args.certificate.now c.args.bytes.now)
 
 pub returns-in-Err-clause-not_usage : goal.returns-in-Err-clause-not_usage
 returns-in-Err-clause-not_usage g c = not_usage (IsRefused c.args.bytes.now) c.in-Err.what c.in-Err.ensures.refused

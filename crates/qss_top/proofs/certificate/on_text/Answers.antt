@@ -1,4 +1,4 @@
-use Rattle.std.proofs.Common.{sym, ap, ◌∙◌, subst}
+use Rattle.std.proofs.Common.{false, sym, ap, ◌∙◌, subst}
 use Rattle.qss_top.specs.Certificates.{outcome_by}
 use Rattle.qss_top.specs.Outcomes.{IsOutcome, status_of}
 use Rattle.qss_top.specs.Statuses.{leaves_out}
@@ -20,7 +20,7 @@ returns-in-Certify-clause-not_usage g c e = (done_read c.certify.result).1 (sym 
 
 pub returns-in-Certify-clause-untouched : goal.returns-in-Certify-clause-untouched
 returns-in-Certify-clause-untouched g c e =
-    c.certify.ensures.answered.untouched (done_left c.certify.result (sym (ap (λ (w : Outcome). leaves_out (status_of w)) c.outcome_of.ensures) ∙ e))
+    c.certify.ensures.answered.untouched (done_left c.certify.result (sym (ap (λ (w : Outcome). leaves_out false (status_of w)) c.outcome_of.ensures) ∙ e))
 
 pub returns-in-Certify-clause-calm : goal.returns-in-Certify-clause-calm
 returns-in-Certify-clause-calm g c other = c.certify.ensures.answered.calm (λ e. other (c.outcome_of.ensures ∙ ap outcome_by e))
@@ -41,7 +41,7 @@ returns-in-Upgrade-clause-not_usage g c e = (done_read c.upgrade.result).1 (sym 
 
 pub returns-in-Upgrade-clause-untouched : goal.returns-in-Upgrade-clause-untouched
 returns-in-Upgrade-clause-untouched g c e =
-    c.upgrade.ensures.untouched (done_left c.upgrade.result (sym (ap (λ (w : Outcome). leaves_out (status_of w)) c.outcome_of-in-Upgrade.ensures) ∙ e))
+    c.upgrade.ensures.untouched (done_left c.upgrade.result (sym (ap (λ (w : Outcome). leaves_out false (status_of w)) c.outcome_of-in-Upgrade.ensures) ∙ e))
 
 pub returns-in-Upgrade-clause-calm : goal.returns-in-Upgrade-clause-calm
 returns-in-Upgrade-clause-calm g c other = c.upgrade.ensures.calm (λ e. other (c.outcome_of-in-Upgrade.ensures ∙ ap outcome_by e))

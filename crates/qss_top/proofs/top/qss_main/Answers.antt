@@ -1,6 +1,8 @@
 use Rattle.std.proofs.Common.{ap, ◌∙◌}
+use Rattle.std.specs.Prelude.{map}
+use Rattle.qss_top.specs.Commands.{command_of, writes_as_it_goes}
 use Rattle.qss_top.specs.Outcomes.{status_of, takes_memory}
-use Rattle.qss_top.proofs.TopFacts.{replied, defined_of, leaves_of, read_of, write_of, done_of, usage_of, status_by, no_write, no_read, line_is}
+use Rattle.qss_top.proofs.TopFacts.{replied, defined_of, leaves_of, read_of, write_of, done_of, usage_of, status_by, no_write, no_read, short_of, line_is}
 use Rattle.qss_top.proofs.top.qss_main.Goals as goal
 
 pub returns-clause-replied : goal.returns-clause-replied
@@ -9,6 +11,12 @@ returns-clause-replied g c told h =
 
 pub returns-clause-prefix : goal.returns-clause-prefix
 returns-clause-prefix g c told h = (c.answer-outcome.ensures.meets told h).prefix
+
+pub returns-clause-short : goal.returns-clause-short
+returns-clause-short g c told h e =
+    let meets = c.answer-outcome.ensures.meets told h in
+    short_of (λ k. g.O.Sink.written k) told.reply (writes_as_it_goes (command_of (map (λ word. word.now) c.args.words.now))) c.answer-outcome.result c.args.out.now c.answer-outcome.new.out c.report.result
+    c.report.ensures.status e meets.short meets.replied c.answer-outcome.ensures.untouched
 
 pub returns-clause-quiet : goal.returns-clause-quiet
 returns-clause-quiet g c told h = (c.answer-outcome.ensures.meets told h).quiet
@@ -33,7 +41,8 @@ pub returns-clause-calm : goal.returns-clause-calm
 returns-clause-calm g c e = c.answer-outcome.ensures.calm (no_write c.report.result c.answer-outcome.result c.report.ensures.status e)
 
 pub returns-clause-untouched : goal.returns-clause-untouched
-returns-clause-untouched g c e = c.answer-outcome.ensures.untouched (leaves_of c.report.result c.answer-outcome.result c.report.ensures.status e)
+returns-clause-untouched g c e =
+    c.answer-outcome.ensures.untouched (leaves_of (writes_as_it_goes (command_of (map (λ word. word.now) c.args.words.now))) c.report.result c.answer-outcome.result c.report.ensures.status e)
 
 pub returns-clause-unharmed : goal.returns-clause-unharmed
 returns-clause-unharmed g c e = c.answer-outcome.ensures.unharmed (no_read c.report.result c.answer-outcome.result c.report.ensures.status e)
