@@ -10,9 +10,8 @@ use Rattle.mu_num.proofs.Tests.{eqb-yes, eqb-no}
 use Rattle.qss_machine.specs.declared.parts.SlopeRow.{SlopeRow}
 use Rattle.qss_machine.specs.declared.system.Machine.{Machine}
 use Rattle.qss_machine.specs.Machines.{state_count, row_at}
-use Rattle.qss_machine.specs.Uses.{row_reads, places_from, reading_rows, uses_of}
+use Rattle.qss_machine.specs.Uses.{row_reads, places_from, reading_rows}
 use Rattle.qss_run.specs.Moves.{is_among}
-use Rattle.qss_run.proofs.Speeds.{rows_of, rows_many}
 
 among_if : (b : Bool) (i : ℕ) (rest : List ℕ) (place : ℕ) → is_among (if b then i ∷ rest else rest) place ≡ ((b && (i == place)) || is_among rest place)
 among_if true i rest place = refl
@@ -30,7 +29,7 @@ module _ {X : Type 0} (test : X → Bool) where
       ∙ or_from _ _ (and_right (test x) (i == place) (eqb-no i place (λ e. omega (arith, e, h)))) (before_first (i + 1) xs place (omega (arith, h)))
 
   -- a place stands among those that pass a test where its element passes
-  place_among : (i : ℕ) (xs : List X) (k : ℕ) (d : X) → k < length xs → is_among (places_from test i xs) (i + k) ≡ test (get_or xs k d)
+  pub place_among : (i : ℕ) (xs : List X) (k : ℕ) (d : X) → k < length xs → is_among (places_from test i xs) (i + k) ≡ test (get_or xs k d)
   place_among i [] k d h = absurd (omega (arith, h))
   place_among i (x ∷ xs) zero d h =
       let e : i + 0 ≡ i = omega arith in
@@ -59,15 +58,18 @@ among_all f [] place = refl
 among_all f (x ∷ xs) place =
     list_any-append (λ (i : ℕ). i == place) (f x) (flat_map f xs) ∙ ap (λ b. is_among (f x) place || b) (among_all f xs place)
 
+-- whether a row stands among those that read one of these variables is whether it reads one
+pub among_readers : (m : Machine) (row : ℕ) → row < state_count m → (variables : List ℕ) →
+    is_among (flat_map (reading_rows m) variables) row ≡ list_any (λ j. row_reads j (row_at m row)) variables
+among_readers m row h variables = among_all (reading_rows m) variables row ∙ reads_one variables
+  where
+    reads_one : (xs : List ℕ) → list_any (λ j. is_among (reading_rows m j) row) xs ≡ list_any (λ j. row_reads j (row_at m row)) xs
+    reads_one [] = refl
+    reads_one (j ∷ xs) =
+        ap (λ b. b || list_any (λ (i : ℕ). is_among (reading_rows m i) row) xs) (among_rows m j row h)
+        ∙ ap (λ b. row_reads j (row_at m row) || b) (reads_one xs)
+
 -- lists one after another, with that of one more element
 pub lists_more : (f : ℕ → List ℕ) (xs : List ℕ) (i : ℕ) → i < length xs → flat_map f (take (i + 1) xs) ≡ flat_map f (take i xs) ++ f (get_or xs i 0)
 lists_more f xs i h =
     ap (flat_map f) (take_more xs i 0 h) ∙ flat_map-append f (take i xs) (get_or xs i 0 ∷ []) ∙ ap (λ more. flat_map f (take i xs) ++ more) (append-nil (f (get_or xs i 0)))
-
--- the rows that are kept for a state are those that read it
-module _ (m : Machine) (uses : List (List ℕ) × List (List ℕ)) (j : ℕ) (are : uses ≡ uses_of m) (h : j < state_count m) where
-  pub rows_kept : get_or uses.0 j [] ≡ reading_rows m j
-  rows_kept = ap (λ (u : List (List ℕ) × List (List ℕ)). get_or u.0 j []) are ∙ rows_of m j h
-
-  pub rows_reach : j < length uses.0
-  rows_reach = omega (arith, h, ap (λ (u : List (List ℕ) × List (List ℕ)). length u.0) are, rows_many m)

@@ -84,6 +84,7 @@ branches_more m i found next h many is before place inside = elim (cases_lt plac
           branch_known = within;
           own = sym (ap (condition_at m) (sym e)
               ∙ condition_by m.clauses i b (record { branches = [] }) no_branch (record { form = record { entries = []; time = pos 0; gamma = pos 0 }; rel = Less }) h within);
+          own_place = e;
         })
 
 -- one more branch

@@ -1,23 +1,23 @@
 -- States of which some go on at new slopes, step by step.
-use Rattle.std.proofs.Common.{◌≡◌, ℕ, ◌+◌, ◌<◌, ◌≤◌, false, List, [], ◌∷◌, ◌++◌, length, get_or, take, ℤ, pos, refl, sym, ◌∙◌, ap, subst, arith, append_assoc, inl, inr, ◌==◌}
-use Rattle.std.proofs.lemmas.Bool.{or_parts, or_cases, or_from, cases_Bool, cases_eq}
+use Rattle.std.proofs.Common.{◌≡◌, ℕ, ◌+◌, ◌<◌, ◌≤◌, true, false, List, [], ◌∷◌, ◌++◌, length, ℤ, pos, refl, sym, ◌∙◌, ap, subst, arith, flat_map, inl, inr, ◌==◌}
+use Rattle.std.proofs.lemmas.Bool.{or_parts, or_cases, cases_Bool, cases_eq}
 use Rattle.std.proofs.lemmas.List.Folds.{list_any-append}
 use Rattle.std.proofs.lemmas.List.FromFn.{get_or-map-range_with_len}
-use Rattle.std.specs.List.{list_any}
 use Rattle.std.specs.Prelude.{Option}
 use Rattle.mu_num.proofs.Tests.{eqb-true}
 use Rattle.mu_num.specs.Sizes.{IsWithin}
 use Rattle.qss_machine.specs.declared.system.Machine.{Machine}
 use Rattle.qss_machine.specs.Machines.{state_count, level_unit, row_at, slope_at, quantum_of}
 use Rattle.qss_machine.specs.Numbers.{int_at, tabulate}
-use Rattle.qss_machine.specs.Uses.{row_reads, reading_rows}
+use Rattle.qss_machine.specs.Uses.{reading_rows}
 use Rattle.qss_quant.specs.Lines.{Line, state_at, IsNear}
 use Rattle.qss_sched.specs.Ranks.{due_at}
 use Rattle.qss_run.specs.Moves.{is_among}
 use Rattle.qss_run.specs.Places.{line_at, IsTurned}
+use Rattle.qss_run.specs.Renewals.{goes_at}
 use Rattle.qss_run.specs.Sims.{IsDue}
-use Rattle.qss_run.specs.Turnings.{turning_states, MayTurn, GoesOn, Courses, AreTurned, AreLevelsBefore}
-use Rattle.qss_run.proofs.Among.{among_rows, among_all, lists_more}
+use Rattle.qss_run.specs.Turnings.{MayTurn, GoesOn, Courses, AreTurned, AreLevelsBefore}
+use Rattle.qss_run.proofs.Among.{among_readers}
 use Rattle.qss_run.proofs.Unread.{unread_at, unread_slope}
 
 -- ---- one state
@@ -56,20 +56,13 @@ module _ (m : Machine) (tick : ℕ) (level slope : ℤ) (j : ℕ) where
 -- ---- all states
 
 module _ (m : Machine) (tick : ℕ) (levels slopes : List ℤ) where
-  pub none_turned : (old : Courses) → AreTurned m tick levels slopes [] old old
-  none_turned old = record {
-    each = λ k h. inl (refl, refl);
-    turned = λ k h among. absurd (cc);
-    as_many = refl;
-    others = λ place h. refl;
-  }
-
   -- one state goes on at its slope
   pub one_turned : (j : ℕ) (old new : Courses) → j < state_count m →
       IsTurned m tick (state_at (line_at old.lines j) tick) (int_at levels j) (int_at slopes j) j (line_at new.lines j) (due_at new.dues j) →
       ((k : ℕ) → (k ≡ j → ⊥) → line_at new.lines k ≡ line_at old.lines k) → length new.dues ≡ length old.dues →
-      ((place : ℕ) → (place ≡ j → ⊥) → due_at new.dues place ≡ due_at old.dues place) → AreTurned m tick levels slopes (j ∷ []) old new
-  one_turned j old new known turned lines places dues =
+      ((place : ℕ) → (place ≡ j → ⊥) → due_at new.dues place ≡ due_at old.dues place) →
+      (goes_at (int_at levels j) (int_at slopes j) (line_at old.lines j) ≡ true → line_at new.lines j ≡ line_at old.lines j) → AreTurned m tick levels slopes (j ∷ []) old new
+  one_turned j old new known turned lines places dues kept =
       let here = λ (k : ℕ) (same : j ≡ k).
       subst (λ (i : ℕ). IsTurned m tick (state_at (line_at old.lines i) tick) (int_at levels i) (int_at slopes i) i (line_at new.lines i) (due_at new.dues i)) same turned in
       record {
@@ -80,6 +73,11 @@ module _ (m : Machine) (tick : ℕ) (levels slopes : List ℤ) where
         turned = λ k h among. elim (or_cases (j == k) false among) [
           | inl same ↦ here k (eqb-true j k same)
           | inr none ↦ absurd (cc)
+        ];
+        left = λ k h so. elim (cases_eq k j) [
+          | inl same ↦ subst (λ (i : ℕ). line_at new.lines i ≡ line_at old.lines i) (sym same)
+              (kept (subst (λ (i : ℕ). goes_at (int_at levels i) (int_at slopes i) (line_at old.lines i) ≡ true) same so))
+          | inr other ↦ lines k other
         ];
         as_many = places;
         others = λ place past. dues place (λ e. omega (arith, e, past, known));
@@ -97,6 +95,9 @@ module _ (m : Machine) (tick : ℕ) (levels slopes : List ℤ) where
               (due_at b.dues k) (due_at c.dues k) at (first.turned k h before) (second.each k h)
           | inr after ↦ subst (λ z. IsTurned m tick z (int_at levels k) (int_at slopes k) k (line_at c.lines k) (due_at c.dues k)) at (second.turned k h after)
         ];
+    left = λ k h so.
+        let same = first.left k h so in
+        second.left k h (ap (goes_at (int_at levels k) (int_at slopes k)) same ∙ so) ∙ same;
     as_many = second.as_many ∙ first.as_many;
     others = λ place past. second.others place past ∙ first.others place past;
   }
@@ -104,18 +105,9 @@ module _ (m : Machine) (tick : ℕ) (levels slopes : List ℤ) where
 -- ---- states that neither moved nor read one that did
 
 module _ (m : Machine) (k : ℕ) (h : k < state_count m) where
-  unturned : (moved : List ℕ) → list_any (λ j. is_among (j ∷ reading_rows m j) k) moved ≡ false →
-      (is_among moved k ≡ false) × (list_any (λ j. row_reads j (row_at m k)) moved ≡ false)
-  unturned [] none = (refl, refl)
-  unturned (j ∷ moved) none =
-      let parts = or_parts (is_among (j ∷ reading_rows m j) k) (list_any (λ (i : ℕ). is_among (i ∷ reading_rows m i) k) moved) none in
-      let own = or_parts (j == k) (is_among (reading_rows m j) k) parts.0 in
-      let rest = unturned moved parts.1 in
-      (or_from _ _ own.0 rest.0, or_from _ _ (sym (among_rows m j k h) ∙ own.1) rest.1)
-
   -- each state goes on at its new slope, since that of one that reads no moved state is its old one
   pub turned_all : (tick : ℕ) (levels before discretes slopes_old slopes : List ℤ) (moved : List ℕ) (old new : Courses) →
-      AreTurned m tick levels slopes (turning_states m moved) old new → AreLevelsBefore m moved levels discretes slopes_old old.lines before →
+      AreTurned m tick levels slopes (moved ++ flat_map (reading_rows m) moved) old new → AreLevelsBefore m moved levels discretes slopes_old old.lines before →
       slopes ≡ tabulate (state_count m) (λ j. slope_at m j levels discretes) → (line_at old.lines k).tick ≤ tick → (line_at old.lines k).slope ≡ int_at slopes_old k →
       ((line_at old.lines k).level ≡ int_at levels k → IsDue m tick k (line_at old.lines k) (due_at old.dues k)) →
       IsTurned m tick (state_at (line_at old.lines k) tick) (int_at levels k) (slope_at m k levels discretes) k (line_at new.lines k) (due_at new.dues k)
@@ -124,13 +116,13 @@ module _ (m : Machine) (k : ℕ) (h : k < state_count m) where
       let own : int_at slopes k ≡ slope_at m k levels discretes =
       ap (λ xs. int_at xs k) slopes_new ∙ get_or-map-range_with_len (λ j. slope_at m j levels discretes) 0 (state_count m) k k (pos 0) h (omega arith) in
       subst (λ z. IsTurned m tick x (int_at levels k) z k (line_at new.lines k) (due_at new.dues k)) own
-      (elim (cases_Bool (is_among (turning_states m moved) k)) [
+      (elim (cases_Bool (is_among (moved ++ flat_map (reading_rows m) moved) k)) [
         | inl among ↦ are.turned k h among
         | inr none ↦
-            let parts = unturned moved (sym (among_all (λ (j : ℕ). j ∷ reading_rows m j) moved k) ∙ none) in
+            let parts = or_parts (is_among moved k) (is_among (flat_map (reading_rows m) moved) k) (sym (list_any-append (λ (i : ℕ). i == k) moved (flat_map (reading_rows m) moved)) ∙ none) in
             let same : int_at slopes_old k ≡ slope_at m k levels discretes =
             ap (λ xs. int_at xs k) were.own_slopes ∙ get_or-map-range_with_len (λ j. slope_at m j before discretes) 0 (state_count m) k k (pos 0) h (omega arith)
-            ∙ sym (unread_slope m.f (row_at m k) moved before levels discretes (unread_at moved (row_at m k) parts.1) were.off) in
+            ∙ sym (unread_slope m.f (row_at m k) moved before levels discretes (unread_at moved (row_at m k) (sym (among_readers m k h moved) ∙ parts.1)) were.off) in
             let own_level : (line_at old.lines k).level ≡ int_at levels k = were.own_levels k h ∙ sym (were.off.others k parts.0) in
             still_turned m tick (int_at levels k) (int_at slopes k) k x (line_at old.lines k) (line_at new.lines k) (due_at old.dues k) (due_at new.dues k) refl
             (record { not_later = not_later; here = refl; own_slope = own_slope ∙ same ∙ sym own; own_level = own_level; is_due = due own_level })
@@ -142,9 +134,3 @@ pub may_turn : (m : Machine) (tick : ℕ) (level slope : ℤ) (j : ℕ) (line : 
     IsNear (level_unit m) (state_at line tick) level (quantum_of m j level) → (line.level ≡ level → IsDue m tick j line found) → MayTurn m tick level slope j line found
 may_turn m tick level slope j line found earlier small near due =
     record { not_later = omega (arith, earlier); small = small; near = near; due = due }
-
--- the states that turn where one more moved
-pub turning_more : (m : Machine) (moved : List ℕ) (i : ℕ) → i < length moved →
-    turning_states m (take (i + 1) moved) ≡ (turning_states m (take i moved) ++ get_or moved i 0 ∷ []) ++ reading_rows m (get_or moved i 0)
-turning_more m moved i h =
-    lists_more (λ (j : ℕ). j ∷ reading_rows m j) moved i h ∙ sym (append_assoc (turning_states m (take i moved)) (get_or moved i 0 ∷ []) (reading_rows m (get_or moved i 0)))

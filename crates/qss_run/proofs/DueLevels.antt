@@ -1,12 +1,12 @@
 -- Where only moved states arrive and take new levels, all states have the levels of a tick.
-use Rattle.std.proofs.Common.{◌≡◌, ℕ, ◌<◌, Bool, true, false, List, [], ◌∷◌, ◌++◌, length, ℤ, pos, refl, sym, ap, ◌∙◌, subst, inl, inr, ◌⊎◌, arith}
+use Rattle.std.proofs.Common.{◌≡◌, ℕ, ◌<◌, Bool, true, false, List, [], ◌∷◌, ◌++◌, length, get_or, ℤ, pos, refl, sym, ap, ◌∙◌, subst, inl, inr, ◌⊎◌, arith}
 use Rattle.std.proofs.lemmas.Bool.{cases_Bool}
-use Rattle.std.proofs.lemmas.Bool.Decides.{Decides-int_eq}
-use Rattle.std.proofs.lemmas.List.{ext_get_or}
+use Rattle.std.proofs.lemmas.Bool.Decides.{Decides-int_eq, nat_tests}
+use Rattle.std.proofs.lemmas.List.{ext_get_or, get_or_default}
 use Rattle.std.proofs.lemmas.List.FromFn.{length-map-range_with_len}
 use Rattle.std.specs.List.{flat_map}
 use Rattle.std.specs.Ordering.{int_eq}
-use Rattle.std.specs.Prelude.{Option, MatchBool, All, if◌then◌else◌}
+use Rattle.std.specs.Prelude.{Option, None, MatchBool, All, if◌then◌else◌}
 use Rattle.mu_num.specs.Sizes.{IsWithin, passes}
 use Rattle.qss_machine.specs.declared.rows.RowKind.TheVariants as kind
 use Rattle.qss_machine.specs.declared.system.Machine.{Machine}
@@ -15,7 +15,8 @@ use Rattle.qss_machine.specs.Machines.{state_count}
 use Rattle.qss_machine.specs.Ticks.{is_near, IsNextLevel, AreNextLevels}
 use Rattle.qss_machine.specs.Runs.{level_rows}
 use Rattle.qss_quant.specs.Lines.{Line, state_at}
-use Rattle.qss_run.specs.Moves.{is_among, AreNumbers}
+use Rattle.qss_run.specs.Handlings.{AreMovedTo}
+use Rattle.qss_run.specs.Moves.{is_among, AreNumbers, IsOff}
 use Rattle.qss_run.specs.Places.{line_at}
 use Rattle.qss_run.specs.Stores.{states_at}
 use Rattle.qss_run.specs.Writes.{IsFirstOf, IsWritten}
@@ -45,66 +46,87 @@ no_row tick j old new state kept =
     let test : int_eq old new ≡ true = (Decides-int_eq old new).1 (sym kept) in
     ap (λ b. if b then [] else record { tick = tick; kind = kind.Level; var = j; level = new; state = state } ∷ []) test
 
+passes-within : (bits : ℕ) (z : ℤ) → passes bits z ≡ false → IsWithin bits z
+passes-within bits z e = grind (arith, nat_tests)
+
 by_true : (b : Bool) (P Q : Type 0) → b ≡ true → P → MatchBool b P Q
 by_true b P Q e p = subst (λ c. MatchBool c P Q) (sym e) p
 
-module _ (m : Machine) (tick : ℕ) (lines : List Line) (moved : List ℕ) (before x old fresh : List ℤ)
-    (as_many : length lines ≡ state_count m) (numbers : AreNumbers (state_count m) moved) (arrived : IsWritten (pos 0) (λ j z. z ≡ state_at (line_at lines j) tick) moved before x) where
-  moved_inside : (j : ℕ) → is_among moved j ≡ true → j < state_count m
-  moved_inside j e = let at = index_of moved j e in omega (arith, at.2, numbers.below at.0 0 at.1)
+moved_inside : (n : ℕ) (moved : List ℕ) → AreNumbers n moved → (j : ℕ) → is_among moved j ≡ true → j < n
+moved_inside n moved numbers j e = let at = index_of moved j e in omega (arith, at.2, numbers.below at.0 0 at.1)
 
+module _ (tick : ℕ) (lines : List Line) (moved : List ℕ) (before x : List ℤ) (numbers : AreNumbers (length lines) moved)
+    (arrived : IsWritten (pos 0) (λ j z. z ≡ state_at (line_at lines j) tick) moved before x) where
   moved_state : (j : ℕ) → is_among moved j ≡ true → int_at (states_at lines tick) j ≡ int_at x j
-  moved_state j e = int_at-states_at lines tick j (omega (arith, moved_inside j e, as_many)) ∙ sym (arrived.each j e)
+  moved_state j e = int_at-states_at lines tick j (moved_inside (length lines) moved numbers j e) ∙ sym (arrived.each j e)
 
   -- the first moved state past a limit is the first of all
-  pub states_over : (first : Option ℕ) → ((j : ℕ) → j < state_count m → is_among moved j ≡ false → IsWithin 88 (state_at (line_at lines j) tick)) →
+  pub states_over : (first : Option ℕ) → ((j : ℕ) → j < length lines → is_among moved j ≡ false → IsWithin 88 (state_at (line_at lines j) tick)) →
       IsFirstOf (λ j. passes 88 (int_at x j)) moved first → first ≡ first_past 88 (states_at lines tick)
   states_over first small found =
-      let many : state_count m ≡ length (states_at lines tick) = sym (length-states_at lines tick ∙ as_many) in
-      first_of_all (pos 0) (passes 88) (λ j. passes 88 (int_at x j)) (states_at lines tick) moved first (subst (λ n. AreNumbers n moved) many numbers)
+      first_of_all (pos 0) (passes 88) (λ j. passes 88 (int_at x j)) (states_at lines tick) moved first (subst (λ n. AreNumbers n moved) (sym (length-states_at lines tick)) numbers)
       (λ j e. ap (passes 88) (moved_state j e))
       (λ j h e.
       let inside : j < length lines = omega (arith, h, length-states_at lines tick) in
-      ap (passes 88) (int_at-states_at lines tick j inside) ∙ within-passes 88 (state_at (line_at lines j) tick) (small j (omega (arith, inside, as_many)) e))
+      ap (passes 88) (int_at-states_at lines tick j inside) ∙ within-passes 88 (state_at (line_at lines j) tick) (small j inside e))
       found
 
-  -- the first moved state whose level passes a limit is the first of all
-  pub levels_over : (first : Option ℕ) → length old ≡ state_count m → length fresh ≡ length old → All (IsWithin 43) old →
-      ((j : ℕ) → is_among moved j ≡ false → int_at fresh j ≡ int_at old j) → IsFirstOf (λ j. passes 43 (int_at fresh j)) moved first → first ≡ first_past 43 fresh
-  levels_over first many same_many small kept found =
-      let all : state_count m ≡ length fresh = sym (same_many ∙ many) in
-      first_of_all (pos 0) (passes 43) (λ j. passes 43 (int_at fresh j)) fresh moved first (subst (λ n. AreNumbers n moved) all numbers) (λ j e. refl)
-      (λ j h e. ap (passes 43) (kept j e) ∙ within-passes 43 (int_at old j) (small j (pos 0) (omega (arith, h, same_many))))
-      found
+  -- the states at a tick, of which the moved ones have arrived
+  pub arrived_at : (m : Machine) (levels : List ℤ) → length lines ≡ state_count m →
+      ((j : ℕ) → j < state_count m → is_among moved j ≡ false → is_near m j (state_at (line_at lines j) tick) (int_at levels j) ≡ true) → AreMovedTo m moved x levels (states_at lines tick)
+  arrived_at m levels as_many near = record {
+    as_many = length-states_at lines tick ∙ as_many;
+    own = moved_state;
+    near = λ j h e. ap (λ z. is_near m j z (int_at levels j)) (int_at-states_at lines tick j (omega (arith, h, as_many))) ∙ near j h e;
+  }
 
-  -- all new levels are allowed
-  pub levels_allowed : (Rule : ℤ → ℤ → ℤ → ℤ → Type 0) → length fresh ≡ state_count m →
-      ((j : ℕ) → j < state_count m → is_among moved j ≡ false → is_near m j (state_at (line_at lines j) tick) (int_at old j) ≡ true) →
-      ((j : ℕ) → is_among moved j ≡ true → IsNextLevel Rule m j (int_at x j) (int_at old j) (int_at fresh j)) →
-      ((j : ℕ) → is_among moved j ≡ false → int_at fresh j ≡ int_at old j) → AreNextLevels Rule m (states_at lines tick) old fresh
-  levels_allowed Rule many near next kept = record { one_each = many; each = λ j h. by_among j h (cases_Bool (is_among moved j)) }
+  -- where no moved state passed its limit, and no number before did, none does
+  pub arrived_small : All (IsWithin 88) before → IsFirstOf (λ j. passes 88 (int_at x j)) moved None → All (IsWithin 88) x
+  arrived_small small none = λ j z h. by_among j z h (cases_Bool (is_among moved j))
     where
-      by_among : (j : ℕ) → j < state_count m → (is_among moved j ≡ true) ⊎ (is_among moved j ≡ false) → IsNextLevel Rule m j (int_at (states_at lines tick) j) (int_at old j) (int_at fresh j)
-      by_among j h (inl e) = subst (λ z. IsNextLevel Rule m j z (int_at old j) (int_at fresh j)) (sym (moved_state j e)) (next j e)
-      by_among j h (inr e) =
-          let here : int_at (states_at lines tick) j ≡ state_at (line_at lines j) tick = int_at-states_at lines tick j (omega (arith, h, as_many)) in
-          by_true (is_near m j (int_at (states_at lines tick) j) (int_at old j)) (int_at fresh j ≡ int_at old j) (Rule _ (int_at (states_at lines tick) j) (int_at old j) (int_at fresh j))
-          (ap (λ z. is_near m j z (int_at old j)) here ∙ near j h e) (kept j e)
+      by_among : (j : ℕ) (z : ℤ) → j < length x → (is_among moved j ≡ true) ⊎ (is_among moved j ≡ false) → IsWithin 88 (get_or x j z)
+      by_among j z h (inl e) = subst (IsWithin 88) (get_or_default x j (pos 0) z h) (passes-within 88 (int_at x j) (none j e))
+      by_among j z h (inr e) =
+          subst (IsWithin 88) (get_or_default x j (pos 0) z h) (subst (IsWithin 88) (sym (arrived.others j e)) (small j (pos 0) (omega (arith, h, arrived.as_many))))
 
-  -- the rows of the moved states are those of all
-  pub rows_of_moved : ((j : ℕ) → is_among moved j ≡ false → int_at fresh j ≡ int_at old j) → flat_map (level_row tick old fresh x) moved ≡ level_rows tick old fresh (states_at lines tick)
-  rows_of_moved kept =
-      let row = level_row tick old fresh (states_at lines tick) in
-      same_rows (level_row tick old fresh x) row moved (λ j e. ap (row_of tick j (int_at old j) (int_at fresh j)) (sym (moved_state j e)))
-      ∙ sym (rows_among row (length (states_at lines tick)) 0 moved numbers.rising
-      (λ j e. (omega arith, omega (arith, moved_inside j e, length-states_at lines tick, as_many)))
-      (λ j h e. no_row tick j (int_at old j) (int_at fresh j) (int_at (states_at lines tick) j) (kept j e)))
+module _ (m : Machine) (moved : List ℕ) (x old fresh : List ℤ) (numbers : AreNumbers (state_count m) moved) (many : length old ≡ state_count m) (off : IsOff moved old fresh) where
+  -- the first moved state whose level passes a limit is the first of all
+  pub levels_over : (first : Option ℕ) → All (IsWithin 43) old → IsFirstOf (λ j. passes 43 (int_at fresh j)) moved first → first ≡ first_past 43 fresh
+  levels_over first small found =
+      let all : state_count m ≡ length fresh = sym (off.as_many ∙ many) in
+      first_of_all (pos 0) (passes 43) (λ j. passes 43 (int_at fresh j)) fresh moved first (subst (λ n. AreNumbers n moved) all numbers) (λ j e. refl)
+      (λ j h e. ap (passes 43) (off.others j e) ∙ within-passes 43 (int_at old j) (small j (pos 0) (omega (arith, h, off.as_many))))
+      found
+
+  module _ (states : List ℤ) (are : AreMovedTo m moved x old states) where
+    -- all new levels are allowed
+    pub levels_allowed : (Rule : ℤ → ℤ → ℤ → ℤ → Type 0) → ((j : ℕ) → is_among moved j ≡ true → IsNextLevel Rule m j (int_at x j) (int_at old j) (int_at fresh j)) → AreNextLevels Rule m states old fresh
+    levels_allowed Rule next = record { one_each = off.as_many ∙ many; each = λ j h. by_among j h (cases_Bool (is_among moved j)) }
+      where
+        by_among : (j : ℕ) → j < state_count m → (is_among moved j ≡ true) ⊎ (is_among moved j ≡ false) → IsNextLevel Rule m j (int_at states j) (int_at old j) (int_at fresh j)
+        by_among j h (inl e) = subst (λ z. IsNextLevel Rule m j z (int_at old j) (int_at fresh j)) (sym (are.own j e)) (next j e)
+        by_among j h (inr e) = by_true (is_near m j (int_at states j) (int_at old j)) (int_at fresh j ≡ int_at old j) (Rule _ (int_at states j) (int_at old j) (int_at fresh j)) (are.near j h e) (off.others j e)
+
+    -- the rows of the moved states are those of all
+    pub rows_of_moved : (tick : ℕ) → flat_map (level_row tick old fresh x) moved ≡ level_rows tick old fresh states
+    rows_of_moved tick =
+        let row = level_row tick old fresh states in
+        same_rows (level_row tick old fresh x) row moved (λ j e. ap (row_of tick j (int_at old j) (int_at fresh j)) (sym (are.own j e)))
+        ∙ sym (rows_among row (length states) 0 moved numbers.rising
+        (λ j e. (omega arith, omega (arith, moved_inside (state_count m) moved numbers j e, are.as_many)))
+        (λ j h e. no_row tick j (int_at old j) (int_at fresh j) (int_at states j) (off.others j e)))
 
 -- the levels that were taken are the new ones
-pub levels_taken : (moved : List ℕ) (old fresh levels : List ℤ) → IsWritten (pos 0) (λ j level. level ≡ int_at fresh j) moved old levels → length fresh ≡ length old →
-    ((j : ℕ) → is_among moved j ≡ false → int_at fresh j ≡ int_at old j) → levels ≡ fresh
-levels_taken moved old fresh levels taken same_many kept = ext_get_or (pos 0) levels fresh (taken.as_many ∙ sym same_many) (λ j h. by_among j (cases_Bool (is_among moved j)))
+pub levels_taken : (moved : List ℕ) (old fresh levels : List ℤ) → IsWritten (pos 0) (λ j level. level ≡ int_at fresh j) moved old levels → IsOff moved old fresh → levels ≡ fresh
+levels_taken moved old fresh levels taken off = ext_get_or (pos 0) levels fresh (taken.as_many ∙ sym off.as_many) (λ j h. by_among j (cases_Bool (is_among moved j)))
   where
     by_among : (j : ℕ) → (is_among moved j ≡ true) ⊎ (is_among moved j ≡ false) → int_at levels j ≡ int_at fresh j
     by_among j (inl e) = taken.each j e
-    by_among j (inr e) = taken.others j e ∙ sym (kept j e)
+    by_among j (inr e) = taken.others j e ∙ sym (off.others j e)
+
+-- levels of which only those of moved states are written
+pub written_off : (moved : List ℕ) (Has : ℕ → ℤ → Type 0) (old before fresh : List ℤ) → before ≡ old → IsWritten (pos 0) Has moved before fresh → IsOff moved old fresh
+written_off moved Has old before fresh same written = record {
+  as_many = written.as_many ∙ ap length same;
+  others = λ j e. written.others j e ∙ ap (λ (xs : List ℤ). int_at xs j) same;
+}

@@ -50,9 +50,6 @@ pub clash : {A : Type 0} (o : Option ℕ) → is_some o ≡ true → o ≡ None 
 clash None some e = absurd (cc)
 clash (Some v) some e = absurd (cc)
 
-pub none_of_some : {A : Type 0} (v : ℕ) → Some v ≡ None → A
-none_of_some v e = absurd (cc)
-
 -- the first of two overflows
 pub over_first : (o a b : Option ℕ) → is_some o ≡ true → o ≡ a → o ≡ option_or a b
 over_first None a b some e = absurd (cc)

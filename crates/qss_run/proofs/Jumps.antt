@@ -4,12 +4,14 @@ use Rattle.std.proofs.lemmas.Bool.{cases_lt}
 use Rattle.std.proofs.lemmas.List.{get_or_past}
 use Rattle.std.proofs.Common.{Vec, Global}
 use Rattle.std.proofs.lemmas.Bool.Decides.{nat_tests}
+use Rattle.std.specs.List.{list_any}
 use Rattle.std.specs.Prelude.{Option, Some, None, nat_lt, if◌then◌else◌}
 use Rattle.mu_num.specs.Ticks.{FirstAfter}
 use Rattle.qss_machine.specs.declared.system.Machine.{Machine}
 use Rattle.qss_machine.specs.Numbers.{int_at, tabulate}
 use Rattle.qss_machine.specs.Machines.{state_count, slope_at}
-use Rattle.qss_machine.specs.Handlers.{conditions}
+use Rattle.qss_machine.specs.Handlers.{conditions, due_flags}
+use Rattle.qss_machine.specs.Ticks.{World}
 use Rattle.qss_quant.specs.declared.rule.Rule.{Rule}
 use Rattle.qss_quant.specs.Lines.{state_at}
 use Rattle.qss_sched.specs.Ranks.{due_at}
@@ -20,8 +22,9 @@ use Rattle.qss_run.specs.Skips.{states_after, world_after}
 use Rattle.qss_run.specs.Stores.{states_at, world_of, FitsMachine, Stands}
 use Rattle.qss_run.specs.Events.{AreSilent}
 use Rattle.qss_run.proofs.Quiet.{int_at-tabulate, tabulate-same}
-use Rattle.qss_run.proofs.Silence.{line_state_at, silence, stands_still}
+use Rattle.qss_run.proofs.Silence.{line_state_at, none_rises, silence, stands_still}
 use Rattle.qss_run.proofs.Silences.{quiet_worlds, quiet_leads}
+use Rattle.qss_run.proofs.Skipped.{settled_twice}
 
 pub later_of : (P : ℕ → Type 0) (from t : ℕ) (found : Option ℕ) → FirstAfter P from found → found ≡ Some t → from < t
 later_of P from t None first e = absurd (cc)
@@ -100,16 +103,19 @@ fits_then m s arrived calm fits many = record {
   levels = fits.levels;
   slopes = fits.slopes;
   fresh = fits.fresh;
+  weights = fits.weights;
   moved_room = fits.moved_room;
+  changed_room = fits.changed_room;
+  fired_room = fits.fired_room;
+  assigned_room = fits.assigned_room;
   watches = fits.watches;
   arrived = many;
   settled = fits.settled;
-  now = fits.now;
-  due = fits.due;
   places = fits.places;
   states = fits.states;
   discretes = fits.discretes;
   before = fits.before;
+  small_states = fits.small_states;
   small_discretes = fits.small_discretes;
   work_room = fits.work_room;
   row_room = fits.row_room;
@@ -123,12 +129,30 @@ stands_then m tick ticks s arrived calm stands before nothing is as_settled = re
   stands_for = subst (λ v. StandsFor m (tick + ticks) v (line_at s.lines.items) (watch_at s.watches.items) s.agenda) (sym (world_then m tick ticks s arrived calm stands is)) (still ticks before nothing);
   fresh_levels = stands.fresh_levels;
   own_slopes = stands.own_slopes;
+  own_weights = stands.own_weights;
+  rising = risen ticks before nothing is;
   calm = as_settled;
 }
   where
     many : (k : ℕ) → length (arrived_then k s.arrived.items s.settled.items) ≡ length (conditions m)
     many zero = stands.fits.arrived
     many (suc k) = stands.fits.settled
+
+    w : ℕ → World
+    w t = world_of t (record s { arrived = arrived; calm = calm })
+
+    -- after a quiet tick no condition has become true through the handlers
+    none_risen : (k : ℕ) → tick + suc k < m.last → ((place t : ℕ) → due_at s.agenda place ≡ Some t → tick + suc k + 1 ≤ t) → s.rising ≡ false
+    none_risen k before nothing =
+        stands.rising
+        ∙ none_rises m tick (world_of tick s) (line_at s.lines.items) (watch_at s.watches.items) s.agenda (tick + suc k) stands.stands_for (omega arith)
+        (λ t e. omega (arith, nothing _ t e))
+
+    risen : (k : ℕ) → tick + k < m.last → ((place t : ℕ) → due_at s.agenda place ≡ Some t → tick + k + 1 ≤ t) → arrived.items ≡ arrived_then k s.arrived.items s.settled.items →
+        s.rising ≡ rises (w (tick + k))
+    risen zero before nothing is = stands.rising ∙ ap (λ a. list_any (λ flag. flag) (due_flags s.settled.items a s.settled.items)) (sym is)
+    risen (suc k) before nothing is =
+        none_risen k before nothing ∙ sym (ap (λ a. list_any (λ flag. flag) (due_flags s.settled.items a s.settled.items)) is ∙ settled_twice s.settled.items)
 
     still : (k : ℕ) → tick + k < m.last → ((place t : ℕ) → due_at s.agenda place ≡ Some t → tick + k + 1 ≤ t) →
         StandsFor m (tick + k) (world_after m (world_of tick s) k) (line_at s.lines.items) (watch_at s.watches.items) s.agenda

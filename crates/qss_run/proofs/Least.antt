@@ -1,51 +1,50 @@
--- The least row that passes its limits reads a moved state.
-use Rattle.std.proofs.Common.{◌≡◌, ℕ, ◌<◌, true, false, List, [], ◌∷◌, length, ℤ, pos, refl, sym, ◌∙◌, ap, arith, inl, inr}
+-- The least row that passes its limits stands among those that were looked at.
+use Rattle.std.proofs.Common.{◌≡◌, ℕ, ◌<◌, true, false, List, [], length, ℤ, pos, refl, sym, ◌∙◌, ap, arith, inl, inr}
 use Rattle.std.proofs.lemmas.Bool.{cases_Bool}
-use Rattle.std.specs.List.{list_any, position}
-use Rattle.std.specs.Prelude.{◌||◌, Option, Some, None, flat_map}
+use Rattle.std.specs.List.{position}
+use Rattle.std.specs.Prelude.{◌||◌, not, Option, Some, None}
+use Rattle.mu_num.specs.Sizes.{passes}
 use Rattle.qss_machine.specs.declared.parts.SlopeRow.{SlopeRow}
 use Rattle.qss_machine.specs.declared.system.Machine.{Machine}
-use Rattle.qss_machine.specs.Machines.{state_count, row_at}
+use Rattle.qss_machine.specs.Machines.{state_count, row_at, weight_at}
+use Rattle.qss_machine.specs.Numbers.{int_at}
+use Rattle.qss_machine.specs.Slopes.{mode_fits}
 use Rattle.qss_machine.specs.Ticks.{is_overweight}
-use Rattle.qss_machine.specs.Uses.{row_reads, reading_rows}
-use Rattle.qss_run.specs.Moves.{is_among, IsOff}
-use Rattle.qss_run.specs.Overweights.{comes_before, IsLeastOverweight}
-use Rattle.qss_run.proofs.Among.{among_rows, among_all}
+use Rattle.qss_run.specs.Moves.{is_among}
+use Rattle.qss_run.specs.Overweights.{comes_before, IsLeastPast}
 use Rattle.qss_run.proofs.Firsts.{first_is, less_yes}
-use Rattle.qss_run.proofs.Ranges.{position-none, none_passes}
-use Rattle.qss_run.proofs.Unread.{unread_at, unread_overweight}
+use Rattle.qss_run.proofs.Ranges.{position-none}
 
--- a row stands among those that read one of the moved states where it reads one
-reads_one : (m : Machine) (row : ℕ) → row < state_count m → (moved : List ℕ) →
-    list_any (λ j. is_among (reading_rows m j) row) moved ≡ list_any (λ j. row_reads j (row_at m row)) moved
-reads_one m row h [] = refl
-reads_one m row h (j ∷ moved) =
-    ap (λ b. b || list_any (λ (i : ℕ). is_among (reading_rows m i) row) moved) (among_rows m j row h)
-    ∙ ap (λ b. row_reads j (row_at m row) || b) (reads_one m row h moved)
+-- nothing was looked at
+pub least_none : (weights : List ℤ) → IsLeastPast weights [] None
+least_none weights = record { past = λ row e. absurd (cc); none_before = λ row e before. absurd (cc) }
 
-module _ (m : Machine) (moved : List ℕ) (old levels discretes : List ℤ) (off : IsOff moved old levels) (light : position (is_overweight m old discretes) m.rows ≡ None) where
+-- a row whose modes fit passes its limits where its weight does
+pub passes_by_weight : (m : Machine) (row : ℕ) (levels discretes : List ℤ) (weight : ℤ) → mode_fits m.f (state_count m) (row_at m row) discretes ≡ true → weight ≡ weight_at m row levels discretes →
+    passes 88 weight ≡ is_overweight m levels discretes (row_at m row)
+passes_by_weight m row levels discretes weight fits own =
+    ap (passes 88) own ∙ ap (λ b. not b || passes 88 (weight_at m row levels discretes)) (sym fits)
+
+module _ (m : Machine) (levels discretes weights : List ℤ) (looked : List ℕ) (many : length weights ≡ state_count m)
+    (same : (row : ℕ) → row < state_count m → passes 88 (int_at weights row) ≡ is_overweight m levels discretes (row_at m row))
+    (others : (row : ℕ) → row < state_count m → is_among looked row ≡ false → is_overweight m levels discretes (row_at m row) ≡ false) where
   no_row : SlopeRow
   no_row = record { entries = []; products = []; beta = pos 0 }
 
-  none_before : (found : Option ℕ) → IsLeastOverweight m levels discretes (flat_map (reading_rows m) moved) found → (row : ℕ) → row < state_count m → comes_before found row ≡ true →
-      is_overweight m levels discretes (row_at m row) ≡ false
-  unfolding no_row
-  none_before found least row h before =
-      let inside : row < length m.rows = omega (arith, h, m.has_rows.one_each) in
-      elim (cases_Bool (list_any (λ (j : ℕ). row_reads j (row_at m row)) moved)) [
-        | inl reads ↦ least.none_before row (among_all (reading_rows m) moved row ∙ reads_one m row h moved ∙ reads) before
-        | inr none ↦
-            unread_overweight m (row_at m row) moved old levels discretes (unread_at moved (row_at m row) none) off
-            ∙ none_passes no_row (is_overweight m old discretes) m.rows light row inside
-      ]
+  none_before : (found : Option ℕ) → IsLeastPast weights looked found → (row : ℕ) → row < state_count m → comes_before found row ≡ true → is_overweight m levels discretes (row_at m row) ≡ false
+  none_before found least row h before = elim (cases_Bool (is_among looked row)) [
+    | inl among ↦ sym (same row h) ∙ least.none_before row among before
+    | inr none ↦ others row h none
+  ]
 
-  -- of all rows the least that passes its limits reads a moved state
-  pub least_is : (found : Option ℕ) → IsLeastOverweight m levels discretes (flat_map (reading_rows m) moved) found → found ≡ position (is_overweight m levels discretes) m.rows
+  -- of all rows the least that passes its limits is the one that was found
+  pub least_is : (found : Option ℕ) → IsLeastPast weights looked found → found ≡ position (is_overweight m levels discretes) m.rows
   unfolding no_row
   least_is None least =
       sym (position-none no_row (is_overweight m levels discretes) m.rows (λ k h. let inside : k < state_count m = omega (arith, h, m.has_rows.one_each) in none_before None least k inside refl))
   least_is (Some row) least =
-      let here = least.passes row refl in
-      let inside : row < length m.rows = omega (arith, here.0, m.has_rows.one_each) in
+      let here = least.past row refl in
+      let known : row < state_count m = omega (arith, here.0, many) in
+      let inside : row < length m.rows = omega (arith, known, m.has_rows.one_each) in
       sym (first_is no_row (is_overweight m levels discretes) m.rows row inside
-      (λ k below. let known : k < state_count m = omega (arith, here.0, below) in none_before (Some row) least k known (less_yes k row below)) here.1)
+      (λ k below. let earlier : k < state_count m = omega (arith, known, below) in none_before (Some row) least k earlier (less_yes k row below)) (sym (same row known) ∙ here.1))

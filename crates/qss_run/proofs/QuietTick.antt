@@ -30,31 +30,28 @@ use Rattle.qss_sched.specs.Ranks.{due_at}
 use Rattle.qss_run.specs.declared.conditions.BranchPlace.{BranchPlace}
 use Rattle.qss_run.specs.Places.{AreBranches, IsWatched}
 use Rattle.qss_run.specs.Skips.{NoneRises}
-use Rattle.qss_run.specs.Sims.{slopes_of, condition_at, rises, IsChange, rising_tick, StandsFor}
-use Rattle.qss_run.specs.Speeds.{OnlyStatesAreDue}
+use Rattle.qss_run.specs.Sims.{slopes_of, condition_at, rises, IsChange, StandsFor}
 use Rattle.qss_run.proofs.Branches.{place_at}
 use Rattle.qss_run.proofs.Quiet.{clauses-idle, moved_is}
 use Rattle.qss_run.proofs.Flags.{truths_are}
-use Rattle.qss_run.proofs.Silence.{from_later, none_rises, watch_value_at, flag_still}
+use Rattle.qss_run.proofs.Silence.{from_later, watch_value_at, flag_still}
 use Rattle.qss_run.proofs.Skipped.{settled_twice}
 
-module _ (m : Machine) (tick : ℕ) (w : World) (line : ℕ → Line) (watch : ℕ → Watch) (due : List (Option ℕ))
-    (s : StandsFor m tick w line watch due) (only : OnlyStatesAreDue m tick due) (in_time : tick + 1 ≤ tick_limit) where
-  -- no condition became true through the handlers
-  calm : NoneRises w
-  calm = none_rises m tick w line watch due (tick + 1) s (omega arith) (λ later e. only (state_count m + length (conditions m)) later (omega arith) e)
+-- no condition changes at the next tick
+abbrev pub NoneChanges : Machine → ℕ → List (Option ℕ) → Type 0
+NoneChanges m tick due = (place later : ℕ) → place < length (conditions m) → due_at due (state_count m + place) ≡ Some later → tick + 1 < later
 
+-- none becomes true through the handlers of a tick that they do nothing at
+pub none_rises_then : (w next : World) → next.arrived ≡ w.settled → next.settled ≡ w.settled → rises next ≡ false
+none_rises_then w next arrived settled =
+    ap (λ a. list_any (λ flag. flag) (due_flags next.settled a next.settled)) arrived
+    ∙ ap (λ a. list_any (λ flag. flag) (due_flags a w.settled a)) settled
+    ∙ settled_twice w.settled
+
+module _ (m : Machine) (tick : ℕ) (w : World) (line : ℕ → Line) (watch : ℕ → Watch) (due : List (Option ℕ))
+    (s : StandsFor m tick w line watch due) (calm : NoneRises w) (none : NoneChanges m tick due) (in_time : tick + 1 ≤ tick_limit) where
   pub none_risen : due_at due (state_count m + length (conditions m)) ≡ None
   none_risen = s.rising ∙ ap (λ b. if b then Some (tick + 1) else None) calm
-
-  -- nor does one rise at the next tick
-  pub none_rises_then : (next : World) → next.arrived ≡ w.settled → next.settled ≡ w.settled → due_at due (state_count m + length (conditions m)) ≡ rising_tick (tick + 1) next
-  none_rises_then next arrived settled =
-      let none : rises next ≡ false =
-      ap (λ a. list_any (λ flag. flag) (due_flags next.settled a next.settled)) arrived
-      ∙ ap (λ a. list_any (λ flag. flag) (due_flags a w.settled a)) settled
-      ∙ settled_twice w.settled in
-      none_risen ∙ sym (ap (λ b. if b then Some ((tick + 1) + 1) else None) none)
 
   value_then : (place : ℕ) → place < length (conditions m) → value_at (watch place) (tick + 1) ≡ value_of m (condition_at m place).form (moved_states m w) w.discretes w.discretes (tick + 1)
   value_then place h =
@@ -63,7 +60,7 @@ module _ (m : Machine) (tick : ℕ) (w : World) (line : ℕ → Line) (watch : �
   flag_then : (place : ℕ) → place < length (conditions m) → truth m (condition_at m place) (moved_states m w) w.discretes (tick + 1) ≡ flag_at w.settled place
   flag_then place h =
       ap (λ x. truth m (condition_at m place) x w.discretes (tick + 1)) (moved_is m w)
-      ∙ flag_still m tick w line watch due (tick + 1) 1 place s (omega arith) (omega arith) in_time h (λ later e. only (state_count m + place) later (omega arith) e)
+      ∙ flag_still m tick w line watch due (tick + 1) 1 place s (omega arith) (omega arith) in_time h (λ later e. none place later h e)
 
   -- the conditions are as after the last handlers
   pub quiet_truths : truths m (moved_states m w) w.discretes (tick + 1) ≡ w.settled
@@ -89,7 +86,7 @@ module _ (m : Machine) (tick : ℕ) (w : World) (line : ℕ → Line) (watch : �
         own_rel = v.own_rel;
         is_change = subst (λ b. IsChange (tick + 1) b (watch place) (due_at due (state_count m + place))) (sym (flag_then place h))
             (from_later (λ t. holds_at (watch place) t ≢ flag_at w.settled place) tick (tick + 1) (due_at due (state_count m + place)) (omega arith)
-            (λ later e. only (state_count m + place) later (omega arith) e) (s.changes place h));
+            (λ later e. none place later h e) (s.changes place h));
       }
 
 -- ---- sizes of values
@@ -139,12 +136,3 @@ condition_bounded m branches are place h =
     let of_clause = m.has_clauses.each branch.clause (record { branches = [] }) own.clause_known in
     let of_branch = of_clause.branches branch.branch (record { condition = record { form = record { entries = []; time = pos 0; gamma = pos 0 }; rel = Less }; actions = [] }) own.branch_known in
     subst (λ (c : Condition). IsBounded c.form) own.own of_branch.condition.bounded
-
--- so its value at the next tick is small, where the states and discrete values are
-pub small_then : (m : Machine) (tick : ℕ) (w : World) (line : ℕ → Line) (watch : ℕ → Watch) (due : List (Option ℕ)) (branches : List BranchPlace) → StandsFor m tick w line watch due →
-    OnlyStatesAreDue m tick due → tick + 1 < 2 ^ 32 → AreBranches m branches → All (IsWithin 88) (moved_states m w) → All (IsWithin 43) w.discretes →
-    (place : ℕ) → place < length branches → IsSmall (value_at (watch place) (tick + 1))
-small_then m tick w line watch due branches s only in_time are small_states small_discretes place h =
-    let watched = watched_then m tick w line watch due s only (omega (arith, in_time)) place (omega (arith, h, are.as_many)) in
-    subst IsSmall (sym watched.here)
-    (value_small m (condition_at m place).form (moved_states m w) w.discretes (tick + 1) (condition_bounded m branches are place h) small_states small_discretes in_time)

@@ -3,7 +3,7 @@ use Rattle.std.proofs.Common.{◌≡◌, ◌≢◌, ℕ, ◌+◌, ◌≤◌, ◌
 use Rattle.std.proofs.lemmas.Bool.{cases_Bool}
 use Rattle.std.proofs.lemmas.List.{get_or_default}
 use Rattle.std.specs.Option.{option_or}
-use Rattle.std.specs.Prelude.{Option, Some, None, position}
+use Rattle.std.specs.Prelude.{Option, Some, None, position, if◌then◌else◌}
 use Rattle.mu_num.specs.Sizes.{IsWithin}
 use Rattle.mu_num.specs.Ticks.{tick_limit}
 use Rattle.qss_machine.specs.declared.system.Machine.{Machine}
@@ -16,29 +16,22 @@ use Rattle.qss_quant.specs.declared.rule.Rule.{Rule}
 use Rattle.qss_quant.specs.Lines.{state_at, IsNear}
 use Rattle.qss_sched.specs.Ranks.{due_at}
 use Rattle.qss_run.specs.declared.store.Store.{Store}
-use Rattle.qss_run.specs.Moves.{is_among, AreNumbers, IsOff}
+use Rattle.qss_run.specs.Moves.{is_among, became_true, IsOff}
+use Rattle.qss_run.specs.Skips.{NoneRises}
 use Rattle.qss_run.specs.Places.{line_at, watch_at, IsWatched}
 use Rattle.qss_run.specs.Rules.{IsRuled}
-use Rattle.qss_run.specs.Sims.{IsDue, StandsFor, HasNothingBefore, rising_tick}
+use Rattle.qss_run.specs.Sims.{IsDue, StandsFor, HasNothingBefore}
 use Rattle.qss_run.specs.Speeds.{reads_moved}
 use Rattle.qss_run.specs.Turnings.{AreLevelsBefore}
 use Rattle.qss_run.specs.Stores.{states_at, world_of, IsTaken}
+use Rattle.qss_run.proofs.Called.{none_due}
 use Rattle.qss_run.proofs.Quiet.{int_at-tabulate}
 use Rattle.qss_run.proofs.Silence.{line_state_at, still_near}
 use Rattle.qss_run.proofs.NextVisit.{only_due_states_pass}
 use Rattle.qss_run.proofs.Jumps.{dues_later, later_of}
-use Rattle.qss_run.proofs.QuietTick.{only_moves, quiet_truths, none_rises_then, watched_then}
+use Rattle.qss_run.proofs.QuietTick.{NoneChanges, only_moves, quiet_truths, watched_then}
 use Rattle.qss_run.proofs.Unread.{unread_at, unread_slope}
 use Rattle.qss_run.proofs.Visits.{arrives, due_stays, next_is_near, end_of}
-use Rattle.qss_run.proofs.Writes.{index_of}
-
--- a place past all numbers is not among them
-pub not_among : (n : ℕ) (moved : List ℕ) (place : ℕ) → AreNumbers n moved → n ≤ place → is_among moved place ≡ false
-not_among n moved place numbers past =
-    elim (cases_Bool (is_among moved place)) [
-      | inl among ↦ let found = index_of moved place among in absurd (omega (arith, numbers.below found.0 0 found.1, found.2, past))
-      | inr not ↦ not
-    ]
 
 -- a step, where its overflow is known, and without one the world
 pub steps_or : (Rule : ℤ → ℤ → ℤ → ℤ → Type 0) (m : Machine) (tick : ℕ) (w next : World) (h : Handling) (levels : List ℤ) (o : Option ℕ) →
@@ -105,13 +98,6 @@ module _ (m : Machine) (tick : ℕ) (agenda : List (Option ℕ)) (s : Store) (ta
   pub arrived : states_at s.lines.items (tick + 1) ≡ moved_states m (world_of tick s)
   arrived = arrives m tick before taken.stands
 
-  -- the handlers only see the states on arrival
-  pub handled : handling_at m (tick + 1) (world_of tick s)
-      ≡ record { states = states_at s.lines.items (tick + 1); discretes = s.work.d; rows = []; overflow = first_past 88 (states_at s.lines.items (tick + 1)) }
-  handled =
-      only_moves m tick (world_of tick s) (line_at s.lines.items) (watch_at s.watches.items) agenda for taken.only_states in_limit
-      ∙ ap (λ (x : List ℤ). record { states = x; discretes = s.work.d; rows = []; overflow = first_past 88 x }) (sym arrived)
-
   -- ---- with new levels
 
   module _ (name : Option Rule) (levels : List ℤ) (allowed : AreNextLevels (IsRuled name) m (states_at s.lines.items (tick + 1)) s.levels.items levels) where
@@ -127,7 +113,7 @@ module _ (m : Machine) (tick : ℕ) (agenda : List (Option ℕ)) (s : Store) (ta
         due_stays m tick before taken.stands j (state_at (line_at s.lines.items j) (tick + 1)) (int_at levels j) h (near j h) refl own in
         elim (cases_Bool (is_among s.moved.items j)) [
           | inl among ↦ absurd (omega (arith, later_of _ (tick + 1) (tick + 1) (due_at agenda j) stays (taken.due.own j among)))
-          | inr not ↦ subst (IsDue m (tick + 1) j (line_at s.lines.items j)) (sym (taken.without.others j not)) stays
+          | inr not ↦ subst (IsDue m (tick + 1) j (line_at s.lines.items j)) (sym (taken.without.other_states j h not)) stays
         ]
 
   -- the slopes and the lines are those at the levels before the moved states took theirs
@@ -142,38 +128,67 @@ module _ (m : Machine) (tick : ℕ) (agenda : List (Option ℕ)) (s : Store) (ta
     own_levels = λ j h. (for.lines j h).own_level;
   }
 
-  -- ---- conditions
+  -- ---- where no condition changes
 
-  beyond : (place : ℕ) → state_count m ≤ place → due_at s.agenda place ≡ due_at agenda place
-  beyond place past = taken.without.others place (not_among (state_count m) s.moved.items place taken.due.numbers past)
+  module _ (none : s.changed.items ≡ []) where
+    unchanged : (place : ℕ) → is_among s.changed.items place ≡ false
+    unchanged place = ap (λ l. is_among l place) none
 
-  -- the conditions are as after the last handlers
-  pub same_truths : s.settled.items ≡ truths m (states_at s.lines.items (tick + 1)) s.work.d (tick + 1)
-  same_truths =
-      sym (quiet_truths m tick (world_of tick s) (line_at s.lines.items) (watch_at s.watches.items) agenda for taken.only_states in_limit)
-      ∙ ap (λ x. truths m x s.work.d (tick + 1)) (sym arrived)
+    none_changes : NoneChanges m tick agenda
+    none_changes place t h e =
+        let ne : t ≢ tick + 1 = λ q.
+        let among : true ≡ false = sym (taken.changing.changing place h (e ∙ ap (λ n. Some n) q)) ∙ unchanged place in
+        absurd (cc) in
+        omega (arith, nothing (state_count m + place) t e, ne)
 
-  -- they are watched as before, at the states on arrival
-  pub watched : (place : ℕ) → place < length (conditions m) →
-      IsWatched m (tick + 1) (states_at s.lines.items (tick + 1)) s.work.d s.slopes.items place (watch_at s.watches.items place) (due_at s.agenda (state_count m + place))
-  watched place h =
-      subst (IsWatched m (tick + 1) (states_at s.lines.items (tick + 1)) s.work.d s.slopes.items place (watch_at s.watches.items place)) (sym (beyond (state_count m + place) (omega arith)))
-      (subst (λ x. IsWatched m (tick + 1) x s.work.d s.slopes.items place (watch_at s.watches.items place) (due_at agenda (state_count m + place))) (sym arrived)
-      (subst (λ v. IsWatched m (tick + 1) (moved_states m (world_of tick s)) s.work.d v place (watch_at s.watches.items place) (due_at agenda (state_count m + place))) (sym taken.stands.own_slopes)
-      (watched_then m tick (world_of tick s) (line_at s.lines.items) (watch_at s.watches.items) agenda for taken.only_states in_limit place h)))
+    none_rises : NoneRises (world_of tick s)
+    none_rises = none_due s.arrived.items s.settled.items (taken.stands.fits.arrived ∙ sym taken.stands.fits.settled) (λ place h.
+        elim (cases_Bool (became_true s.arrived.items s.settled.items place)) [
+          | inl risen ↦
+              let among : true ≡ false = sym (taken.changing.risen place (omega (arith, h, taken.stands.fits.settled)) risen) ∙ unchanged place in
+              absurd (cc)
+          | inr not ↦ not
+        ])
 
-  -- and none became true through the handlers
-  pub rising : (after : List (Option ℕ)) (next : World) → next.arrived ≡ s.settled.items → next.settled ≡ s.settled.items →
-      due_at after (state_count m + length (conditions m)) ≡ due_at s.agenda (state_count m + length (conditions m)) →
-      due_at after (state_count m + length (conditions m)) ≡ rising_tick (tick + 1) next
-  rising after next as_arrived as_settled same =
-      same
-      ∙ beyond (state_count m + length (conditions m)) (omega arith)
-      ∙ none_rises_then m tick (world_of tick s) (line_at s.lines.items) (watch_at s.watches.items) agenda for taken.only_states in_limit next as_arrived as_settled
+    beyond : (place : ℕ) → place < length (conditions m) → due_at s.agenda (state_count m + place) ≡ due_at agenda (state_count m + place)
+    beyond place h = taken.without.other_conditions place h (unchanged place)
 
-  -- the rows of the tick
-  pub rows_then : (next : World) → tick_rows m (tick + 1) (world_of tick s) next ≡ level_rows (tick + 1) s.levels.items next.levels next.states
-  rows_then next = ap (λ (h : Handling). h.rows ++ level_rows (tick + 1) s.levels.items next.levels next.states) handled
+    -- the handlers only see the states on arrival
+    pub handled : handling_at m (tick + 1) (world_of tick s)
+        ≡ record { states = states_at s.lines.items (tick + 1); discretes = s.work.d; rows = []; overflow = first_past 88 (states_at s.lines.items (tick + 1)) }
+    handled =
+        only_moves m tick (world_of tick s) (line_at s.lines.items) (watch_at s.watches.items) agenda for none_rises none_changes in_limit
+        ∙ ap (λ (x : List ℤ). record { states = x; discretes = s.work.d; rows = []; overflow = first_past 88 x }) (sym arrived)
+
+    -- the conditions are as after the last handlers
+    pub same_truths : s.settled.items ≡ truths m (states_at s.lines.items (tick + 1)) s.work.d (tick + 1)
+    same_truths =
+        sym (quiet_truths m tick (world_of tick s) (line_at s.lines.items) (watch_at s.watches.items) agenda for none_rises none_changes in_limit)
+        ∙ ap (λ x. truths m x s.work.d (tick + 1)) (sym arrived)
+
+    -- they are watched as before, at the states on arrival
+    pub watched : (place : ℕ) → place < length (conditions m) →
+        IsWatched m (tick + 1) (states_at s.lines.items (tick + 1)) s.work.d s.slopes.items place (watch_at s.watches.items place) (due_at s.agenda (state_count m + place))
+    watched place h =
+        subst (IsWatched m (tick + 1) (states_at s.lines.items (tick + 1)) s.work.d s.slopes.items place (watch_at s.watches.items place)) (sym (beyond place h))
+        (subst (λ x. IsWatched m (tick + 1) x s.work.d s.slopes.items place (watch_at s.watches.items place) (due_at agenda (state_count m + place))) (sym arrived)
+        (subst (λ v. IsWatched m (tick + 1) (moved_states m (world_of tick s)) s.work.d v place (watch_at s.watches.items place) (due_at agenda (state_count m + place))) (sym taken.stands.own_slopes)
+        (watched_then m tick (world_of tick s) (line_at s.lines.items) (watch_at s.watches.items) agenda for none_rises none_changes in_limit place h)))
+
+    -- and none became true through the handlers
+    pub not_rising : s.rising ≡ false
+    not_rising = taken.stands.rising ∙ none_rises
+
+    pub rising : (after : List (Option ℕ)) → due_at after (state_count m + length (conditions m)) ≡ due_at s.agenda (state_count m + length (conditions m)) →
+        due_at after (state_count m + length (conditions m)) ≡ (if s.rising then Some ((tick + 1) + 1) else None)
+    rising after same =
+        same
+        ∙ taken.without.behind
+        ∙ sym (ap (λ b. if b then Some ((tick + 1) + 1) else None) not_rising)
+
+    -- the rows of the tick
+    pub rows_then : (next : World) → tick_rows m (tick + 1) (world_of tick s) next ≡ level_rows (tick + 1) s.levels.items next.levels next.states
+    rows_then next = ap (λ (h : Handling). h.rows ++ level_rows (tick + 1) s.levels.items next.levels next.states) handled
 
 -- where a row reads no moved state its slope stays
 pub slopes_stay : (m : Machine) (moved : List ℕ) (old levels d before slopes : List ℤ) → IsOff moved old levels → before ≡ tabulate (state_count m) (λ j. slope_at m j old d) →

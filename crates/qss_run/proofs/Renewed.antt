@@ -21,14 +21,23 @@ goes_so level slope line own_level own_slope = and_from _ _ ((Decides-int_eq lin
 pub from_here : (tick : ℕ) (x level slope : ℤ) (line : Line) → state_at line tick ≡ x → goes_from tick x level slope line ≡ goes_at level slope line
 from_here tick x level slope line here = ap (λ (b : Bool). b && goes_at level slope line) ((Decides-int_eq (state_at line tick) x).1 here)
 
+-- a line that goes on so has this state, slope and level
+goes_parts : (tick : ℕ) (x level slope : ℤ) (line : Line) → goes_from tick x level slope line ≡ true → (state_at line tick ≡ x) × (line.slope ≡ slope) × (line.level ≡ level)
+goes_parts tick x level slope line so =
+    let both = and_parts (int_eq (state_at line tick) x) (goes_at level slope line) so in
+    let own = and_parts (int_eq line.level level) (int_eq line.slope slope) both.1 in
+    ((Decides-int_eq (state_at line tick) x).0 both.0, (Decides-int_eq line.slope slope).0 own.1, (Decides-int_eq line.level level).0 own.0)
+
+-- a line that goes on so is left, where one at this state, slope and level is
+pub left_so : (tick : ℕ) (x level slope : ℤ) (line new : Line) → (state_at line tick ≡ x → line.slope ≡ slope → line.level ≡ level → new ≡ line) →
+    goes_from tick x level slope line ≡ true → new ≡ line
+left_so tick x level slope line new left so = let own = goes_parts tick x level slope line so in left own.0 own.1 own.2
+
 -- one more move, of a line that did not go on so
 pub counted_otherwise : (tick : ℕ) (x level slope : ℤ) (line : Line) (before after : ℕ) → after ≡ before + 1 →
     (state_at line tick ≡ x → line.slope ≡ slope → line.level ≡ level → ⊥) → after ≡ before + (if goes_from tick x level slope line then 0 else 1)
 counted_otherwise tick x level slope line before after e other = elim (cases_Bool (goes_from tick x level slope line)) [
-  | inl so ↦
-      let both = and_parts (int_eq (state_at line tick) x) (goes_at level slope line) so in
-      let own = and_parts (int_eq line.level level) (int_eq line.slope slope) both.1 in
-      absurd (other ((Decides-int_eq (state_at line tick) x).0 both.0) ((Decides-int_eq line.slope slope).0 own.1) ((Decides-int_eq line.level level).0 own.0))
+  | inl so ↦ let own = goes_parts tick x level slope line so in absurd (other own.0 own.1 own.2)
   | inr otherwise ↦ let one : (if goes_from tick x level slope line then 0 else 1) ≡ 1 = if-false {A = ℕ} (goes_from tick x level slope line) 0 1 otherwise in omega (arith, e, one)
 ]
 
@@ -52,6 +61,13 @@ counted_at tick x level slope line x1 level1 slope1 line1 before after of_x of_l
     ap (λ z. goes_from tick z level1 slope1 line1) of_x ∙ ap (λ z. goes_from tick x z slope1 line1) of_level ∙ ap (λ z. goes_from tick x level z line1) of_slope
     ∙ ap (goes_from tick x level slope) of_line in
     omega (arith, few, other_way (goes_from tick x1 level1 slope1 line1), ap (λ (b : Bool). one_if (not b)) same)
+
+-- the same of a line that is left
+pub left_at : (tick : ℕ) (x level slope : ℤ) (line : Line) (x1 level1 slope1 : ℤ) (line1 new : Line) → x1 ≡ x → level1 ≡ level → slope1 ≡ slope → line1 ≡ line →
+    (goes_from tick x1 level1 slope1 line1 ≡ true → new ≡ line1) → goes_from tick x level slope line ≡ true → new ≡ line
+left_at tick x level slope line x1 level1 slope1 line1 new of_x of_level of_slope of_line left so =
+    left (ap (λ z. goes_from tick z level1 slope1 line1) of_x ∙ ap (λ z. goes_from tick x z slope1 line1) of_level ∙ ap (λ z. goes_from tick x level z line1) of_slope
+    ∙ ap (goes_from tick x level slope) of_line ∙ so) ∙ of_line
 
 -- a line that went on otherwise goes on so
 pub renewed : (n j tick : ℕ) (levels slopes : List ℤ) (lines : List Line) (line : Line) (before after : ℕ) → j < n → j < length lines → line.level ≡ int_at levels j → line.slope ≡ int_at slopes j →

@@ -1,4 +1,4 @@
--- A row that reads no changed level and no changed discrete value has the same slope.
+-- A row that reads no changed level and no changed discrete value has the same slope, and the same weight.
 use Rattle.std.proofs.Common.{◌≡◌, ℕ, suc, ◌+◌, ◌-◌, ◌^◌, ◌<◌, ◌≤◌, Bool, true, false, not, ◌&&◌, List, [], ◌∷◌, length, get_or, ℤ, pos, ◌+ℤ◌, ◌*ℤ◌, refl, sym, ◌∙◌, ap, arith, inl, inr, ◌==◌}
 use Rattle.std.proofs.Math.IntN.{zero-*ℤ}
 use Rattle.std.proofs.lemmas.Bool.{or_left, or_right, and_cases, cases_Bool, false_from_ne_true, lt-ltb}
@@ -16,8 +16,8 @@ use Rattle.qss_machine.specs.declared.parts.Product.{Product}
 use Rattle.qss_machine.specs.declared.parts.SlopeRow.{SlopeRow}
 use Rattle.qss_machine.specs.declared.system.Machine.{Machine}
 use Rattle.qss_machine.specs.Machines.{state_count, discrete_count, row_at, slope_at}
-use Rattle.qss_machine.specs.Numbers.{int_at, sum_below}
-use Rattle.qss_machine.specs.Slopes.{coefficient_of, products_of, mode_coefficient, drive_of, slope_of}
+use Rattle.qss_machine.specs.Numbers.{int_at, sum_below, size}
+use Rattle.qss_machine.specs.Slopes.{coefficient_of, products_of, mode_coefficient, slope_of, weight_of}
 use Rattle.qss_machine.specs.Ticks.{World}
 use Rattle.qss_machine.specs.Uses.{has_entry, row_reads}
 use Rattle.qss_run.proofs.Unread.{no_coefficient, unread_mode}
@@ -43,39 +43,48 @@ module _ (bits n k : ℕ) (row : SlopeRow) (old new before after : List ℤ) (ol
       ∙ ap (λ z. (if product.state == state then product.coef *ℤ int_at before (product.discrete - n) else pos 0) +ℤ z)
       (products_same products (λ i d h. all (suc i) d (omega (arith, h))) (λ var some. reads var (or_right (is_product var product) _ some)) state)
 
-  mode_same : (i : ℕ) → mode_coefficient bits n row after i ≡ mode_coefficient bits n row before i
+  pub mode_same : (i : ℕ) → mode_coefficient bits n row after i ≡ mode_coefficient bits n row before i
   mode_same i =
       ap (λ p. coefficient_of row.entries i +ℤ nearest_of p (pos (2 ^ bits)))
       (products_same row.products known (λ var some. or_right (has_entry var row.entries) (list_any (is_product var) row.products) some) i)
 
-  level_term : (i : ℕ) → i < n → mode_coefficient bits n row after i *ℤ int_at new i ≡ mode_coefficient bits n row before i *ℤ int_at old i
-  level_term i h = elim (cases_Bool (row_reads i row)) [
-    | inl reads ↦ ap (λ z. z *ℤ int_at new i) (mode_same i) ∙ ap (λ z. mode_coefficient bits n row before i *ℤ z) (level_same i h reads)
-    | inr none ↦
-        ap (λ z. z *ℤ int_at new i) (unread_mode bits n row after i none) ∙ zero-*ℤ (int_at new i) ∙ sym (zero-*ℤ (int_at old i))
-        ∙ sym (ap (λ z. z *ℤ int_at old i) (unread_mode bits n row before i none))
-  ]
+  -- the sum of a row at levels and discrete values, in which f takes each number
+  abbrev whole : (ℤ → ℤ) → ℕ → ℕ → List ℤ → List ℤ → ℤ
+  whole f i g levels discretes =
+      sum_below i (λ j. f (mode_coefficient bits i row discretes j) *ℤ f (int_at levels j)) +ℤ (sum_below g (λ h. f (coefficient_of row.entries (i + h)) *ℤ f (int_at discretes h)) +ℤ f row.beta)
 
-  drive_term : (g : ℕ) → g < k → coefficient_of row.entries (n + g) *ℤ int_at after g ≡ coefficient_of row.entries (n + g) *ℤ int_at before g
-  drive_term g h = elim (cases_Bool (has_entry (n + g) row.entries)) [
-    | inl has ↦ ap (λ z. coefficient_of row.entries (n + g) *ℤ z) (value_same g h (or_left (has_entry (n + g) row.entries) _ has))
-    | inr none ↦
-        let zero : coefficient_of row.entries (n + g) ≡ pos 0 = no_coefficient row.entries (n + g) none in
-        ap (λ z. z *ℤ int_at after g) zero ∙ zero-*ℤ (int_at after g) ∙ sym (zero-*ℤ (int_at before g)) ∙ sym (ap (λ z. z *ℤ int_at before g) zero)
-  ]
+  module _ (f : ℤ → ℤ) (zero : f (pos 0) ≡ pos 0) where
+    level_term : (i : ℕ) → i < n → f (mode_coefficient bits n row after i) *ℤ f (int_at new i) ≡ f (mode_coefficient bits n row before i) *ℤ f (int_at old i)
+    level_term i h = elim (cases_Bool (row_reads i row)) [
+      | inl reads ↦
+          ap (λ z. f z *ℤ f (int_at new i)) (mode_same i) ∙ ap (λ z. f (mode_coefficient bits n row before i) *ℤ f z) (level_same i h reads)
+      | inr none ↦
+          let nothing : (discretes : List ℤ) → f (mode_coefficient bits n row discretes i) ≡ pos 0 = λ discretes. ap f (unread_mode bits n row discretes i none) ∙ zero in
+          ap (λ z. z *ℤ f (int_at new i)) (nothing after) ∙ zero-*ℤ (f (int_at new i)) ∙ sym (zero-*ℤ (f (int_at old i))) ∙ sym (ap (λ z. z *ℤ f (int_at old i)) (nothing before))
+    ]
 
-  drive_same : drive_of n row after ≡ drive_of n row before
-  drive_same =
-      ap (λ (i : ℕ). sum_below i (λ g. coefficient_of row.entries (n + g) *ℤ int_at after g) +ℤ row.beta) after_many
-      ∙ ap (λ z. z +ℤ row.beta) (sum_below-same k _ _ drive_term)
-      ∙ sym (ap (λ (i : ℕ). sum_below i (λ g. coefficient_of row.entries (n + g) *ℤ int_at before g) +ℤ row.beta) before_many)
+    drive_term : (g : ℕ) → g < k → f (coefficient_of row.entries (n + g)) *ℤ f (int_at after g) ≡ f (coefficient_of row.entries (n + g)) *ℤ f (int_at before g)
+    drive_term g h =
+        let c : ℤ = f (coefficient_of row.entries (n + g)) in
+        elim (cases_Bool (has_entry (n + g) row.entries)) [
+          | inl has ↦ ap (λ z. c *ℤ f z) (value_same g h (or_left (has_entry (n + g) row.entries) _ has))
+          | inr none ↦
+              let nothing : c ≡ pos 0 = ap f (no_coefficient row.entries (n + g) none) ∙ zero in
+              ap (λ z. z *ℤ f (int_at after g)) nothing ∙ zero-*ℤ (f (int_at after g)) ∙ sym (zero-*ℤ (f (int_at before g))) ∙ sym (ap (λ z. z *ℤ f (int_at before g)) nothing)
+        ]
 
-  slope_same : slope_of bits row new after ≡ slope_of bits row old before
-  slope_same =
-      ap (λ (i : ℕ). sum_below i (λ j. mode_coefficient bits i row after j *ℤ int_at new j) +ℤ drive_of i row after) new_many
-      ∙ ap (λ z. z +ℤ drive_of n row after) (sum_below-same n _ _ level_term)
-      ∙ ap (λ z. sum_below n (λ j. mode_coefficient bits n row before j *ℤ int_at old j) +ℤ z) drive_same
-      ∙ sym (ap (λ (i : ℕ). sum_below i (λ j. mode_coefficient bits i row before j *ℤ int_at old j) +ℤ drive_of i row before) old_many)
+    sum_same : whole f (length new) (length after) new after ≡ whole f (length old) (length before) old before
+    sum_same =
+        ap (λ (i : ℕ). whole f i (length after) new after) new_many ∙ ap (λ (g : ℕ). whole f n g new after) after_many
+        ∙ ap (λ z. z +ℤ (sum_below k (λ g. f (coefficient_of row.entries (n + g)) *ℤ f (int_at after g)) +ℤ f row.beta)) (sum_below-same n _ _ level_term)
+        ∙ ap (λ z. sum_below n (λ i. f (mode_coefficient bits n row before i) *ℤ f (int_at old i)) +ℤ (z +ℤ f row.beta)) (sum_below-same k _ _ drive_term)
+        ∙ sym (ap (λ (g : ℕ). whole f n g old before) before_many) ∙ sym (ap (λ (i : ℕ). whole f i (length before) old before) old_many)
+
+  pub slope_same : slope_of bits row new after ≡ slope_of bits row old before
+  slope_same = sum_same (λ z. z) refl
+
+  pub weight_same : weight_of bits row new after ≡ weight_of bits row old before
+  weight_same = sum_same size refl
 
 -- a number that a test finds unchanged is the same
 same_number : (a b : ℤ) → not (int_eq a b) ≡ false → a ≡ b

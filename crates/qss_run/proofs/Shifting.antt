@@ -1,24 +1,30 @@
--- Slopes where states take their levels one after another.
+-- Sums of rows where states take their levels one after another.
 use Rattle.std.proofs.Common.{◌≡◌, ◌≢◌, ℕ, zero, suc, ◌+◌, ◌^◌, ◌<◌, ◌≤◌, Bool, true, false, List, [], ◌∷◌, length, get_or, set, take, fold, ℤ, pos, ◌+ℤ◌, ◌-ℤ◌, ◌*ℤ◌, refl, sym, ◌∙◌, ap, subst, arith, inl, inr, ◌==◌}
 use Rattle.std.proofs.lemmas.Bool.{or_parts, or_cases, cases_Bool, cases_lt}
 use Rattle.std.proofs.lemmas.List.{length-set, get_or-set_other, get_or-set_same, take_more}
 use Rattle.std.proofs.lemmas.List.Sums.{fold-append}
 use Rattle.std.specs.List.Sorted.{IsStrictlyIncreasing}
-use Rattle.std.specs.Prelude.{unsigned_abs, if◌then◌else◌}
+use Rattle.std.specs.Prelude.{unsigned_abs, if◌then◌else◌, None, position}
 use Rattle.mu_num.proofs.Tests.{eqb-true, eqb-false}
+use Rattle.mu_num.specs.Sizes.{IsWithin}
 use Rattle.qss_machine.specs.declared.system.Machine.{Machine}
-use Rattle.qss_machine.specs.Machines.{state_count, row_at, mode_coefficient_at, slope_at}
-use Rattle.qss_machine.specs.Numbers.{int_at}
-use Rattle.qss_machine.specs.Slopes.{mode_coefficient, slope_of}
+use Rattle.qss_machine.specs.Machines.{state_count, row_at, mode_coefficient_at, slope_at, weight_at}
+use Rattle.qss_machine.specs.Numbers.{int_at, size, tabulate}
+use Rattle.qss_machine.specs.Slopes.{mode_coefficient}
+use Rattle.qss_machine.specs.Ticks.{is_overweight}
 use Rattle.qss_machine.specs.Uses.{row_reads, places_from, reading_rows}
+use Rattle.qss_run.specs.declared.shifts.RowSum.{RowSum}
+use Rattle.qss_run.specs.declared.shifts.RowSum.TheVariants.{Slope, Weight}
 use Rattle.qss_run.specs.Moves.{is_among, AreNumbers, IsOff}
-use Rattle.qss_run.specs.Turnings.{HasFollowed}
+use Rattle.qss_run.specs.RowSums.{taken_by, sum_at, HasFollowed}
 use Rattle.qss_run.specs.Writes.{IsWritten}
 use Rattle.qss_run.proofs.Among.{among_rows, before_first}
 use Rattle.qss_run.proofs.Changes.{slopes_follow_levels}
 use Rattle.qss_run.proofs.Firsts.{same_lists}
-use Rattle.qss_run.proofs.Speeds.{rows_known}
-use Rattle.qss_run.proofs.Unread.{unread_slope}
+use Rattle.qss_run.proofs.Quiet.{int_at-tabulate}
+use Rattle.qss_run.proofs.KeptReaders.{rows_known}
+use Rattle.qss_run.proofs.Turning.{row_is_light}
+use Rattle.qss_run.proofs.Unread.{unread_slope, unread_weight}
 use Rattle.qss_run.proofs.Writes.{among_at}
 
 -- ---- the rows that read a state rise
@@ -102,21 +108,44 @@ along_all moved levels old off =
       | inr none ↦ along_other moved levels old j none ∙ sym (off.others j none)
     ])
 
--- ---- slopes that follow
+-- ---- sums that follow
 
-module _ (m : Machine) (state : ℕ) (at discretes before after : List ℤ) (many : length at ≡ state_count m) (known : state < state_count m) (new : ℤ)
-    (written : IsWritten (pos 0) (HasFollowed m state (int_at at state) new discretes before) (reading_rows m state) before after) where
-  -- the slopes are those where one more state has taken its level
-  pub slopes_follow : (j : ℕ) → j < state_count m → int_at before j ≡ slope_at m j at discretes → int_at after j ≡ slope_at m j (set at state new) discretes
-  slopes_follow j h own = elim (cases_Bool (is_among (reading_rows m state) j)) [
+-- where no row is past its limits, no sum is past that of weights
+pub sums_small : (kind : RowSum) (m : Machine) (levels discretes sums : List ℤ) → position (is_overweight m levels discretes) m.rows ≡ None →
+    sums ≡ tabulate (state_count m) (λ j. sum_at kind m j levels discretes) → (j : ℕ) → j < state_count m → IsWithin 88 (int_at sums j)
+sums_small kind m levels discretes sums light own j h =
+    let is : int_at sums j ≡ sum_at kind m j levels discretes = ap (λ (xs : List ℤ). int_at xs j) own ∙ int_at-tabulate (state_count m) (λ k. sum_at kind m k levels discretes) j h in
+    subst (IsWithin 88) (sym is) (by_kind kind)
+  where
+    by_kind : (k : RowSum) → IsWithin 88 (sum_at k m j levels discretes)
+    by_kind Slope = (row_is_light m levels discretes light j h).slope
+    by_kind Weight = (row_is_light m levels discretes light j h).weight
+
+-- a sum changes by its mode coefficient times the change of a level, and where it does not read the state not at all
+sum_follows : (kind : RowSum) (m : Machine) (j : ℕ) (levels discretes : List ℤ) (i : ℕ) (level : ℤ) → length levels ≡ state_count m → i < length levels →
+    sum_at kind m j (set levels i level) discretes
+    ≡ sum_at kind m j levels discretes +ℤ taken_by kind (mode_coefficient_at m j i discretes) *ℤ (taken_by kind level -ℤ taken_by kind (int_at levels i))
+sum_follows Slope m j levels discretes i level many h =
+    slopes_follow_levels.slope m.f (row_at m j) levels discretes i level h
+    ∙ ap (λ (n : ℕ). slope_at m j levels discretes +ℤ mode_coefficient m.f n (row_at m j) discretes i *ℤ (level -ℤ int_at levels i)) many
+sum_follows Weight m j levels discretes i level many h =
+    slopes_follow_levels.weight m.f (row_at m j) levels discretes i level h
+    ∙ ap (λ (n : ℕ). weight_at m j levels discretes +ℤ size (mode_coefficient m.f n (row_at m j) discretes i) *ℤ (size level -ℤ size (int_at levels i))) many
+
+unread_sum : (kind : RowSum) (m : Machine) (j : ℕ) (moved : List ℕ) (old new discretes : List ℤ) → ((i : ℕ) → is_among moved i ≡ true → row_reads i (row_at m j) ≡ false) → IsOff moved old new →
+    sum_at kind m j new discretes ≡ sum_at kind m j old discretes
+unread_sum Slope m j moved old new discretes unread off = unread_slope m.f (row_at m j) moved old new discretes unread off
+unread_sum Weight m j moved old new discretes unread off = unread_weight m.f (row_at m j) moved old new discretes unread off
+
+module _ (kind : RowSum) (m : Machine) (state : ℕ) (at discretes before after : List ℤ) (many : length at ≡ state_count m) (known : state < state_count m) (new : ℤ)
+    (written : IsWritten (pos 0) (HasFollowed kind m state (taken_by kind (int_at at state)) (taken_by kind new) discretes before) (reading_rows m state) before after) where
+  -- the sums are those where one more state has taken its level
+  pub sums_follow : (j : ℕ) → j < state_count m → int_at before j ≡ sum_at kind m j at discretes → int_at after j ≡ sum_at kind m j (set at state new) discretes
+  sums_follow j h own = elim (cases_Bool (is_among (reading_rows m state) j)) [
     | inl reads ↦
-        let follows : slope_of m.f (row_at m j) (set at state new) discretes ≡
-        slope_of m.f (row_at m j) at discretes +ℤ mode_coefficient m.f (length at) (row_at m j) discretes state *ℤ (new -ℤ int_at at state) =
-        slopes_follow_levels.slope m.f (row_at m j) at discretes state new (omega (arith, known, many)) in
         (written.each j reads).0
-        ∙ ap (λ z. z +ℤ mode_coefficient_at m j state discretes *ℤ (new -ℤ int_at at state)) own
-        ∙ ap (λ (n : ℕ). slope_at m j at discretes +ℤ mode_coefficient m.f n (row_at m j) discretes state *ℤ (new -ℤ int_at at state)) (sym many)
-        ∙ sym follows
+        ∙ ap (λ z. z +ℤ taken_by kind (mode_coefficient_at m j state discretes) *ℤ (taken_by kind new -ℤ taken_by kind (int_at at state))) own
+        ∙ sym (sum_follows kind m j at discretes state new many (omega (arith, known, many)))
     | inr none ↦
         let unread : row_reads state (row_at m j) ≡ false = sym (among_rows m state j h) ∙ none in
         let off : IsOff (state ∷ []) at (set at state new) = record {
@@ -124,15 +153,15 @@ module _ (m : Machine) (state : ℕ) (at discretes before after : List ℤ) (man
           others = λ i other. get_or-set_other at state i new (pos 0) (λ e. eqb-false state i ((or_parts (state == i) false other).0) (sym e));
         } in
         written.others j none ∙ own
-        ∙ sym (unread_slope m.f (row_at m j) (state ∷ []) at (set at state new) discretes
+        ∙ sym (unread_sum kind m j (state ∷ []) at (set at state new) discretes
         (λ i among. elim (or_cases (state == i) false among) [
           | inl same ↦ subst (λ (k : ℕ). row_reads k (row_at m j) ≡ false) (eqb-true state i same) unread
           | inr never ↦ absurd (cc)
         ]) off)
   ]
 
-  pub slopes_near : (j : ℕ) → unsigned_abs (int_at after j) ≤ unsigned_abs (int_at before j) + 2 ^ 88
-  slopes_near j = elim (cases_Bool (is_among (reading_rows m state) j)) [
+  pub sums_near : (j : ℕ) → unsigned_abs (int_at after j) ≤ unsigned_abs (int_at before j) + 2 ^ 88
+  sums_near j = elim (cases_Bool (is_among (reading_rows m state) j)) [
     | inl reads ↦ (written.each j reads).1
     | inr none ↦ let same : int_at after j ≡ int_at before j = written.others j none in omega (arith, ap unsigned_abs same)
   ]

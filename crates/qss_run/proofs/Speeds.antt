@@ -5,9 +5,8 @@ use Rattle.std.proofs.lemmas.Int.{ints}
 use Rattle.std.proofs.lemmas.Bool.{cases_Bool, cases_lt, cases_eq, lt-ltb}
 use Rattle.std.proofs.lemmas.Bool.Decides.{nat_tests}
 use Rattle.std.proofs.lemmas.List.{length-set, get_or-set_other, get_or-set_same, get_or_past}
-use Rattle.std.proofs.lemmas.List.Elements.{All-nil, All-cons, All-head, All-tail}
+use Rattle.std.proofs.lemmas.List.Elements.{All-head, All-tail}
 use Rattle.std.proofs.lemmas.List.Folds.{Any-from_list_any, list_any_at}
-use Rattle.std.proofs.lemmas.List.FromFn.{length-map-range_with_len, get_or-map-range_with_len}
 use Rattle.std.specs.List.{list_any}
 use Rattle.std.specs.Prelude.{Option, All, if◌then◌else◌, slice_index_or}
 use Rattle.mu_num.specs.Ticks.{FirstAfter}
@@ -19,7 +18,7 @@ use Rattle.qss_machine.specs.declared.parts.Rel.TheVariants.{Less}
 use Rattle.qss_machine.specs.declared.parts.SlopeRow.{SlopeRow}
 use Rattle.qss_machine.specs.declared.system.Machine.{Machine}
 use Rattle.qss_machine.specs.Numbers.{int_at, sum_over}
-use Rattle.qss_machine.specs.Machines.{state_count, discrete_count, row_at, speed_of, compares, truth}
+use Rattle.qss_machine.specs.Machines.{state_count, row_at, speed_of, compares, truth}
 use Rattle.qss_machine.specs.Handlers.{conditions}
 use Rattle.qss_machine.specs.Uses.{row_reads, condition_reads, places_from, reading_rows, reading_conditions, uses_of}
 use Rattle.qss_machine.proofs.SumLaws.{weighted_sum-entries}
@@ -29,6 +28,7 @@ use Rattle.qss_run.specs.Sims.{condition_at, IsChange}
 use Rattle.qss_run.specs.Places.{watch_at, IsWatched}
 use Rattle.qss_run.specs.Moves.{AreNumbers}
 use Rattle.qss_run.specs.Speeds.{reads_moved, AreWatchedBefore, HasSpeed, GoesOn, AreGoingOn}
+use Rattle.qss_run.proofs.KeptReaders.{rows_kept, conditions_kept, conditions_below}
 use Rattle.qss_run.proofs.Turning.{no_watch}
 
 -- ---- places of elements that pass a test
@@ -47,59 +47,27 @@ of_place P test first (x ∷ xs) (suc i) d all h e =
     let same : (first + 1) + i ≡ first + suc i = omega arith in
     subst P same (of_place P test (first + 1) xs i d ((if_kept P (test x) first (places_from test (first + 1) xs) all).1) (omega (arith, h)) e)
 
-if_below : (n : ℕ) (b : Bool) (first : ℕ) (rest : List ℕ) → first < n → All (λ k. k < n) rest → All (λ k. k < n) (if b then first ∷ rest else rest)
-if_below n true first rest h all = All-cons (λ k. k < n) first rest h all
-if_below n false first rest h all = all
-
-pub places_below : {X : Type 0} (test : X → Bool) (first n : ℕ) (xs : List X) → first + length xs ≤ n → All (λ k. k < n) (places_from test first xs)
-places_below test first n [] h = All-nil (λ k. k < n)
-places_below test first n (x ∷ xs) h =
-    if_below n (test x) first (places_from test (first + 1) xs) (omega (arith, h)) (places_below test (first + 1) n xs (omega (arith, h)))
-
--- the rows and the conditions that read a state
-pub rows_of : (m : Machine) (j : ℕ) → j < state_count m → slice_index_or (uses_of m).0 j [] ≡ reading_rows m j
-rows_of m j h = get_or-map-range_with_len (reading_rows m) 0 (state_count m + discrete_count m) j j [] (omega (arith, h)) (omega arith)
-
-pub conditions_of : (m : Machine) (j : ℕ) → j < state_count m → slice_index_or (uses_of m).1 j [] ≡ reading_conditions m j
-conditions_of m j h = get_or-map-range_with_len (reading_conditions m) 0 (state_count m + discrete_count m + discrete_count m) j j [] (omega (arith, h)) (omega arith)
-
-pub rows_known : (m : Machine) (j : ℕ) → All (λ row. row < state_count m) (reading_rows m j)
-rows_known m j = places_below (row_reads j) 0 (state_count m) m.rows (omega (arith, m.has_rows.one_each))
-
-pub conditions_known : (m : Machine) (j : ℕ) → All (λ place. place < length (conditions m)) (reading_conditions m j)
-conditions_known m j = places_below (condition_reads j) 0 (length (conditions m)) (conditions m) (omega arith)
-
-pub rows_many : (m : Machine) → length (uses_of m).0 ≡ state_count m + discrete_count m
-rows_many m = length-map-range_with_len (reading_rows m) 0 (state_count m + discrete_count m)
-
-pub conditions_many : (m : Machine) → length (uses_of m).1 ≡ state_count m + discrete_count m + discrete_count m
-conditions_many m = length-map-range_with_len (reading_conditions m) 0 (state_count m + discrete_count m + discrete_count m)
+-- a watch that has the speed keeps it
+pub kept_speed : {tick : ℕ} {speed : ℤ} {old new : Watch} {old_due new_due : Option ℕ} → GoesOn tick speed old new old_due new_due → old.speed ≡ speed → new.speed ≡ speed
+kept_speed on e = ap (λ (w : Watch). w.speed) (on.kept e).0 ∙ e
 
 module _ (m : Machine) (uses : List (List ℕ) × List (List ℕ)) (are : uses ≡ uses_of m) where
-  pub row_places : (state : ℕ) → state < state_count m → All (λ row. row < state_count m) (slice_index_or uses.0 state [])
-  row_places state h =
-      subst (All (λ row. row < state_count m)) (sym (ap (λ (u : List (List ℕ) × List (List ℕ)). slice_index_or u.0 state []) are ∙ rows_of m state h)) (rows_known m state)
-
-  pub condition_places : (state : ℕ) → state < state_count m → All (λ place. place < length (conditions m)) (slice_index_or uses.1 state [])
-  condition_places state h =
-      subst (All (λ place. place < length (conditions m))) (sym (ap (λ (u : List (List ℕ) × List (List ℕ)). slice_index_or u.1 state []) are ∙ conditions_of m state h)) (conditions_known m state)
-
   -- conditions that have their speeds keep them
   pub speeds_kept : (tick : ℕ) (slopes : List ℤ) (old new : List Watch) (due next : List (Option ℕ)) → AreGoingOn m tick slopes old new due next → length old ≡ length (conditions m) →
       (state : ℕ) → state < state_count m → All (HasSpeed m slopes old) (slice_index_or uses.1 state []) → All (HasSpeed m slopes new) (slice_index_or uses.1 state [])
   speeds_kept tick slopes old new due next going many state h all k d inside =
-      (going.each _ (omega (arith, many, condition_places state h k d inside))).kept_speed (all k d inside)
+      kept_speed (going.each _ (omega (arith, many, conditions_below m uses are state (omega (arith, h)) (length (conditions m)) (omega arith) k d inside))) (all k d inside)
 
 -- ---- watches that go on
 
 -- a watch that is left as it is
 pub goes_on_same : (tick : ℕ) (speed : ℤ) (watch : Watch) (due : Option ℕ) → watch.tick ≤ tick → GoesOn tick speed watch watch due due
-goes_on_same tick speed watch due h = record { not_later = h; here = refl; same_rel = refl; kept_speed = λ e. e; is_change = λ change. change }
+goes_on_same tick speed watch due h = record { not_later = h; here = refl; same_rel = refl; kept = λ e. (refl, refl); is_change = λ change. change }
 
 -- a watch that is at its value at the tick, with another speed
-pub goes_on_turned : (tick : ℕ) (speed : ℤ) (old new : Watch) (old_due found : Option ℕ) → new ≡ record { rel = old.rel; tick = tick; value = value_at old tick; speed = speed } →
+pub goes_on_turned : (tick : ℕ) (speed : ℤ) (old new : Watch) (old_due found : Option ℕ) → old.speed ≢ speed → new ≡ record { rel = old.rel; tick = tick; value = value_at old tick; speed = speed } →
     FirstAfter (λ t. holds_at new t ≢ compares new.rel new.value) new.tick found → GoesOn tick speed old new old_due found
-goes_on_turned tick speed old new old_due found is first =
+goes_on_turned tick speed old new old_due found other is first =
     let e : tick - tick ≡ 0 = omega arith in
     let own_tick : new.tick ≡ tick = ap (λ (w : Watch). w.tick) is in
     let held : compares new.rel new.value ≡ holds_at old tick = ap (λ (w : Watch). compares w.rel w.value) is in
@@ -107,7 +75,7 @@ goes_on_turned tick speed old new old_due found is first =
       not_later = omega (arith, own_tick);
       here = ap (λ (w : Watch). value_at w tick) is ∙ ap (λ (n : ℕ). value_at old tick +ℤ pos n *ℤ speed) e ∙ omega (arith, ints, zero-*ℤ speed);
       same_rel = ap (λ (w : Watch). w.rel) is;
-      kept_speed = λ same. ap (λ (w : Watch). w.speed) is;
+      kept = λ same. absurd (other same);
       is_change = λ change.
           subst (λ t. FirstAfter (λ n. holds_at new n ≢ holds_at old tick) t found) own_tick
           (subst (λ b. FirstAfter (λ n. holds_at new n ≢ b) new.tick found) held first);
@@ -120,22 +88,15 @@ goes_on_more tick speed a b c p q r first second =
       not_later = second.not_later;
       here = second.here ∙ first.here;
       same_rel = second.same_rel ∙ first.same_rel;
-      kept_speed = λ e. second.kept_speed (first.kept_speed e);
+      kept = λ e.
+          let left = first.kept e in
+          let still = second.kept (ap (λ (w : Watch). w.speed) left.0 ∙ e) in
+          (still.0 ∙ left.0, still.1 ∙ left.1);
       is_change = λ change.
           subst (λ s. IsChange tick s c r) same (second.is_change (subst (λ s. IsChange tick s b q) (sym same) (first.is_change change)));
     }
 
 -- ---- all watches
-
-pub going_on_same : (m : Machine) (tick : ℕ) (slopes : List ℤ) (watches : List Watch) (due : List (Option ℕ)) →
-    ((place : ℕ) → place < length watches → (watch_at watches place).tick ≤ tick) → AreGoingOn m tick slopes watches watches due due
-going_on_same m tick slopes watches due later = record {
-  as_many = refl;
-  places = refl;
-  each = λ place h. goes_on_same tick _ (watch_at watches place) _ (later place h);
-  others = λ place h. refl;
-  beyond = λ place h. refl;
-}
 
 pub going_on_more : (m : Machine) (tick : ℕ) (slopes : List ℤ) (a b c : List Watch) (p q r : List (Option ℕ)) → AreGoingOn m tick slopes a b p q → AreGoingOn m tick slopes b c q r →
     AreGoingOn m tick slopes a c p r
@@ -177,9 +138,6 @@ module _ (m : Machine) (tick : ℕ) (slopes : List ℤ) (watches : List Watch) (
   }
 
 -- ---- what keeps its speed
-
-no_entry : Entry
-no_entry = record { var = 0; coef = pos 0 }
 
 both_true : (a b : Bool) → (a && b) ≡ true → (a ≡ true) × (b ≡ true)
 both_true true b e = (refl, e)
@@ -224,12 +182,12 @@ module _ (m : Machine) (tick : ℕ) (x d before slopes : List ℤ) (moved : List
       let known : j < state_count m = subst (λ i. i < state_count m) mover.3 (numbers.below mover.0 j mover.2) in
       let Reads : ℕ → Type 0 = λ s. All (HasSpeed m slopes new) (slice_index_or (uses_of m).1 s []) in
       let of_mover : All Reads (slice_index_or (uses_of m).0 j []) = subst (λ i. All Reads (slice_index_or (uses_of m).0 i [])) mover.3 (speeds mover.0 j mover.2) in
-      let of_rows : All Reads (reading_rows m j) = subst (All Reads) (rows_of m j known) of_mover in
+      let of_rows : All Reads (reading_rows m j) = subst (All Reads) (rows_kept m (uses_of m) refl j (omega (arith, known))) of_mover in
       let no_row : SlopeRow = record { entries = []; products = []; beta = pos 0 } in
       let none : Condition = record { form = record { entries = []; time = pos 0; gamma = pos 0 }; rel = Less } in
       let of_state : Reads (0 + state) = of_place Reads (row_reads j) 0 m.rows state no_row of_rows (omega (arith, inside, m.has_rows.one_each)) mover.4 in
       let here : 0 + state ≡ state = omega arith in
-      let of_conditions : All (HasSpeed m slopes new) (reading_conditions m state) = subst (All (HasSpeed m slopes new)) (conditions_of m state inside) (subst Reads here of_state) in
+      let of_conditions : All (HasSpeed m slopes new) (reading_conditions m state) = subst (All (HasSpeed m slopes new)) (conditions_kept m (uses_of m) refl state (omega (arith, inside))) (subst Reads here of_state) in
       let reads : condition_reads state (condition_at m place) ≡ true =
       list_any_at (λ (other : Entry). other.var == state) entries found.0 entry found.2 (eqb-yes _ state (ap (λ (other : Entry). other.var) found.3)) in
       let there : 0 + place ≡ place = omega arith in
@@ -241,7 +199,7 @@ module _ (m : Machine) (tick : ℕ) (x d before slopes : List ℤ) (moved : List
   -- another one keeps it
   untouched : (place : ℕ) → place < length (conditions m) → list_any touches (condition_at m place).form.entries ≡ false → HasSpeed m slopes new place
   untouched place h e =
-      (going.each place (omega (arith, h, all))).kept_speed ((watched.each place h).own_speed ∙ speeds_same m (condition_at m place).form before slopes same)
+      kept_speed (going.each place (omega (arith, h, all))) ((watched.each place h).own_speed ∙ speeds_same m (condition_at m place).form before slopes same)
     where
       no_touch : (k : ℕ) (d : Entry) → k < length (condition_at m place).form.entries → touches (get_or (condition_at m place).form.entries k d) ≡ false
       no_touch k d inside =

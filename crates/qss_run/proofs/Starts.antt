@@ -67,6 +67,11 @@ light_start m =
     light_of (mode_fits m.f (state_count m) row (start_discretes m)) (passes 88 (weight_of m.f row (levels_at_start m) (start_discretes m)))
     (is_true_of (mode_fits m.f (state_count m) row (start_discretes m)) (m.has_rows.modes k none h)) (within-passes 88 (weight_of m.f row (levels_at_start m) (start_discretes m)) heavy))
 
+-- the same of levels and discrete values that are those at the start
+pub light_at : (m : Machine) (levels d : List ℤ) → levels ≡ levels_at_start m → d ≡ start_discretes m → position (is_overweight m levels d) m.rows ≡ None
+light_at m levels d of_levels of_d =
+    ap (λ l. position (is_overweight m l d) m.rows) of_levels ∙ ap (λ e. position (is_overweight m (levels_at_start m) e) m.rows) of_d ∙ light_start m
+
 pub count_start : (m : Machine) → length (levels_at_start m) ≡ state_count m
 count_start m = length-map (start_states m) (level_below (level_unit m)) ∙ length-map m.states (λ (s : StateInfo). s.x0)
 

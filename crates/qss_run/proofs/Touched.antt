@@ -2,7 +2,6 @@
 use Rattle.std.proofs.Common.{◌≡◌, ℕ, ◌<◌, ◌≤◌, true, false, not, List, length, ℤ, sym, ◌∙◌, ap, ◌==◌}
 use Rattle.std.proofs.lemmas.Bool.{or_parts, and_from, not_from_true}
 use Rattle.std.proofs.lemmas.Bool.Decides.{Decides-int_eq}
-use Rattle.std.specs.List.{list_any}
 use Rattle.std.specs.Prelude.{Ok, ◌||◌}
 use Rattle.qss_machine.specs.Counts.{has_changed, reads_change, is_touched}
 use Rattle.qss_machine.specs.declared.system.Machine.{Machine}
@@ -10,26 +9,26 @@ use Rattle.qss_machine.specs.Machines.{state_count, discrete_count, row_at, slop
 use Rattle.qss_machine.specs.Numbers.{int_at, tabulate}
 use Rattle.qss_machine.specs.Ticks.{World, handling_at}
 use Rattle.qss_quant.specs.Lines.{Line, state_at}
+use Rattle.qss_run.specs.Handlings.{is_reinitialized}
 use Rattle.qss_run.specs.Places.{line_at}
 use Rattle.qss_run.specs.Renewals.{goes_at, goes_from, renewals, renewals_from}
 use Rattle.qss_run.specs.Touches.{touches_at}
 use Rattle.qss_run.proofs.Counting.{count_less}
 use Rattle.qss_run.proofs.Quiet.{int_at-tabulate}
-use Rattle.qss_run.proofs.Reinits.{is_of}
 use Rattle.qss_run.proofs.Renewed.{goes_so}
 use Rattle.qss_run.proofs.SameSlopes.{level_stays, same_slope}
 
 -- a state that a tick does not touch
 record IsUntouched (m : Machine) (t : ℕ) (w next : World) (j : ℕ) : Type 0 where
   pub level : has_changed m w next j ≡ false
-  pub own : list_any (is_of j) (handling_at m t w).rows ≡ false
+  pub own : is_reinitialized (handling_at m t w).rows j ≡ false
   pub reads : reads_change m w next (row_at m j) ≡ false
 
 untouched : (m : Machine) (t : ℕ) (w next : World) (j : ℕ) → is_touched m t w next j ≡ false → IsUntouched m t w next j
 untouched m t w next j none =
-    let all = or_parts (has_changed m w next j || list_any (is_of j) (handling_at m t w).rows || reads_change m w next (row_at m j)) (t == m.last) none in
-    let reads = or_parts (has_changed m w next j || list_any (is_of j) (handling_at m t w).rows) (reads_change m w next (row_at m j)) all.0 in
-    let own = or_parts (has_changed m w next j) (list_any (is_of j) (handling_at m t w).rows) reads.0 in
+    let all = or_parts (has_changed m w next j || is_reinitialized (handling_at m t w).rows j || reads_change m w next (row_at m j)) (t == m.last) none in
+    let reads = or_parts (has_changed m w next j || is_reinitialized (handling_at m t w).rows j) (reads_change m w next (row_at m j)) all.0 in
+    let own = or_parts (has_changed m w next j) (is_reinitialized (handling_at m t w).rows j) reads.0 in
     record { level = own.0; own = own.1; reads = reads.1 }
 
 module _ (m : Machine) (t : ℕ) (w next : World) (old_levels : length w.levels ≡ state_count m) (new_levels : length next.levels ≡ state_count m)
@@ -51,7 +50,7 @@ module _ (m : Machine) (t : ℕ) (w next : World) (old_levels : length w.levels 
       (λ j h none. not_from_true _ (goes_on j h (untouched m t w next j none)))
 
   -- and one that is not reinitialized is at its state on arrival
-  pub renewals_from_touched : (x : List ℤ) → ((j : ℕ) → j < state_count m → list_any (is_of j) (handling_at m t w).rows ≡ false → state_at (line_at lines j) t ≡ int_at x j) →
+  pub renewals_from_touched : (x : List ℤ) → ((j : ℕ) → j < state_count m → is_reinitialized (handling_at m t w).rows j ≡ false → state_at (line_at lines j) t ≡ int_at x j) →
       renewals_from (state_count m) t x next.levels slopes lines ≤ touches_at m t w (Ok next)
   renewals_from_touched x here =
       count_less (state_count m) (λ j. not (goes_from t (int_at x j) (int_at next.levels j) (int_at slopes j) (line_at lines j))) (is_touched m t w next)

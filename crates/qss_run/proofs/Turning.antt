@@ -16,14 +16,14 @@ use Rattle.qss_machine.specs.declared.parts.SlopeRow.{SlopeRow}
 use Rattle.qss_machine.specs.declared.system.Machine.{Machine}
 use Rattle.qss_machine.specs.Numbers.{int_at, tabulate}
 use Rattle.qss_machine.specs.Slopes.{mode_fits, weight_of}
-use Rattle.qss_machine.specs.Machines.{state_count, level_unit, quantum_of, row_at, slope_at, value_of, speed_of, compares, truth}
+use Rattle.qss_machine.specs.Machines.{state_count, level_unit, quantum_of, row_at, slope_at, weight_at, value_of, speed_of, compares, truth}
 use Rattle.qss_machine.specs.Ticks.{is_near, is_overweight, IsNextLevel}
 use Rattle.qss_quant.specs.declared.rule.Rule.{Rule}
 use Rattle.qss_quant.specs.Rules.{IsAnswer}
 use Rattle.qss_quant.specs.Lines.{Line, state_at, IsNear, IsAway}
 use Rattle.qss_cross.specs.Crossing.{Watch, value_at, holds_at}
 use Rattle.qss_sched.specs.Ranks.{due_at}
-use Rattle.qss_run.specs.Places.{line_at, watch_at, IsTurned, IsWatched}
+use Rattle.qss_run.specs.Places.{line_at, IsTurned, IsWatched}
 use Rattle.qss_run.specs.Rules.{IsRuled}
 use Rattle.qss_run.specs.Sims.{condition_at, IsDue}
 use Rattle.qss_run.proofs.Ranges.{none_passes}
@@ -54,6 +54,7 @@ due_here m tick j line x slope level unit quantum found is one own first =
 -- what a light row keeps
 pub record IsLight (m : Machine) (levels discretes : List ℤ) (j : ℕ) : Type 0 where
   pub modes : mode_fits m.f (state_count m) (row_at m j) discretes ≡ true
+  pub weight : IsWithin 88 (weight_at m j levels discretes)
   pub slope : IsWithin 88 (slope_at m j levels discretes)
 
 or_false : (a b : Bool) → (not a || b) ≡ false → (a ≡ true) × (b ≡ false)
@@ -70,7 +71,7 @@ row_is_light m levels discretes light j h =
     let inside : j < length m.rows = omega (arith, h, m.has_rows.one_each) in
     let parts = or_false _ _ (none_passes none (is_overweight m levels discretes) m.rows light j inside) in
     let small : IsWithin 88 (weight_of m.f (row_at m j) levels discretes) = passes_no 88 (weight_of m.f (row_at m j) levels discretes) parts.1 in
-    record { modes = parts.0; slope = omega (arith, ints, slope-size m.f (row_at m j) levels discretes, small) }
+    record { modes = parts.0; weight = small; slope = omega (arith, ints, slope-size m.f (row_at m j) levels discretes, small) }
 
 pub is_true : (b : Bool) → b ≡ true → IsTrue b
 is_true b e = search (e)
@@ -130,20 +131,6 @@ watch_is m tick x d slopes place condition watch found is own first =
       is_change = subst (λ t. FirstAfter (λ n. holds_at watch n ≢ truth m (condition_at m place) x d tick) t found) own_tick
           (subst (λ b. FirstAfter (λ n. holds_at watch n ≢ b) watch.tick found) held first);
     }
-
-pub watched_more : (m : Machine) (tick n : ℕ) (x d slopes : List ℤ) (watches : List Watch) (agenda next : List (Option ℕ)) (j : ℕ) (watch : Watch) → j < length watches →
-    ((k : ℕ) → k < j → IsWatched m tick x d slopes k (watch_at watches k) (due_at agenda (n + k))) →
-    ((place : ℕ) → (place ≡ n + j → ⊥) → due_at next place ≡ due_at agenda place) →
-    IsWatched m tick x d slopes j watch (due_at next (n + j)) →
-    (k : ℕ) → k < j + 1 → IsWatched m tick x d slopes k (watch_at (set watches j watch) k) (due_at next (n + k))
-watched_more m tick n x d slopes watches agenda next j watch h before others here =
-    below_more (λ k. IsWatched m tick x d slopes k (watch_at (set watches j watch) k) (due_at next (n + k))) j
-    (λ k below.
-    let ne : k ≢ j = omega (arith, below) in
-    let far : n + k ≢ n + j = λ q. ne (omega (arith, q)) in
-    subst (λ w. IsWatched m tick x d slopes k w (due_at next (n + k))) (sym (get_or-set_other watches j k watch no_watch ne))
-    (subst (IsWatched m tick x d slopes k (watch_at watches k)) (sym (others (n + k) far)) (before k below)))
-    (subst (λ w. IsWatched m tick x d slopes j w (due_at next (n + j))) (sym (get_or-set_same watches j watch no_watch h)) here)
 
 -- a state near its level, in other words
 pub near_along : (m : Machine) (j : ℕ) (x y l k : ℤ) → x ≡ y → l ≡ k → IsNear (level_unit m) y k (quantum_of m j k) → IsNear (level_unit m) x l (quantum_of m j l)

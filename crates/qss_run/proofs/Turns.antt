@@ -1,9 +1,8 @@
 -- Clauses at their turns.
-use Rattle.std.proofs.Common.{◌≡◌, ℕ, zero, suc, ◌+◌, ◌-◌, ◌<◌, ◌≤◌, Bool, true, false, List, [], ◌∷◌, ◌++◌, length, get_or, take, drop, map, fold, ℤ, refl, sym, ◌∙◌, ap, arith, inl, inr}
-use Rattle.std.proofs.lemmas.Bool.{cases_lt}
-use Rattle.std.proofs.lemmas.List.{length-append, length-map, drop-drop, drop_more, get_or_past, get_or_default, length-take, length-drop}
-use Rattle.std.proofs.lemmas.List.Sums.{sum_by-cons, sum_by_more_le, sum_by-drop_more}
-use Rattle.std.specs.List.{position, flat_map, sum_by}
+use Rattle.std.proofs.Common.{◌≡◌, ℕ, zero, suc, ◌+◌, ◌-◌, ◌<◌, ◌≤◌, Bool, true, false, List, [], ◌∷◌, ◌++◌, length, get_or, take, drop, map, fold, ℤ, refl, sym, ◌∙◌, ap, arith}
+use Rattle.std.proofs.lemmas.List.{length-append, length-map, drop-drop, drop_more}
+use Rattle.std.proofs.lemmas.List.Sums.{sum_by-cons, sum_by-drop_more}
+use Rattle.std.specs.List.{flat_map, sum_by}
 use Rattle.std.specs.Prelude.{Some, None, is_some, All}
 use Rattle.mu_num.proofs.Tests.{if_cases}
 use Rattle.qss_machine.specs.declared.parts.Action.{Action}
@@ -13,11 +12,9 @@ use Rattle.qss_machine.specs.declared.system.Machine.{Machine}
 use Rattle.qss_machine.specs.Handlers.{Handling, conditions, run_action, fire_row, run_branch, run_first_due, run_clause, run_clauses}
 use Rattle.qss_machine.specs.Firing.{flag_at}
 use Rattle.qss_machine.specs.Limits.{IsClause, item_count}
-use Rattle.qss_hand.specs.Values.{Values}
-use Rattle.qss_hand.specs.Works.{handling_of, values_after, clause_at, row_room}
+use Rattle.qss_hand.specs.Works.{row_room}
 use Rattle.qss_run.specs.Rooms.{clause_room}
-use Rattle.qss_hand.proofs.AfterStatements.{whole, rows_action}
-use Rattle.qss_run.proofs.Ranges.{none_passes}
+use Rattle.qss_hand.proofs.AfterStatements.{rows_action}
 
 module _ (m : Machine) (tick : ℕ) (before : List ℤ) where
   -- after an overflow clauses change nothing
@@ -108,12 +105,6 @@ length-conditions (clause ∷ clauses) =
     ∙ ap (λ n. length clause.branches + n) (length-conditions clauses)
     ∙ sym (sum_by-cons (λ (clause : ClauseInfo). length clause.branches) clause clauses)
 
--- no flag is set, also past the end
-pub none_set : (flags : List Bool) → position (λ flag. flag) flags ≡ None → (k : ℕ) → flag_at flags k ≡ false
-none_set flags e k = elim (cases_lt k (length flags)) [ inl below ↦ none_passes false (λ flag. flag) flags e k below | inr past ↦ get_or_past flags k false past ]
-
--- ---- the turn of one clause among all
-
 abbrev width_of : ClauseInfo → ℕ
 width_of clause = length clause.branches
 
@@ -136,43 +127,6 @@ conditions_few m = omega (arith, length-conditions m.clauses, (few_by _ _ m.clau
 pub clauses_few : (m : Machine) → length m.clauses ≤ 16384
 clauses_few m = omega (arith, (few_by _ _ m.clauses m.has_clauses.each).1, m.has_clauses.few)
 
--- the flags of a clause are among all
-pub turn_within : (m : Machine) (due : List Bool) (i first width : ℕ) (d : ClauseInfo) → i < length m.clauses → length due ≡ length (conditions m) →
-    first ≡ sum_by width_of (take i m.clauses) → width ≡ width_of (get_or m.clauses i d) → first + width ≤ length due
-turn_within m due i first width d h all so_far own = omega (arith, sum_by_more_le width_of m.clauses i d h, length-conditions m.clauses, all, so_far, own)
-
-pub length-flags : (due : List Bool) (first width : ℕ) → first + width ≤ length due → length (take ((first + width) - first) (drop first due)) ≡ width
-length-flags due first width h =
-    let e : (first + width) - first ≡ width = omega arith in
-    rw e (omega (arith, length-take width (drop first due), length-drop first due))
-
 -- the room for the clauses from one on
 pub room-drop : (clauses : List ClauseInfo) (i : ℕ) (d : ClauseInfo) → i < length clauses → row_room (drop i clauses) ≡ clause_room (get_or clauses i d) + row_room (drop (i + 1) clauses)
 room-drop clauses i d h = sum_by-drop_more clause_room clauses i d h
-
-module _ (m : Machine) (w0 w : Values) (due : List Bool) (i first width : ℕ) (d : ClauseInfo) (h : i < length m.clauses) (tick : w.tick ≡ w0.tick) (before : w.pre ≡ w0.pre)
-    (own : width ≡ width_of (get_or m.clauses i d)) where
-  abbrev pub turn : Handling
-  turn = run_first_due m w.tick w.pre i 0 (handling_of w) (clause_at m i).branches (take ((first + width) - first) (drop first due))
-
-  turn_is : turn ≡ run_first_due m w0.tick w0.pre i 0 (handling_of w) (get_or m.clauses i d).branches (take (width_of (get_or m.clauses i d)) (drop first due))
-  turn_is =
-      let e : (first + width) - first ≡ width = omega arith in
-      ap (λ t. run_first_due m t w.pre i 0 (handling_of w) (clause_at m i).branches (take ((first + width) - first) (drop first due))) tick
-      ∙ ap (λ p. run_first_due m w0.tick p i 0 (handling_of w) (clause_at m i).branches (take ((first + width) - first) (drop first due))) before
-      ∙ ap (λ n. run_first_due m w0.tick w0.pre i 0 (handling_of w) (clause_at m i).branches (take n (drop first due))) (e ∙ own)
-      ∙ ap (λ (c : ClauseInfo). run_first_due m w0.tick w0.pre i 0 (handling_of w) c.branches (take (width_of (get_or m.clauses i d)) (drop first due)))
-      (get_or_default m.clauses i (record { branches = [] }) d h)
-
-  pub turn_done : (next : Values) → next ≡ values_after w turn → None ≡ turn.overflow →
-      run_clauses m w0.tick w0.pre i (handling_of w) (drop i m.clauses) (drop first due)
-      ≡ run_clauses m w0.tick w0.pre (i + 1) (handling_of next) (drop (i + 1) m.clauses) (drop (first + width) due)
-  turn_done next values calm =
-      let after : handling_of next ≡ turn = ap handling_of values ∙ whole turn (sym calm) in
-      next_turn m w0.tick w0.pre i first (handling_of w) (handling_of next) m.clauses due d h refl (after ∙ turn_is)
-      ∙ ap (λ n. run_clauses m w0.tick w0.pre (i + 1) (handling_of next) (drop (i + 1) m.clauses) (drop (first + n) due)) (sym own)
-
-  pub turn_over : (var : ℕ) → Some var ≡ turn.overflow → turn ≡ run_clauses m w0.tick w0.pre i (handling_of w) (drop i m.clauses) (drop first due)
-  turn_over var over =
-      sym (next_turn m w0.tick w0.pre i first (handling_of w) turn m.clauses due d h refl turn_is
-      ∙ clauses_stay m w0.tick w0.pre (i + 1) turn var (drop (i + 1) m.clauses) (drop (first + width_of (get_or m.clauses i d)) due) (sym over))

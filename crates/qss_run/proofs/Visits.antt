@@ -6,7 +6,7 @@ use Rattle.std.proofs.lemmas.List.FromFn.{length-map-range_with_len}
 use Rattle.std.proofs.Common.{Vec, Global}
 use Rattle.std.specs.Vec.{with_items}
 use Rattle.std.specs.Option.{option_or}
-use Rattle.std.specs.Prelude.{Option, Some, None, Ok, All, MatchBool, is_some, position, vec_capacity}
+use Rattle.std.specs.Prelude.{Option, Some, None, Ok, All, MatchBool, is_some, position, vec_capacity, if◌then◌else◌}
 use Rattle.mu_num.specs.Sizes.{IsWithin}
 use Rattle.mu_num.proofs.Tests.{int_lt-true}
 use Rattle.qss_machine.specs.declared.parts.Condition.{Condition}
@@ -24,7 +24,7 @@ use Rattle.qss_sched.specs.Ranks.{due_at}
 use Rattle.qss_run.specs.declared.store.Store.{Store}
 use Rattle.qss_run.specs.Places.{line_at, watch_at, IsTurned, IsWatched}
 use Rattle.qss_run.specs.Rules.{IsRuled}
-use Rattle.qss_run.specs.Sims.{slopes_of, condition_at, IsDue, IsChange, StandsFor, rising_tick}
+use Rattle.qss_run.specs.Sims.{slopes_of, weights_at, condition_at, IsDue, IsChange, rises, StandsFor}
 use Rattle.qss_run.specs.Stores.{states_at, handling_from, world_of, FitsMachine, Stands}
 use Rattle.qss_run.proofs.Quiet.{int_at-tabulate, tabulate-same, tabulate-int_at, moved_is}
 use Rattle.qss_run.proofs.Silence.{from_later, line_state_at}
@@ -47,6 +47,15 @@ module _ (m : Machine) (tick : ℕ) (s : Store) (stands : Stands m tick s) where
   -- and the handlers then do what they do at that tick
   pub handles : handling_from m (tick + 1) (states_at s.lines.items (tick + 1)) s.work.d s.arrived.items s.settled.items ≡ handling_at m (tick + 1) (world_of tick s)
   handles = ap (λ x. handling_from m (tick + 1) x s.work.d s.arrived.items s.settled.items) arrives
+
+  -- from slices of what the store keeps too
+  pub handles_from : (lines : List Line) (arrived settled : List Bool) → lines ≡ s.lines.items → arrived ≡ s.arrived.items → settled ≡ s.settled.items →
+      handling_from m (tick + 1) (states_at lines (tick + 1)) s.work.d arrived settled ≡ handling_at m (tick + 1) (world_of tick s)
+  handles_from lines arrived settled of_lines of_arrived of_settled =
+      ap (λ l. handling_from m (tick + 1) (states_at l (tick + 1)) s.work.d arrived settled) of_lines
+      ∙ ap (λ a. handling_from m (tick + 1) (states_at s.lines.items (tick + 1)) s.work.d a settled) of_arrived
+      ∙ ap (λ b. handling_from m (tick + 1) (states_at s.lines.items (tick + 1)) s.work.d s.arrived.items b) of_settled
+      ∙ handles
 
   -- a line that goes on as before keeps its due tick, since its state is near its level
   pub due_stays : (j : ℕ) (state level : ℤ) → j < state_count m → IsNear (level_unit m) state level (quantum_of m j level) →
@@ -91,14 +100,26 @@ next_is_near name m j state old new h next = by_near (is_near m j state old) ref
 pub stands_again : (m : Machine) (t : ℕ) (s : Store) (x : List ℤ) → length x ≡ state_count m → FitsMachine m s → ((j : ℕ) → j < state_count m → IsWithin 43 (int_at s.levels.items j)) →
     position (is_overweight m s.levels.items s.work.d) m.rows ≡ None →
     s.slopes.items ≡ slopes_of m (world_of t s) →
+    s.weights.items ≡ weights_at m s.levels.items s.work.d →
     ((j : ℕ) → j < state_count m → IsTurned m t (int_at x j) (int_at s.levels.items j) (slope_at m j s.levels.items s.work.d) j (line_at s.lines.items j) (due_at s.agenda j)) →
     s.settled.items ≡ truths m x s.work.d t →
     ((place : ℕ) → place < length (conditions m) → IsWatched m t x s.work.d s.slopes.items place (watch_at s.watches.items place) (due_at s.agenda (state_count m + place))) →
-    due_at s.agenda (state_count m + length (conditions m)) ≡ rising_tick t (world_of t s) →
+    s.rising ≡ rises (world_of t s) →
+    due_at s.agenda (state_count m + length (conditions m)) ≡ (if s.rising then Some (t + 1) else None) →
     s.fresh.items ≡ s.levels.items → (s.calm ≡ true → s.arrived.items ≡ s.settled.items) →
     (states_at s.lines.items t ≡ x) × Stands m t s
-stands_again m t s x many fits small light slopes turned settled watched rising twice calm =
-    (states, record { fits = fits; stands_for = for; fresh_levels = twice; own_slopes = slopes; calm = calm })
+stands_again m t s x many fits small light slopes weights turned settled watched risen rising twice calm = (
+  states,
+  record {
+    fits = fits;
+    stands_for = for;
+    fresh_levels = twice;
+    own_slopes = slopes;
+    own_weights = weights;
+    rising = risen;
+    calm = calm;
+  },
+)
   where
     states : states_at s.lines.items t ≡ x
     states =
@@ -134,13 +155,13 @@ stands_again m t s x many fits small light slopes turned settled watched rising 
         own_rel = (watched place h).own_rel;
       };
       changes = λ place h. subst (λ b. IsChange t b (watch_at s.watches.items place) (due_at s.agenda (state_count m + place))) (flag place h) (watched place h).is_change;
-      rising = rising;
+      rising = rising ∙ ap (λ b. if b then Some (t + 1) else None) risen;
     }
 
--- a store stands with other memory for moved states
-pub stands_with : (m : Machine) (tick : ℕ) (s : Store) (moved : Vec ℕ Global) (agenda : List (Option ℕ)) → Stands m tick s → vec_capacity moved ≡ vec_capacity s.moved → agenda ≡ s.agenda →
-    Stands m tick (record s { moved = moved; agenda = agenda })
-stands_with m tick s moved agenda stands room same =
+-- a store stands with other moved states and changed conditions in the same memory
+pub stands_with : (m : Machine) (tick : ℕ) (s : Store) (moved changed : Vec ℕ Global) → Stands m tick s → vec_capacity moved ≡ vec_capacity s.moved → vec_capacity changed ≡ vec_capacity s.changed →
+    Stands m tick (record s { moved = moved; changed = changed })
+stands_with m tick s moved changed stands moved_room changed_room =
     let fits = stands.fits in
     record {
       fits = record {
@@ -150,23 +171,28 @@ stands_with m tick s moved agenda stands room same =
         levels = fits.levels;
         slopes = fits.slopes;
         fresh = fits.fresh;
-        moved_room = omega (arith, room, fits.moved_room);
+        weights = fits.weights;
+        moved_room = omega (arith, moved_room, fits.moved_room);
+        changed_room = omega (arith, changed_room, fits.changed_room);
+        fired_room = fits.fired_room;
+        assigned_room = fits.assigned_room;
         watches = fits.watches;
         arrived = fits.arrived;
         settled = fits.settled;
-        now = fits.now;
-        due = fits.due;
-        places = ap length same ∙ fits.places;
+        places = fits.places;
         states = fits.states;
         discretes = fits.discretes;
         before = fits.before;
+        small_states = fits.small_states;
         small_discretes = fits.small_discretes;
         work_room = fits.work_room;
         row_room = fits.row_room;
       };
-      stands_for = subst (StandsFor m tick (world_of tick s) (line_at s.lines.items) (watch_at s.watches.items)) (sym same) stands.stands_for;
+      stands_for = stands.stands_for;
       fresh_levels = stands.fresh_levels;
       own_slopes = stands.own_slopes;
+      own_weights = stands.own_weights;
+      rising = stands.rising;
       calm = stands.calm;
     }
 

@@ -1,6 +1,6 @@
 -- Numbers among others, and lists that are written at some places.
 use Rattle.std.proofs.Common.{◌≡◌, ◌≢◌, ℕ, suc, ◌+◌, ◌<◌, ◌≤◌, true, false, eqb, ◌||◌, List, [], ◌∷◌, ◌++◌, length, get_or, set, take, refl, sym, ◌∙◌, subst, inl, inr, ◌⊎◌, arith}
-use Rattle.std.proofs.lemmas.Bool.{eqb-true, eqb-false, eq-eqb, or_parts, or_cases, or_left, or_right, cases_eq, both_ways}
+use Rattle.std.proofs.lemmas.Bool.{eqb-true, eqb-false, eq-eqb, or_parts, or_cases, or_left, or_right, cases_eq, cases_Bool, both_ways}
 use Rattle.std.proofs.lemmas.List.{length-set, get_or-set_same, get_or-set_other, take_all}
 use Rattle.std.proofs.lemmas.List.Folds.{list_any_more, list_any-append, list_any_at}
 use Rattle.qss_run.specs.Moves.{is_among}
@@ -35,10 +35,6 @@ index_of (p ∷ places) place e = by_first (λ there. index_of places place ther
     by_first rest (inl here) = (0, omega arith, eqb-true p place here)
     by_first rest (inr there) = let found = rest there in (suc found.0, omega (arith, found.1), found.2)
 
--- nothing is written
-pub written_none : {X : Type 0} (d : X) (Has : ℕ → X → Type 0) (xs : List X) → IsWritten d Has [] xs xs
-written_none d Has xs = record { as_many = refl; each = λ place e. absurd (both_ways false refl e); others = λ place e. refl }
-
 -- one more place is written
 pub written_more : {X : Type 0} (d : X) (Has : ℕ → X → Type 0) (places : List ℕ) (old xs : List X) (i : ℕ) (v : X) → i < length places → get_or places i 0 < length xs →
     IsWritten d Has (take i places) old xs → Has (get_or places i 0) v → IsWritten d Has (take (i + 1) places) old (set xs (get_or places i 0) v)
@@ -69,3 +65,22 @@ written_more {X} d Has places old xs i v h inside before here = record {
 pub written_all : {X : Type 0} (d : X) (Has : ℕ → X → Type 0) (places : List ℕ) (old new : List X) (i : ℕ) → length places ≤ i → IsWritten d Has (take i places) old new →
     IsWritten d Has places old new
 written_all d Has places old new i h written = subst (λ these. IsWritten d Has these old new) (take_all i places h) written
+
+-- a list that is written at some places and then at others
+pub written_on : {X : Type 0} (z : X) (Has : ℕ → X → Type 0) (places others : List ℕ) (old mid new : List X) → IsWritten z Has places old mid → IsWritten z Has others mid new →
+    IsWritten z Has (places ++ others) old new
+written_on z Has places others old mid new first second = record {
+  as_many = second.as_many ∙ first.as_many;
+  each = λ place e. elim (cases_Bool (is_among others place)) [
+    | inl among ↦ second.each place among
+    | inr none ↦
+        subst (Has place) (sym (second.others place none))
+        (first.each place (elim (or_cases (is_among places place) (is_among others place) (sym (list_any-append _ places others) ∙ e)) [
+          | inl sooner ↦ sooner
+          | inr later ↦ absurd (cc)
+        ]))
+  ];
+  others = λ place e.
+      let parts = or_parts (is_among places place) (is_among others place) (sym (list_any-append _ places others) ∙ e) in
+      second.others place parts.1 ∙ first.others place parts.0;
+}

@@ -13,5 +13,10 @@ pub mod Writes
 pub mod Speeds
 pub mod Overweights
 pub mod Turnings
+pub mod RowSums
 pub mod Touches
 pub mod Renewals
+pub mod Handlings
+pub mod Rewatchings
+pub mod Reads
+pub mod Logs

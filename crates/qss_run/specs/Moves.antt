@@ -1,8 +1,10 @@
 -- States that are due at one tick, and what else has to be looked at then.
-use Rattle.std.specs.Prelude.{◌≡◌, ℕ, ◌<◌, Bool, true, false, List, length, ℤ, Option, Some, None, All, ◌==◌}
+use Rattle.std.specs.Prelude.{◌≡◌, ℕ, ◌+◌, ◌<◌, ◌⊎◌, Bool, true, false, not, ◌&&◌, List, length, ℤ, Option, Some, None, All, ◌==◌}
 use Rattle.std.specs.List.{list_any}
 use Rattle.std.specs.List.Sorted.{IsStrictlyIncreasing}
 use Rattle.qss_machine.specs.Numbers.{int_at}
+use Rattle.qss_machine.specs.Firing.{flag_at}
+use Rattle.qss_machine.specs.Ticks.{World}
 use Rattle.qss_sched.specs.Ranks.{due_at}
 
 -- whether a number stands in a list
@@ -25,6 +27,47 @@ pub record IsWithout (moved : List ℕ) (old new : List (Option ℕ)) : Type 0 w
   pub as_many : length new ≡ length old
   pub none : (j : ℕ) → is_among moved j ≡ true → due_at new j ≡ None
   pub others : (place : ℕ) → is_among moved place ≡ false → due_at new place ≡ due_at old place
+
+-- the conditions, of `conditions`, that change at a tick, rising; the agenda has their places after those of n states
+pub record AreChanging (n conditions tick : ℕ) (due : List (Option ℕ)) (changed : List ℕ) : Type 0 where
+  pub numbers : AreNumbers conditions changed
+  pub own : (place : ℕ) → is_among changed place ≡ true → due_at due (n + place) ≡ Some tick
+  pub all : (place : ℕ) → place < conditions → due_at due (n + place) ≡ Some tick → is_among changed place ≡ true
+
+-- whether the condition at a place became true through the handlers
+abbrev pub became_true : List Bool → List Bool → ℕ → Bool
+became_true arrived settled place = flag_at settled place && not (flag_at arrived place)
+
+-- the conditions, of `conditions`, to be looked at at a tick, rising: those that change there, and those that became true through the handlers before
+pub record AreLookedAt (n conditions tick : ℕ) (due : List (Option ℕ)) (w : World) (changed : List ℕ) : Type 0 where
+  pub numbers : AreNumbers conditions changed
+  pub own : (place : ℕ) → is_among changed place ≡ true → (due_at due (n + place) ≡ Some tick) ⊎ (became_true w.arrived w.settled place ≡ true)
+  pub changing : (place : ℕ) → place < conditions → due_at due (n + place) ≡ Some tick → is_among changed place ≡ true
+  pub risen : (place : ℕ) → place < conditions → became_true w.arrived w.settled place ≡ true → is_among changed place ≡ true
+
+-- the same agenda, but the conditions that became true through the handlers are due at a tick, and the place behind the conditions has none; their places come after those of n states
+pub record IsCalled (n tick : ℕ) (arrived settled : List Bool) (old new : List (Option ℕ)) : Type 0 where
+  pub as_many : length new ≡ length old
+  pub states : (j : ℕ) → j < n → due_at new j ≡ due_at old j
+  pub risen : (place : ℕ) → place < length settled → became_true arrived settled place ≡ true → due_at new (n + place) ≡ Some tick
+  pub others : (place : ℕ) → place < length settled → became_true arrived settled place ≡ false → due_at new (n + place) ≡ due_at old (n + place)
+  pub behind : due_at new (n + length settled) ≡ None
+
+-- the same agenda, but without the due ticks at these places after the first ones
+pub record IsTakenAfter (first : ℕ) (found : List ℕ) (old new : List (Option ℕ)) : Type 0 where
+  pub as_many : length new ≡ length old
+  pub before : (j : ℕ) → j < first → due_at new j ≡ due_at old j
+  pub none : (place : ℕ) → is_among found place ≡ true → due_at new (first + place) ≡ None
+  pub others : (place : ℕ) → is_among found place ≡ false → due_at new (first + place) ≡ due_at old (first + place)
+
+-- the same agenda, but without the due ticks of these states and of these conditions, of which the agenda has `count` after n states, and of the place behind them
+pub record IsTakenOut (n count : ℕ) (moved changed : List ℕ) (old new : List (Option ℕ)) : Type 0 where
+  pub as_many : length new ≡ length old
+  pub states : (j : ℕ) → is_among moved j ≡ true → due_at new j ≡ None
+  pub conditions : (place : ℕ) → is_among changed place ≡ true → due_at new (n + place) ≡ None
+  pub other_states : (j : ℕ) → j < n → is_among moved j ≡ false → due_at new j ≡ due_at old j
+  pub other_conditions : (place : ℕ) → place < count → is_among changed place ≡ false → due_at new (n + place) ≡ due_at old (n + place)
+  pub behind : due_at new (n + count) ≡ None
 
 -- levels that are the same but for those of the moved states
 pub record IsOff (moved : List ℕ) (old new : List ℤ) : Type 0 where

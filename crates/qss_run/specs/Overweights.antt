@@ -1,8 +1,10 @@
--- The least row that passes its limits, of those that were looked at.
-use Rattle.std.specs.Prelude.{◌≡◌, ℕ, ◌<◌, nat_lt, Bool, true, false, List, ℤ, Option, Some, None}
+-- Kept weights of rows, and the least row whose weight is past its limit, of those that were looked at.
+use Rattle.std.specs.Prelude.{◌≡◌, ℕ, ◌<◌, nat_lt, Bool, true, false, List, length, ℤ, Option, Some, None, MatchBool}
+use Rattle.mu_num.specs.Sizes.{passes}
 use Rattle.qss_machine.specs.declared.system.Machine.{Machine}
-use Rattle.qss_machine.specs.Machines.{state_count, row_at}
-use Rattle.qss_machine.specs.Ticks.{is_overweight}
+use Rattle.qss_machine.specs.Machines.{state_count, row_at, weight_at}
+use Rattle.qss_machine.specs.Numbers.{int_at}
+use Rattle.qss_machine.specs.Slopes.{mode_fits}
 use Rattle.qss_run.specs.Moves.{is_among}
 
 -- whether a row comes before the one that was found, if one was
@@ -10,7 +12,12 @@ abbrev pub comes_before : Option ℕ → ℕ → Bool
 comes_before None row = true
 comes_before (Some found) row = nat_lt row found
 
--- the row that was found passes its limits, and of those that were looked at none before it does
-pub record IsLeastOverweight (m : Machine) (levels discretes : List ℤ) (rows : List ℕ) (found : Option ℕ) : Type 0 where
-  pub passes : (row : ℕ) → found ≡ Some row → (row < state_count m) × (is_overweight m levels discretes (row_at m row) ≡ true)
-  pub none_before : (row : ℕ) → is_among rows row ≡ true → comes_before found row ≡ true → is_overweight m levels discretes (row_at m row) ≡ false
+-- the weight of the row that was found is past its limit, and of those that were looked at none before it has one that is
+pub record IsLeastPast (weights : List ℤ) (rows : List ℕ) (found : Option ℕ) : Type 0 where
+  pub past : (row : ℕ) → found ≡ Some row → (row < length weights) × (passes 88 (int_at weights row) ≡ true)
+  pub none_before : (row : ℕ) → is_among rows row ≡ true → comes_before found row ≡ true → passes 88 (int_at weights row) ≡ false
+
+-- a row's weight, or where its mode coefficients pass their limit a number that is past that of weights
+abbrev pub IsWeighed : Machine → List ℤ → List ℤ → ℕ → ℤ → Type 0
+IsWeighed m levels discretes row weight =
+    MatchBool (mode_fits m.f (state_count m) (row_at m row) discretes) (weight ≡ weight_at m row levels discretes) (passes 88 weight ≡ true)

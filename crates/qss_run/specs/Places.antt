@@ -1,8 +1,9 @@
 -- The lines of states and the watches of conditions, by number, and the branches of conditions.
-use Rattle.std.specs.Prelude.{◌≡◌, ℕ, ◌<◌, ◌≤◌, List, length, ℤ, pos, Option, slice_index_or}
+use Rattle.std.specs.Prelude.{◌≡◌, ℕ, ◌+◌, ◌<◌, ◌≤◌, List, length, ℤ, pos, Option, slice_index_or}
 use Rattle.qss_machine.specs.declared.parts.Rel.TheVariants.{Less}
 use Rattle.qss_machine.specs.declared.system.Machine.{Machine}
 use Rattle.qss_machine.specs.Machines.{value_of, speed_of, truth}
+use Rattle.qss_machine.specs.Firing.{first_place}
 use Rattle.qss_machine.specs.Handlers.{conditions}
 use Rattle.qss_hand.specs.Works.{clause_at, branch_at}
 use Rattle.qss_quant.specs.Lines.{Line, state_at}
@@ -23,6 +24,7 @@ pub record IsBranchOf (m : Machine) (branch : BranchPlace) (place : ℕ) : Type 
   pub clause_known : branch.clause < length m.clauses
   pub branch_known : branch.branch < length (clause_at m branch.clause).branches
   pub own : (branch_at m branch.clause branch.branch).condition ≡ condition_at m place
+  pub own_place : first_place m.clauses branch.clause + branch.branch ≡ place
 
 -- the branches of a machine's conditions in source order
 pub record AreBranches (m : Machine) (branches : List BranchPlace) : Type 0 where

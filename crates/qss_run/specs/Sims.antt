@@ -7,7 +7,7 @@ use Rattle.qss_machine.specs.declared.parts.Rel.TheVariants.{Less}
 use Rattle.qss_machine.specs.declared.system.Machine.{Machine}
 use Rattle.mu_num.specs.Sizes.{IsWithin}
 use Rattle.qss_machine.specs.Numbers.{int_at, tabulate}
-use Rattle.qss_machine.specs.Machines.{state_count, level_unit, slope_at, quantum_of, value_of, speed_of}
+use Rattle.qss_machine.specs.Machines.{state_count, level_unit, slope_at, weight_at, quantum_of, value_of, speed_of}
 use Rattle.qss_machine.specs.Handlers.{conditions, truths, due_flags}
 use Rattle.qss_machine.specs.Firing.{flag_at}
 use Rattle.qss_machine.specs.Ticks.{World}
@@ -19,6 +19,10 @@ use Rattle.qss_run.specs.Skips.{IsLeft, NoneRises, IsQuiet, states_after, world_
 -- the slopes at a world's levels and discrete values
 abbrev pub slopes_of : Machine → World → List ℤ
 slopes_of m w = tabulate (state_count m) (λ j. slope_at m j w.levels w.discretes)
+
+-- the weights of all rows at levels and discrete values
+abbrev pub weights_at : Machine → List ℤ → List ℤ → List ℤ
+weights_at m levels discretes = tabulate (state_count m) (λ j. weight_at m j levels discretes)
 
 -- the condition at a place in source order
 abbrev pub condition_at : Machine → ℕ → Condition

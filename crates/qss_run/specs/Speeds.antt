@@ -25,12 +25,12 @@ pub record AreWatchedBefore (m : Machine) (tick : ℕ) (x d before slopes : List
 abbrev pub HasSpeed : Machine → List ℤ → List Watch → ℕ → Type 0
 HasSpeed m slopes watches place = (watch_at watches place).speed ≡ speed_of m (condition_at m place).form slopes
 
--- a watch goes on from the same value at a tick, with the due tick of its first change, and keeps a speed that is wanted
+-- a watch goes on from the same value at a tick, with the due tick of its first change, and is left as it is where it has the speed
 pub record GoesOn (tick : ℕ) (speed : ℤ) (old new : Watch) (old_due new_due : Option ℕ) : Type 0 where
   pub not_later : new.tick ≤ tick
   pub here : value_at new tick ≡ value_at old tick
   pub same_rel : new.rel ≡ old.rel
-  pub kept_speed : old.speed ≡ speed → new.speed ≡ speed
+  pub kept : old.speed ≡ speed → (new ≡ old) × (new_due ≡ old_due)
   pub is_change : IsChange tick (holds_at old tick) old old_due → IsChange tick (holds_at old tick) new new_due
 
 -- each watch goes on at a tick, and the agenda has no other changes
@@ -41,7 +41,3 @@ pub record AreGoingOn (m : Machine) (tick : ℕ) (slopes : List ℤ) (old new : 
       GoesOn tick (speed_of m (condition_at m place).form slopes) (watch_at old place) (watch_at new place) (due_at old_due (state_count m + place)) (due_at new_due (state_count m + place))
   pub others : (place : ℕ) → place < state_count m → due_at new_due place ≡ due_at old_due place
   pub beyond : (place : ℕ) → state_count m + length old ≤ place → due_at new_due place ≡ due_at old_due place
-
--- nothing but states is due at the next tick
-abbrev pub OnlyStatesAreDue : Machine → ℕ → List (Option ℕ) → Type 0
-OnlyStatesAreDue m tick due = (place later : ℕ) → state_count m ≤ place → due_at due place ≡ Some later → tick + 1 < later

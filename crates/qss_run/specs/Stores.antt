@@ -1,5 +1,5 @@
 -- What a simulator keeps, and the world that it stands for.
-use Rattle.std.specs.Prelude.{◌≡◌, ℕ, ◌+◌, ◌≤◌, Bool, true, List, [], length, map, All, ℤ, Option, None, vec_capacity}
+use Rattle.std.specs.Prelude.{◌≡◌, ℕ, ◌+◌, ◌≤◌, Bool, true, false, List, [], length, map, All, ℤ, Option, None, vec_capacity}
 use Rattle.mu_num.specs.Sizes.{IsWithin}
 use Rattle.qss_machine.specs.declared.system.Machine.{Machine}
 use Rattle.qss_machine.specs.Numbers.{tabulate, first_past}
@@ -14,9 +14,8 @@ use Rattle.qss_sched.specs.Ranks.{HasNone}
 use Rattle.qss_run.specs.declared.outcome.Outcome.{Outcome}
 use Rattle.qss_run.specs.declared.store.Store.{Store}
 use Rattle.qss_run.specs.Places.{line_at, watch_at, AreBranches}
-use Rattle.qss_run.specs.Moves.{AreDue, IsWithout}
-use Rattle.qss_run.specs.Sims.{slopes_of, StandsFor}
-use Rattle.qss_run.specs.Speeds.{OnlyStatesAreDue}
+use Rattle.qss_run.specs.Moves.{AreDue, AreLookedAt, IsTakenOut}
+use Rattle.qss_run.specs.Sims.{slopes_of, weights_at, rises, StandsFor}
 
 -- the states to which lines lead at a tick
 abbrev pub states_at : List Line → ℕ → List ℤ
@@ -48,34 +47,39 @@ pub record FitsMachine (m : Machine) (s : Store) : Type 0 where
   pub levels : length s.levels.items ≡ state_count m
   pub slopes : length s.slopes.items ≡ state_count m
   pub fresh : length s.fresh.items ≡ state_count m
+  pub weights : length s.weights.items ≡ state_count m
   pub moved_room : state_count m ≤ vec_capacity s.moved
+  pub changed_room : length (conditions m) ≤ vec_capacity s.changed
+  pub fired_room : length (conditions m) ≤ vec_capacity s.fired
+  pub assigned_room : row_room m.clauses ≤ vec_capacity s.assigned
   pub watches : length s.watches.items ≡ length (conditions m)
   pub arrived : length s.arrived.items ≡ length (conditions m)
   pub settled : length s.settled.items ≡ length (conditions m)
-  pub now : length s.now.items ≡ length (conditions m)
-  pub due : length s.due.items ≡ length (conditions m)
   pub places : length s.agenda ≡ state_count m + length (conditions m) + 1
   pub states : length s.work.x ≡ state_count m
   pub discretes : length s.work.d ≡ discrete_count m
   pub before : length s.work.pre ≡ discrete_count m
+  pub small_states : All (IsWithin 88) s.work.x
   pub small_discretes : All (IsWithin 43) s.work.d
   pub work_room : row_room m.clauses ≤ s.work.room
   pub row_room : row_room m.clauses + state_count m + discrete_count m + 1 ≤ vec_capacity s.rows
 
--- a store stands for its world at a tick: it keeps the slopes there, each level twice, and while it is calm no condition is on arrival other than after the handlers
+-- a store stands for its world at a tick: it keeps the slopes and the weights there, each level twice, and whether a condition became true through the handlers; while it is calm no condition is on arrival other than after the handlers
 pub record Stands (m : Machine) (tick : ℕ) (s : Store) : Type 0 where
   pub fits : FitsMachine m s
   pub stands_for : StandsFor m tick (world_of tick s) (line_at s.lines.items) (watch_at s.watches.items) s.agenda
   pub fresh_levels : s.fresh.items ≡ s.levels.items
   pub own_slopes : s.slopes.items ≡ slopes_of m (world_of tick s)
+  pub own_weights : s.weights.items ≡ weights_at m s.levels.items s.work.d
+  pub rising : s.rising ≡ rises (world_of tick s)
   pub calm : s.calm ≡ true → s.arrived.items ≡ s.settled.items
 
--- a store stood at a tick with this agenda; nothing but states is due at the next one, and these were taken out
+-- a store stood at a tick with this agenda; what is to be looked at at the next one, these states and conditions, was taken out
 pub record IsTaken (m : Machine) (tick : ℕ) (agenda : List (Option ℕ)) (s : Store) : Type 0 where
   pub stands : Stands m tick (record s { agenda = agenda })
   pub due : AreDue (state_count m) (tick + 1) agenda s.moved.items
-  pub without : IsWithout s.moved.items agenda s.agenda
-  pub only_states : OnlyStatesAreDue m tick agenda
+  pub changing : AreLookedAt (state_count m) (length (conditions m)) (tick + 1) agenda (world_of tick s) s.changed.items
+  pub without : IsTakenOut (state_count m) (length (conditions m)) s.moved.items s.changed.items agenda s.agenda
 
 -- a store with memory and the values of the start
 pub record IsBlank (m : Machine) (s : Store) : Type 0 where
@@ -85,8 +89,9 @@ pub record IsBlank (m : Machine) (s : Store) : Type 0 where
   pub levels : s.levels.items ≡ map (level_below (level_unit m)) (start_states m)
   pub fresh_levels : s.fresh.items ≡ s.levels.items
   pub no_dues : HasNone s.agenda
+  pub not_rising : s.rising ≡ false
 
--- what a simulator keeps: a tick of the run, memory for the rows of an overflow, and until the end of the run a store that stands there
+-- what a simulator keeps: a tick of the run, and until the end of the run a store that stands there
 pub record IsSim (m : Machine) (tick : ℕ) (end : Option Outcome) (s : Store) : Type 0 where
   pub in_time : tick ≤ m.last
   pub stands : end ≡ None → Stands m tick s

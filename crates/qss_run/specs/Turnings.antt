@@ -1,20 +1,16 @@
 -- States of which some go on from a tick at new slopes, and the others as they were.
-use Rattle.std.specs.Prelude.{◌≡◌, ℕ, ◌+◌, ◌^◌, ◌<◌, ◌≤◌, ◌⊎◌, List, ◌∷◌, length, ℤ, ◌+ℤ◌, ◌-ℤ◌, ◌*ℤ◌, unsigned_abs, Option, None, All, flat_map, position, true}
+use Rattle.std.specs.Prelude.{◌≡◌, ℕ, ◌<◌, ◌≤◌, ◌⊎◌, List, length, ℤ, Option, None, All, position, true}
 use Rattle.mu_num.specs.Sizes.{IsWithin}
 use Rattle.qss_machine.specs.declared.system.Machine.{Machine}
-use Rattle.qss_machine.specs.Machines.{state_count, level_unit, mode_coefficient_at, slope_at, quantum_of}
+use Rattle.qss_machine.specs.Machines.{state_count, level_unit, slope_at, quantum_of}
 use Rattle.qss_machine.specs.Numbers.{int_at, tabulate}
 use Rattle.qss_machine.specs.Ticks.{is_overweight}
-use Rattle.qss_machine.specs.Uses.{reading_rows}
 use Rattle.qss_quant.specs.Lines.{Line, state_at, IsNear}
 use Rattle.qss_sched.specs.Ranks.{due_at}
 use Rattle.qss_run.specs.Moves.{is_among, IsOff}
 use Rattle.qss_run.specs.Places.{line_at, IsTurned}
+use Rattle.qss_run.specs.Renewals.{goes_at}
 use Rattle.qss_run.specs.Sims.{IsDue}
-
--- the moved states, and those whose rows read one of them
-abbrev pub turning_states : Machine → List ℕ → List ℕ
-turning_states m moved = flat_map (λ j. j ∷ reading_rows m j) moved
 
 -- a line that may go on from a tick at this level and slope: it is near the level, and its due tick holds where its level stays
 pub record MayTurn (m : Machine) (tick : ℕ) (level slope : ℤ) (j : ℕ) (line : Line) (found : Option ℕ) : Type 0 where
@@ -32,12 +28,13 @@ pub record Courses : Type 0 where
   pub lines : List Line
   pub dues : List (Option ℕ)
 
--- each state goes on as it did or at these levels and slopes, and these states do at these
+-- each state goes on as it did or at these levels and slopes, and these states do at these; a line that goes on so already is left
 pub record AreTurned (m : Machine) (tick : ℕ) (levels slopes : List ℤ) (states : List ℕ) (old new : Courses) : Type 0 where
   pub each : (k : ℕ) → k < state_count m →
       GoesOn m tick (int_at levels k) (int_at slopes k) k (line_at old.lines k) (line_at new.lines k) (due_at old.dues k) (due_at new.dues k)
   pub turned : (k : ℕ) → k < state_count m → is_among states k ≡ true →
       IsTurned m tick (state_at (line_at old.lines k) tick) (int_at levels k) (int_at slopes k) k (line_at new.lines k) (due_at new.dues k)
+  pub left : (k : ℕ) → k < state_count m → goes_at (int_at levels k) (int_at slopes k) (line_at old.lines k) ≡ true → line_at new.lines k ≡ line_at old.lines k
   pub as_many : length new.dues ≡ length old.dues
   pub others : (place : ℕ) → state_count m ≤ place → due_at new.dues place ≡ due_at old.dues place
 
@@ -48,8 +45,3 @@ pub record AreLevelsBefore (m : Machine) (moved : List ℕ) (levels discretes sl
   pub light : position (is_overweight m old discretes) m.rows ≡ None
   pub own_slopes : slopes ≡ tabulate (state_count m) (λ j. slope_at m j old discretes)
   pub own_levels : (j : ℕ) → j < state_count m → (line_at lines j).level ≡ int_at old j
-
--- the slope of a row after a state took another level, and how much greater its size may be
-abbrev pub HasFollowed : Machine → ℕ → ℤ → ℤ → List ℤ → List ℤ → ℕ → ℤ → Type 0
-HasFollowed m state old new discretes slopes j slope =
-    (slope ≡ int_at slopes j +ℤ mode_coefficient_at m j state discretes *ℤ (new -ℤ old)) × (unsigned_abs slope ≤ unsigned_abs (int_at slopes j) + 2 ^ 88)

@@ -1,11 +1,10 @@
 //! New levels.
 
-ghost use Rattle.std.specs.Prelude.{◌≡◌, ◌+◌, ◌<◌, ◌≤◌, ◌++◌, ◌∷◌, [], All, length, vec_len, vec_capacity, if◌then◌else◌};
+ghost use Rattle.std.specs.Prelude.{◌≡◌, ◌+◌, ◌<◌, ◌≤◌, ◌++◌, ◌∷◌, [], vec_len, vec_capacity, if◌then◌else◌};
 ghost use Rattle.mu_num.specs.Sizes.{IsWithin};
 ghost use Rattle.qss_machine.specs.Machines.{state_count, level_unit};
-ghost use Rattle.qss_machine.specs.Ticks.{IsNextLevel, AreNextLevels};
+ghost use Rattle.qss_machine.specs.Ticks.{IsNextLevel};
 ghost use Rattle.std.specs.Ordering.{int_eq};
-ghost use Rattle.qss_machine.specs.Runs.{level_rows};
 ghost use Rattle.qss_machine.specs.declared.rows.RowKind.TheVariants as kind;
 ghost use Rattle.qss_run.specs.Rules.{IsRuled};
 
@@ -38,21 +37,6 @@ pub(crate) fn next_level(
     q.level(x, level, quantum, unit)
 }
 
-/// The new level of each state: the old one while the state is within the quantum of it, else one that the rule gives.
-pub(crate) fn relevel(m: &Machine, q: &Quantizer, x: &[i128], levels: &[i64], fresh: &mut [i128])
-    requires states { length x.now ≡ state_count m.now }
-    requires levels { length levels.now ≡ state_count m.now }
-    requires fresh { length fresh.old ≡ state_count m.now }
-    requires small_states { All (IsWithin 88) x.now }
-    requires small_levels { All (IsWithin 43) levels.now }
-    ensures { AreNextLevels (IsRuled q.now.name) m.now x.now levels.now fresh.new }
-{
-    let unit = level_unit(m);
-    for j in 0..x.len() {
-        fresh[j] = next_level(m, q, j as u32, x[j], levels[j], unit);
-    }
-}
-
 /// A state takes a level, with a row where it is another one.
 pub(crate) fn take_level(
     rows: &mut Vec<Row>,
@@ -82,27 +66,4 @@ pub(crate) fn take_level(
         state,
     };
     rows.push_reserved(row);
-}
-
-/// The states take their new levels, with a row for each that is another one.
-pub(crate) fn take_levels(
-    tick: u64,
-    x: &[i128],
-    fresh: &[i128],
-    levels: &mut [i64],
-    rows: &mut Vec<Row>,
-)
-    requires few { length x.now ≤ 4096 }
-    requires levels { length levels.old ≡ length x.now }
-    requires fresh { length fresh.now ≡ length x.now }
-    requires small_states { All (IsWithin 88) x.now }
-    requires small { All (IsWithin 43) fresh.now }
-    requires room { vec_len rows.old + length x.now ≤ vec_capacity rows.old }
-    ensures levels { levels.new ≡ fresh.now }
-    ensures rows { rows.new.items ≡ rows.old.items ++ level_rows tick levels.old fresh.now x.now }
-    ensures room { vec_capacity rows.new ≡ vec_capacity rows.old }
-{
-    for j in 0..x.len() {
-        take_level(rows, tick, j as u32, &mut levels[j], fresh[j], x[j]);
-    }
 }

@@ -1,6 +1,6 @@
 //! New levels of the states that are due at one tick.
 
-ghost use Rattle.std.specs.Prelude.{◌≡◌, ℕ, ◌+◌, ◌<◌, ◌≤◌, ◌^◌, ◌++◌, ◌∷◌, [], All, None, length, pos, true, false, vec_len, vec_capacity, if◌then◌else◌};
+ghost use Rattle.std.specs.Prelude.{◌≡◌, ℕ, ◌+◌, ◌<◌, ◌≤◌, ◌^◌, ◌++◌, ◌∷◌, [], List, ℤ, All, None, length, pos, true, false, vec_len, vec_capacity, if◌then◌else◌};
 ghost use Rattle.std.specs.List.{flat_map};
 ghost use Rattle.std.specs.Option.{option_or};
 ghost use Rattle.std.specs.Ordering.{int_eq};
@@ -12,7 +12,8 @@ ghost use Rattle.qss_machine.specs.Machines.{state_count};
 ghost use Rattle.qss_machine.specs.Ticks.{is_near, IsNextLevel, AreNextLevels};
 ghost use Rattle.qss_machine.specs.Runs.{level_rows};
 ghost use Rattle.qss_quant.specs.Lines.{state_at};
-ghost use Rattle.qss_run.specs.Moves.{is_among, AreNumbers};
+ghost use Rattle.qss_run.specs.Handlings.{AreMovedTo};
+ghost use Rattle.qss_run.specs.Moves.{is_among, AreNumbers, IsOff};
 ghost use Rattle.qss_run.specs.Places.{line_at};
 ghost use Rattle.qss_run.specs.Rules.{IsRuled};
 ghost use Rattle.qss_run.specs.Stores.{states_at};
@@ -51,8 +52,8 @@ fn first_past_of(values: &[i128], moved: &[u32], bits: u32) -> Option<u32>
     None
 }
 
-// The new levels of the moved states.
-fn relevel_due(
+/// The new levels of the moved states.
+pub(crate) fn relevel_due(
     m: &Machine,
     q: &Quantizer,
     x: &[i128],
@@ -75,8 +76,8 @@ fn relevel_due(
     }
 }
 
-// The moved states take their new levels, with a row for each that is another one.
-fn take_levels_due(
+/// The moved states take their new levels, with a row for each that is another one.
+pub(crate) fn take_levels_due(
     tick: u64,
     x: &[i128],
     fresh: &[i128],
@@ -97,6 +98,63 @@ fn take_levels_due(
         let j = *state as usize;
         take_level(rows, tick, *state, &mut levels[j], fresh[j], x[j]);
     }
+}
+
+/// The moved states take their new levels, with a row for each that is another one. It gives the state whose level overflows,
+/// if one does.
+pub(crate) fn requantize_states(
+    m: &Machine,
+    q: &Quantizer,
+    tick: u64,
+    x: &[i128],
+    moved: &[u32],
+    levels: &mut [i64],
+    fresh: &mut [i128],
+    rows: &mut Vec<Row>,
+) -> Option<u32>
+    requires states { length x.now ≡ state_count m.now }
+    requires levels { length levels.old ≡ state_count m.now }
+    requires fresh { fresh.old ≡ levels.old }
+    requires moved { AreNumbers (state_count m.now) moved.now }
+    requires small_states { (j : ℕ) → is_among moved.now j ≡ true → IsWithin 88 (int_at x.now j) }
+    requires small_levels { All (IsWithin 43) levels.old }
+    requires room { vec_len rows.old + state_count m.now ≤ vec_capacity rows.old }
+    ensures over { result ≡ first_past 43 fresh.new }
+    ensures allowed { (states : List ℤ) → AreMovedTo m.now moved.now x.now levels.old states → AreNextLevels (IsRuled q.now.name) m.now states levels.old fresh.new }
+    ensures others { IsOff moved.now levels.old fresh.new }
+    ensures levels { result ≡ None → levels.new ≡ fresh.new }
+    ensures small { result ≡ None → All (IsWithin 43) levels.new }
+    ensures rows { result ≡ None → (states : List ℤ) → AreMovedTo m.now moved.now x.now levels.old states → rows.new.items ≡ rows.old.items ++ level_rows tick levels.old levels.new states }
+    ensures room { vec_capacity rows.new ≡ vec_capacity rows.old }
+{
+    relevel_due(m, q, x, levels, moved, fresh);
+    let passed = first_past_of(fresh, moved, 43);
+    if passed.is_some() {
+        return passed;
+    }
+    take_levels_due(tick, x, fresh, moved, levels, rows);
+    None
+}
+
+/// The due states arrive. It gives the state that passes its limit, if one does.
+pub(crate) fn arrive_within(
+    lines: &[Integrator],
+    tick: u64,
+    moved: &[u32],
+    x: &mut [i128],
+) -> Option<u32>
+    requires states { length x.old ≡ length lines.now }
+    requires moved { AreNumbers (length lines.now) moved.now }
+    requires later { (j : ℕ) → j < length lines.now → (line_at lines.now j).tick ≤ tick }
+    requires in_time { tick < 2 ^ 32 }
+    requires others_small { (j : ℕ) → j < length lines.now → is_among moved.now j ≡ false → IsWithin 88 (state_at (line_at lines.now j) tick) }
+    requires small_x { All (IsWithin 88) x.old }
+    ensures over { result ≡ first_past 88 (states_at lines.now tick) }
+    ensures arrived { IsWritten (pos 0) (λ j z. z ≡ state_at (line_at lines.now j) tick) moved.now x.old x.new }
+    ensures small_x { result ≡ None → All (IsWithin 88) x.new }
+{
+    arrive_due(lines, tick, moved, x);
+    first_past_of(x, moved, 88)
 }
 
 /// The due states arrive and take their new levels. It gives the state that passes a limit, on arrival or by its level.
@@ -121,6 +179,7 @@ pub(crate) fn requantize_due(
     requires in_time { tick < 2 ^ 32 }
     requires others_small { (j : ℕ) → j < state_count m.now → is_among moved.now j ≡ false → IsWithin 88 (state_at (line_at lines.now j) tick) }
     requires others_near { (j : ℕ) → j < state_count m.now → is_among moved.now j ≡ false → is_near m.now j (state_at (line_at lines.now j) tick) (int_at levels.old j) ≡ true }
+    requires small_x { All (IsWithin 88) x.old }
     requires room { state_count m.now ≤ vec_capacity rows.old }
     ensures over { result ≡ option_or (first_past 88 (states_at lines.now tick)) (first_past 43 fresh.new) }
     ensures allowed { first_past 88 (states_at lines.now tick) ≡ None → AreNextLevels (IsRuled q.now.name) m.now (states_at lines.now tick) levels.old fresh.new }
@@ -129,20 +188,14 @@ pub(crate) fn requantize_due(
     ensures rows { result ≡ None → rows.new.items ≡ level_rows tick levels.old levels.new (states_at lines.now tick) }
     ensures others { (j : ℕ) → is_among moved.now j ≡ false → int_at fresh.new j ≡ int_at levels.old j }
     ensures states { length x.new ≡ length x.old }
+    ensures small_x { result ≡ None → All (IsWithin 88) x.new }
     ensures fresh { length fresh.new ≡ length fresh.old }
     ensures room { vec_capacity rows.new ≡ vec_capacity rows.old }
 {
-    arrive_due(lines, tick, moved, x);
-    let passed = first_past_of(x, moved, 88);
-    if passed.is_some() {
-        return passed;
-    }
-    relevel_due(m, q, x, levels, moved, fresh);
-    let passed = first_past_of(fresh, moved, 43);
+    let passed = arrive_within(lines, tick, moved, x);
     if passed.is_some() {
         return passed;
     }
     rows.clear();
-    take_levels_due(tick, x, fresh, moved, levels, rows);
-    None
+    requantize_states(m, q, tick, x, moved, levels, fresh, rows)
 }

@@ -1,4 +1,4 @@
-//! Slopes along the changes of levels.
+//! Slopes and weights along the changes of levels.
 
 ghost use Rattle.std.specs.Prelude.{◌≡◌, ℕ, ◌<◌, List, ℤ, pos, ◌-ℤ◌, ◌*ℤ◌, All, length, true};
 ghost use Rattle.mu_num.specs.Sizes.{IsWithin};
@@ -7,11 +7,43 @@ ghost use Rattle.qss_machine.specs.Slopes.{mode_fits};
 ghost use Rattle.qss_machine.specs.Machines.{state_count, discrete_count, row_at, mode_coefficient_at, slope_at};
 ghost use Rattle.qss_machine.specs.Uses.{uses_of};
 ghost use Rattle.qss_run.specs.Moves.{AreNumbers};
-ghost use Rattle.qss_run.specs.Turnings.{HasFollowed, AreLevelsBefore};
+ghost use Rattle.qss_run.specs.RowSums.{taken_by, sum_at, AreSumsBefore, HasFollowed};
+ghost use Rattle.qss_run.specs.Turnings.{AreLevelsBefore};
 ghost use Rattle.qss_run.specs.Writes.{IsWritten};
 
 use qss_machine::{Machine, Uses};
 use qss_quant::Integrator;
+
+/// A sum of a row over levels: its slope, or its weight, which takes the sizes of all numbers.
+#[derive(Clone, Copy)]
+pub(crate) enum RowSum {
+    Slope,
+    Weight,
+}
+
+// A level as a sum takes it.
+fn taken_level(kind: RowSum, level: i64) -> i64
+    requires { IsWithin 43 level }
+    ensures value { result ≡ taken_by kind level }
+    ensures bound { IsWithin 43 result }
+{
+    match kind {
+        RowSum::Slope => level,
+        RowSum::Weight => level.abs(),
+    }
+}
+
+// A mode coefficient as a sum takes it.
+fn taken_mode(kind: RowSum, coefficient: i128) -> i128
+    requires { IsWithin 44 coefficient }
+    ensures value { result ≡ taken_by kind coefficient }
+    ensures bound { IsWithin 44 result }
+{
+    match kind {
+        RowSum::Slope => coefficient,
+        RowSum::Weight => coefficient.abs(),
+    }
+}
 
 // A mode coefficient times the change of a level.
 fn shift(coefficient: i128, old: i64, new: i64) -> i128
@@ -25,8 +57,8 @@ fn shift(coefficient: i128, old: i64, new: i64) -> i128
     coefficient * i128::from(change)
 }
 
-// How much a row's slope changes where a state takes another level.
-fn shift_of(m: &Machine, row: u32, state: u32, old: i64, new: i64, d: &[i64]) -> i128
+// How much a row's sum changes where a state takes another level.
+fn shift_of(kind: RowSum, m: &Machine, row: u32, state: u32, old: i64, new: i64, d: &[i64]) -> i128
     requires row { row < state_count m.now }
     requires state { state < state_count m.now }
     requires discretes { length d.now ≡ discrete_count m.now }
@@ -34,37 +66,70 @@ fn shift_of(m: &Machine, row: u32, state: u32, old: i64, new: i64, d: &[i64]) ->
     requires modes { mode_fits m.now.f (state_count m.now) (row_at m.now row) d.now ≡ true }
     requires old { IsWithin 43 old }
     requires new { IsWithin 43 new }
-    ensures value { result ≡ mode_coefficient_at m.now row state d.now *ℤ (new -ℤ old) }
+    ensures value { result ≡ taken_by kind (mode_coefficient_at m.now row state d.now) *ℤ (new -ℤ old) }
     ensures bound { IsWithin 88 result }
 {
-    shift(m.mode_coef(row, state, d), old, new)
+    let coefficient = taken_mode(kind, m.mode_coef(row, state, d));
+    shift(coefficient, old, new)
 }
 
-// The slopes of these rows follow where a state takes another level.
+// The sums of these rows follow where a state takes another level.
 fn shift_rows(
+    kind: RowSum,
     m: &Machine,
     rows: &[u32],
     state: u32,
     old: i64,
     new: i64,
     d: &[i64],
-    slopes: &mut [i128],
+    sums: &mut [i128],
 )
     requires rows { AreNumbers (state_count m.now) rows.now }
     requires state { state < state_count m.now }
     requires discretes { length d.now ≡ discrete_count m.now }
-    requires slopes { length slopes.old ≡ state_count m.now }
+    requires sums { length sums.old ≡ state_count m.now }
     requires small_discretes { All (IsWithin 43) d.now }
-    requires small_slopes { (j : ℕ) → j < state_count m.now → IsWithin 100 (int_at slopes.old j) }
+    requires small_sums { (j : ℕ) → j < state_count m.now → IsWithin 100 (int_at sums.old j) }
     requires modes { (row : ℕ) → row < state_count m.now → mode_fits m.now.f (state_count m.now) (row_at m.now row) d.now ≡ true }
     requires old { IsWithin 43 old }
     requires new { IsWithin 43 new }
-    ensures { IsWritten (pos 0) (HasFollowed m.now state old new d.now slopes.old) rows.now slopes.old slopes.new }
+    ensures { IsWritten (pos 0) (HasFollowed kind m.now state old new d.now sums.old) rows.now sums.old sums.new }
 {
     for row in rows {
         let j = *row as usize;
-        let change = shift_of(m, *row, state, old, new, d);
-        slopes[j] += change;
+        let change = shift_of(kind, m, *row, state, old, new, d);
+        sums[j] += change;
+    }
+}
+
+/// The sums of all rows follow where the moved states take their levels, from those of their lines.
+pub(crate) fn shift_sums(
+    kind: RowSum,
+    m: &Machine,
+    uses: &Uses,
+    moved: &[u32],
+    levels: &[i64],
+    d: &[i64],
+    lines: &[Integrator],
+    sums: &mut [i128],
+)
+    requires uses { uses.now ≡ uses_of m.now }
+    requires moved { AreNumbers (state_count m.now) moved.now }
+    requires levels { length levels.now ≡ state_count m.now }
+    requires discretes { length d.now ≡ discrete_count m.now }
+    requires lines { length lines.now ≡ state_count m.now }
+    requires small_levels { All (IsWithin 43) levels.now }
+    requires small_discretes { All (IsWithin 43) d.now }
+    requires before { (old : List ℤ) × AreSumsBefore kind m.now moved.now levels.now d.now sums.old lines.now old }
+    ensures { sums.new ≡ tabulate (state_count m.now) (λ j. sum_at kind m.now j levels.now d.now) }
+{
+    for state in moved {
+        let j = *state as usize;
+        let line = &lines[j];
+        let old = taken_level(kind, line.level);
+        let new = taken_level(kind, levels[j]);
+        let rows = uses.rows_of(*state);
+        shift_rows(kind, m, rows, *state, old, new, d, sums);
     }
 }
 
@@ -88,10 +153,5 @@ pub(crate) fn shift_slopes(
     requires before { (old : List ℤ) × AreLevelsBefore m.now moved.now levels.now d.now slopes.old lines.now old }
     ensures { slopes.new ≡ tabulate (state_count m.now) (λ j. slope_at m.now j levels.now d.now) }
 {
-    for state in moved {
-        let j = *state as usize;
-        let line = &lines[j];
-        let rows = uses.rows_of(*state);
-        shift_rows(m, rows, *state, line.level, levels[j], d, slopes);
-    }
+    shift_sums(RowSum::Slope, m, uses, moved, levels, d, lines, slopes);
 }

@@ -1,16 +1,13 @@
 //! Lines at new slopes.
 
-ghost use Rattle.std.specs.Prelude.{◌≡◌, ℕ, ◌+◌, ◌<◌, ◌≤◌, All, length, position, None, true, false, if◌then◌else◌};
+ghost use Rattle.std.specs.Prelude.{◌≡◌, ℕ, ◌+◌, ◌<◌, ◌≤◌, length, true, false, if◌then◌else◌};
 ghost use Rattle.mu_num.specs.Sizes.{IsWithin};
 ghost use Rattle.mu_num.specs.Ticks.{tick_limit};
-ghost use Rattle.qss_machine.specs.Numbers.{int_at, tabulate};
-ghost use Rattle.qss_machine.specs.Machines.{state_count, discrete_count, level_unit, slope_at, quantum_of};
-ghost use Rattle.qss_machine.specs.Ticks.{is_overweight};
+ghost use Rattle.qss_machine.specs.Machines.{state_count, level_unit, quantum_of};
 ghost use Rattle.qss_quant.specs.Lines.{state_at, IsNear};
 ghost use Rattle.qss_sched.specs.Ranks.{due_at};
-ghost use Rattle.qss_run.specs.Places.{line_at, IsTurned};
 ghost use Rattle.qss_run.specs.Sims.{IsDue};
-ghost use Rattle.qss_run.specs.Renewals.{goes_from, renewals_from};
+ghost use Rattle.qss_run.specs.Renewals.{goes_from};
 
 use crate::levels::level_unit;
 use qss_machine::Machine;
@@ -18,8 +15,8 @@ use qss_quant::{Integrator, Steps};
 use qss_sched::Agenda;
 use std::sync::ledger::Ledger;
 
-// A line goes on from a tick at this state, slope and level. Where it does so already, it is left as it is.
-fn renew<L: Ledger>(
+/// A line goes on from a tick at this state, slope and level. Where it does so already, it is left as it is.
+pub(crate) fn renew<L: Ledger>(
     line: &mut Integrator,
     tick: u64,
     x: i128,
@@ -48,6 +45,16 @@ fn renew<L: Ledger>(
         level,
     };
     true
+}
+
+/// The first tick after its own at which a state's line leaves the quantum of its level.
+pub(crate) fn leaving(m: &Machine, j: u32, line: &Integrator) -> Option<u64>
+    requires state { j < state_count m.now }
+    requires near { IsNear (level_unit m.now) line.now.x line.now.level (quantum_of m.now j line.now.level) }
+    ensures { IsDue m.now line.now.tick j line.now result }
+{
+    let quantum = m.quantum_at(j, line.level);
+    line.due(quantum, level_unit(m))
 }
 
 /// State j goes on from a tick at its slope, and the agenda has the tick at which it then leaves its quantum. A line that
@@ -80,60 +87,10 @@ pub(crate) fn reslope<L: Ledger>(
     ensures as_many { length agenda.new ≡ length agenda.old }
     ensures others { (place : ℕ) → (place ≡ j → ⊥) → due_at agenda.new place ≡ due_at agenda.old place }
     ensures due { IsDue m.now tick j line.new (due_at agenda.new j) }
+    ensures kept { goes_from tick x level slope line.old ≡ true → line.new ≡ line.old }
     ensures counted { steps.new ≡ steps.old + (if goes_from tick x level slope line.old then 0 else 1) }
 {
     if renew(line, tick, x, slope, level, steps) {
-        let quantum = m.quantum_at(j, level);
-        agenda.set(j, line.due(quantum, level_unit(m)));
-    }
-}
-
-/// All states go on from a tick at the slopes of these levels and discrete values.
-pub(crate) fn reslope_all<L: Ledger>(
-    m: &Machine,
-    tick: u64,
-    x: &[i128],
-    levels: &[i64],
-    d: &[i64],
-    slopes: &mut [i128],
-    lines: &mut [Integrator],
-    agenda: &mut Agenda,
-    steps: &mut Steps<L>,
-)
-    requires states { length x.now ≡ state_count m.now }
-    requires levels { length levels.now ≡ state_count m.now }
-    requires discretes { length d.now ≡ discrete_count m.now }
-    requires slopes { length slopes.old ≡ state_count m.now }
-    requires lines { length lines.old ≡ state_count m.now }
-    requires places { state_count m.now ≤ length agenda.old }
-    requires small_states { All (IsWithin 88) x.now }
-    requires small_levels { All (IsWithin 43) levels.now }
-    requires small_discretes { All (IsWithin 43) d.now }
-    requires light { position (is_overweight m.now levels.now d.now) m.now.rows ≡ None }
-    requires in_time { tick ≤ tick_limit }
-    requires later { (j : ℕ) → j < state_count m.now → (line_at lines.old j).tick ≤ tick }
-    requires small { (j : ℕ) → j < state_count m.now → IsWithin 89 (state_at (line_at lines.old j) tick) }
-    requires near { (j : ℕ) → j < state_count m.now → IsNear (level_unit m.now) (int_at x.now j) (int_at levels.now j) (quantum_of m.now j (int_at levels.now j)) }
-    requires due { (j : ℕ) → j < state_count m.now → state_at (line_at lines.old j) tick ≡ int_at x.now j → (line_at lines.old j).level ≡ int_at levels.now j → IsDue m.now tick j (line_at lines.old j) (due_at agenda.old j) }
-    ensures slopes { slopes.new ≡ tabulate (state_count m.now) (λ j. slope_at m.now j levels.now d.now) }
-    ensures lines { (j : ℕ) → j < state_count m.now → IsTurned m.now tick (int_at x.now j) (int_at levels.now j) (slope_at m.now j levels.now d.now) j (line_at lines.new j) (due_at agenda.new j) }
-    ensures places { length agenda.new ≡ length agenda.old }
-    ensures others { (place : ℕ) → state_count m.now ≤ place → due_at agenda.new place ≡ due_at agenda.old place }
-    ensures counted { steps.new ≡ steps.old + renewals_from (state_count m.now) tick x.now levels.now slopes.new lines.old }
-{
-    for j in 0..lines.len() {
-        let slope = m.slope(j as u32, levels, d);
-        slopes[j] = slope;
-        reslope(
-            m,
-            j as u32,
-            tick,
-            x[j],
-            slope,
-            levels[j],
-            &mut lines[j],
-            agenda,
-            steps,
-        );
+        agenda.set(j, leaving(m, j, line));
     }
 }

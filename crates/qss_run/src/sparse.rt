@@ -1,6 +1,6 @@
 //! A tick at which nothing but states is due.
 
-ghost use Rattle.std.specs.Prelude.{◌≡◌, ℕ, ◌+◌, ◌<◌, ◌≤◌, ◌^◌, All, length, position, List, ℤ, Option, Some, None, true, false, vec_capacity};
+ghost use Rattle.std.specs.Prelude.{◌≡◌, ℕ, ◌+◌, ◌<◌, ◌≤◌, ◌^◌, [], All, length, position, List, ℤ, Option, None, true, false, vec_capacity};
 ghost use Rattle.std.specs.Option.{option_or};
 ghost use Rattle.mu_num.specs.Sizes.{IsWithin};
 ghost use Rattle.qss_machine.specs.Numbers.{int_at, tabulate, first_past};
@@ -10,58 +10,28 @@ ghost use Rattle.qss_machine.specs.Runs.{level_rows, tick_rows};
 ghost use Rattle.qss_machine.specs.Uses.{uses_of};
 ghost use Rattle.qss_quant.specs.Lines.{state_at, IsNear};
 ghost use Rattle.qss_sched.specs.Ranks.{due_at};
-ghost use Rattle.qss_run.specs.Moves.{is_among, AreNumbers, AreDue, IsWithout, IsOff};
+ghost use Rattle.qss_run.specs.Moves.{is_among, AreNumbers, IsOff};
 ghost use Rattle.qss_run.specs.Places.{AreBranches, line_at, watch_at, IsTurned, IsWatched};
 ghost use Rattle.qss_run.specs.Renewals.{renewals};
 ghost use Rattle.qss_run.specs.Rules.{IsRuled};
-ghost use Rattle.qss_run.specs.Sims.{IsDue};
+ghost use Rattle.qss_run.specs.Sims.{weights_at, IsDue};
 ghost use Rattle.qss_run.specs.Stores.{states_at, world_of, Stands, IsTaken};
 ghost use Rattle.qss_run.specs.Touches.{touches_at};
 ghost use Rattle.qss_run.specs.Turnings.{AreLevelsBefore};
 
 use crate::calm::catch_up;
 use crate::conditions::BranchPlace;
-use crate::due::{give_back, take_due};
-use crate::readers::first_overweight_of;
 use crate::relevel::requantize_due;
 use crate::store::Store;
 use crate::turned::reslope_of;
 use crate::watching::rewatch_of;
+use crate::weighing::reweigh_of;
 use qss_cross::Detector;
 use qss_hand::Work;
 use qss_machine::{Machine, Row, Uses};
 use qss_quant::{Integrator, Quantizer, Steps};
 use qss_sched::Agenda;
 use std::sync::ledger::Ledger;
-
-// Whether something is due by a tick.
-fn is_due_by(agenda: &Agenda, tick: u64) -> bool
-    ensures { result ≡ false → (place due : ℕ) → due_at agenda.now place ≡ Some due → tick < due }
-{
-    match agenda.next() {
-        Some((due, _)) => due <= tick,
-        None => false,
-    }
-}
-
-/// Takes the states that are due at a tick out of the agenda, unless something else is due then.
-pub(crate) fn take_alone(agenda: &mut Agenda, tick: u64, states: u32, moved: &mut Vec<u32>) -> bool
-    requires room { states ≤ vec_capacity moved.old }
-    requires places { states ≤ length agenda.old }
-    requires none_before { (place due : ℕ) → due_at agenda.old place ≡ Some due → tick ≤ due }
-    ensures due { AreDue states tick agenda.old moved.new.items }
-    ensures without { result ≡ true → IsWithout moved.new.items agenda.old agenda.new }
-    ensures only_states { result ≡ true → (place due : ℕ) → states ≤ place → due_at agenda.old place ≡ Some due → tick < due }
-    ensures back { result ≡ false → agenda.new ≡ agenda.old }
-    ensures room { vec_capacity moved.new ≡ vec_capacity moved.old }
-{
-    take_due(agenda, tick, states, moved);
-    if is_due_by(agenda, tick) {
-        give_back(agenda, tick, moved.as_slice());
-        return false;
-    }
-    true
-}
 
 // The due states arrive and take their new levels.
 fn requantize_in(
@@ -85,6 +55,7 @@ fn requantize_in(
     requires in_time { tick < 2 ^ 32 }
     requires others_small { (j : ℕ) → j < state_count m.now → is_among moved.now j ≡ false → IsWithin 88 (state_at (line_at lines.now j) tick) }
     requires others_near { (j : ℕ) → j < state_count m.now → is_among moved.now j ≡ false → is_near m.now j (state_at (line_at lines.now j) tick) (int_at levels.old j) ≡ true }
+    requires small_x { All (IsWithin 88) work.old.x }
     requires room { state_count m.now ≤ vec_capacity rows.old }
     ensures over { result ≡ option_or (first_past 88 (states_at lines.now tick)) (first_past 43 fresh.new) }
     ensures allowed { first_past 88 (states_at lines.now tick) ≡ None → AreNextLevels (IsRuled q.now.name) m.now (states_at lines.now tick) levels.old fresh.new }
@@ -94,6 +65,7 @@ fn requantize_in(
     ensures others { (j : ℕ) → is_among moved.now j ≡ false → int_at fresh.new j ≡ int_at levels.old j }
     ensures work { work.new ≡ record work.old { x = work.new.x } }
     ensures states { length work.new.x ≡ length work.old.x }
+    ensures small_x { result ≡ None → All (IsWithin 88) work.new.x }
     ensures room { vec_capacity rows.new ≡ vec_capacity rows.old }
 {
     let x = work.x.as_mut_slice();
@@ -112,6 +84,7 @@ fn requantize_moved(
     work: &mut Work,
     levels: &mut [i64],
     fresh: &mut [i128],
+    weights: &mut [i128],
     rows: &mut Vec<Row>,
 ) -> Option<u32>
     requires uses { uses.now ≡ uses_of m.now }
@@ -123,27 +96,33 @@ fn requantize_moved(
     requires small_levels { All (IsWithin 43) levels.old }
     requires small_discretes { All (IsWithin 43) work.old.d }
     requires light { position (is_overweight m.now levels.old work.old.d) m.now.rows ≡ None }
+    requires weights { weights.old ≡ weights_at m.now levels.old work.old.d }
+    requires own_levels { (j : ℕ) → j < state_count m.now → (line_at lines.now j).level ≡ int_at levels.old j }
     requires moved { AreNumbers (state_count m.now) moved.now }
     requires later { (j : ℕ) → j < length lines.now → (line_at lines.now j).tick ≤ tick }
     requires in_time { tick < 2 ^ 32 }
     requires others_small { (j : ℕ) → j < state_count m.now → is_among moved.now j ≡ false → IsWithin 88 (state_at (line_at lines.now j) tick) }
     requires others_near { (j : ℕ) → j < state_count m.now → is_among moved.now j ≡ false → is_near m.now j (state_at (line_at lines.now j) tick) (int_at levels.old j) ≡ true }
+    requires small_x { All (IsWithin 88) work.old.x }
     requires room { state_count m.now ≤ vec_capacity rows.old }
     ensures over { result ≡ option_or (first_past 88 (states_at lines.now tick)) (option_or (first_past 43 fresh.new) (position (is_overweight m.now fresh.new work.old.d) m.now.rows)) }
     ensures allowed { first_past 88 (states_at lines.now tick) ≡ None → AreNextLevels (IsRuled q.now.name) m.now (states_at lines.now tick) levels.old fresh.new }
     ensures levels { result ≡ None → levels.new ≡ fresh.new }
     ensures small { result ≡ None → All (IsWithin 43) levels.new }
+    ensures weights { result ≡ None → weights.new ≡ weights_at m.now levels.new work.old.d }
     ensures rows { result ≡ None → rows.new.items ≡ level_rows tick levels.old levels.new (states_at lines.now tick) }
     ensures others { IsOff moved.now levels.old fresh.new }
     ensures work { work.new ≡ record work.old { x = work.new.x } }
     ensures states { length work.new.x ≡ length work.old.x }
+    ensures small_x { result ≡ None → All (IsWithin 88) work.new.x }
     ensures room { vec_capacity rows.new ≡ vec_capacity rows.old }
 {
     let over = requantize_in(m, q, tick, lines, moved, work, levels, fresh, rows);
     if over.is_some() {
         return over;
     }
-    first_overweight_of(m, uses, moved, levels, work.d.as_slice())
+    let d = work.d.as_slice();
+    reweigh_of(m, uses, moved, levels, d, lines, weights)
 }
 
 // The moved states and those whose rows read one of them go on from a tick at their new slopes, and the conditions that
@@ -197,9 +176,9 @@ fn go_on_moved<L: Ledger>(
     rewatch_of(m, uses, branches, tick, moved, slopes, watches, agenda);
 }
 
-/// One tick after the one at which the store stands, from an agenda without the states that are due there, where nothing
-/// else is due. It gives the variable that overflows, if one does; the store is then good for nothing but its memory for
-/// rows.
+/// One tick after the one at which the store stands, from an agenda without the states that are due there, where no condition
+/// is to be looked at. It gives the variable that overflows, if one does; the store is then good for nothing but its memory
+/// for rows.
 pub(crate) fn visit_due<L: Ledger>(
     m: &Machine,
     q: &Quantizer,
@@ -208,6 +187,7 @@ pub(crate) fn visit_due<L: Ledger>(
     steps: &mut Steps<L>,
 ) -> Option<u32>
     requires taken { (agenda : List (Option ℕ)) × IsTaken m.now tick agenda s.old }
+    requires none_changes { s.old.changed.items ≡ [] }
     requires in_time { tick < m.now.last }
     ensures stepped { Step (IsRuled q.now.name) m.now (tick + 1) (world_of tick s.old) (world_unless result (world_of (tick + 1) s.new)) }
     ensures rows { result ≡ None → s.new.rows.items ≡ tick_rows m.now (tick + 1) (world_of tick s.old) (world_of (tick + 1) s.new) }
@@ -226,6 +206,7 @@ pub(crate) fn visit_due<L: Ledger>(
         &mut s.work,
         s.levels.as_mut_slice(),
         s.fresh.as_mut_slice(),
+        s.weights.as_mut_slice(),
         &mut s.rows,
     );
     if over.is_some() {

@@ -1,7 +1,8 @@
 //! A store at tick 0.
 
-ghost use Rattle.std.specs.Prelude.{◌≡◌, ℕ, ◌+◌, ◌<◌, ◌≤◌, ◌++◌, List, All, IfOk, None, pos, ◌<ℤ◌, length, map, position, vec_capacity};
+ghost use Rattle.std.specs.Prelude.{◌≡◌, ℕ, ◌+◌, ◌<◌, ◌≤◌, ◌++◌, List, All, IfOk, None, false, pos, ◌<ℤ◌, length, map, position, replicate, vec_capacity};
 ghost use Rattle.mu_num.specs.Sizes.{IsWithin};
+ghost use Rattle.qss_machine.specs.declared.parts.Rel.TheVariants.{Less};
 ghost use Rattle.qss_machine.specs.declared.rows.RowKind.TheVariants as kind;
 ghost use Rattle.qss_machine.specs.Limits.{level_below};
 ghost use Rattle.qss_machine.specs.Numbers.{int_at, tabulate};
@@ -12,7 +13,7 @@ ghost use Rattle.qss_machine.specs.Runs.{state_rows, discrete_rows, world_rows};
 ghost use Rattle.qss_quant.specs.Lines.{IsNear};
 ghost use Rattle.qss_sched.specs.Ranks.{due_at, HasNone};
 ghost use Rattle.qss_run.specs.Places.{AreBranches, line_at, watch_at, IsTurned, IsWatched};
-ghost use Rattle.qss_run.specs.Sims.{IsDue};
+ghost use Rattle.qss_run.specs.Sims.{weights_at, IsDue};
 ghost use Rattle.qss_run.specs.Stores.{world_of, FitsMachine, Stands, IsBlank};
 
 use crate::conditions::BranchPlace;
@@ -20,6 +21,7 @@ use crate::ends::set_world_rows;
 use crate::levels::level_unit;
 use crate::store::Store;
 use crate::watches::rewatch_all;
+use crate::weighing::weigh_all;
 use mu_num::floor_div;
 use qss_cross::Detector;
 use qss_hand::Work;
@@ -90,7 +92,7 @@ fn levels_again(alloc: Global, levels: &[i64]) -> Result<Vec<i128>, AllocError>
 
 // So many equal elements.
 fn copies<T: Copy>(alloc: Global, value: T, count: usize) -> Result<Vec<T>, AllocError>
-    ensures { IfOk result (λ list. length list.items ≡ count) }
+    ensures { IfOk result (λ list. list.items ≡ replicate count value) }
 {
     let mut list: Vec<T> = Vec::with_capacity(alloc, count)?;
     for _ in 0..count {
@@ -99,56 +101,84 @@ fn copies<T: Copy>(alloc: Global, value: T, count: usize) -> Result<Vec<T>, Allo
     Ok(list)
 }
 
+// A line that rests at 0.
+fn resting_line() -> Integrator
+    ensures { result ≡ record { tick = 0; x = pos 0; slope = pos 0; level = pos 0 } }
+{
+    Integrator {
+        tick: 0,
+        x: 0,
+        slope: 0,
+        level: 0,
+    }
+}
+
+// A condition that rests at 0.
+fn resting_watch() -> Detector
+    ensures { result ≡ record { rel = Less; tick = 0; value = pos 0; speed = pos 0 } }
+{
+    Detector {
+        rel: Rel::Less,
+        tick: 0,
+        value: 0,
+        speed: 0,
+    }
+}
+
+// Two lists of flags, one for each condition.
+fn flag_lists(alloc: Global, count: usize) -> Result<(Vec<bool>, Vec<bool>), AllocError>
+    ensures { IfOk result (λ lists. let flags = replicate count false in (lists.0.items ≡ flags) × (lists.1.items ≡ flags)) }
+{
+    let first = copies(alloc, false, count)?;
+    let second = copies(alloc, false, count)?;
+    Ok((first, second))
+}
+
+// Memory for the numbers of moved states, of changed conditions and of due branches.
+fn number_lists(
+    alloc: Global,
+    states: usize,
+    conditions: usize,
+) -> Result<(Vec<u32>, Vec<u32>, Vec<u32>), AllocError>
+    ensures { IfOk result (λ lists. (states ≤ vec_capacity lists.0) × (conditions ≤ vec_capacity lists.1) × (conditions ≤ vec_capacity lists.2)) }
+{
+    let moved = Vec::with_capacity(alloc, states)?;
+    let changed = Vec::with_capacity(alloc, conditions)?;
+    let fired = Vec::with_capacity(alloc, conditions)?;
+    Ok((moved, changed, fired))
+}
+
 // All the memory of a store, with the states, levels and discrete values of the start.
 fn blank_store(alloc: Global, m: &Machine) -> Result<Store, AllocError>
     ensures { IfOk result (λ s. IsBlank m.now s) }
 {
     let branches = branch_places(alloc, m)?;
-    let uses = Uses::new(alloc, m)?;
     let work = Work::new(alloc, m)?;
     let levels = start_levels(alloc, m)?;
     let states = levels.len();
     let conditions = branches.len();
-    let line = Integrator {
-        tick: 0,
-        x: 0,
-        slope: 0,
-        level: 0,
-    };
-    let watch = Detector {
-        rel: Rel::Less,
-        tick: 0,
-        value: 0,
-        speed: 0,
-    };
-    let lines = copies(alloc, line, states)?;
-    let slopes = copies(alloc, 0, states)?;
-    let fresh = levels_again(alloc, levels.as_slice())?;
-    let moved: Vec<u32> = Vec::with_capacity(alloc, states)?;
-    let watches = copies(alloc, watch, conditions)?;
-    let arrived = copies(alloc, false, conditions)?;
-    let settled = copies(alloc, false, conditions)?;
-    let now = copies(alloc, false, conditions)?;
-    let due = copies(alloc, false, conditions)?;
-    let agenda = Agenda::with_places(alloc, (states + conditions + 1) as u32)?;
-    let rows = Vec::with_capacity(alloc, work.log.capacity() + states + work.d.len() + 1)?;
+    let (arrived, settled) = flag_lists(alloc, conditions)?;
+    let (moved, changed, fired) = number_lists(alloc, states, conditions)?;
     Ok(Store {
         branches,
-        uses,
-        lines,
+        uses: Uses::new(alloc, m)?,
+        lines: copies(alloc, resting_line(), states)?,
+        fresh: levels_again(alloc, levels.as_slice())?,
         levels,
-        slopes,
-        watches,
+        slopes: copies(alloc, 0, states)?,
+        weights: copies(alloc, 0, states)?,
+        watches: copies(alloc, resting_watch(), conditions)?,
         arrived,
         settled,
-        now,
-        due,
-        fresh,
         moved,
+        changed,
+        fired,
+        assigned: Vec::with_capacity(alloc, work.log.capacity())?,
+        rising: false,
         calm: true,
-        agenda,
+        agenda: Agenda::with_places(alloc, (states + conditions + 1) as u32)?,
+        rows: Vec::with_capacity(alloc, work.log.capacity() + states + work.d.len() + 1)?,
         work,
-        rows,
     })
 }
 
@@ -223,6 +253,7 @@ fn set_out(
     work: &Work,
     levels: &[i64],
     slopes: &mut [i128],
+    weights: &mut [i128],
     lines: &mut [Integrator],
     watches: &mut [Detector],
     arrived: &mut [bool],
@@ -234,6 +265,7 @@ fn set_out(
     requires discretes { work.now.d ≡ start_discretes m.now }
     requires levels { levels.now ≡ map (level_below (level_unit m.now)) (start_states m.now) }
     requires slopes { length slopes.old ≡ state_count m.now }
+    requires weights { length weights.old ≡ state_count m.now }
     requires lines { length lines.old ≡ state_count m.now }
     requires watches { length watches.old ≡ length branches.now }
     requires arrived { length arrived.old ≡ length branches.now }
@@ -241,6 +273,7 @@ fn set_out(
     requires places { length agenda.old ≡ state_count m.now + length branches.now + 1 }
     requires no_dues { HasNone agenda.old }
     ensures slopes { slopes.new ≡ tabulate (state_count m.now) (λ j. slope_at m.now j levels.now work.now.d) }
+    ensures weights { weights.new ≡ weights_at m.now levels.now work.now.d }
     ensures lines { (j : ℕ) → j < state_count m.now → IsTurned m.now 0 (int_at work.now.x j) (int_at levels.now j) (slope_at m.now j levels.now work.now.d) j (line_at lines.new j) (due_at agenda.new j) }
     ensures arrived { arrived.new ≡ settled.new }
     ensures settled { settled.new ≡ truths m.now work.now.x work.now.d 0 }
@@ -251,6 +284,7 @@ fn set_out(
     let x = work.x.as_slice();
     let d = work.d.as_slice();
     start_lines(m, x, levels, d, slopes, lines, agenda);
+    weigh_all(m, levels, d, weights);
     rewatch_all(m, branches, 0, x, d, slopes, watches, settled, agenda);
     arrived.copy_from_slice(settled);
 }
@@ -286,6 +320,7 @@ fn begin(m: &Machine, s: &mut Store)
         &s.work,
         s.levels.as_slice(),
         s.slopes.as_mut_slice(),
+        s.weights.as_mut_slice(),
         s.lines.as_mut_slice(),
         s.watches.as_mut_slice(),
         s.arrived.as_mut_slice(),

@@ -1,16 +1,18 @@
 //! States on arrival at a tick, and their limits.
 
-ghost use Rattle.std.specs.Prelude.{◌≡◌, ℕ, ◌<◌, ◌≤◌, length, position};
+ghost use Rattle.std.specs.Prelude.{◌≡◌, ℕ, ◌<◌, ◌≤◌, ◌^◌, length};
 ghost use Rattle.mu_num.specs.Sizes.{passes};
 ghost use Rattle.mu_num.specs.Ticks.{tick_limit};
 ghost use Rattle.qss_machine.specs.Numbers.{tabulate};
 ghost use Rattle.qss_quant.specs.Lines.{state_at};
 ghost use Rattle.qss_run.specs.Places.{line_at};
+ghost use Rattle.qss_run.specs.Stores.{states_at};
 
+use qss_hand::Work;
 use qss_quant::Integrator;
 
-/// The states at a tick, along their lines.
-pub(crate) fn arrive(lines: &[Integrator], tick: u64, x: &mut [i128])
+// The states at a tick, along their lines.
+fn arrive(lines: &[Integrator], tick: u64, x: &mut [i128])
     requires as_many { length x.old ≡ length lines.now }
     requires not_later { (j : ℕ) → j < length lines.now → (line_at lines.now j).tick ≤ tick }
     requires in_time { tick ≤ tick_limit }
@@ -21,24 +23,20 @@ pub(crate) fn arrive(lines: &[Integrator], tick: u64, x: &mut [i128])
     }
 }
 
+/// The states at a tick, along their lines.
+pub(crate) fn arrive_in(lines: &[Integrator], tick: u64, work: &mut Work)
+    requires as_many { length work.old.x ≡ length lines.now }
+    requires not_later { (j : ℕ) → j < length lines.now → (line_at lines.now j).tick ≤ tick }
+    requires in_time { tick < 2 ^ 32 }
+    ensures { work.new ≡ record work.old { x = states_at lines.now tick } }
+{
+    arrive(lines, tick, work.x.as_mut_slice());
+}
+
 /// Whether a number is more than a power of two in size.
 pub(crate) fn is_past(z: i128, bits: u32) -> bool
     requires { bits < 100 }
     ensures { result ≡ passes bits z }
 {
     z.unsigned_abs() > 1u128 << bits
-}
-
-/// The least place of a number that is more than a power of two in size.
-pub(crate) fn first_past(values: &[i128], bits: u32) -> Option<u32>
-    requires bits { bits < 100 }
-    requires few { length values.now ≤ 4096 }
-    ensures { result ≡ position (passes bits) values.now }
-{
-    for j in 0..values.len() {
-        if is_past(values[j], bits) {
-            return Some(j as u32);
-        }
-    }
-    None
 }

@@ -1,19 +1,19 @@
 //! Lines at new slopes, of the states that moved and of those whose rows read one of them.
 
-ghost use Rattle.std.specs.Prelude.{◌≡◌, ℕ, ◌+◌, ◌<◌, ◌≤◌, List, ℤ, All, length, position, None};
+ghost use Rattle.std.specs.Prelude.{◌≡◌, ℕ, ◌+◌, ◌<◌, ◌≤◌, List, ℤ, All, length, position, None, true, flat_map};
 ghost use Rattle.mu_num.specs.Sizes.{IsWithin};
 ghost use Rattle.mu_num.specs.Ticks.{tick_limit};
 ghost use Rattle.qss_machine.specs.Numbers.{int_at, tabulate};
 ghost use Rattle.qss_machine.specs.Machines.{state_count, discrete_count, level_unit, slope_at, quantum_of};
 ghost use Rattle.qss_machine.specs.Ticks.{is_overweight};
-ghost use Rattle.qss_machine.specs.Uses.{uses_of};
+ghost use Rattle.qss_machine.specs.Uses.{reading_rows, uses_of};
 ghost use Rattle.qss_quant.specs.Lines.{state_at, IsNear};
 ghost use Rattle.qss_sched.specs.Ranks.{due_at};
 ghost use Rattle.qss_run.specs.Moves.{AreNumbers};
 ghost use Rattle.qss_run.specs.Places.{line_at, IsTurned};
 ghost use Rattle.qss_run.specs.Sims.{IsDue};
-ghost use Rattle.qss_run.specs.Renewals.{renewals};
-ghost use Rattle.qss_run.specs.Turnings.{turning_states, MayTurn, AreTurned, AreLevelsBefore};
+ghost use Rattle.qss_run.specs.Renewals.{goes_at, renewals};
+ghost use Rattle.qss_run.specs.Turnings.{MayTurn, AreTurned, AreLevelsBefore};
 
 use crate::shifts::shift_slopes;
 use crate::slopes::reslope;
@@ -44,6 +44,7 @@ fn turn<L: Ledger>(
     requires ready { MayTurn m.now tick (int_at levels.now j) (int_at slopes.now j) j (line_at lines.old j) (due_at agenda.old j) }
     ensures turned { IsTurned m.now tick (state_at (line_at lines.old j) tick) (int_at levels.now j) (int_at slopes.now j) j (line_at lines.new j) (due_at agenda.new j) }
     ensures lines { (k : ℕ) → (k ≡ j → ⊥) → line_at lines.new k ≡ line_at lines.old k }
+    ensures kept { goes_at (int_at levels.now j) (int_at slopes.now j) (line_at lines.old j) ≡ true → line_at lines.new j ≡ line_at lines.old j }
     ensures places { length agenda.new ≡ length agenda.old }
     ensures dues { (place : ℕ) → (place ≡ j → ⊥) → due_at agenda.new place ≡ due_at agenda.old place }
     ensures counted { steps.new + renewals (state_count m.now) levels.now slopes.now lines.new ≡ steps.old + renewals (state_count m.now) levels.now slopes.now lines.old }
@@ -83,12 +84,12 @@ fn turn_each<L: Ledger>(
     }
 }
 
-// The moved states, and those whose rows read one of them, go on from a tick at their slopes.
-fn turn_moved<L: Ledger>(
+/// The states whose rows read one of these variables go on from a tick at their slopes.
+pub(crate) fn turn_readers<L: Ledger>(
     m: &Machine,
     uses: &Uses,
     tick: u64,
-    moved: &[u32],
+    variables: &[u32],
     levels: &[i64],
     slopes: &[i128],
     lines: &mut [Integrator],
@@ -96,7 +97,7 @@ fn turn_moved<L: Ledger>(
     steps: &mut Steps<L>,
 )
     requires uses { uses.now ≡ uses_of m.now }
-    requires moved { All (λ j. j < state_count m.now) moved.now }
+    requires variables { All (λ var. var < state_count m.now + discrete_count m.now) variables.now }
     requires levels { length levels.now ≡ state_count m.now }
     requires slopes { length slopes.now ≡ state_count m.now }
     requires lines { length lines.old ≡ state_count m.now }
@@ -105,13 +106,12 @@ fn turn_moved<L: Ledger>(
     requires small_slopes { All (IsWithin 88) slopes.now }
     requires in_time { tick ≤ tick_limit }
     requires ready { (j : ℕ) → j < state_count m.now → MayTurn m.now tick (int_at levels.now j) (int_at slopes.now j) j (line_at lines.old j) (due_at agenda.old j) }
-    ensures turned { AreTurned m.now tick levels.now slopes.now (turning_states m.now moved.now) (record { lines = lines.old; dues = agenda.old }) (record { lines = lines.new; dues = agenda.new }) }
+    ensures turned { AreTurned m.now tick levels.now slopes.now (flat_map (reading_rows m.now) variables.now) (record { lines = lines.old; dues = agenda.old }) (record { lines = lines.new; dues = agenda.new }) }
     ensures counted { steps.new + renewals (state_count m.now) levels.now slopes.now lines.new ≡ steps.old + renewals (state_count m.now) levels.now slopes.now lines.old }
 {
-    for j in moved {
-        turn(m, tick, *j, levels, slopes, lines, agenda, steps);
-        let rows = uses.rows_of(*j);
-        turn_each(m, tick, rows, levels, slopes, lines, agenda, steps);
+    for var in variables {
+        let readers = uses.rows_of(*var);
+        turn_each(m, tick, readers, levels, slopes, lines, agenda, steps);
     }
 }
 
@@ -147,10 +147,12 @@ pub(crate) fn reslope_of<L: Ledger>(
     requires due { (j : ℕ) → j < state_count m.now → (line_at lines.old j).level ≡ int_at levels.now j → IsDue m.now tick j (line_at lines.old j) (due_at agenda.old j) }
     ensures slopes { slopes.new ≡ tabulate (state_count m.now) (λ j. slope_at m.now j levels.now d.now) }
     ensures lines { (j : ℕ) → j < state_count m.now → IsTurned m.now tick (state_at (line_at lines.old j) tick) (int_at levels.now j) (slope_at m.now j levels.now d.now) j (line_at lines.new j) (due_at agenda.new j) }
+    ensures kept { (j : ℕ) → j < state_count m.now → goes_at (int_at levels.now j) (int_at slopes.new j) (line_at lines.old j) ≡ true → line_at lines.new j ≡ line_at lines.old j }
     ensures places { length agenda.new ≡ length agenda.old }
     ensures others { (place : ℕ) → state_count m.now ≤ place → due_at agenda.new place ≡ due_at agenda.old place }
     ensures counted { steps.new ≡ steps.old + renewals (state_count m.now) levels.now slopes.new lines.old }
 {
     shift_slopes(m, uses, moved, levels, d, lines, slopes);
-    turn_moved(m, uses, tick, moved, levels, slopes, lines, agenda, steps);
+    turn_each(m, tick, moved, levels, slopes, lines, agenda, steps);
+    turn_readers(m, uses, tick, moved, levels, slopes, lines, agenda, steps);
 }

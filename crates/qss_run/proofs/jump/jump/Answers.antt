@@ -38,7 +38,7 @@ returns c =
     ∙ arrived_if tick next k s.arrived.items s.settled.items e later in
     let calm : Bool = c.catch_up.new.calm in
     let world = world_then m tick k s arrived calm c.requires.stands is in
-    let as_settled : calm ≡ true → arrived.items ≡ s.settled.items = λ e. with_items_is s.arrived c.catch_up.new.arrived (c.catch_up.auto.arrived ∙ c.as_mut_slice.ensures.len) ∙ c.catch_up.ensures.calm e ∙ c.as_slice.ensures.value in
+    let as_settled : calm ≡ true → arrived.items ≡ s.settled.items = λ e. with_items_is s.arrived c.catch_up.new.arrived (c.catch_up.auto.arrived ∙ c.as_mut_slice.ensures.len) ∙ c.catch_up.ensures.settled e ∙ c.as_slice.ensures.value in
     record {
       later = omega (arith, later);
       before = omega (arith, later, c.next_visit-next.ensures.at_most);

@@ -9,8 +9,8 @@ use Rattle.qss_machine.proofs.ModeTests.{fits_at}
 use Rattle.qss_run.proofs.shifts.shift_of.Goals as goal
 use mir.Syntax.{w128}
 
-pub shift-requires-clause-coefficient : goal.shift-requires-clause-coefficient
-shift-requires-clause-coefficient c =
+pub taken_mode-coefficient-requires : goal.taken_mode-coefficient-requires
+taken_mode-coefficient-requires c =
     let m = c.args.m.now in
     let fits : FitsSigned w128 c.mode_coef.result = record { sfits = c.mode_coef.type_inv } in
     rw (to_z-of_z w128 c.mode_coef.result fits)

@@ -1,12 +1,12 @@
 use Rattle.std.proofs.Common.{◌≡◌, length, take, pos}
 use Rattle.qss_machine.specs.Machines.{state_count}
 use Rattle.qss_run.specs.Writes.{IsWritten}
-use Rattle.qss_run.specs.Turnings.{HasFollowed}
+use Rattle.qss_run.specs.RowSums.{HasFollowed}
 use Rattle.qss_run.proofs.shifts.shift_rows.Given as goal
 
--- the slopes of the rows so far
+-- the sums of the rows so far
 abbrev pub invariant-loop-row : goal.invariant-loop-row
 invariant-loop-row l = record {
-  written : IsWritten (pos 0) (HasFollowed l.m l.state l.old l.new l.d l.fn.slopes) (take l.row-index l.rows) l.fn.slopes l.slopes;
-  as_many : length l.slopes ≡ state_count l.m;
+  written : IsWritten (pos 0) (HasFollowed l.kind l.m l.state l.old l.new l.d l.fn.sums) (take l.row-index l.rows) l.fn.sums l.sums;
+  as_many : length l.sums ≡ state_count l.m;
 }

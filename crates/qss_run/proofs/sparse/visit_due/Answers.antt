@@ -19,12 +19,13 @@ use Rattle.qss_run.specs.Moves.{is_among, IsOff}
 use Rattle.qss_run.specs.Places.{line_at, watch_at, IsTurned, IsWatched}
 use Rattle.qss_run.specs.Renewals.{renewals}
 use Rattle.qss_run.specs.Rules.{IsRuled}
-use Rattle.qss_run.specs.Sims.{IsDue}
+use Rattle.qss_run.specs.Sims.{weights_at, IsDue}
 use Rattle.qss_run.specs.Stores.{states_at, world_of, FitsMachine}
 use Rattle.qss_run.specs.Touches.{touches_at}
 use Rattle.qss_run.proofs.Handled.{not_some, clash, all_within}
 use Rattle.qss_run.specs.Turnings.{AreLevelsBefore}
-use Rattle.qss_run.proofs.QuietVisits.{steps_or, leads, rest_small, own_slope, levels_before, handled, arrived, near, kept_due, same_truths, watched, rising, rows_then}
+use Rattle.qss_run.proofs.QuietVisits.{steps_or, leads, rest_small, own_slope, levels_before, handled, arrived, near, kept_due, same_truths, watched, not_rising, rising, rows_then}
+use Rattle.qss_run.proofs.QuietTick.{none_rises_then}
 use Rattle.qss_run.proofs.Touched.{renewals_touched}
 use Rattle.qss_run.proofs.Turns.{conditions_few}
 use Rattle.qss_run.proofs.Visits.{stands_again, end_of, both_none, same_length}
@@ -50,7 +51,7 @@ returns-then-is_some-clause-stepped g c =
     let x : List ℤ = states_at s.lines.items t in
     let fresh : List ℤ = c.requantize_moved-over.new.fresh in
     let h : Handling = record { states = x; discretes = s.work.d; rows = []; overflow = first_past 88 x } in
-    let is_h : h ≡ handling_at m t (world_of c.args.tick s) = sym (handled m c.args.tick agenda s taken c.requires.in_time) in
+    let is_h : h ≡ handling_at m t (world_of c.args.tick s) = sym (handled m c.args.tick agenda s taken c.requires.in_time c.requires.none_changes) in
     let allowed : first_past 88 x ≡ None → AreNextLevels (IsRuled c.args.q.now.name) m x s.levels.items fresh = λ none.
     subst (λ ls. AreNextLevels (IsRuled c.args.q.now.name) m (states_at ls t) s.levels.items fresh) c.as_slice.ensures.value
     (subst (λ l. AreNextLevels (IsRuled c.args.q.now.name) m (states_at c.as_slice.result.now t) l fresh) c.as_mut_slice.ensures.value
@@ -76,7 +77,7 @@ go_on_moved-requires-clause-small_states g c =
     let x : List ℤ = states_at s.lines.items t in
     let fresh : List ℤ = c.requantize_moved-over.new.fresh in
     let h : Handling = record { states = x; discretes = s.work.d; rows = []; overflow = first_past 88 x } in
-    let is_h : h ≡ handling_at m t (world_of c.args.tick s) = sym (handled m c.args.tick agenda s taken c.requires.in_time) in
+    let is_h : h ≡ handling_at m t (world_of c.args.tick s) = sym (handled m c.args.tick agenda s taken c.requires.in_time c.requires.none_changes) in
     let allowed : first_past 88 x ≡ None → AreNextLevels (IsRuled c.args.q.now.name) m x s.levels.items fresh = λ none.
     subst (λ ls. AreNextLevels (IsRuled c.args.q.now.name) m (states_at ls t) s.levels.items fresh) c.as_slice.ensures.value
     (subst (λ l. AreNextLevels (IsRuled c.args.q.now.name) m (states_at c.as_slice.result.now t) l fresh) c.as_mut_slice.ensures.value
@@ -89,7 +90,7 @@ go_on_moved-requires-clause-small_states g c =
     let levels : c.as_slice-5.result.now ≡ fresh =
     c.as_slice-5.ensures.value ∙ with_items_is s.levels c.requantize_moved-over.new.levels many ∙ c.requantize_moved-over.ensures.levels calm in
     let of_d : c.requantize_moved-over.new.work.d ≡ s.work.d = ap (λ (v : Values). v.d) c.requantize_moved-over.ensures.work in
-    subst (λ ls. All (IsWithin 88) (states_at ls t)) (sym c.as_mut_slice-4.ensures.value) (all_within 88 x none_both.0)
+    subst (λ ls. All (IsWithin 88) (states_at ls t)) (sym c.as_mut_slice-5.ensures.value) (all_within 88 x none_both.0)
 
 pub go_on_moved-requires-clause-small_levels : goal.go_on_moved-requires-clause-small_levels
 go_on_moved-requires-clause-small_levels g c =
@@ -102,7 +103,7 @@ go_on_moved-requires-clause-small_levels g c =
     let x : List ℤ = states_at s.lines.items t in
     let fresh : List ℤ = c.requantize_moved-over.new.fresh in
     let h : Handling = record { states = x; discretes = s.work.d; rows = []; overflow = first_past 88 x } in
-    let is_h : h ≡ handling_at m t (world_of c.args.tick s) = sym (handled m c.args.tick agenda s taken c.requires.in_time) in
+    let is_h : h ≡ handling_at m t (world_of c.args.tick s) = sym (handled m c.args.tick agenda s taken c.requires.in_time c.requires.none_changes) in
     let allowed : first_past 88 x ≡ None → AreNextLevels (IsRuled c.args.q.now.name) m x s.levels.items fresh = λ none.
     subst (λ ls. AreNextLevels (IsRuled c.args.q.now.name) m (states_at ls t) s.levels.items fresh) c.as_slice.ensures.value
     (subst (λ l. AreNextLevels (IsRuled c.args.q.now.name) m (states_at c.as_slice.result.now t) l fresh) c.as_mut_slice.ensures.value
@@ -128,7 +129,7 @@ go_on_moved-requires-clause-light g c =
     let x : List ℤ = states_at s.lines.items t in
     let fresh : List ℤ = c.requantize_moved-over.new.fresh in
     let h : Handling = record { states = x; discretes = s.work.d; rows = []; overflow = first_past 88 x } in
-    let is_h : h ≡ handling_at m t (world_of c.args.tick s) = sym (handled m c.args.tick agenda s taken c.requires.in_time) in
+    let is_h : h ≡ handling_at m t (world_of c.args.tick s) = sym (handled m c.args.tick agenda s taken c.requires.in_time c.requires.none_changes) in
     let allowed : first_past 88 x ≡ None → AreNextLevels (IsRuled c.args.q.now.name) m x s.levels.items fresh = λ none.
     subst (λ ls. AreNextLevels (IsRuled c.args.q.now.name) m (states_at ls t) s.levels.items fresh) c.as_slice.ensures.value
     (subst (λ l. AreNextLevels (IsRuled c.args.q.now.name) m (states_at c.as_slice.result.now t) l fresh) c.as_mut_slice.ensures.value
@@ -156,7 +157,7 @@ go_on_moved-requires-clause-near g c j inside =
     let x : List ℤ = states_at s.lines.items t in
     let fresh : List ℤ = c.requantize_moved-over.new.fresh in
     let h : Handling = record { states = x; discretes = s.work.d; rows = []; overflow = first_past 88 x } in
-    let is_h : h ≡ handling_at m t (world_of c.args.tick s) = sym (handled m c.args.tick agenda s taken c.requires.in_time) in
+    let is_h : h ≡ handling_at m t (world_of c.args.tick s) = sym (handled m c.args.tick agenda s taken c.requires.in_time c.requires.none_changes) in
     let allowed : first_past 88 x ≡ None → AreNextLevels (IsRuled c.args.q.now.name) m x s.levels.items fresh = λ none.
     subst (λ ls. AreNextLevels (IsRuled c.args.q.now.name) m (states_at ls t) s.levels.items fresh) c.as_slice.ensures.value
     (subst (λ l. AreNextLevels (IsRuled c.args.q.now.name) m (states_at c.as_slice.result.now t) l fresh) c.as_mut_slice.ensures.value
@@ -169,7 +170,7 @@ go_on_moved-requires-clause-near g c j inside =
     let levels : c.as_slice-5.result.now ≡ fresh =
     c.as_slice-5.ensures.value ∙ with_items_is s.levels c.requantize_moved-over.new.levels many ∙ c.requantize_moved-over.ensures.levels calm in
     let of_d : c.requantize_moved-over.new.work.d ≡ s.work.d = ap (λ (v : Values). v.d) c.requantize_moved-over.ensures.work in
-    subst (λ ls. IsNear (level_unit m) (state_at (line_at ls j) t) (int_at c.as_slice-5.result.now j) (quantum_of m j (int_at c.as_slice-5.result.now j))) (sym c.as_mut_slice-4.ensures.value)
+    subst (λ ls. IsNear (level_unit m) (state_at (line_at ls j) t) (int_at c.as_slice-5.result.now j) (quantum_of m j (int_at c.as_slice-5.result.now j))) (sym c.as_mut_slice-5.ensures.value)
     (subst (λ l. IsNear (level_unit m) (state_at (line_at s.lines.items j) t) (int_at l j) (quantum_of m j (int_at l j))) (sym levels)
     (near m c.args.tick agenda s taken c.requires.in_time c.args.q.now.name fresh (allowed none_both.0) j inside))
 
@@ -184,7 +185,7 @@ go_on_moved-requires-clause-before g c =
     let x : List ℤ = states_at s.lines.items t in
     let fresh : List ℤ = c.requantize_moved-over.new.fresh in
     let h : Handling = record { states = x; discretes = s.work.d; rows = []; overflow = first_past 88 x } in
-    let is_h : h ≡ handling_at m t (world_of c.args.tick s) = sym (handled m c.args.tick agenda s taken c.requires.in_time) in
+    let is_h : h ≡ handling_at m t (world_of c.args.tick s) = sym (handled m c.args.tick agenda s taken c.requires.in_time c.requires.none_changes) in
     let allowed : first_past 88 x ≡ None → AreNextLevels (IsRuled c.args.q.now.name) m x s.levels.items fresh = λ none.
     subst (λ ls. AreNextLevels (IsRuled c.args.q.now.name) m (states_at ls t) s.levels.items fresh) c.as_slice.ensures.value
     (subst (λ l. AreNextLevels (IsRuled c.args.q.now.name) m (states_at c.as_slice.result.now t) l fresh) c.as_mut_slice.ensures.value
@@ -200,11 +201,11 @@ go_on_moved-requires-clause-before g c =
     let off : IsOff s.moved.items s.levels.items fresh =
     subst (λ l. IsOff l s.levels.items fresh) c.as_slice-2.ensures.value (subst (λ l. IsOff c.as_slice-2.result.now l fresh) c.as_mut_slice.ensures.value c.requantize_moved-over.ensures.others) in (
       s.levels.items,
-      subst (λ js. AreLevelsBefore m js c.as_slice-5.result.now c.requantize_moved-over.new.work.d c.as_mut_slice-3.result.now c.as_mut_slice-4.result.now s.levels.items) (sym c.as_slice-4.ensures.value)
-          (subst (λ l. AreLevelsBefore m s.moved.items l c.requantize_moved-over.new.work.d c.as_mut_slice-3.result.now c.as_mut_slice-4.result.now s.levels.items) (sym levels)
-          (subst (λ d. AreLevelsBefore m s.moved.items fresh d c.as_mut_slice-3.result.now c.as_mut_slice-4.result.now s.levels.items) (sym of_d)
-          (subst (λ v. AreLevelsBefore m s.moved.items fresh s.work.d v c.as_mut_slice-4.result.now s.levels.items) (sym c.as_mut_slice-3.ensures.value)
-          (subst (λ ls. AreLevelsBefore m s.moved.items fresh s.work.d s.slopes.items ls s.levels.items) (sym c.as_mut_slice-4.ensures.value)
+      subst (λ js. AreLevelsBefore m js c.as_slice-5.result.now c.requantize_moved-over.new.work.d c.as_mut_slice-4.result.now c.as_mut_slice-5.result.now s.levels.items) (sym c.as_slice-4.ensures.value)
+          (subst (λ l. AreLevelsBefore m s.moved.items l c.requantize_moved-over.new.work.d c.as_mut_slice-4.result.now c.as_mut_slice-5.result.now s.levels.items) (sym levels)
+          (subst (λ d. AreLevelsBefore m s.moved.items fresh d c.as_mut_slice-4.result.now c.as_mut_slice-5.result.now s.levels.items) (sym of_d)
+          (subst (λ v. AreLevelsBefore m s.moved.items fresh s.work.d v c.as_mut_slice-5.result.now s.levels.items) (sym c.as_mut_slice-4.ensures.value)
+          (subst (λ ls. AreLevelsBefore m s.moved.items fresh s.work.d s.slopes.items ls s.levels.items) (sym c.as_mut_slice-5.ensures.value)
           (levels_before m c.args.tick agenda s taken c.requires.in_time fresh off))))),
     )
 
@@ -215,9 +216,9 @@ go_on_moved-requires-clause-own_slope g c j inside =
     let s : Store = c.args.s.now in
     let agenda : List (Option ℕ) = c.requires.taken.0 in
     let taken = c.requires.taken.1 in
-    ap (λ ls. (line_at ls j).slope) c.as_mut_slice-4.ensures.value
+    ap (λ ls. (line_at ls j).slope) c.as_mut_slice-5.ensures.value
     ∙ own_slope m c.args.tick agenda s taken c.requires.in_time j inside
-    ∙ ap (λ l. int_at l j) (sym c.as_mut_slice-3.ensures.value)
+    ∙ ap (λ l. int_at l j) (sym c.as_mut_slice-4.ensures.value)
 
 pub go_on_moved-requires-clause-due : goal.go_on_moved-requires-clause-due
 go_on_moved-requires-clause-due g c j inside own =
@@ -230,7 +231,7 @@ go_on_moved-requires-clause-due g c j inside own =
     let x : List ℤ = states_at s.lines.items t in
     let fresh : List ℤ = c.requantize_moved-over.new.fresh in
     let h : Handling = record { states = x; discretes = s.work.d; rows = []; overflow = first_past 88 x } in
-    let is_h : h ≡ handling_at m t (world_of c.args.tick s) = sym (handled m c.args.tick agenda s taken c.requires.in_time) in
+    let is_h : h ≡ handling_at m t (world_of c.args.tick s) = sym (handled m c.args.tick agenda s taken c.requires.in_time c.requires.none_changes) in
     let allowed : first_past 88 x ≡ None → AreNextLevels (IsRuled c.args.q.now.name) m x s.levels.items fresh = λ none.
     subst (λ ls. AreNextLevels (IsRuled c.args.q.now.name) m (states_at ls t) s.levels.items fresh) c.as_slice.ensures.value
     (subst (λ l. AreNextLevels (IsRuled c.args.q.now.name) m (states_at c.as_slice.result.now t) l fresh) c.as_mut_slice.ensures.value
@@ -243,9 +244,9 @@ go_on_moved-requires-clause-due g c j inside own =
     let levels : c.as_slice-5.result.now ≡ fresh =
     c.as_slice-5.ensures.value ∙ with_items_is s.levels c.requantize_moved-over.new.levels many ∙ c.requantize_moved-over.ensures.levels calm in
     let of_d : c.requantize_moved-over.new.work.d ≡ s.work.d = ap (λ (v : Values). v.d) c.requantize_moved-over.ensures.work in
-    subst (λ ls. IsDue m t j (line_at ls j) (due_at s.agenda j)) (sym c.as_mut_slice-4.ensures.value)
+    subst (λ ls. IsDue m t j (line_at ls j) (due_at s.agenda j)) (sym c.as_mut_slice-5.ensures.value)
     (kept_due m c.args.tick agenda s taken c.requires.in_time c.args.q.now.name fresh (allowed none_both.0) j inside
-    (ap (λ ls. (line_at ls j).level) (sym c.as_mut_slice-4.ensures.value) ∙ own ∙ ap (λ l. int_at l j) levels))
+    (ap (λ ls. (line_at ls j).level) (sym c.as_mut_slice-5.ensures.value) ∙ own ∙ ap (λ l. int_at l j) levels))
 
 pub go_on_moved-requires-clause-watched : goal.go_on_moved-requires-clause-watched
 go_on_moved-requires-clause-watched g c place inside =
@@ -258,7 +259,7 @@ go_on_moved-requires-clause-watched g c place inside =
     let x : List ℤ = states_at s.lines.items t in
     let fresh : List ℤ = c.requantize_moved-over.new.fresh in
     let h : Handling = record { states = x; discretes = s.work.d; rows = []; overflow = first_past 88 x } in
-    let is_h : h ≡ handling_at m t (world_of c.args.tick s) = sym (handled m c.args.tick agenda s taken c.requires.in_time) in
+    let is_h : h ≡ handling_at m t (world_of c.args.tick s) = sym (handled m c.args.tick agenda s taken c.requires.in_time c.requires.none_changes) in
     let allowed : first_past 88 x ≡ None → AreNextLevels (IsRuled c.args.q.now.name) m x s.levels.items fresh = λ none.
     subst (λ ls. AreNextLevels (IsRuled c.args.q.now.name) m (states_at ls t) s.levels.items fresh) c.as_slice.ensures.value
     (subst (λ l. AreNextLevels (IsRuled c.args.q.now.name) m (states_at c.as_slice.result.now t) l fresh) c.as_mut_slice.ensures.value
@@ -272,11 +273,11 @@ go_on_moved-requires-clause-watched g c place inside =
     c.as_slice-5.ensures.value ∙ with_items_is s.levels c.requantize_moved-over.new.levels many ∙ c.requantize_moved-over.ensures.levels calm in
     let of_d : c.requantize_moved-over.new.work.d ≡ s.work.d = ap (λ (v : Values). v.d) c.requantize_moved-over.ensures.work in
     let known : place < length (conditions m) = omega (arith, inside, ap length c.as_slice-3.ensures.value, taken.stands.fits.branches.as_many) in
-    subst (λ ls. IsWatched m t (states_at ls t) c.requantize_moved-over.new.work.d c.as_mut_slice-3.result.now place (watch_at c.as_mut_slice-5.result.now place) (due_at s.agenda (state_count m + place))) (sym c.as_mut_slice-4.ensures.value)
-    (subst (λ ws. IsWatched m t x c.requantize_moved-over.new.work.d c.as_mut_slice-3.result.now place (watch_at ws place) (due_at s.agenda (state_count m + place))) (sym c.as_mut_slice-5.ensures.value)
-    (subst (λ v. IsWatched m t x c.requantize_moved-over.new.work.d v place (watch_at s.watches.items place) (due_at s.agenda (state_count m + place))) (sym c.as_mut_slice-3.ensures.value)
+    subst (λ ls. IsWatched m t (states_at ls t) c.requantize_moved-over.new.work.d c.as_mut_slice-4.result.now place (watch_at c.as_mut_slice-6.result.now place) (due_at s.agenda (state_count m + place))) (sym c.as_mut_slice-5.ensures.value)
+    (subst (λ ws. IsWatched m t x c.requantize_moved-over.new.work.d c.as_mut_slice-4.result.now place (watch_at ws place) (due_at s.agenda (state_count m + place))) (sym c.as_mut_slice-6.ensures.value)
+    (subst (λ v. IsWatched m t x c.requantize_moved-over.new.work.d v place (watch_at s.watches.items place) (due_at s.agenda (state_count m + place))) (sym c.as_mut_slice-4.ensures.value)
     (subst (λ d. IsWatched m t x d s.slopes.items place (watch_at s.watches.items place) (due_at s.agenda (state_count m + place))) (sym of_d)
-    (watched m c.args.tick agenda s taken c.requires.in_time place known))))
+    (watched m c.args.tick agenda s taken c.requires.in_time c.requires.none_changes place known))))
 
 pub returns : goal.returns
 returns g c =
@@ -289,7 +290,7 @@ returns g c =
     let x : List ℤ = states_at s.lines.items t in
     let fresh : List ℤ = c.requantize_moved-over.new.fresh in
     let h : Handling = record { states = x; discretes = s.work.d; rows = []; overflow = first_past 88 x } in
-    let is_h : h ≡ handling_at m t (world_of c.args.tick s) = sym (handled m c.args.tick agenda s taken c.requires.in_time) in
+    let is_h : h ≡ handling_at m t (world_of c.args.tick s) = sym (handled m c.args.tick agenda s taken c.requires.in_time c.requires.none_changes) in
     let allowed : first_past 88 x ≡ None → AreNextLevels (IsRuled c.args.q.now.name) m x s.levels.items fresh = λ none.
     subst (λ ls. AreNextLevels (IsRuled c.args.q.now.name) m (states_at ls t) s.levels.items fresh) c.as_slice.ensures.value
     (subst (λ l. AreNextLevels (IsRuled c.args.q.now.name) m (states_at c.as_slice.result.now t) l fresh) c.as_mut_slice.ensures.value
@@ -311,6 +312,7 @@ returns g c =
       watches = with_items s.watches c.go_on_moved.new.watches;
       arrived = with_items s.arrived c.catch_up.new.arrived;
       fresh = with_items s.fresh fresh;
+      weights = with_items s.weights c.requantize_moved-over.new.weights;
       calm = c.catch_up.new.calm;
       agenda = c.go_on_moved.new.agenda;
       work = c.requantize_moved-over.new.work;
@@ -323,25 +325,28 @@ returns g c =
       levels = same_length s.levels c.requantize_moved-over.new.levels ∙ fits.levels;
       slopes = same_length s.slopes c.go_on_moved.new.slopes ∙ fits.slopes;
       fresh = same_length s.fresh fresh ∙ fits.fresh;
+      weights = same_length s.weights c.requantize_moved-over.new.weights ∙ fits.weights;
       moved_room = fits.moved_room;
+      changed_room = fits.changed_room;
+      fired_room = fits.fired_room;
+      assigned_room = fits.assigned_room;
       watches = same_length s.watches c.go_on_moved.new.watches ∙ fits.watches;
       arrived = same_length s.arrived c.catch_up.new.arrived ∙ fits.arrived;
       settled = fits.settled;
-      now = fits.now;
-      due = fits.due;
       places = c.go_on_moved.ensures.places ∙ taken.without.as_many ∙ fits.places;
       states = c.requantize_moved-over.ensures.states ∙ fits.states;
       discretes = ap length of_d ∙ fits.discretes;
       before = ap (λ (v : Values). length v.pre) work ∙ fits.before;
+      small_states = c.requantize_moved-over.ensures.small_x calm;
       small_discretes = subst (All (IsWithin 43)) (sym of_d) fits.small_discretes;
       work_room = omega (arith, ap (λ (v : Values). v.room) work, fits.work_room);
       row_room = omega (arith, c.requantize_moved-over.ensures.room, fits.row_room);
     } in
-    let of_slopes : next.slopes.items ≡ c.go_on_moved.new.slopes = with_items_is s.slopes c.go_on_moved.new.slopes (c.go_on_moved.auto.slopes ∙ c.as_mut_slice-3.ensures.len) in
-    let of_lines : next.lines.items ≡ c.go_on_moved.new.lines = with_items_is s.lines c.go_on_moved.new.lines (c.go_on_moved.auto.lines ∙ c.as_mut_slice-4.ensures.len) in
-    let of_watches : next.watches.items ≡ c.go_on_moved.new.watches = with_items_is s.watches c.go_on_moved.new.watches (c.go_on_moved.auto.watches ∙ c.as_mut_slice-5.ensures.len) in
+    let of_slopes : next.slopes.items ≡ c.go_on_moved.new.slopes = with_items_is s.slopes c.go_on_moved.new.slopes (c.go_on_moved.auto.slopes ∙ c.as_mut_slice-4.ensures.len) in
+    let of_lines : next.lines.items ≡ c.go_on_moved.new.lines = with_items_is s.lines c.go_on_moved.new.lines (c.go_on_moved.auto.lines ∙ c.as_mut_slice-5.ensures.len) in
+    let of_watches : next.watches.items ≡ c.go_on_moved.new.watches = with_items_is s.watches c.go_on_moved.new.watches (c.go_on_moved.auto.watches ∙ c.as_mut_slice-6.ensures.len) in
     let of_arrived : next.arrived.items ≡ s.settled.items =
-    with_items_is s.arrived c.catch_up.new.arrived (c.catch_up.auto.arrived ∙ c.as_mut_slice-6.ensures.len) ∙ c.catch_up.ensures.arrived ∙ c.as_slice-settled.ensures.value in
+    with_items_is s.arrived c.catch_up.new.arrived (c.catch_up.auto.arrived ∙ c.as_mut_slice-7.ensures.len) ∙ c.catch_up.ensures.arrived ∙ c.as_slice-settled.ensures.value in
     let own_levels : next.levels.items ≡ c.as_slice-5.result.now = sym c.as_slice-5.ensures.value in
     let branches : length c.as_slice-3.result.now ≡ length (conditions m) = ap length c.as_slice-3.ensures.value ∙ fits.branches.as_many in
     let light : position (is_overweight m next.levels.items next.work.d) m.rows ≡ None =
@@ -350,41 +355,46 @@ returns g c =
     ∙ (both_none (first_past 43 fresh) (position (is_overweight m fresh s.work.d) m.rows) (sym none_both.1)).1 in
     let many_states : length x ≡ state_count m = length-map-range_with_len (λ j. state_at (line_at s.lines.items j) t) 0 (length s.lines.items) ∙ fits.lines in
     let settled : s.settled.items ≡ truths m x next.work.d t =
-    same_truths m c.args.tick agenda s taken c.requires.in_time ∙ ap (λ d. truths m x d t) (sym of_d) in
+    same_truths m c.args.tick agenda s taken c.requires.in_time c.requires.none_changes ∙ ap (λ d. truths m x d t) (sym of_d) in
     let again = stands_again m t next x many_states good
     (λ j inside. subst (λ l. IsWithin 43 (int_at l j)) (sym (own_levels ∙ levels ∙ sym (c.requantize_moved-over.ensures.levels calm)))
     (c.requantize_moved-over.ensures.small calm j (pos 0) (omega (arith, inside, many, s.levels.ok.0, fits.levels))))
     light
     (of_slopes ∙ c.go_on_moved.ensures.slopes ∙ ap (λ l. tabulate (state_count m) (λ j. slope_at m j l next.work.d)) (sym own_levels))
+    (with_items_is s.weights c.requantize_moved-over.new.weights (c.requantize_moved-over.auto.weights ∙ c.as_mut_slice-3.ensures.len)
+    ∙ c.requantize_moved-over.ensures.weights calm
+    ∙ ap (λ d. weights_at m c.requantize_moved-over.new.levels d) (sym of_d)
+    ∙ ap (λ l. weights_at m l next.work.d) (sym (own_levels ∙ levels ∙ sym (c.requantize_moved-over.ensures.levels calm))))
     (λ j inside.
     subst (λ ls. IsTurned m t (int_at x j) (int_at next.levels.items j) (slope_at m j next.levels.items next.work.d) j (line_at ls j) (due_at next.agenda j)) (sym of_lines)
     (subst (λ l. IsTurned m t (int_at x j) (int_at l j) (slope_at m j l next.work.d) j (line_at c.go_on_moved.new.lines j) (due_at next.agenda j)) (sym own_levels)
     (subst (λ y. IsTurned m t y (int_at c.as_slice-5.result.now j) (slope_at m j c.as_slice-5.result.now next.work.d) j (line_at c.go_on_moved.new.lines j) (due_at next.agenda j))
-    (ap (λ ls. state_at (line_at ls j) t) c.as_mut_slice-4.ensures.value ∙ sym (leads m c.args.tick agenda s taken c.requires.in_time j inside)) (c.go_on_moved.ensures.lines j inside))))
+    (ap (λ ls. state_at (line_at ls j) t) c.as_mut_slice-5.ensures.value ∙ sym (leads m c.args.tick agenda s taken c.requires.in_time j inside)) (c.go_on_moved.ensures.lines j inside))))
     settled
     (λ place inside.
     subst (λ ws. IsWatched m t x next.work.d next.slopes.items place (watch_at ws place) (due_at next.agenda (state_count m + place))) (sym of_watches)
     (subst (λ sl. IsWatched m t x next.work.d sl place (watch_at c.go_on_moved.new.watches place) (due_at next.agenda (state_count m + place))) (sym of_slopes)
-    (subst (λ ls. IsWatched m t (states_at ls t) next.work.d c.go_on_moved.new.slopes place (watch_at c.go_on_moved.new.watches place) (due_at next.agenda (state_count m + place))) c.as_mut_slice-4.ensures.value
+    (subst (λ ls. IsWatched m t (states_at ls t) next.work.d c.go_on_moved.new.slopes place (watch_at c.go_on_moved.new.watches place) (due_at next.agenda (state_count m + place))) c.as_mut_slice-5.ensures.value
     (c.go_on_moved.ensures.watches place (omega (arith, inside, branches))))))
-    (rising m c.args.tick agenda s taken c.requires.in_time next.agenda (world_of t next) of_arrived refl
+    (not_rising m c.args.tick agenda s taken c.requires.in_time c.requires.none_changes ∙ sym (none_rises_then (world_of c.args.tick s) (world_of t next) of_arrived refl))
+    (rising m c.args.tick agenda s taken c.requires.in_time c.requires.none_changes next.agenda
     (c.go_on_moved.ensures.beyond (state_count m + length (conditions m)) (omega (arith, branches))))
     (with_items_is s.fresh fresh (c.requantize_moved-over.auto.fresh ∙ c.as_mut_slice-2.ensures.len) ∙ sym (own_levels ∙ levels))
     (λ e. of_arrived) in
     let w : World = world_of c.args.tick s in
     let new_levels : next.levels.items ≡ fresh = own_levels ∙ levels in
     let still : s.settled.items ≡ truths m (moved_states m w) s.work.d t =
-    same_truths m c.args.tick agenda s taken c.requires.in_time ∙ ap (λ y. truths m y s.work.d t) (arrived m c.args.tick agenda s taken c.requires.in_time) in
+    same_truths m c.args.tick agenda s taken c.requires.in_time c.requires.none_changes ∙ ap (λ y. truths m y s.work.d t) (arrived m c.args.tick agenda s taken c.requires.in_time) in
     let end : world_of t next ≡ end_of m t w h fresh =
     ap (λ (y : List ℤ). record { states = y; levels = next.levels.items; discretes = next.work.d; arrived = next.arrived.items; settled = s.settled.items }) again.0
     ∙ ap (λ (l : List ℤ). record { states = x; levels = l; discretes = next.work.d; arrived = next.arrived.items; settled = s.settled.items }) new_levels
     ∙ ap (λ (d : List ℤ). record { states = x; levels = fresh; discretes = d; arrived = next.arrived.items; settled = s.settled.items }) of_d
     ∙ ap (λ (a : List Bool). record { states = x; levels = fresh; discretes = s.work.d; arrived = a; settled = s.settled.items }) (of_arrived ∙ still)
     ∙ ap (λ (b : List Bool). record { states = x; levels = fresh; discretes = s.work.d; arrived = truths m (moved_states m w) s.work.d t; settled = b })
-    (same_truths m c.args.tick agenda s taken c.requires.in_time) in
+    (same_truths m c.args.tick agenda s taken c.requires.in_time c.requires.none_changes) in
     let counted : c.go_on_moved.new.steps ≡ c.args.steps.now + renewals (state_count m) next.levels.items c.go_on_moved.new.slopes s.lines.items =
-    subst (λ ls. c.go_on_moved.new.steps ≡ c.args.steps.now + renewals (state_count m) next.levels.items c.go_on_moved.new.slopes ls) c.as_mut_slice-4.ensures.value
-    (subst (λ l. c.go_on_moved.new.steps ≡ c.args.steps.now + renewals (state_count m) l c.go_on_moved.new.slopes c.as_mut_slice-4.result.now) (sym own_levels) c.go_on_moved.ensures.counted) in
+    subst (λ ls. c.go_on_moved.new.steps ≡ c.args.steps.now + renewals (state_count m) next.levels.items c.go_on_moved.new.slopes ls) c.as_mut_slice-5.ensures.value
+    (subst (λ l. c.go_on_moved.new.steps ≡ c.args.steps.now + renewals (state_count m) l c.go_on_moved.new.slopes c.as_mut_slice-5.result.now) (sym own_levels) c.go_on_moved.ensures.counted) in
     let touched : renewals (state_count m) next.levels.items c.go_on_moved.new.slopes s.lines.items ≤ touches_at m t w (Ok (world_of t next)) =
     renewals_touched m t w (world_of t next) taken.stands.stands_for.left.one_each good.levels fits.discretes good.discretes s.lines.items c.go_on_moved.new.slopes
     (λ j inside. (taken.stands.stands_for.lines j inside).own_level) (λ j inside. (taken.stands.stands_for.lines j inside).own_slope)
@@ -397,7 +407,7 @@ returns g c =
           ∙ ap (λ l. level_rows t s.levels.items l (states_at c.as_slice.result.now t)) (c.requantize_moved-over.ensures.levels calm ∙ sym new_levels)
           ∙ ap (λ ls. level_rows t s.levels.items next.levels.items (states_at ls t)) c.as_slice.ensures.value
           ∙ ap (λ y. level_rows t s.levels.items next.levels.items y) (sym again.0)
-          ∙ sym (rows_then m c.args.tick agenda s taken c.requires.in_time (world_of t next));
+          ∙ sym (rows_then m c.args.tick agenda s taken c.requires.in_time c.requires.none_changes (world_of t next));
       stands = λ none. again.1;
       room = c.requantize_moved-over.ensures.room;
       counted = omega (arith, counted, touched);

@@ -14,9 +14,10 @@ use Rattle.qss_machine.specs.Runs.{state_rows, discrete_rows}
 use Rattle.qss_sched.specs.Ranks.{due_at}
 use Rattle.qss_run.specs.declared.store.Store.{Store}
 use Rattle.qss_run.specs.Places.{line_at, watch_at, IsTurned, IsWatched}
+use Rattle.qss_run.specs.Sims.{weights_at}
 use Rattle.qss_run.specs.Stores.{states_at, FitsMachine}
 use Rattle.qss_run.proofs.Skipped.{settled_twice}
-use Rattle.qss_run.proofs.Starts.{levels_at_start, levels_start, light_start, count_start}
+use Rattle.qss_run.proofs.Starts.{levels_at_start, levels_start, light_at, count_start}
 use Rattle.qss_run.proofs.Visits.{same_length, stands_again}
 use Rattle.qss_run.proofs.start.begin.Goals as goal
 
@@ -29,6 +30,7 @@ returns c =
     let next : Store = record s {
       lines = with_items s.lines c.set_out.new.lines;
       slopes = with_items s.slopes c.set_out.new.slopes;
+      weights = with_items s.weights c.set_out.new.weights;
       watches = with_items s.watches c.set_out.new.watches;
       arrived = with_items s.arrived c.set_out.new.arrived;
       settled = with_items s.settled c.set_out.new.settled;
@@ -42,16 +44,19 @@ returns c =
       levels = fits.levels;
       slopes = same_length s.slopes c.set_out.new.slopes ∙ fits.slopes;
       fresh = fits.fresh;
+      weights = same_length s.weights c.set_out.new.weights ∙ fits.weights;
       moved_room = fits.moved_room;
+      changed_room = fits.changed_room;
+      fired_room = fits.fired_room;
+      assigned_room = fits.assigned_room;
       watches = same_length s.watches c.set_out.new.watches ∙ fits.watches;
       arrived = same_length s.arrived c.set_out.new.arrived ∙ fits.arrived;
       settled = same_length s.settled c.set_out.new.settled ∙ fits.settled;
-      now = fits.now;
-      due = fits.due;
       places = c.set_out.ensures.places ∙ fits.places;
       states = fits.states;
       discretes = fits.discretes;
       before = fits.before;
+      small_states = fits.small_states;
       small_discretes = fits.small_discretes;
       work_room = fits.work_room;
       row_room = omega (arith, c.start_rows.ensures.room, fits.row_room);
@@ -59,20 +64,18 @@ returns c =
     let levels : c.as_slice-2.result.now ≡ s.levels.items = c.as_slice-2.ensures.value in
     let levels_again : c.as_slice-3.result.now ≡ s.levels.items = c.as_slice-3.ensures.value in
     let of_slopes : next.slopes.items ≡ c.set_out.new.slopes = with_items_is s.slopes c.set_out.new.slopes (c.set_out.auto.slopes ∙ c.as_mut_slice.ensures.len) in
-    let of_lines : next.lines.items ≡ c.set_out.new.lines = with_items_is s.lines c.set_out.new.lines (c.set_out.auto.lines ∙ c.as_mut_slice-2.ensures.len) in
-    let of_watches : next.watches.items ≡ c.set_out.new.watches = with_items_is s.watches c.set_out.new.watches (c.set_out.auto.watches ∙ c.as_mut_slice-3.ensures.len) in
-    let of_arrived : next.arrived.items ≡ c.set_out.new.arrived = with_items_is s.arrived c.set_out.new.arrived (c.set_out.auto.arrived ∙ c.as_mut_slice-4.ensures.len) in
-    let of_settled : next.settled.items ≡ c.set_out.new.settled = with_items_is s.settled c.set_out.new.settled (c.set_out.auto.settled ∙ c.as_mut_slice-5.ensures.len) in
+    let of_lines : next.lines.items ≡ c.set_out.new.lines = with_items_is s.lines c.set_out.new.lines (c.set_out.auto.lines ∙ c.as_mut_slice-3.ensures.len) in
+    let of_watches : next.watches.items ≡ c.set_out.new.watches = with_items_is s.watches c.set_out.new.watches (c.set_out.auto.watches ∙ c.as_mut_slice-4.ensures.len) in
+    let of_arrived : next.arrived.items ≡ c.set_out.new.arrived = with_items_is s.arrived c.set_out.new.arrived (c.set_out.auto.arrived ∙ c.as_mut_slice-5.ensures.len) in
+    let of_settled : next.settled.items ≡ c.set_out.new.settled = with_items_is s.settled c.set_out.new.settled (c.set_out.auto.settled ∙ c.as_mut_slice-6.ensures.len) in
     let branches : length c.as_slice.result.now ≡ length (conditions m) = ap length c.as_slice.ensures.value ∙ fits.branches.as_many in
-    let light : position (is_overweight m next.levels.items next.work.d) m.rows ≡ None =
-    ap (λ l. position (is_overweight m l next.work.d) m.rows) blank.levels
-    ∙ ap (λ d. position (is_overweight m (levels_at_start m) d) m.rows) blank.discretes
-    ∙ light_start m in
+    let light : position (is_overweight m next.levels.items next.work.d) m.rows ≡ None = light_at m next.levels.items next.work.d blank.levels blank.discretes in
     let same : next.arrived.items ≡ next.settled.items = of_arrived ∙ c.set_out.ensures.arrived ∙ sym of_settled in
     let again = stands_again m 0 next s.work.x fits.states good
     (λ j inside. subst (λ l. IsWithin 43 (int_at l j)) (sym blank.levels) (levels_start m j (pos 0) (omega (arith, inside, count_start m))))
     light
     (of_slopes ∙ c.set_out.ensures.slopes ∙ ap (λ l. tabulate (state_count m) (λ j. slope_at m j l next.work.d)) levels)
+    (with_items_is s.weights c.set_out.new.weights (c.set_out.auto.weights ∙ c.as_mut_slice-2.ensures.len) ∙ c.set_out.ensures.weights ∙ ap (λ l. weights_at m l next.work.d) levels)
     (λ j inside.
     subst (λ ls. IsTurned m 0 (int_at next.work.x j) (int_at next.levels.items j) (slope_at m j next.levels.items next.work.d) j (line_at ls j) (due_at next.agenda j)) (sym of_lines)
     (subst (λ l. IsTurned m 0 (int_at next.work.x j) (int_at l j) (slope_at m j l next.work.d) j (line_at c.set_out.new.lines j) (due_at next.agenda j)) levels (c.set_out.ensures.lines j inside)))
@@ -81,9 +84,10 @@ returns c =
     subst (λ ws. IsWatched m 0 next.work.x next.work.d next.slopes.items place (watch_at ws place) (due_at next.agenda (state_count m + place))) (sym of_watches)
     (subst (λ sl. IsWatched m 0 next.work.x next.work.d sl place (watch_at c.set_out.new.watches place) (due_at next.agenda (state_count m + place))) (sym of_slopes)
     (c.set_out.ensures.watches place (omega (arith, inside, branches)))))
+    (blank.not_rising ∙ sym (ap (λ a. list_any (λ flag. flag) (due_flags next.settled.items a next.settled.items)) same ∙ settled_twice next.settled.items))
     (ap (λ k. due_at next.agenda (state_count m + k)) (sym branches)
     ∙ c.set_out.ensures.rising
-    ∙ sym (ap (λ b. if b then Some (0 + 1) else None) (ap (λ a. list_any (λ flag. flag) (due_flags next.settled.items a next.settled.items)) same ∙ settled_twice next.settled.items)))
+    ∙ sym (ap (λ b. if b then Some (0 + 1) else None) blank.not_rising))
     blank.fresh_levels
     (λ e. same) in
     let of_states : states_at next.lines.items 0 ≡ start_states m = again.0 ∙ blank.states in

@@ -1,6 +1,6 @@
 -- All lists have the machine's lengths.
-use Rattle.std.proofs.Common.{◌≡◌, length, sym, ◌∙◌, ap, subst, arith}
-use Rattle.std.proofs.lemmas.List.{length-map}
+use Rattle.std.proofs.Common.{◌≡◌, length, refl, sym, ◌∙◌, ap, subst, arith}
+use Rattle.std.proofs.lemmas.List.{length-map, length-replicate}
 use Rattle.std.specs.Prelude.{All}
 use Rattle.mu_num.specs.Sizes.{IsWithin}
 use Rattle.qss_machine.specs.declared.parts.DiscreteInfo.{DiscreteInfo}
@@ -9,7 +9,7 @@ use Rattle.qss_machine.specs.Machines.{state_count, discrete_count}
 use Rattle.qss_machine.specs.Handlers.{conditions}
 use Rattle.qss_hand.specs.Values.{Values}
 use Rattle.qss_run.proofs.Turns.{conditions_few}
-use Rattle.qss_run.proofs.Starts.{discretes_start, count_start}
+use Rattle.qss_run.proofs.Starts.{states_start, discretes_start, count_start}
 use Rattle.qss_run.proofs.start.blank_store.Goals as goal
 
 pub overflow_cast-states : goal.overflow_cast-states
@@ -39,31 +39,34 @@ returns c =
     let of_pre = ap (λ (v : Values). v.pre) work in
     let room = ap (λ (v : Values). v.room) work in
     let discretes : length c.in_ok-work.work.d ≡ discrete_count m = ap length of_d ∙ length-map m.discretes (λ (d : DiscreteInfo). d.d0) in
-    let twice : c.in_ok-fresh.fresh.items ≡ c.in_ok-levels.levels.items = c.in_ok-fresh.ensures ∙ c.as_slice.ensures.value in
+    let twice : c.in_ok-levels_again.field-0.items ≡ c.in_ok-levels.levels.items = c.in_ok-levels_again.ensures ∙ c.as_slice.ensures.value in
     record {
       fits = record {
         branches = c.in_ok-branches.ensures;
-        uses = c.in_ok-uses.ensures;
-        lines = c.in_ok-lines.ensures ∙ states;
+        uses = c.in_ok-new.ensures;
+        lines = ap length c.in_ok-copies.ensures ∙ length-replicate _ _ ∙ states;
         levels = ap length c.in_ok-levels.ensures ∙ count_start m;
-        slopes = c.in_ok-slopes.ensures ∙ states;
+        slopes = ap length c.in_ok-copies-2.ensures ∙ length-replicate _ _ ∙ states;
         fresh = ap length twice ∙ ap length c.in_ok-levels.ensures ∙ count_start m;
-        moved_room = omega (arith, c.in_ok-moved.ensures.capacity, states);
-        watches = c.in_ok-watches.ensures ∙ places;
-        arrived = c.in_ok-arrived.ensures ∙ places;
-        settled = c.in_ok-settled.ensures ∙ places;
-        now = c.in_ok-now.ensures ∙ places;
-        due = c.in_ok-due.ensures ∙ places;
-        places = omega (arith, c.in_ok-agenda.ensures.places, states, places);
+        weights = ap length c.in_ok-copies-3.ensures ∙ length-replicate _ _ ∙ states;
+        moved_room = omega (arith, c.in_ok-moved.ensures.0, states);
+        changed_room = omega (arith, c.in_ok-moved.ensures.1, places);
+        fired_room = omega (arith, c.in_ok-moved.ensures.2, places);
+        assigned_room = omega (arith, c.in_ok-with_capacity.ensures.capacity, c.capacity.ensures, ap (λ (v : Values). v.room) c.work.view_is, room);
+        watches = ap length c.in_ok-copies-4.ensures ∙ length-replicate _ _ ∙ places;
+        arrived = ap length c.in_ok-arrived.ensures.0 ∙ length-replicate _ _ ∙ places;
+        settled = ap length c.in_ok-arrived.ensures.1 ∙ length-replicate _ _ ∙ places;
+        places = omega (arith, c.in_ok-with_places.ensures.places, states, places);
         states = ap length of_x ∙ length-map m.states (λ (s : StateInfo). s.x0);
         discretes = discretes;
         before = ap length of_pre ∙ length-map m.discretes (λ (d : DiscreteInfo). d.d0);
+        small_states = subst (All (IsWithin 88)) (sym of_x) (states_start m);
         small_discretes = subst (All (IsWithin 43)) (sym of_d) (discretes_start m);
         work_room = omega (arith, room);
         row_room = omega (
           arith,
-          c.in_ok-rows.ensures.capacity,
-          c.capacity.ensures,
+          c.in_ok-with_capacity-2.ensures.capacity,
+          c.capacity-2.ensures,
           c.len.ensures,
           c.work.inside.d.ok.0,
           ap (λ (v : Values). v.room) c.work.view_is,
@@ -77,5 +80,6 @@ returns c =
       discretes = of_d;
       levels = c.in_ok-levels.ensures;
       fresh_levels = twice;
-      no_dues = c.in_ok-agenda.ensures.none;
+      no_dues = c.in_ok-with_places.ensures.none;
+      not_rising = refl;
     }

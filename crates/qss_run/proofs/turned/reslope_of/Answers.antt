@@ -1,45 +1,75 @@
 -- The states that turned and those that did not.
-use Rattle.std.proofs.Common.{◌≡◌, ap, refl, arith, ◌∙◌, sym}
+use Rattle.std.proofs.Common.{◌≡◌, ℕ, ℤ, List, ap, refl, arith, ◌∙◌, sym, flat_map}
 use Rattle.qss_machine.specs.Numbers.{int_at}
 use Rattle.qss_machine.specs.Machines.{slope_at, state_count}
+use Rattle.qss_machine.specs.Uses.{reading_rows}
 use Rattle.qss_sched.specs.Ranks.{due_at}
 use Rattle.qss_run.specs.Places.{line_at}
-use Rattle.qss_run.specs.Renewals.{renewals}
+use Rattle.qss_run.specs.Renewals.{goes_at, renewals}
 use Rattle.qss_run.specs.Turnings.{Courses}
-use Rattle.qss_run.proofs.Courses.{may_turn, turned_all}
+use Rattle.qss_run.proofs.Courses.{may_turn, may_turn_again, turned_then, turned_all}
 use Rattle.qss_run.proofs.Quiet.{int_at-tabulate}
 use Rattle.qss_run.proofs.Renewed.{none_left}
 use Rattle.qss_run.proofs.Turning.{slopes_small}
 use Rattle.qss_run.proofs.turned.reslope_of.Goals as goal
 
-pub turn_moved-requires-clause-small_slopes : goal.turn_moved-requires-clause-small_slopes
-turn_moved-requires-clause-small_slopes g c =
+pub turn_each-requires-clause-small_slopes : goal.turn_each-requires-clause-small_slopes
+turn_each-requires-clause-small_slopes g c =
     slopes_small c.args.m.now c.args.levels.now c.args.d.now c.args.d.now c.shift_slopes.new.slopes c.requires.light refl c.shift_slopes.ensures
 
-pub turn_moved-requires-clause-ready : goal.turn_moved-requires-clause-ready
-turn_moved-requires-clause-ready g c k h =
+pub turn_each-requires-clause-ready : goal.turn_each-requires-clause-ready
+turn_each-requires-clause-ready g c k h =
     may_turn c.args.m.now c.args.tick (int_at c.args.levels.now k) (int_at c.shift_slopes.new.slopes k) k (line_at c.args.lines.now k) (due_at c.args.agenda.now k)
     (c.requires.earlier k h) (c.requires.small_states k h) (c.requires.near k h) (c.requires.due k h)
 
+pub turn_readers-requires-clause-small_slopes : goal.turn_readers-requires-clause-small_slopes
+turn_readers-requires-clause-small_slopes g c =
+    slopes_small c.args.m.now c.args.levels.now c.args.d.now c.args.d.now c.shift_slopes.new.slopes c.requires.light refl c.shift_slopes.ensures
+
+pub turn_readers-requires-clause-ready : goal.turn_readers-requires-clause-ready
+turn_readers-requires-clause-ready g c k h =
+    let level : ℤ = int_at c.args.levels.now k in
+    let slope : ℤ = int_at c.shift_slopes.new.slopes k in
+    may_turn_again c.args.m.now c.args.tick level slope k (line_at c.args.lines.now k) (line_at c.turn_each.new.lines k) (due_at c.args.agenda.now k) (due_at c.turn_each.new.agenda k)
+    (may_turn c.args.m.now c.args.tick level slope k (line_at c.args.lines.now k) (due_at c.args.agenda.now k)
+    (c.requires.earlier k h) (c.requires.small_states k h) (c.requires.near k h) (c.requires.due k h)) (c.turn_each.ensures.turned.each k h)
+
 pub returns-clause-lines : goal.returns-clause-lines
 returns-clause-lines g c k h =
+    let m = c.args.m.now in
+    let moved : List ℕ = c.args.moved.now in
     let first : Courses = record { lines = c.args.lines.now; dues = c.args.agenda.now } in
-    let last : Courses = record { lines = c.turn_moved.new.lines; dues = c.turn_moved.new.agenda } in
+    let between : Courses = record { lines = c.turn_each.new.lines; dues = c.turn_each.new.agenda } in
+    let last : Courses = record { lines = c.turn_readers.new.lines; dues = c.turn_readers.new.agenda } in
+    let both = turned_then m c.args.tick c.args.levels.now c.shift_slopes.new.slopes moved (flat_map (reading_rows m) moved) first between last c.turn_each.ensures.turned c.turn_readers.ensures.turned in
     let earlier = c.requires.earlier k h in
-    turned_all c.args.m.now k h c.args.tick c.args.levels.now c.requires.before.0 c.args.d.now c.args.slopes.now c.shift_slopes.new.slopes c.args.moved.now first last
-    c.turn_moved.ensures.turned c.requires.before.1 c.shift_slopes.ensures (omega (arith, earlier)) (c.requires.own_slope k h) (c.requires.due k h)
+    turned_all m k h c.args.tick c.args.levels.now c.requires.before.0 c.args.d.now c.args.slopes.now c.shift_slopes.new.slopes moved first last
+    both c.requires.before.1 c.shift_slopes.ensures (omega (arith, earlier)) (c.requires.own_slope k h) (c.requires.due k h)
+
+pub returns-clause-others : goal.returns-clause-others
+returns-clause-others g c place past = c.turn_readers.ensures.turned.others place past ∙ c.turn_each.ensures.turned.others place past
+
+pub returns-clause-kept : goal.returns-clause-kept
+returns-clause-kept g c k h so =
+    let first = c.turn_each.ensures.turned.left k h so in
+    c.turn_readers.ensures.turned.left k h (ap (goes_at (int_at c.args.levels.now k) (int_at c.shift_slopes.new.slopes k)) first ∙ so) ∙ first
 
 pub returns-clause-counted : goal.returns-clause-counted
 returns-clause-counted g c =
     let m = c.args.m.now in
+    let levels : List ℤ = c.args.levels.now in
+    let slopes : List ℤ = c.shift_slopes.new.slopes in
+    let moved : List ℕ = c.args.moved.now in
     let first : Courses = record { lines = c.args.lines.now; dues = c.args.agenda.now } in
-    let last : Courses = record { lines = c.turn_moved.new.lines; dues = c.turn_moved.new.agenda } in
-    let none : renewals (state_count m) c.args.levels.now c.shift_slopes.new.slopes c.turn_moved.new.lines ≡ 0 =
-    none_left (state_count m) c.args.levels.now c.shift_slopes.new.slopes c.turn_moved.new.lines (λ k h.
+    let between : Courses = record { lines = c.turn_each.new.lines; dues = c.turn_each.new.agenda } in
+    let last : Courses = record { lines = c.turn_readers.new.lines; dues = c.turn_readers.new.agenda } in
+    let both = turned_then m c.args.tick levels slopes moved (flat_map (reading_rows m) moved) first between last c.turn_each.ensures.turned c.turn_readers.ensures.turned in
+    let none : renewals (state_count m) levels slopes c.turn_readers.new.lines ≡ 0 =
+    none_left (state_count m) levels slopes c.turn_readers.new.lines (λ k h.
     let earlier = c.requires.earlier k h in
-    let turned = turned_all m k h c.args.tick c.args.levels.now c.requires.before.0 c.args.d.now c.args.slopes.now c.shift_slopes.new.slopes c.args.moved.now first last
-    c.turn_moved.ensures.turned c.requires.before.1 c.shift_slopes.ensures (omega (arith, earlier)) (c.requires.own_slope k h) (c.requires.due k h) in (
+    let turned = turned_all m k h c.args.tick levels c.requires.before.0 c.args.d.now c.args.slopes.now slopes moved first last
+    both c.requires.before.1 c.shift_slopes.ensures (omega (arith, earlier)) (c.requires.own_slope k h) (c.requires.due k h) in (
       turned.own_level,
-      turned.own_slope ∙ sym (ap (λ xs. int_at xs k) c.shift_slopes.ensures ∙ int_at-tabulate (state_count m) (λ j. slope_at m j c.args.levels.now c.args.d.now) k h),
+      turned.own_slope ∙ sym (ap (λ xs. int_at xs k) c.shift_slopes.ensures ∙ int_at-tabulate (state_count m) (λ j. slope_at m j levels c.args.d.now) k h),
     )) in
-    omega (arith, c.turn_moved.ensures.counted, none)
+    omega (arith, c.turn_each.ensures.counted, c.turn_readers.ensures.counted, none)

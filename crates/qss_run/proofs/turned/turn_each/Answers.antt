@@ -17,7 +17,7 @@ loop-j-preserved g c =
     let before : Courses = record { lines = c.loop-j.lines; dues = c.loop-j.agenda } in
     let after : Courses = record { lines = c.turn.new.lines; dues = c.turn.new.agenda } in
     let one : AreTurned m c.args.tick c.args.levels.now c.args.slopes.now (state ∷ []) before after =
-    one_turned m c.args.tick c.args.levels.now c.args.slopes.now state before after known c.turn.ensures.turned c.turn.ensures.lines c.turn.ensures.places c.turn.ensures.dues in
+    one_turned m c.args.tick c.args.levels.now c.args.slopes.now state before after known c.turn.ensures.turned c.turn.ensures.lines c.turn.ensures.places c.turn.ensures.dues c.turn.ensures.kept in
     record {
       turned = subst (λ (states : List ℕ). AreTurned m c.args.tick c.args.levels.now c.args.slopes.now states first after) (sym (take_more c.args.states.now i 0 c.loop-j-test.true))
           (turned_then m c.args.tick c.args.levels.now c.args.slopes.now (take i c.args.states.now) (state ∷ []) first before after inv.turned one);

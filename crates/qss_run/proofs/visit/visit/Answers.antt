@@ -1,27 +1,88 @@
--- The states that are due were taken out of the agenda, or it is as it was.
-use Rattle.std.proofs.Common.{◌≡◌, ◌+◌, refl, subst, arith}
+-- What is to be looked at at the next tick was taken out of the agenda.
+use Rattle.std.proofs.Common.{◌≡◌, ◌+◌, length, ◌∙◌, ap, arith}
 use Rattle.qss_machine.specs.Machines.{state_count}
+use Rattle.qss_machine.specs.Handlers.{conditions}
+use Rattle.qss_run.specs.Moves.{became_true}
 use Rattle.qss_run.specs.declared.store.Store.{Store}
-use Rattle.qss_run.specs.Moves.{AreDue}
 use Rattle.qss_run.proofs.Jumps.{dues_later}
-use Rattle.qss_run.proofs.Visits.{stands_with}
+use Rattle.qss_run.proofs.Takes.{none_left_before, none_called_before, is_taken, none_to_call}
+use Rattle.qss_run.proofs.Turns.{conditions_few}
 use Rattle.qss_run.proofs.visit.visit.Goals as goal
 
-pub take_alone-requires-clause-none_before : goal.take_alone-requires-clause-none_before
-take_alone-requires-clause-none_before g c place due e = omega (arith, dues_later c.args.m.now c.args.tick c.args.s.now c.requires.stands place due e)
+pub overflow_cast-conditions : goal.overflow_cast-conditions
+overflow_cast-conditions g c =
+    omega (arith, c.len-conditions.ensures, c.args.s.now.branches.ok.0, c.requires.stands.fits.branches.as_many, conditions_few c.args.m.now)
+
+pub call_risen-requires-clause-few : goal.call_risen-requires-clause-few
+call_risen-requires-clause-few g c =
+    let m = c.args.m.now in
+    let s : Store = c.args.s.now in
+    let fits = c.requires.stands.fits in
+    omega (arith, c.len-states.ensures, s.lines.ok.0, fits.lines, m.has_variables.few, ap length c.as_slice-settled.ensures.value, fits.settled, conditions_few m)
+
+pub call_risen-requires-clause-none_risen : goal.call_risen-requires-clause-none_risen
+call_risen-requires-clause-none_risen g c calm place h =
+    let s : Store = c.args.s.now in
+    ap (λ a. became_true a c.as_slice-settled.result.now place) c.as_slice-arrived.ensures.value
+    ∙ ap (λ b. became_true s.arrived.items b place) c.as_slice-settled.ensures.value
+    ∙ none_to_call c.args.m.now c.args.tick s c.requires.stands calm place
+
+pub take_due-requires-clause-none_before : goal.take_due-requires-clause-none_before
+take_due-requires-clause-none_before g c =
+    let s : Store = c.args.s.now in
+    let fits = c.requires.stands.fits in
+    none_called_before c.len-states.result (c.args.tick + 1) c.as_slice-arrived.result.now c.as_slice-settled.result.now s.agenda c.call_risen.new.agenda c.call_risen.ensures
+    (omega (arith, fits.places, c.len-states.ensures, s.lines.ok.0, fits.lines, ap length c.as_slice-settled.ensures.value, fits.settled))
+    (λ place due e. omega (arith, dues_later c.args.m.now c.args.tick s c.requires.stands place due e))
+
+pub take_changed-requires-clause-few : goal.take_changed-requires-clause-few
+take_changed-requires-clause-few g c =
+    let m = c.args.m.now in
+    let s : Store = c.args.s.now in
+    let fits = c.requires.stands.fits in
+    omega (
+      arith,
+      c.len-states.ensures,
+      s.lines.ok.0,
+      fits.lines,
+      m.has_variables.few,
+      c.len-conditions.ensures,
+      s.branches.ok.0,
+      fits.branches.as_many,
+      conditions_few m,
+    )
+
+pub take_changed-requires-clause-none_before : goal.take_changed-requires-clause-none_before
+take_changed-requires-clause-none_before g c =
+    let s : Store = c.args.s.now in
+    let fits = c.requires.stands.fits in
+    none_left_before c.len-states.result (c.args.tick + 1) c.take_due.new.moved.items c.call_risen.new.agenda c.take_due.new.agenda c.take_due.ensures.due c.take_due.ensures.without
+    (none_called_before c.len-states.result (c.args.tick + 1) c.as_slice-arrived.result.now c.as_slice-settled.result.now s.agenda c.call_risen.new.agenda c.call_risen.ensures
+    (omega (arith, fits.places, c.len-states.ensures, s.lines.ok.0, fits.lines, ap length c.as_slice-settled.ensures.value, fits.settled))
+    (λ place due e. omega (arith, dues_later c.args.m.now c.args.tick s c.requires.stands place due e)))
 
 pub visit_due-requires-clause-taken : goal.visit_due-requires-clause-taken
 visit_due-requires-clause-taken g c =
     let m = c.args.m.now in
     let s : Store = c.args.s.now in
-    let found = c.take_alone.ensures in
-    let alone = c.if-take_alone.true in
-    let states : c.len-states.result ≡ state_count m = omega (arith, c.len-states.ensures, s.lines.ok.0, c.requires.stands.fits.lines) in (
+    let fits = c.requires.stands.fits in
+    let states : c.len-states.result ≡ state_count m = omega (arith, c.len-states.ensures, s.lines.ok.0, fits.lines) in
+    let places : c.len-conditions.result ≡ length (conditions m) = omega (arith, c.len-conditions.ensures, s.branches.ok.0, fits.branches.as_many) in (
       s.agenda,
-      record {
-        stands = stands_with m c.args.tick s c.take_alone.new.moved s.agenda c.requires.stands found.room refl;
-        due = subst (λ n. AreDue n (c.args.tick + 1) s.agenda c.take_alone.new.moved.items) states found.due;
-        without = found.without alone;
-        only_states = λ place later past e. found.only_states alone place later (omega (arith, past, states)) e;
-      },
+      is_taken m c.args.tick s c.len-states.result c.len-conditions.result c.as_slice-arrived.result.now c.as_slice-settled.result.now c.take_due.new.moved c.take_changed.new.changed
+          c.call_risen.new.agenda c.take_due.new.agenda c.take_changed.new.agenda c.requires.stands states places c.as_slice-arrived.ensures.value c.as_slice-settled.ensures.value
+          c.call_risen.ensures c.take_due.ensures.due c.take_due.ensures.without c.take_changed.ensures.changing c.take_changed.ensures.taken c.take_due.ensures.room c.take_changed.ensures.room,
+    )
+
+pub visit_changed-requires-clause-taken : goal.visit_changed-requires-clause-taken
+visit_changed-requires-clause-taken g c =
+    let m = c.args.m.now in
+    let s : Store = c.args.s.now in
+    let fits = c.requires.stands.fits in
+    let states : c.len-states.result ≡ state_count m = omega (arith, c.len-states.ensures, s.lines.ok.0, fits.lines) in
+    let places : c.len-conditions.result ≡ length (conditions m) = omega (arith, c.len-conditions.ensures, s.branches.ok.0, fits.branches.as_many) in (
+      s.agenda,
+      is_taken m c.args.tick s c.len-states.result c.len-conditions.result c.as_slice-arrived.result.now c.as_slice-settled.result.now c.take_due.new.moved c.take_changed.new.changed
+          c.call_risen.new.agenda c.take_due.new.agenda c.take_changed.new.agenda c.requires.stands states places c.as_slice-arrived.ensures.value c.as_slice-settled.ensures.value
+          c.call_risen.ensures c.take_due.ensures.due c.take_due.ensures.without c.take_changed.ensures.changing c.take_changed.ensures.taken c.take_due.ensures.room c.take_changed.ensures.room,
     )

@@ -1,23 +1,24 @@
 -- The conditions that read a state whose row reads one more moved state have their speeds.
-use Rattle.std.proofs.Common.{◌≡◌, ◌<◌, ℕ, List, [], length, get_or, sym, ◌∙◌, ap, subst, arith, below_more}
+use Rattle.std.proofs.Common.{◌≡◌, ◌<◌, ℕ, List, [], length, get_or, sym, ◌∙◌, subst, arith, below_more}
 use Rattle.std.proofs.lemmas.List.Elements.{All-from_get_or}
 use Rattle.std.specs.Prelude.{All, slice_index_or}
 use Rattle.qss_machine.specs.Machines.{state_count}
 use Rattle.qss_machine.specs.Handlers.{conditions}
 use Rattle.qss_run.specs.Speeds.{HasSpeed}
-use Rattle.qss_run.proofs.Speeds.{rows_many, row_places, going_on_more, speeds_kept, watched_again}
+use Rattle.qss_run.proofs.KeptReaders.{rows_many, rows_below}
+use Rattle.qss_run.proofs.Speeds.{going_on_more, speeds_kept, watched_again}
 use Rattle.qss_run.proofs.watching.rewatch_of.Goals as goal
 
 pub rows_of-states-requires : goal.rows_of-states-requires
 rows_of-states-requires c =
     let known = c.requires.moved.below c.loop-state.state-index 0 c.loop-state-test.true in
-    omega (arith, known, ap (λ (uses : List (List ℕ) × List (List ℕ)). length uses.0) c.requires.uses, rows_many c.args.m.now)
+    omega (arith, known, rows_many c.args.m.now c.args.uses.now c.requires.uses)
 
 pub rewatch_states-requires-clause-known : goal.rewatch_states-requires-clause-known
 rewatch_states-requires-clause-known c =
     let known = c.requires.moved.below c.loop-state.state-index 0 c.loop-state-test.true in
     subst (All (λ state. state < state_count c.args.m.now)) (sym c.rows_of-states.ensures)
-    (row_places c.args.m.now c.args.uses.now c.requires.uses (get_or c.args.moved.now c.loop-state.state-index 0) known)
+    (rows_below c.args.m.now c.args.uses.now c.requires.uses (get_or c.args.moved.now c.loop-state.state-index 0) (omega (arith, known)) (state_count c.args.m.now) (omega arith))
 
 pub loop-state-preserved : goal.loop-state-preserved
 loop-state-preserved c =
@@ -33,7 +34,7 @@ loop-state-preserved c =
           (λ k below i d inside.
           let known = c.requires.moved.below k 0 (omega (arith, below, c.loop-state-test.true)) in
           speeds_kept m c.args.uses.now c.requires.uses c.args.tick slopes c.loop-state.watches c.rewatch_states.new.watches c.loop-state.agenda c.rewatch_states.new.agenda going many _
-          (row_places m c.args.uses.now c.requires.uses (get_or c.args.moved.now k 0) known i d inside) (inv.own_speeds k below i d inside))
+          (rows_below m c.args.uses.now c.requires.uses (get_or c.args.moved.now k 0) (omega (arith, known)) (state_count m) (omega arith) i d inside) (inv.own_speeds k below i d inside))
           (subst (All (λ state. All (HasSpeed m slopes c.rewatch_states.new.watches) (slice_index_or c.args.uses.now.1 state []))) c.rows_of-states.ensures c.rewatch_states.ensures.speeds);
     }
 

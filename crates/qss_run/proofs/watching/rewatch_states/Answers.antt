@@ -1,23 +1,24 @@
 -- The conditions that read one more state have their speeds.
-use Rattle.std.proofs.Common.{◌≡◌, ◌<◌, ℕ, List, [], length, get_or, sym, ◌∙◌, ap, subst, arith, below_more}
+use Rattle.std.proofs.Common.{◌≡◌, ◌<◌, [], length, get_or, sym, ◌∙◌, subst, arith, below_more}
 use Rattle.std.proofs.lemmas.List.Elements.{All-from_get_or}
 use Rattle.std.specs.Prelude.{All, slice_index_or}
 use Rattle.qss_machine.specs.Handlers.{conditions}
 use Rattle.qss_run.specs.Speeds.{HasSpeed}
-use Rattle.qss_run.proofs.Speeds.{conditions_many, condition_places, going_on_more, speeds_kept}
+use Rattle.qss_run.proofs.KeptReaders.{conditions_many, conditions_below}
+use Rattle.qss_run.proofs.Speeds.{going_on_more, speeds_kept}
 use Rattle.qss_run.proofs.watching.rewatch_states.Goals as goal
 
 pub conditions_of-places-requires : goal.conditions_of-places-requires
 conditions_of-places-requires c =
     let known = c.requires.known c.loop-state.state-index 0 c.loop-state-test.true in
-    omega (arith, known, ap (λ (uses : List (List ℕ) × List (List ℕ)). length uses.1) c.requires.uses, conditions_many c.args.m.now)
+    omega (arith, known, conditions_many c.args.m.now c.args.uses.now c.requires.uses)
 
 pub rewatch_places-requires-clause-known : goal.rewatch_places-requires-clause-known
 rewatch_places-requires-clause-known c =
     let known = c.requires.known c.loop-state.state-index 0 c.loop-state-test.true in
     subst (All (λ place. place < length c.args.branches.now)) (sym c.conditions_of-places.ensures)
-    (subst (λ n. All (λ place. place < n) (slice_index_or c.args.uses.now.1 (get_or c.args.states.now c.loop-state.state-index 0) [])) (sym c.requires.branches.as_many)
-    (condition_places c.args.m.now c.args.uses.now c.requires.uses (get_or c.args.states.now c.loop-state.state-index 0) known))
+    (conditions_below c.args.m.now c.args.uses.now c.requires.uses (get_or c.args.states.now c.loop-state.state-index 0) (omega (arith, known)) (length c.args.branches.now)
+    (omega (arith, c.requires.branches.as_many)))
 
 pub loop-state-preserved : goal.loop-state-preserved
 loop-state-preserved c =

@@ -1,0 +1,112 @@
+-- Slopes and conditions after handlers, where few states moved and few discrete variables were assigned.
+use Rattle.std.proofs.Common.{◌≡◌, ℕ, ◌+◌, ◌<◌, Bool, false, List, [], length, ℤ, pos, sym, ◌∙◌, ap, arith, inl, inr}
+use Rattle.std.proofs.lemmas.Bool.{cases_Bool}
+use Rattle.std.proofs.lemmas.List.FromFn.{length-map-range_with_len}
+use Rattle.std.specs.Prelude.{Option, if◌then◌else◌}
+use Rattle.mu_num.proofs.Tests.{if-false}
+use Rattle.qss_machine.specs.declared.parts.SlopeRow.{SlopeRow}
+use Rattle.qss_machine.specs.declared.system.Machine.{Machine}
+use Rattle.qss_machine.specs.Handlers.{conditions}
+use Rattle.qss_machine.specs.Firing.{flag_at}
+use Rattle.qss_machine.specs.Machines.{state_count, discrete_count, slope_at, row_at, truth}
+use Rattle.qss_machine.specs.Numbers.{int_at, tabulate}
+use Rattle.qss_machine.specs.Ticks.{World}
+use Rattle.qss_machine.specs.Uses.{row_reads}
+use Rattle.qss_quant.specs.Lines.{Line, state_at}
+use Rattle.qss_cross.specs.Crossing.{Watch}
+use Rattle.qss_sched.specs.Ranks.{due_at}
+use Rattle.qss_run.specs.Handlings.{AreAssigned, states_with, AreWatchedUpTo}
+use Rattle.qss_run.specs.Moves.{is_among, IsOff}
+use Rattle.qss_run.specs.Places.{line_at, watch_at, IsWatched}
+use Rattle.qss_run.specs.Sims.{condition_at}
+use Rattle.qss_run.specs.Speeds.{reads_moved}
+use Rattle.qss_run.specs.Stores.{states_at}
+use Rattle.qss_run.proofs.DueLevels.{length-states_at, int_at-states_at}
+use Rattle.qss_run.proofs.Quiet.{int_at-tabulate, tabulate-same}
+use Rattle.qss_run.proofs.SameSlopes.{slope_same}
+use Rattle.qss_run.proofs.Unread.{unread_at}
+
+-- states with those of the moved ones, by number
+pub length-states_with : (lines : List Line) (t : ℕ) (moved : List ℕ) (x : List ℤ) → length (states_with lines t moved x) ≡ length lines
+length-states_with lines t moved x = length-map-range_with_len (λ j. if is_among moved j then int_at x j else state_at (line_at lines j) t) 0 (length lines)
+
+pub int_at-states_with : (lines : List Line) (t : ℕ) (moved : List ℕ) (x : List ℤ) (j : ℕ) → j < length lines →
+    int_at (states_with lines t moved x) j ≡ (if is_among moved j then int_at x j else state_at (line_at lines j) t)
+int_at-states_with lines t moved x j h = int_at-tabulate (length lines) (λ i. if is_among moved i then int_at x i else state_at (line_at lines i) t) j h
+
+pub other_state : (lines : List Line) (t : ℕ) (moved : List ℕ) (x : List ℤ) (j : ℕ) → j < length lines → is_among moved j ≡ false → int_at (states_with lines t moved x) j ≡ state_at (line_at lines j) t
+other_state lines t moved x j h none = int_at-states_with lines t moved x j h ∙ if-false (is_among moved j) (int_at x j) (state_at (line_at lines j) t) none
+
+-- states and slopes from slices of what a store keeps
+pub same_states : (lines now_lines : List Line) (t : ℕ) (moved now_moved : List ℕ) (x now_x : List ℤ) → now_lines ≡ lines → now_moved ≡ moved → now_x ≡ x →
+    states_with now_lines t now_moved now_x ≡ states_with lines t moved x
+same_states lines now_lines t moved now_moved x now_x of_lines of_moved of_x =
+    ap (λ ls. states_with ls t now_moved now_x) of_lines ∙ ap (λ js. states_with lines t js now_x) of_moved ∙ ap (states_with lines t moved) of_x
+
+pub same_slopes : (m : Machine) (levels now_levels d now_d : List ℤ) → now_levels ≡ levels → now_d ≡ d →
+    tabulate (state_count m) (λ j. slope_at m j now_levels now_d) ≡ tabulate (state_count m) (λ j. slope_at m j levels d)
+same_slopes m levels now_levels d now_d of_levels of_d =
+    ap (λ l. tabulate (state_count m) (λ j. slope_at m j l now_d)) of_levels ∙ ap (λ e. tabulate (state_count m) (λ j. slope_at m j levels e)) of_d
+
+-- worlds of the same lists
+pub same_worlds : (v w : World) → v.states ≡ w.states → v.levels ≡ w.levels → v.discretes ≡ w.discretes → v.arrived ≡ w.arrived → v.settled ≡ w.settled → v ≡ w
+same_worlds v w states levels discretes arrived settled =
+    ap (λ (x : List ℤ). record v { states = x }) states
+    ∙ ap (λ (l : List ℤ). record v { states = w.states; levels = l }) levels
+    ∙ ap (λ (d : List ℤ). record v { states = w.states; levels = w.levels; discretes = d }) discretes
+    ∙ ap (λ (a : List Bool). record { states = w.states; levels = w.levels; discretes = w.discretes; arrived = a; settled = v.settled }) arrived
+    ∙ ap (λ (b : List Bool). record w { settled = b }) settled
+
+-- lines that are at these states lead to them
+pub lead_to : (n : ℕ) (lines after : List Line) (t : ℕ) (moved : List ℕ) (x : List ℤ) → length lines ≡ n → length after ≡ n →
+    ((j : ℕ) → j < n → state_at (line_at after j) t ≡ int_at (states_with lines t moved x) j) → states_at after t ≡ states_with lines t moved x
+lead_to n lines after t moved x many as_many here =
+    ap (λ k. tabulate k (λ j. state_at (line_at after j) t)) as_many
+    ∙ tabulate-same (pos 0) n _ _ (λ j h. here j h ∙ int_at-states_with lines t moved x j (omega (arith, h, many)))
+    ∙ sym (ap (λ k. tabulate k (λ j. if is_among moved j then int_at x j else state_at (line_at lines j) t)) many)
+
+module _ (m : Machine) (moved assigned : List ℕ) (old levels pre d before slopes : List ℤ) (off : IsOff moved old levels) (are : AreAssigned m assigned pre d)
+    (old_many : length old ≡ state_count m) (pre_many : length pre ≡ discrete_count m) (d_many : length d ≡ discrete_count m)
+    (was : before ≡ tabulate (state_count m) (λ j. slope_at m j old pre)) (is : slopes ≡ tabulate (state_count m) (λ j. slope_at m j levels d)) where
+  -- a row that reads no moved state and no assigned variable gives the same slope
+  unread : (j : ℕ) → j < state_count m → reads_moved m moved j ≡ false → reads_moved m assigned j ≡ false → slope_at m j levels d ≡ slope_at m j old pre
+  unread j h no_state no_variable =
+      let row : SlopeRow = row_at m j in
+      let none : SlopeRow = record { entries = []; products = []; beta = pos 0 } in
+      slope_same m.f (state_count m) (discrete_count m) row old levels pre d old_many (off.as_many ∙ old_many) pre_many d_many
+      (m.has_rows.each j none (omega (arith, h, m.has_rows.one_each))).products.of_discretes
+      (λ i inside reads. elim (cases_Bool (is_among moved i)) [
+        | inl among ↦ let not : row_reads i row ≡ false = unread_at moved row no_state i among in absurd (cc)
+        | inr kept ↦ off.others i kept
+      ])
+      (λ g inside reads. elim (cases_Bool (is_among assigned (state_count m + g))) [
+        | inl among ↦ let not : row_reads (state_count m + g) row ≡ false = unread_at assigned row no_variable (state_count m + g) among in absurd (cc)
+        | inr kept ↦ are g inside kept
+      ])
+
+  pub slopes_stay_where : (j : ℕ) → j < state_count m → reads_moved m moved j ≡ false → reads_moved m assigned j ≡ false → int_at slopes j ≡ int_at before j
+  slopes_stay_where j h no_state no_variable =
+      ap (λ xs. int_at xs j) is
+      ∙ int_at-tabulate (state_count m) (λ i. slope_at m i levels d) j h
+      ∙ unread j h no_state no_variable
+      ∙ sym (int_at-tabulate (state_count m) (λ i. slope_at m i old pre) j h)
+      ∙ ap (λ xs. int_at xs j) (sym was)
+
+  -- the conditions, watched up to now
+  pub watched_up_to : (t : ℕ) (changed : List ℕ) (lines after : List Line) (x : List ℤ) (settled : List Bool) (watches : List Watch) (due : List (Option ℕ)) →
+      length lines ≡ state_count m → states_at after t ≡ states_with lines t moved x → length before ≡ state_count m → length slopes ≡ state_count m →
+      ((place : ℕ) → place < length (conditions m) → is_among changed place ≡ false →
+      IsWatched m t (states_at lines t) pre before place (watch_at watches place) (due_at due (state_count m + place))) →
+      ((place : ℕ) → place < length (conditions m) → is_among changed place ≡ false → flag_at settled place ≡ truth m (condition_at m place) (states_at lines t) pre t) →
+      AreWatchedUpTo m t moved assigned changed (states_at lines t) (states_at after t) pre d before slopes settled watches due
+  watched_up_to t changed lines after x settled watches due many lead before_many slopes_many watched flags = record {
+    each = watched;
+    settled_so = flags;
+    other_states = λ j h none.
+        ap (λ xs. int_at xs j) lead ∙ other_state lines t moved x j (omega (arith, h, many)) none ∙ sym (int_at-states_at lines t j (omega (arith, h, many)));
+    other_discretes = are;
+    other_slopes = slopes_stay_where;
+    many_states = (length-states_at lines t ∙ many, ap length lead ∙ length-states_with lines t moved x ∙ many);
+    many_discretes = (pre_many, d_many);
+    many_slopes = (before_many, slopes_many);
+  }

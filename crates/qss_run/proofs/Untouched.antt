@@ -1,0 +1,199 @@
+-- A condition that reads nothing that changed has its value, its speed and its truth.
+use Rattle.std.proofs.Common.{◌≡◌, ℕ, ◌+◌, ◌-◌, ◌<◌, ◌≤◌, Bool, true, false, List, [], ◌∷◌, ◌++◌, length, get_or, map, ℤ, pos, ◌*ℤ◌, refl, sym, ◌∙◌, ap, subst, arith, inl, inr, ◌==◌}
+use Rattle.std.proofs.lemmas.Bool.{or_parts, or_cases, cases_Bool, cases_lt, false_from_ne_true}
+use Rattle.std.proofs.lemmas.Int.{ints}
+use Rattle.std.proofs.lemmas.List.{get_or-map, length-map, get_or_append_left, get_or-append_right, get_or_past}
+use Rattle.std.proofs.lemmas.List.Folds.{Any-from_list_any, list_any-append, list_any_at}
+use Rattle.std.specs.Prelude.{flat_map}
+use Rattle.mu_num.proofs.Tests.{eqb-yes, eqb-true}
+use Rattle.qss_machine.specs.declared.parts.Condition.{Condition}
+use Rattle.qss_machine.specs.declared.parts.Entry.{Entry}
+use Rattle.qss_machine.specs.declared.parts.Rel.TheVariants.{Less}
+use Rattle.qss_machine.specs.declared.system.Machine.{Machine}
+use Rattle.qss_machine.specs.Machines.{state_count, discrete_count, row_at, level_unit, inputs, value_of, speed_of, compares}
+use Rattle.qss_machine.specs.Numbers.{int_at}
+use Rattle.qss_machine.specs.Handlers.{conditions}
+use Rattle.qss_machine.specs.Uses.{row_reads, condition_reads, reading_rows, reading_conditions}
+use Rattle.qss_sched.specs.Ranks.{due_at}
+use Rattle.qss_run.specs.Handlings.{AreWatchedUpTo}
+use Rattle.qss_run.specs.Moves.{is_among}
+use Rattle.qss_run.specs.Places.{watch_at}
+use Rattle.qss_run.specs.Sims.{condition_at}
+use Rattle.qss_run.specs.Speeds.{reads_moved}
+use Rattle.qss_run.specs.Rewatchings.{Watchings, IsSettled, AreSettled, readers_of, touched_by, readers_before, touched_after}
+use Rattle.qss_run.proofs.Among.{among_rows}
+use Rattle.qss_run.proofs.Rewatching.{still_settled, watched_as}
+use Rattle.qss_run.proofs.Speeds.{of_place, speeds_same}
+
+-- a number in none of the lists is not in one of them
+none_among : (f : ℕ → List ℕ) (xs : List ℕ) (place : ℕ) → is_among (flat_map f xs) place ≡ false → (i : ℕ) → is_among xs i ≡ true → is_among (f i) place ≡ false
+none_among f [] place none i among = absurd (cc)
+none_among f (x ∷ xs) place none i among =
+    let parts = or_parts (is_among (f x) place) (is_among (flat_map f xs) place) (sym (list_any-append (λ (k : ℕ). k == place) (f x) (flat_map f xs)) ∙ none) in
+    elim (or_cases (x == i) (is_among xs i) among) [
+      | inl same ↦ subst (λ (k : ℕ). is_among (f k) place ≡ false) (eqb-true x i same) parts.0
+      | inr rest ↦ none_among f xs place parts.1 i rest
+    ]
+
+-- a number that is in neither of two lists
+in_neither : (xs ys : List ℕ) (place : ℕ) → is_among (xs ++ ys) place ≡ false → (is_among xs place ≡ false) × (is_among ys place ≡ false)
+in_neither xs ys place none = or_parts (is_among xs place) (is_among ys place) (sym (list_any-append (λ (k : ℕ). k == place) xs ys) ∙ none)
+
+clash : {P : Type 0} (b : Bool) → b ≡ true → b ≡ false → P
+clash b is is_not = absurd (cc)
+
+-- ---- what a condition does not read
+
+module _ (m : Machine) (place : ℕ) (h : place < length (conditions m)) where
+  -- a condition stands among those that read a variable where it reads it
+  among_readers : (var : ℕ) → condition_reads var (condition_at m place) ≡ true → is_among (reading_conditions m var) place ≡ true
+  among_readers var reads =
+      let none : Condition = record { form = record { entries = []; time = pos 0; gamma = pos 0 }; rel = Less } in
+      let Stands = λ (k : ℕ). is_among (reading_conditions m var) k ≡ true in
+      let here : 0 + place ≡ place = omega arith in
+      subst Stands here
+      (of_place Stands (condition_reads var) 0 (conditions m) place none
+      (λ k other inside. list_any_at (λ (i : ℕ). i == get_or (reading_conditions m var) k other) (reading_conditions m var) k other inside (eqb-yes _ (get_or (reading_conditions m var) k other) refl))
+      h reads)
+
+  -- a variable that an untouched condition reads is not one of these, and its row reads none of them
+  not_one : (vars : List ℕ) → is_among (touched_by m vars) place ≡ false → (j : ℕ) → condition_reads j (condition_at m place) ≡ true → is_among vars j ≡ false
+  not_one vars none j reads =
+      false_from_ne_true (is_among vars j)
+      (λ among.
+      let own = in_neither (readers_of m (reading_rows m j)) (reading_conditions m j) place (none_among (λ v. readers_of m (reading_rows m v) ++ reading_conditions m v) vars place none j among) in
+      clash (is_among (reading_conditions m j) place) (among_readers j reads) own.1)
+
+  row_reads_none : (vars : List ℕ) → is_among (touched_by m vars) place ≡ false → (j : ℕ) → j < state_count m → condition_reads j (condition_at m place) ≡ true → reads_moved m vars j ≡ false
+  row_reads_none vars none j inside reads =
+      false_from_ne_true (reads_moved m vars j)
+      (λ some.
+      let found = Any-from_list_any (λ i. row_reads i (row_at m j)) vars some in
+      let i : ℕ = found.1 in
+      let among : is_among vars i ≡ true = list_any_at (λ (k : ℕ). k == i) vars found.0 i found.2 (eqb-yes _ i found.3) in
+      let own = in_neither (readers_of m (reading_rows m i)) (reading_conditions m i) place (none_among (λ v. readers_of m (reading_rows m v) ++ reading_conditions m v) vars place none i among) in
+      let row : is_among (reading_rows m i) j ≡ true = among_rows m i j inside ∙ found.4 in
+      clash (is_among (reading_conditions m j) place) (among_readers j reads) (none_among (reading_conditions m) (reading_rows m i) place own.0 j row))
+
+  -- nor is it the value before the tick of one of these
+  not_before : (assigned : List ℕ) → is_among (readers_before m assigned) place ≡ false → (j : ℕ) → condition_reads (j + discrete_count m) (condition_at m place) ≡ true → is_among assigned j ≡ false
+  not_before assigned none j reads =
+      false_from_ne_true (is_among assigned j)
+      (λ among.
+      clash (is_among (reading_conditions m (j + discrete_count m)) place) (among_readers (j + discrete_count m) reads)
+      (none_among (λ v. reading_conditions m (v + discrete_count m)) assigned place none j among))
+
+-- ---- numbers in lists one after another
+
+one_after_another : (a b c d : List ℤ) (j : ℕ) → length a ≡ length b → (j < length a → int_at a j ≡ int_at b j) → (length a ≤ j → int_at c (j - length a) ≡ int_at d (j - length a)) →
+    int_at (a ++ c) j ≡ int_at (b ++ d) j
+one_after_another a b c d j many first second = elim (cases_lt j (length a)) [
+  | inl below ↦ get_or_append_left a c (pos 0) j below ∙ first below ∙ sym (get_or_append_left b d (pos 0) j (omega (arith, below, many)))
+  | inr past ↦
+      get_or-append_right a c (length a) j (pos 0) refl past ∙ second past ∙ sym (get_or-append_right b d (length a) j (pos 0) (sym many) past)
+]
+
+in_units : (unit : ℤ) (a b : List ℤ) (g : ℕ) → length a ≡ length b → int_at a g ≡ int_at b g → int_at (map (λ d. d *ℤ unit) a) g ≡ int_at (map (λ d. d *ℤ unit) b) g
+in_units unit a b g many same = elim (cases_lt g (length a)) [
+  | inl below ↦
+      get_or-map (λ d. d *ℤ unit) a g (pos 0) (pos 0) below ∙ ap (λ z. z *ℤ unit) same ∙ sym (get_or-map (λ d. d *ℤ unit) b g (pos 0) (pos 0) (omega (arith, below, many)))
+  | inr past ↦
+      get_or_past (map (λ d. d *ℤ unit) a) g (pos 0) (omega (arith, past, length-map a (λ d. d *ℤ unit)))
+      ∙ sym (get_or_past (map (λ d. d *ℤ unit) b) g (pos 0) (omega (arith, past, many, length-map b (λ d. d *ℤ unit))))
+]
+
+-- ---- all conditions
+
+module _ (m : Machine) (tick : ℕ) (moved assigned changed : List ℕ) (x states pre d before slopes : List ℤ) (old new : Watchings)
+    (upto : AreWatchedUpTo m tick moved assigned changed x states pre d before slopes old.settled old.watches old.dues)
+    (are : AreSettled m tick states d slopes (touched_after m moved assigned changed) old new) where
+  module _ (place : ℕ) (h : place < length (conditions m)) (none : is_among (touched_after m moved assigned changed) place ≡ false) where
+    not_before_tick : is_among (readers_before m assigned) place ≡ false
+    not_before_tick = (in_neither ((changed ++ touched_by m moved) ++ touched_by m assigned) (readers_before m assigned) place none).1
+
+    first_three : is_among ((changed ++ touched_by m moved) ++ touched_by m assigned) place ≡ false
+    first_three = (in_neither ((changed ++ touched_by m moved) ++ touched_by m assigned) (readers_before m assigned) place none).0
+
+    not_assigned : is_among (touched_by m assigned) place ≡ false
+    not_assigned = (in_neither (changed ++ touched_by m moved) (touched_by m assigned) place first_three).1
+
+    first_two : is_among (changed ++ touched_by m moved) place ≡ false
+    first_two = (in_neither (changed ++ touched_by m moved) (touched_by m assigned) place first_three).0
+
+    not_moved : is_among (touched_by m moved) place ≡ false
+    not_moved = (in_neither changed (touched_by m moved) place first_two).1
+
+    not_changed : is_among changed place ≡ false
+    not_changed = (in_neither changed (touched_by m moved) place first_two).0
+
+    reads_entry : (k : ℕ) (entry : Entry) → k < length (condition_at m place).form.entries →
+        condition_reads (get_or (condition_at m place).form.entries k entry).var (condition_at m place) ≡ true
+    reads_entry k entry inside =
+        let var : ℕ = (get_or (condition_at m place).form.entries k entry).var in
+        list_any_at (λ (e : Entry). e.var == var) (condition_at m place).form.entries k entry inside (eqb-yes var var refl)
+
+    discrete_same : (g : ℕ) → is_among assigned (state_count m + g) ≡ false → int_at pre g ≡ int_at d g
+    discrete_same g kept = elim (cases_lt g (discrete_count m)) [
+      | inl below ↦ sym (upto.other_discretes g below kept)
+      | inr past ↦ get_or_past pre g (pos 0) (omega (arith, past, upto.many_discretes.0)) ∙ sym (get_or_past d g (pos 0) (omega (arith, past, upto.many_discretes.1)))
+    ]
+
+    -- what it reads is the same
+    input_same : (var : ℕ) → condition_reads var (condition_at m place) ≡ true → int_at (inputs m x pre pre) var ≡ int_at (inputs m states d d) var
+    input_same var reads =
+        let unit : ℤ = level_unit m in
+        let units : List ℤ → List ℤ = map (λ z. z *ℤ unit) in
+        let many : length pre ≡ length d = upto.many_discretes.0 ∙ sym upto.many_discretes.1 in
+        let many_units : length (units pre) ≡ length (units d) = length-map pre (λ z. z *ℤ unit) ∙ many ∙ sym (length-map d (λ z. z *ℤ unit)) in
+        let here : length (units pre) ≡ discrete_count m = length-map pre (λ z. z *ℤ unit) ∙ upto.many_discretes.0 in
+        one_after_another x states (units pre ++ units pre) (units d ++ units d) var (upto.many_states.0 ∙ sym upto.many_states.1)
+        (λ below. sym (upto.other_states var (omega (arith, below, upto.many_states.0)) (not_one m place h moved not_moved var reads)))
+        (λ past.
+        let g : ℕ = var - length x in
+        let e : var ≡ state_count m + g = omega (arith, past, upto.many_states.0) in
+        one_after_another (units pre) (units d) (units pre) (units d) g many_units
+        (λ below. in_units unit pre d g many (discrete_same g (not_one m place h assigned not_assigned (state_count m + g) (subst (λ (v : ℕ). condition_reads v (condition_at m place) ≡ true) e reads))))
+        (λ over.
+        let k : ℕ = g - length (units pre) in
+        let e : var ≡ (state_count m + k) + discrete_count m = omega (arith, past, upto.many_states.0, over, here) in
+        in_units unit pre d k many
+        (discrete_same k (not_before m place h assigned not_before_tick (state_count m + k) (subst (λ (v : ℕ). condition_reads v (condition_at m place) ≡ true) e reads)))))
+
+    same_value : value_of m (condition_at m place).form x pre pre tick ≡ value_of m (condition_at m place).form states d d tick
+    same_value =
+        let sums = speeds_same m (condition_at m place).form (inputs m x pre pre) (inputs m states d d) (λ k entry inside. input_same _ (reads_entry k entry inside)) in
+        omega (arith, ints, sums)
+
+    same_speed : speed_of m (condition_at m place).form before ≡ speed_of m (condition_at m place).form slopes
+    same_speed =
+        speeds_same m (condition_at m place).form before slopes
+        (λ k entry inside.
+        let var : ℕ = (get_or (condition_at m place).form.entries k entry).var in
+        let reads = reads_entry k entry inside in
+        elim (cases_lt var (state_count m)) [
+          | inl below ↦ sym (upto.other_slopes var below (row_reads_none m place h moved not_moved var below reads) (row_reads_none m place h assigned not_assigned var below reads))
+          | inr past ↦ get_or_past before var (pos 0) (omega (arith, past, upto.many_slopes.0)) ∙ sym (get_or_past slopes var (pos 0) (omega (arith, past, upto.many_slopes.1)))
+        ])
+
+    untouched : IsSettled m tick states d slopes place new
+    untouched =
+        still_settled m tick states d slopes place old new (are.kept place none)
+        (record {
+          watched = watched_as m tick x pre before states d slopes place (watch_at old.watches place) (due_at old.dues (state_count m + place)) same_value same_speed (upto.each place h not_changed);
+          own_truth = upto.settled_so place h not_changed ∙ ap (compares (condition_at m place).rel) same_value;
+        })
+
+  -- each condition is settled: one that is not touched as it was
+  each_settled : (place : ℕ) → place < length (conditions m) → IsSettled m tick states d slopes place new
+  each_settled place h = elim (cases_Bool (is_among (touched_after m moved assigned changed) place)) [
+    | inl touched ↦ are.own place touched
+    | inr none ↦ untouched place h none
+  ]
+
+-- where the touched conditions are settled, all are
+pub all_settled : (m : Machine) (tick : ℕ) (moved assigned changed : List ℕ) (x states pre d now before slopes : List ℤ) (old new : Watchings) →
+    AreWatchedUpTo m tick moved assigned changed x states pre d before slopes old.settled old.watches old.dues → now ≡ d →
+    AreSettled m tick states now slopes (touched_after m moved assigned changed) old new → (place : ℕ) → place < length (conditions m) → IsSettled m tick states d slopes place new
+all_settled m tick moved assigned changed x states pre d now before slopes old new upto same are place h =
+    each_settled m tick moved assigned changed x states pre d before slopes old new upto
+    (subst (λ (e : List ℤ). AreSettled m tick states e slopes (touched_after m moved assigned changed) old new) same are) place h

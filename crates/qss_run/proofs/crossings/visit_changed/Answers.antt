@@ -1,0 +1,323 @@
+-- A tick at which conditions change.
+use Rattle.std.proofs.Common.{◌≡◌, ℕ, ◌+◌, ◌≤◌, ◌++◌, List, ℤ, Bool, length, sym, ◌∙◌, ap, subst, arith}
+use Rattle.std.proofs.lemmas.List.{with_items_is}
+use Rattle.std.specs.Option.{option_or}
+use Rattle.std.specs.Prelude.{Option, None, Ok, All, position, vec_capacity}
+use Rattle.std.specs.Vec.{with_items}
+use Rattle.mu_num.specs.Sizes.{IsWithin}
+use Rattle.qss_machine.specs.Handlers.{Handling, conditions, truths}
+use Rattle.qss_machine.specs.Machines.{state_count, slope_at, truth}
+use Rattle.qss_machine.specs.Numbers.{int_at, tabulate, first_past}
+use Rattle.qss_machine.specs.Runs.{level_rows}
+use Rattle.qss_machine.specs.Ticks.{World, moved_states, handling_at, is_overweight, AreNextLevels}
+use Rattle.qss_machine.specs.Firing.{flag_at}
+use Rattle.qss_quant.specs.Lines.{Line, state_at}
+use Rattle.qss_cross.specs.Crossing.{Watch, IsSmall, value_at, holds_at}
+use Rattle.qss_hand.specs.Values.{Values}
+use Rattle.qss_sched.specs.Ranks.{due_at}
+use Rattle.qss_run.specs.declared.store.Store.{Store}
+use Rattle.qss_run.specs.Handlings.{states_with, AreAssigned, IsHandled, AreMovedTo}
+use Rattle.qss_run.specs.Moves.{is_among, became_true, IsOff}
+use Rattle.qss_run.specs.Places.{line_at, watch_at, IsWatched}
+use Rattle.qss_run.specs.Renewals.{renewals_from}
+use Rattle.qss_run.specs.Rules.{IsRuled}
+use Rattle.qss_run.specs.Sims.{condition_at, weights_at}
+use Rattle.qss_run.specs.Stores.{states_at, handling_from, world_of}
+use Rattle.qss_run.specs.Touches.{touches_at}
+use Rattle.qss_run.specs.Turnings.{AreLevelsBefore}
+use Rattle.qss_run.proofs.AfterHandlers.{same_worlds}
+use Rattle.qss_run.proofs.Crossed.{none_early, later_dues, flag_same, rest_as_before, watched_then, watched_still, moved_to, near_after, due_after, levels_before_handlers, conditions_stay}
+use Rattle.qss_run.proofs.DueLevels.{int_at-states_at}
+use Rattle.qss_run.proofs.Handled.{not_some, all_within, rows_handled}
+use Rattle.qss_run.proofs.QuietVisits.{earlier, own_slope, rest_small}
+use Rattle.qss_run.proofs.Reinits.{kept_state}
+use Rattle.qss_run.proofs.Touched.{renewals_from_touched}
+use Rattle.qss_run.proofs.Visits.{arrives, handles_from, both_none, early, late, steps_to, end_of, same_length, levels_small}
+use Rattle.qss_run.proofs.crossings.visit_changed.Goals as goal
+
+pub handle_changed-over-requires-clause-later_dues : goal.handle_changed-over-requires-clause-later_dues
+handle_changed-over-requires-clause-later_dues g c =
+    later_dues c.args.m.now c.args.tick c.requires.taken.0 c.args.s.now c.requires.taken.1 c.requires.in_time
+
+pub handle_changed-over-requires-clause-others_small : goal.handle_changed-over-requires-clause-others_small
+handle_changed-over-requires-clause-others_small g c j h none =
+    subst (λ ls. IsWithin 88 (state_at (line_at ls j) (c.args.tick + 1))) (sym c.as_slice-2.ensures.value)
+    (rest_small c.args.m.now c.args.tick c.requires.taken.0 c.args.s.now c.requires.taken.1 c.requires.in_time j h none)
+
+pub handle_changed-over-requires-clause-watched : goal.handle_changed-over-requires-clause-watched
+handle_changed-over-requires-clause-watched g c place h =
+    let m = c.args.m.now in
+    let t = c.args.tick + 1 in
+    let s : Store = c.args.s.now in
+    let taken = c.requires.taken.1 in
+    let told : List Watch → List Line → Type 0 = λ ws ls. ((watch_at ws place).tick ≤ t) × (All (IsWithin 88) (states_at ls t) → IsSmall (value_at (watch_at ws place) t))
+    × (holds_at (watch_at ws place) t ≡ truth m (condition_at m place) (states_at ls t) s.work.d t) in
+    subst (λ ws. told ws c.as_slice-2.result.now) (sym c.as_slice-4.ensures.value)
+    (subst (told s.watches.items) (sym c.as_slice-2.ensures.value)
+    (watched_then m c.args.tick c.requires.taken.0 s taken c.requires.in_time place (omega (arith, h, ap length c.as_slice.ensures.value, taken.stands.fits.branches.as_many))))
+
+pub handle_changed-over-requires-clause-others : goal.handle_changed-over-requires-clause-others
+handle_changed-over-requires-clause-others g c place h none =
+    let m = c.args.m.now in
+    let t = c.args.tick + 1 in
+    let s : Store = c.args.s.now in
+    let taken = c.requires.taken.1 in
+    let both = rest_as_before m c.args.tick c.requires.taken.0 s taken c.requires.in_time place (omega (arith, h, ap length c.as_slice.ensures.value, taken.stands.fits.branches.as_many))
+    (ap (λ cs. is_among cs place) (sym c.as_slice-3.ensures.value) ∙ none) in (
+      ap (λ ls. truth m (condition_at m place) (states_at ls t) s.work.d t) c.as_slice-2.ensures.value ∙ both.0 ∙ ap (λ b. flag_at b place) (sym c.as_slice-5.ensures.value),
+      ap (λ b. became_true c.as_mut_slice.result.now b place) c.as_slice-5.ensures.value ∙ ap (λ a. became_true a s.settled.items place) c.as_mut_slice.ensures.value ∙ both.1,
+    )
+
+pub returns-then-is_some-clause-stepped : goal.returns-then-is_some-clause-stepped
+returns-then-is_some-clause-stepped g c =
+    let m = c.args.m.now in
+    let t = c.args.tick + 1 in
+    let s : Store = c.args.s.now in
+    let agenda : List (Option ℕ) = c.requires.taken.0 in
+    let taken = c.requires.taken.1 in
+    let h : Handling = handling_from m t (states_at c.as_slice-2.result.now t) s.work.d c.as_mut_slice.result.now c.as_slice-5.result.now in
+    let is_h : h ≡ handling_at m t (world_of c.args.tick s) =
+    handles_from m c.args.tick (record s { agenda = agenda }) taken.stands c.as_slice-2.result.now c.as_mut_slice.result.now c.as_slice-5.result.now
+    c.as_slice-2.ensures.value c.as_mut_slice.ensures.value c.as_slice-5.ensures.value in
+    early (IsRuled c.args.q.now.name) m t (world_of c.args.tick s) _ c.handle_changed-over.result (sym c.is_some.ensures ∙ c.if-is_some.true)
+    (c.handle_changed-over.ensures.over ∙ ap (λ (k : Handling). k.overflow) is_h)
+
+pub requantize_handled-over-requires-clause-small_levels : goal.requantize_handled-over-requires-clause-small_levels
+requantize_handled-over-requires-clause-small_levels g c =
+    subst (All (IsWithin 43)) (sym c.as_mut_slice-2.ensures.value) (levels_small c.args.m.now c.args.tick (record c.args.s.now { agenda = c.requires.taken.0 }) c.requires.taken.1.stands)
+
+pub requantize_handled-over-requires-clause-room : goal.requantize_handled-over-requires-clause-room
+requantize_handled-over-requires-clause-room g c =
+    let m = c.args.m.now in
+    let t = c.args.tick + 1 in
+    let s : Store = c.args.s.now in
+    let agenda : List (Option ℕ) = c.requires.taken.0 in
+    let taken = c.requires.taken.1 in
+    let h : Handling = handling_from m t (states_at c.as_slice-2.result.now t) s.work.d c.as_mut_slice.result.now c.as_slice-5.result.now in
+    let is_h : h ≡ handling_at m t (world_of c.args.tick s) =
+    handles_from m c.args.tick (record s { agenda = agenda }) taken.stands c.as_slice-2.result.now c.as_mut_slice.result.now c.as_slice-5.result.now
+    c.as_slice-2.ensures.value c.as_mut_slice.ensures.value c.as_slice-5.ensures.value in
+    let calm : c.handle_changed-over.result ≡ None = not_some c.handle_changed-over.result (sym c.is_some.ensures ∙ c.if-is_some.false) in
+    let moved = c.handle_changed-over.new.moved.items in
+    let assigned = c.handle_changed-over.new.assigned.items in
+    let new : Values = c.handle_changed-over.new.work in
+    let handled : IsHandled m t s.lines.items s.moved.items moved assigned s.work new h =
+    subst (λ ls. IsHandled m t ls s.moved.items moved assigned s.work new h) c.as_slice-2.ensures.value (c.handle_changed-over.ensures.handled calm) in
+    let calm_h : h.overflow ≡ None = sym c.handle_changed-over.ensures.over ∙ calm in
+    let of_d : new.d ≡ h.discretes = ap (λ (v : Values). v.d) handled.values in
+    let of_pre : new.pre ≡ s.work.d = ap (λ (v : Values). v.pre) handled.values in
+    omega (
+      arith,
+      ap (λ (v : Values). length v.log) handled.values,
+      rows_handled m t (states_at c.as_slice-2.result.now t) s.work.d c.as_mut_slice.result.now c.as_slice-5.result.now,
+      taken.stands.fits.row_room,
+    )
+
+pub returns-then-is_some-2-clause-stepped : goal.returns-then-is_some-2-clause-stepped
+returns-then-is_some-2-clause-stepped g c =
+    let m = c.args.m.now in
+    let t = c.args.tick + 1 in
+    let s : Store = c.args.s.now in
+    let agenda : List (Option ℕ) = c.requires.taken.0 in
+    let taken = c.requires.taken.1 in
+    let h : Handling = handling_from m t (states_at c.as_slice-2.result.now t) s.work.d c.as_mut_slice.result.now c.as_slice-5.result.now in
+    let is_h : h ≡ handling_at m t (world_of c.args.tick s) =
+    handles_from m c.args.tick (record s { agenda = agenda }) taken.stands c.as_slice-2.result.now c.as_mut_slice.result.now c.as_slice-5.result.now
+    c.as_slice-2.ensures.value c.as_mut_slice.ensures.value c.as_slice-5.ensures.value in
+    let calm : c.handle_changed-over.result ≡ None = not_some c.handle_changed-over.result (sym c.is_some.ensures ∙ c.if-is_some.false) in
+    let moved = c.handle_changed-over.new.moved.items in
+    let assigned = c.handle_changed-over.new.assigned.items in
+    let new : Values = c.handle_changed-over.new.work in
+    let handled : IsHandled m t s.lines.items s.moved.items moved assigned s.work new h =
+    subst (λ ls. IsHandled m t ls s.moved.items moved assigned s.work new h) c.as_slice-2.ensures.value (c.handle_changed-over.ensures.handled calm) in
+    let calm_h : h.overflow ≡ None = sym c.handle_changed-over.ensures.over ∙ calm in
+    let of_d : new.d ≡ h.discretes = ap (λ (v : Values). v.d) handled.values in
+    let of_pre : new.pre ≡ s.work.d = ap (λ (v : Values). v.pre) handled.values in
+    let fresh : List ℤ = c.requantize_handled-over.new.fresh in
+    let to : AreMovedTo m c.as_slice-7.result.now new.x c.as_mut_slice-2.result.now h.states =
+    subst (λ js. AreMovedTo m js new.x c.as_mut_slice-2.result.now h.states) (sym c.as_slice-7.ensures.value)
+    (subst (λ l. AreMovedTo m moved new.x l h.states) (sym c.as_mut_slice-2.ensures.value) (moved_to m c.args.tick agenda s taken c.requires.in_time moved assigned new h handled)) in
+    let allowed : AreNextLevels (IsRuled c.args.q.now.name) m h.states s.levels.items fresh =
+    subst (λ l. AreNextLevels (IsRuled c.args.q.now.name) m h.states l fresh) c.as_mut_slice-2.ensures.value (c.requantize_handled-over.ensures.allowed h.states to) in
+    let over : c.requantize_handled-over.result ≡ option_or (first_past 43 fresh) (position (is_overweight m fresh h.discretes) m.rows) =
+    c.requantize_handled-over.ensures.over ∙ ap (λ d. option_or (first_past 43 fresh) (position (is_overweight m fresh d) m.rows)) of_d in
+    late (IsRuled c.args.q.now.name) m t (world_of c.args.tick s) _ h fresh c.requantize_handled-over.result (sym c.is_some-2.ensures ∙ c.if-is_some-2.true) is_h calm_h allowed over
+
+pub go_on_handled-requires : goal.go_on_handled-requires
+go_on_handled-requires g c =
+    let m = c.args.m.now in
+    let t = c.args.tick + 1 in
+    let s : Store = c.args.s.now in
+    let agenda : List (Option ℕ) = c.requires.taken.0 in
+    let taken = c.requires.taken.1 in
+    let h : Handling = handling_from m t (states_at c.as_slice-2.result.now t) s.work.d c.as_mut_slice.result.now c.as_slice-5.result.now in
+    let is_h : h ≡ handling_at m t (world_of c.args.tick s) =
+    handles_from m c.args.tick (record s { agenda = agenda }) taken.stands c.as_slice-2.result.now c.as_mut_slice.result.now c.as_slice-5.result.now
+    c.as_slice-2.ensures.value c.as_mut_slice.ensures.value c.as_slice-5.ensures.value in
+    let calm : c.handle_changed-over.result ≡ None = not_some c.handle_changed-over.result (sym c.is_some.ensures ∙ c.if-is_some.false) in
+    let moved = c.handle_changed-over.new.moved.items in
+    let assigned = c.handle_changed-over.new.assigned.items in
+    let new : Values = c.handle_changed-over.new.work in
+    let handled : IsHandled m t s.lines.items s.moved.items moved assigned s.work new h =
+    subst (λ ls. IsHandled m t ls s.moved.items moved assigned s.work new h) c.as_slice-2.ensures.value (c.handle_changed-over.ensures.handled calm) in
+    let calm_h : h.overflow ≡ None = sym c.handle_changed-over.ensures.over ∙ calm in
+    let of_d : new.d ≡ h.discretes = ap (λ (v : Values). v.d) handled.values in
+    let of_pre : new.pre ≡ s.work.d = ap (λ (v : Values). v.pre) handled.values in
+    let fresh : List ℤ = c.requantize_handled-over.new.fresh in
+    let to : AreMovedTo m c.as_slice-7.result.now new.x c.as_mut_slice-2.result.now h.states =
+    subst (λ js. AreMovedTo m js new.x c.as_mut_slice-2.result.now h.states) (sym c.as_slice-7.ensures.value)
+    (subst (λ l. AreMovedTo m moved new.x l h.states) (sym c.as_mut_slice-2.ensures.value) (moved_to m c.args.tick agenda s taken c.requires.in_time moved assigned new h handled)) in
+    let allowed : AreNextLevels (IsRuled c.args.q.now.name) m h.states s.levels.items fresh =
+    subst (λ l. AreNextLevels (IsRuled c.args.q.now.name) m h.states l fresh) c.as_mut_slice-2.ensures.value (c.requantize_handled-over.ensures.allowed h.states to) in
+    let over : c.requantize_handled-over.result ≡ option_or (first_past 43 fresh) (position (is_overweight m fresh h.discretes) m.rows) =
+    c.requantize_handled-over.ensures.over ∙ ap (λ d. option_or (first_past 43 fresh) (position (is_overweight m fresh d) m.rows)) of_d in
+    let fine : c.requantize_handled-over.result ≡ None = not_some c.requantize_handled-over.result (sym c.is_some-2.ensures ∙ c.if-is_some-2.false) in
+    let none_both = both_none (first_past 43 fresh) (position (is_overweight m fresh h.discretes) m.rows) (sym fine ∙ over) in
+    let levels : List ℤ = (with_items s.levels c.requantize_handled-over.new.levels).items in
+    let of_levels : levels ≡ c.requantize_handled-over.new.levels = with_items_is s.levels c.requantize_handled-over.new.levels (c.requantize_handled-over.auto.levels ∙ c.as_mut_slice-2.ensures.len) in
+    let are_fresh : levels ≡ fresh = of_levels ∙ c.requantize_handled-over.ensures.levels fine in
+    let fits = taken.stands.fits in
+    let off : IsOff moved s.levels.items levels =
+    subst (λ l. IsOff moved s.levels.items l) (sym are_fresh)
+    (subst (λ l. IsOff moved l fresh) c.as_mut_slice-2.ensures.value (subst (λ js. IsOff js c.as_mut_slice-2.result.now fresh) c.as_slice-7.ensures.value c.requantize_handled-over.ensures.others)) in
+    let allowed_now : AreNextLevels (IsRuled c.args.q.now.name) m h.states s.levels.items levels =
+    subst (λ l. AreNextLevels (IsRuled c.args.q.now.name) m h.states s.levels.items l) (sym are_fresh) allowed in
+    let after = c.handle_changed-over.new.agenda in
+    let without = c.handle_changed-over.ensures.without calm in
+    record {
+      fits = record {
+        branches = fits.branches;
+        uses = fits.uses;
+        lines = fits.lines;
+        levels = same_length s.levels c.requantize_handled-over.new.levels ∙ fits.levels;
+        slopes = fits.slopes;
+        fresh = same_length s.fresh c.requantize_handled-over.new.fresh ∙ fits.fresh;
+        weights = same_length s.weights c.requantize_handled-over.new.weights ∙ fits.weights;
+        moved_room = omega (arith, c.handle_changed-over.ensures.moved_room, fits.moved_room);
+        changed_room = fits.changed_room;
+        fired_room = omega (arith, c.handle_changed-over.ensures.fired_room, fits.fired_room);
+        assigned_room = omega (arith, c.handle_changed-over.ensures.assigned_room, fits.assigned_room);
+        watches = fits.watches;
+        arrived = same_length s.arrived c.handle_changed-over.new.arrived ∙ fits.arrived;
+        settled = fits.settled;
+        places = without.as_many ∙ taken.without.as_many ∙ fits.places;
+        states = handled.fits.states;
+        discretes = handled.fits.discretes;
+        before = handled.fits.before;
+        small_states = handled.fits.small_states;
+        small_discretes = handled.fits.small_discretes;
+        work_room = omega (arith, ap (λ (v : Values). v.room) handled.values, fits.work_room);
+        row_room = omega (arith, c.requantize_handled-over.ensures.room, fits.row_room);
+      };
+      moved = handled.numbers;
+      assigned_known = handled.variables;
+      assigned = subst (λ p. AreAssigned m assigned p new.d) (sym of_pre) (subst (λ d. AreAssigned m assigned s.work.d d) (sym of_d) handled.others);
+      changed = taken.changing.numbers;
+      small_before = handled.fits.small_before;
+      small_states = subst (All (IsWithin 88)) handled.own_states handled.small;
+      small_levels = subst (All (IsWithin 43)) (sym of_levels) (c.requantize_handled-over.ensures.small fine);
+      light = ap (λ l. position (is_overweight m l new.d) m.rows) are_fresh ∙ ap (λ d. position (is_overweight m fresh d) m.rows) of_d ∙ none_both.1;
+      weights = with_items_is s.weights c.requantize_handled-over.new.weights (c.requantize_handled-over.auto.weights ∙ c.as_mut_slice-4.ensures.len)
+          ∙ c.requantize_handled-over.ensures.weights fine ∙ ap (λ l. weights_at m l new.d) (sym of_levels);
+      fresh_levels = with_items_is s.fresh fresh (c.requantize_handled-over.auto.fresh ∙ c.as_mut_slice-3.ensures.len) ∙ sym are_fresh;
+      in_time = omega (arith, c.requires.in_time, m.has_units.last_tick);
+      later = λ j inside. omega (arith, earlier m c.args.tick agenda s taken c.requires.in_time j inside);
+      small = subst (λ ls. All (IsWithin 88) (states_at ls t)) c.as_slice-2.ensures.value
+          (all_within 88 (states_at c.as_slice-2.result.now t)
+          (none_early m t (states_at c.as_slice-2.result.now t) s.work.d c.as_mut_slice.result.now c.as_slice-5.result.now calm_h));
+      near = near_after m c.args.tick agenda s taken c.requires.in_time moved assigned new h handled c.args.q.now.name levels allowed_now;
+      before = (
+        s.levels.items,
+        subst (λ p. AreLevelsBefore m moved levels p s.slopes.items s.lines.items s.levels.items) (sym of_pre)
+            (levels_before_handlers m c.args.tick agenda s taken c.requires.in_time moved assigned new h handled levels off),
+      );
+      own_slope = own_slope m c.args.tick agenda s taken c.requires.in_time;
+      due = due_after m c.args.tick agenda s taken c.requires.in_time moved assigned new h handled c.args.q.now.name levels allowed_now after without;
+      watched = λ place inside none.
+          subst (λ p. IsWatched m t (states_at s.lines.items t) p s.slopes.items place (watch_at s.watches.items place) (due_at after (state_count m + place))) (sym of_pre)
+          (subst (λ found. IsWatched m t (states_at s.lines.items t) s.work.d s.slopes.items place (watch_at s.watches.items place) found)
+          (sym (conditions_stay m c.args.tick agenda s taken c.requires.in_time moved assigned new h handled after without place))
+          (watched_still m c.args.tick agenda s taken c.requires.in_time place inside none));
+      settled = λ place inside none.
+          sym (flag_same m c.args.tick agenda s taken c.requires.in_time place inside none)
+          ∙ ap (λ p. truth m (condition_at m place) (states_at s.lines.items t) p t) (sym of_pre);
+    }
+
+pub returns : goal.returns
+returns g c =
+    let m = c.args.m.now in
+    let t = c.args.tick + 1 in
+    let s : Store = c.args.s.now in
+    let agenda : List (Option ℕ) = c.requires.taken.0 in
+    let taken = c.requires.taken.1 in
+    let h : Handling = handling_from m t (states_at c.as_slice-2.result.now t) s.work.d c.as_mut_slice.result.now c.as_slice-5.result.now in
+    let is_h : h ≡ handling_at m t (world_of c.args.tick s) =
+    handles_from m c.args.tick (record s { agenda = agenda }) taken.stands c.as_slice-2.result.now c.as_mut_slice.result.now c.as_slice-5.result.now
+    c.as_slice-2.ensures.value c.as_mut_slice.ensures.value c.as_slice-5.ensures.value in
+    let calm : c.handle_changed-over.result ≡ None = not_some c.handle_changed-over.result (sym c.is_some.ensures ∙ c.if-is_some.false) in
+    let moved = c.handle_changed-over.new.moved.items in
+    let assigned = c.handle_changed-over.new.assigned.items in
+    let new : Values = c.handle_changed-over.new.work in
+    let handled : IsHandled m t s.lines.items s.moved.items moved assigned s.work new h =
+    subst (λ ls. IsHandled m t ls s.moved.items moved assigned s.work new h) c.as_slice-2.ensures.value (c.handle_changed-over.ensures.handled calm) in
+    let calm_h : h.overflow ≡ None = sym c.handle_changed-over.ensures.over ∙ calm in
+    let of_d : new.d ≡ h.discretes = ap (λ (v : Values). v.d) handled.values in
+    let of_pre : new.pre ≡ s.work.d = ap (λ (v : Values). v.pre) handled.values in
+    let fresh : List ℤ = c.requantize_handled-over.new.fresh in
+    let to : AreMovedTo m c.as_slice-7.result.now new.x c.as_mut_slice-2.result.now h.states =
+    subst (λ js. AreMovedTo m js new.x c.as_mut_slice-2.result.now h.states) (sym c.as_slice-7.ensures.value)
+    (subst (λ l. AreMovedTo m moved new.x l h.states) (sym c.as_mut_slice-2.ensures.value) (moved_to m c.args.tick agenda s taken c.requires.in_time moved assigned new h handled)) in
+    let allowed : AreNextLevels (IsRuled c.args.q.now.name) m h.states s.levels.items fresh =
+    subst (λ l. AreNextLevels (IsRuled c.args.q.now.name) m h.states l fresh) c.as_mut_slice-2.ensures.value (c.requantize_handled-over.ensures.allowed h.states to) in
+    let over : c.requantize_handled-over.result ≡ option_or (first_past 43 fresh) (position (is_overweight m fresh h.discretes) m.rows) =
+    c.requantize_handled-over.ensures.over ∙ ap (λ d. option_or (first_past 43 fresh) (position (is_overweight m fresh d) m.rows)) of_d in
+    let fine : c.requantize_handled-over.result ≡ None = not_some c.requantize_handled-over.result (sym c.is_some-2.ensures ∙ c.if-is_some-2.false) in
+    let none_both = both_none (first_past 43 fresh) (position (is_overweight m fresh h.discretes) m.rows) (sym fine ∙ over) in
+    let levels : List ℤ = (with_items s.levels c.requantize_handled-over.new.levels).items in
+    let of_levels : levels ≡ c.requantize_handled-over.new.levels = with_items_is s.levels c.requantize_handled-over.new.levels (c.requantize_handled-over.auto.levels ∙ c.as_mut_slice-2.ensures.len) in
+    let are_fresh : levels ≡ fresh = of_levels ∙ c.requantize_handled-over.ensures.levels fine in
+    let fits = taken.stands.fits in
+    let w : World = world_of c.args.tick s in
+    let next : World = world_of t c.go_on_handled.new.s in
+    let x : List ℤ = states_with s.lines.items t moved new.x in
+    let of_x : x ≡ h.states = sym handled.own_states in
+    let arrived : List Bool = (with_items s.arrived c.handle_changed-over.new.arrived).items in
+    let arrivals : states_at s.lines.items t ≡ moved_states m w = arrives m c.args.tick (record s { agenda = agenda }) taken.stands in
+    let of_arrived : arrived ≡ truths m (moved_states m w) s.work.d t =
+    with_items_is s.arrived c.handle_changed-over.new.arrived (c.handle_changed-over.auto.arrived ∙ c.as_mut_slice.ensures.len)
+    ∙ c.handle_changed-over.ensures.arrived calm
+    ∙ ap (λ ls. truths m (states_at ls t) s.work.d t) c.as_slice-2.ensures.value
+    ∙ ap (λ y. truths m y s.work.d t) arrivals in
+    let world : next ≡ record { states = x; levels = levels; discretes = new.d; arrived = arrived; settled = truths m x new.d t } = c.go_on_handled.ensures.world in
+    let end : next ≡ end_of m t w h fresh =
+    world
+    ∙ same_worlds (record { states = x; levels = levels; discretes = new.d; arrived = arrived; settled = truths m x new.d t }) (end_of m t w h fresh) of_x are_fresh of_d of_arrived
+    (ap (λ y. truths m y new.d t) of_x ∙ ap (λ d. truths m h.states d t) of_d) in
+    let next_levels : next.levels ≡ levels = ap (λ (v : World). v.levels) world in
+    let next_discretes : next.discretes ≡ new.d = ap (λ (v : World). v.discretes) world in
+    let next_states : next.states ≡ h.states = ap (λ (v : World). v.states) end in
+    let slopes : List ℤ = tabulate (state_count m) (λ j. slope_at m j levels new.d) in
+    let touched : renewals_from (state_count m) t x next.levels slopes s.lines.items ≤ touches_at m t w (Ok next) =
+    renewals_from_touched m t w next taken.stands.stands_for.left.one_each (ap length next_levels ∙ same_length s.levels c.requantize_handled-over.new.levels ∙ fits.levels)
+    fits.discretes (ap length next_discretes ∙ handled.fits.discretes) s.lines.items slopes
+    (λ j inside. (taken.stands.stands_for.lines j inside).own_level) (λ j inside. (taken.stands.stands_for.lines j inside).own_slope)
+    (ap (λ l. tabulate (state_count m) (λ j. slope_at m j l new.d)) (sym next_levels) ∙ ap (λ d. tabulate (state_count m) (λ j. slope_at m j next.levels d)) (sym next_discretes))
+    x
+    (λ j inside none.
+    sym (int_at-states_at s.lines.items t j (omega (arith, inside, fits.lines))) ∙ ap (λ xs. int_at xs j) arrivals ∙ sym (kept_state m t w j none)
+    ∙ ap (λ (k : Handling). int_at k.states j) (sym is_h) ∙ ap (λ xs. int_at xs j) (sym of_x)) in
+    let counted : c.go_on_handled.new.steps ≡ c.args.steps.now + renewals_from (state_count m) t x next.levels slopes s.lines.items =
+    c.go_on_handled.ensures.counted ∙ ap (λ l. c.args.steps.now + renewals_from (state_count m) t x l slopes s.lines.items) (sym next_levels) in
+    record {
+      stepped = steps_to (IsRuled c.args.q.now.name) m t w next h fresh is_h calm_h allowed (sym fine ∙ over) end;
+      rows = λ none.
+          ap (λ v. v.items) c.go_on_handled.ensures.rows
+          ∙ c.requantize_handled-over.ensures.rows fine h.states to
+          ∙ ap (λ r. r ++ level_rows t c.as_mut_slice-2.result.now c.requantize_handled-over.new.levels h.states) (ap (λ (v : Values). v.log) handled.values ∙ ap (λ (k : Handling). k.rows) is_h)
+          ∙ ap (λ l. (handling_at m t w).rows ++ level_rows t l c.requantize_handled-over.new.levels h.states) c.as_mut_slice-2.ensures.value
+          ∙ ap (λ l. (handling_at m t w).rows ++ level_rows t s.levels.items l h.states) (sym (next_levels ∙ of_levels))
+          ∙ ap (λ y. (handling_at m t w).rows ++ level_rows t s.levels.items next.levels y) (sym next_states);
+      stands = λ none. c.go_on_handled.ensures.stands;
+      room = ap (λ v. vec_capacity v) c.go_on_handled.ensures.rows ∙ c.requantize_handled-over.ensures.room;
+      counted = omega (arith, counted, touched);
+    }

@@ -1,0 +1,16 @@
+use Rattle.std.proofs.Common.{◌≡◌, ◌+◌, ℕ, ℤ, List, length, take, true}
+use Rattle.qss_machine.specs.Machines.{state_count}
+use Rattle.qss_machine.specs.Numbers.{int_at}
+use Rattle.qss_run.specs.Moves.{is_among}
+use Rattle.qss_run.specs.Renewals.{renewals_from}
+use Rattle.qss_run.proofs.Seats.{AreSeated}
+use Rattle.qss_run.proofs.reseated.seat_each.Given as goal
+
+-- the moved states so far
+abbrev pub invariant-loop-j : goal.invariant-loop-j
+invariant-loop-j g l = record {
+  are_seated : AreSeated l.m l.tick l.x l.levels l.slopes (take l.j-index l.moved) (record { lines = l.fn.lines; dues = l.fn.agenda }) (record { lines = l.lines; dues = l.agenda });
+  line_count : length l.lines ≡ state_count l.m;
+  counted : (states : List ℤ) → ((j : ℕ) → is_among l.moved j ≡ true → int_at states j ≡ int_at l.x j) →
+      l.steps + renewals_from (state_count l.m) l.tick states l.levels l.slopes l.lines ≡ l.fn.steps + renewals_from (state_count l.m) l.tick states l.levels l.slopes l.fn.lines;
+}

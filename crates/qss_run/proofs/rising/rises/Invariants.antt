@@ -1,0 +1,7 @@
+use Rattle.std.proofs.Common.{◌≡◌, ℕ, ◌<◌, false}
+use Rattle.qss_run.specs.Moves.{became_true}
+use Rattle.qss_run.proofs.rising.rises.Given as goal
+
+-- none of the conditions so far became true
+abbrev pub invariant-loop-place : goal.invariant-loop-place
+invariant-loop-place l = (place : ℕ) → place < l.place → became_true l.arrived l.settled place ≡ false

@@ -1,8 +1,0 @@
-use Rattle.std.proofs.Common.{◌≡◌, ℕ, ◌<◌, false}
-use Rattle.mu_num.specs.Sizes.{passes}
-use Rattle.qss_machine.specs.Numbers.{int_at}
-use Rattle.qss_run.proofs.states.first_past.Given as goal
-
--- none so far
-abbrev pub invariant-loop-j : goal.invariant-loop-j
-invariant-loop-j l = (k : ℕ) → k < l.j → passes l.bits (int_at l.values k) ≡ false

@@ -1,0 +1,170 @@
+//! A tick at which conditions are looked at.
+
+ghost use Rattle.std.specs.Prelude.{◌≡◌, ℕ, ◌+◌, ◌<◌, ◌≤◌, ◌^◌, List, ℤ, All, Option, None, Some, length, position, vec_capacity, false, if◌then◌else◌};
+ghost use Rattle.std.specs.List.{list_any};
+ghost use Rattle.mu_num.specs.Sizes.{IsWithin};
+ghost use Rattle.qss_machine.specs.Handlers.{conditions, truths, due_flags};
+ghost use Rattle.qss_machine.specs.Firing.{flag_at};
+ghost use Rattle.qss_machine.specs.Machines.{state_count, level_unit, slope_at, quantum_of, truth};
+ghost use Rattle.qss_machine.specs.Numbers.{int_at, tabulate};
+ghost use Rattle.qss_machine.specs.Ticks.{is_overweight, world_unless, Step};
+ghost use Rattle.qss_machine.specs.Runs.{tick_rows};
+ghost use Rattle.qss_quant.specs.Lines.{IsNear};
+ghost use Rattle.qss_sched.specs.Ranks.{due_at};
+ghost use Rattle.qss_run.specs.Handlings.{AreDiscretes, AreAssigned, states_with};
+ghost use Rattle.qss_run.specs.Moves.{is_among, AreNumbers};
+ghost use Rattle.qss_run.specs.Places.{line_at, watch_at, IsWatched};
+ghost use Rattle.qss_run.specs.Renewals.{renewals_from};
+ghost use Rattle.qss_run.specs.Rules.{IsRuled};
+ghost use Rattle.qss_run.specs.Sims.{condition_at, weights_at, IsDue};
+ghost use Rattle.qss_run.specs.Stores.{states_at, world_of, FitsMachine, Stands, IsTaken};
+ghost use Rattle.qss_run.specs.Touches.{touches_at};
+ghost use Rattle.qss_run.specs.Turnings.{AreLevelsBefore};
+
+use crate::handling::handle_changed;
+use crate::requantized::requantize_handled;
+use crate::reseated::reslope_handled;
+use crate::rewatched::rewatch_handled;
+use crate::rising::rise;
+use crate::store::Store;
+use qss_machine::Machine;
+use qss_quant::{Quantizer, Steps};
+use std::sync::ledger::Ledger;
+
+// The store knows whether a condition became true through the handlers of a tick, and its agenda has the next tick then.
+fn note_rising(tick: u64, s: &mut Store)
+    requires arrived { length s.old.arrived.items ≡ length s.old.settled.items }
+    requires places { length s.old.agenda ≡ length s.old.lines.items + length s.old.branches.items + 1 }
+    requires few { length s.old.lines.items + length s.old.branches.items < 2 ^ 32 }
+    requires in_time { tick < 2 ^ 32 }
+    ensures rising { s.new.rising ≡ list_any (λ flag. flag) (due_flags s.old.settled.items s.old.arrived.items s.old.settled.items) }
+    ensures own { due_at s.new.agenda (length s.old.lines.items + length s.old.branches.items) ≡ (if s.new.rising then Some (tick + 1) else None) }
+    ensures others { (place : ℕ) → place < length s.old.lines.items + length s.old.branches.items → due_at s.new.agenda place ≡ due_at s.old.agenda place }
+    ensures as_many { length s.new.agenda ≡ length s.old.agenda }
+    ensures same { s.new ≡ record s.old { rising = s.new.rising; calm = false; agenda = s.new.agenda } }
+{
+    let place = (s.lines.len() + s.branches.len()) as u32;
+    let arrived = s.arrived.as_slice();
+    let settled = s.settled.as_slice();
+    s.rising = rise(tick, arrived, settled, place, &mut s.agenda);
+    s.calm = false;
+}
+
+// After the handlers of a tick the states and conditions that changed there, or that read a change, go on from it.
+fn go_on_handled<L: Ledger>(m: &Machine, tick: u64, s: &mut Store, steps: &mut Steps<L>)
+    requires fits { FitsMachine m.now s.old }
+    requires moved { AreNumbers (state_count m.now) s.old.moved.items }
+    requires assigned_known { AreDiscretes m.now s.old.assigned.items }
+    requires assigned { AreAssigned m.now s.old.assigned.items s.old.work.pre s.old.work.d }
+    requires changed { AreNumbers (length (conditions m.now)) s.old.changed.items }
+    requires small_before { All (IsWithin 43) s.old.work.pre }
+    requires small_states { All (IsWithin 88) (states_with s.old.lines.items tick s.old.moved.items s.old.work.x) }
+    requires small_levels { All (IsWithin 43) s.old.levels.items }
+    requires light { position (is_overweight m.now s.old.levels.items s.old.work.d) m.now.rows ≡ None }
+    requires weights { s.old.weights.items ≡ weights_at m.now s.old.levels.items s.old.work.d }
+    requires fresh_levels { s.old.fresh.items ≡ s.old.levels.items }
+    requires in_time { tick < 2 ^ 32 }
+    requires later { (j : ℕ) → j < state_count m.now → (line_at s.old.lines.items j).tick ≤ tick }
+    requires small { All (IsWithin 88) (states_at s.old.lines.items tick) }
+    requires near { (j : ℕ) → j < state_count m.now → IsNear (level_unit m.now) (int_at (states_with s.old.lines.items tick s.old.moved.items s.old.work.x) j) (int_at s.old.levels.items j) (quantum_of m.now j (int_at s.old.levels.items j)) }
+    requires before { (old : List ℤ) × AreLevelsBefore m.now s.old.moved.items s.old.levels.items s.old.work.pre s.old.slopes.items s.old.lines.items old }
+    requires own_slope { (j : ℕ) → j < state_count m.now → (line_at s.old.lines.items j).slope ≡ int_at s.old.slopes.items j }
+    requires due { (j : ℕ) → j < state_count m.now → is_among s.old.moved.items j ≡ false → (line_at s.old.lines.items j).level ≡ int_at s.old.levels.items j → IsDue m.now tick j (line_at s.old.lines.items j) (due_at s.old.agenda j) }
+    requires watched { (place : ℕ) → place < length (conditions m.now) → is_among s.old.changed.items place ≡ false → IsWatched m.now tick (states_at s.old.lines.items tick) s.old.work.pre s.old.slopes.items place (watch_at s.old.watches.items place) (due_at s.old.agenda (state_count m.now + place)) }
+    requires settled { (place : ℕ) → place < length (conditions m.now) → is_among s.old.changed.items place ≡ false → flag_at s.old.settled.items place ≡ truth m.now (condition_at m.now place) (states_at s.old.lines.items tick) s.old.work.pre tick }
+    ensures stands { Stands m.now tick s.new }
+    ensures world { world_of tick s.new ≡ record { states = states_with s.old.lines.items tick s.old.moved.items s.old.work.x; levels = s.old.levels.items; discretes = s.old.work.d; arrived = s.old.arrived.items; settled = truths m.now (states_with s.old.lines.items tick s.old.moved.items s.old.work.x) s.old.work.d tick } }
+    ensures rows { s.new.rows ≡ s.old.rows }
+    ensures counted { steps.new ≡ steps.old + renewals_from (state_count m.now) tick (states_with s.old.lines.items tick s.old.moved.items s.old.work.x) s.old.levels.items (tabulate (state_count m.now) (λ j. slope_at m.now j s.old.levels.items s.old.work.d)) s.old.lines.items }
+{
+    let work = &s.work;
+    reslope_handled(
+        m,
+        &s.uses,
+        tick,
+        s.moved.as_slice(),
+        s.assigned.as_slice(),
+        work.x.as_slice(),
+        s.levels.as_slice(),
+        work.pre.as_slice(),
+        work.d.as_slice(),
+        s.slopes.as_mut_slice(),
+        s.lines.as_mut_slice(),
+        &mut s.agenda,
+        steps,
+    );
+    rewatch_handled(
+        m,
+        &s.uses,
+        s.branches.as_slice(),
+        tick,
+        s.moved.as_slice(),
+        s.assigned.as_slice(),
+        s.changed.as_slice(),
+        s.lines.as_slice(),
+        s.slopes.as_slice(),
+        &mut s.work,
+        s.watches.as_mut_slice(),
+        s.settled.as_mut_slice(),
+        &mut s.agenda,
+    );
+    note_rising(tick, s);
+}
+
+/// One tick after the one at which the store stands, from an agenda without the states that are due and the conditions that
+/// are to be looked at there. It gives the variable that overflows, if one does; the store is then good for nothing but its memory for
+/// rows.
+pub(crate) fn visit_changed<L: Ledger>(
+    m: &Machine,
+    q: &Quantizer,
+    tick: u64,
+    s: &mut Store,
+    steps: &mut Steps<L>,
+) -> Option<u32>
+    requires taken { (agenda : List (Option ℕ)) × IsTaken m.now tick agenda s.old }
+    requires in_time { tick < m.now.last }
+    ensures stepped { Step (IsRuled q.now.name) m.now (tick + 1) (world_of tick s.old) (world_unless result (world_of (tick + 1) s.new)) }
+    ensures rows { result ≡ None → s.new.rows.items ≡ tick_rows m.now (tick + 1) (world_of tick s.old) (world_of (tick + 1) s.new) }
+    ensures stands { result ≡ None → Stands m.now (tick + 1) s.new }
+    ensures room { vec_capacity s.new.rows ≡ vec_capacity s.old.rows }
+    ensures counted { steps.new ≤ steps.old + touches_at m.now (tick + 1) (world_of tick s.old) (world_unless result (world_of (tick + 1) s.new)) }
+{
+    let next = tick + 1;
+    let over = handle_changed(
+        m,
+        s.branches.as_slice(),
+        next,
+        s.lines.as_slice(),
+        s.changed.as_slice(),
+        s.watches.as_slice(),
+        s.settled.as_slice(),
+        s.arrived.as_mut_slice(),
+        &mut s.fired,
+        &mut s.moved,
+        &mut s.assigned,
+        &mut s.work,
+        &mut s.agenda,
+    );
+    if over.is_some() {
+        return over;
+    }
+    let over = requantize_handled(
+        m,
+        &s.uses,
+        q,
+        next,
+        s.lines.as_slice(),
+        s.moved.as_slice(),
+        s.assigned.as_slice(),
+        &s.work,
+        s.levels.as_mut_slice(),
+        s.fresh.as_mut_slice(),
+        s.weights.as_mut_slice(),
+        &mut s.rows,
+    );
+    if over.is_some() {
+        return over;
+    }
+    go_on_handled(m, next, s, steps);
+    None
+}
