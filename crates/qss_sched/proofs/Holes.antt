@@ -60,7 +60,7 @@ still_indexed heap positions hole from place other a h f apart e =
     let there : slice_index positions other ≡ from = sym (get_or-set_other positions place other hole 0 (λ same. apart_other (sym same))) ∙ at_other in
     let y = exchange_back positions place other hole from inside inside_other apart_other there in
     exchanged (slice_set heap hole place) (slice_set positions place hole) (slice_set (slice_set heap hole other) from place)
-        (slice_set (slice_set positions other hole) place from) hole from a (omega arith) (omega arith) (λ same. apart (sym same)) x (rw (held, held_other) y)
+    (slice_set (slice_set positions other hole) place from) hole from a (omega arith) (omega arith) (λ same. apart (sym same)) x (rw (held, held_other) y)
 
 -- a rank moves down
 pub lowered : (r new : ℕ → ℕ) (n i j : ℕ) → IsOrderedBut r n i → 0 < j → j < n → parent_of j ≡ i → r j ≤ r i →
@@ -97,7 +97,7 @@ pub hole_at : (due : List (Option ℕ)) (heap positions : List ℕ) (i : ℕ) �
 hole_at due heap positions i a many inside but =
     let same = set-get_or heap i 0 in
     let positions_same : slice_set positions (slice_index heap i) i ≡ positions =
-        subst (λ k. slice_set positions (slice_index heap i) k ≡ positions) (a.position_of i inside) (set-get_or positions (slice_index heap i) 0) in
+    subst (λ k. slice_set positions (slice_index heap i) k ≡ positions) (a.position_of i inside) (set-get_or positions (slice_index heap i) 0) in
     record {
       indexed = rw (same, positions_same) a;
       as_many = many;
@@ -130,11 +130,11 @@ sunk due heap positions hole place below h b =
     let old = λ (k : ℕ) (away : k ≢ hole). ap (rank_at due) (get_or-set_other heap hole k place 0 away) in
     let own = ap (rank_at due) (get_or-set_same heap hole place 0 h.inside) in
     moved due heap positions hole place below h b.inside apart
-        (lowered (heap_rank due (slice_set heap hole place)) (heap_rank due (slice_set (slice_set heap hole (slice_index heap below)) below place))
-            (length heap) hole below h.but b.positive b.inside b.stands (omega (arith, own, old below apart, b.earlier))
-            (λ k positive inside stands. let away : k ≢ hole = λ e. omega (arith, e, stands, positive) in
-                omega (arith, old k away, old below apart, b.least k positive inside stands))
-            (ap (rank_at due) x.first) (ap (rank_at due) x.second) (λ k one two. ap (rank_at due) (x.others k one two)))
+    (lowered (heap_rank due (slice_set heap hole place)) (heap_rank due (slice_set (slice_set heap hole (slice_index heap below)) below place))
+    (length heap) hole below h.but b.positive b.inside b.stands (omega (arith, own, old below apart, b.earlier))
+    (λ k positive inside stands. let away : k ≢ hole = λ e. omega (arith, e, stands, positive) in
+    omega (arith, old k away, old below apart, b.least k positive inside stands))
+    (ap (rank_at due) x.first) (ap (rank_at due) x.second) (λ k one two. ap (rank_at due) (x.others k one two)))
 
 pub sunk_above : (due : List (Option ℕ)) (heap positions : List ℕ) (hole place below : ℕ) →
     IsHole due heap positions hole place → IsEarlierBelow due heap hole (rank_at due place) below →
@@ -159,9 +159,9 @@ risen due heap positions hole place other h below b =
     let old = ap (rank_at due) (get_or-set_other heap hole (parent_of hole) place 0 apart) in
     let own = ap (rank_at due) (get_or-set_same heap hole place 0 h.inside) in
     rw b.stands (moved due heap positions hole place (parent_of hole) h above apart
-        (lifted (heap_rank due (slice_set heap hole place)) (heap_rank due (slice_set (slice_set heap hole (slice_index heap (parent_of hole))) (parent_of hole) place))
-            (length heap) hole h.but below b.inside h.inside (omega (arith, old, own, b.later))
-            (ap (rank_at due) x.first) (ap (rank_at due) x.second) (λ k one two. ap (rank_at due) (x.others k one two))))
+    (lifted (heap_rank due (slice_set heap hole place)) (heap_rank due (slice_set (slice_set heap hole (slice_index heap (parent_of hole))) (parent_of hole) place))
+    (length heap) hole h.but below b.inside h.inside (omega (arith, old, own, b.later))
+    (ap (rank_at due) x.first) (ap (rank_at due) x.second) (λ k one two. ap (rank_at due) (x.others k one two))))
 
 pub risen_below : (due : List (Option ℕ)) (heap positions : List ℕ) (hole place other : ℕ) →
     IsHole due heap positions hole place → IsBelowOrdered (heap_rank due (slice_set heap hole place)) (length heap) hole →
@@ -174,5 +174,5 @@ risen_below due heap positions hole place other h below b =
     let old = ap (rank_at due) (get_or-set_other heap hole (parent_of hole) place 0 apart) in
     let own = ap (rank_at due) (get_or-set_same heap hole place 0 h.inside) in
     rw (length-set, b.stands) (lifted_below (heap_rank due (slice_set heap hole place)) (heap_rank due (slice_set (slice_set heap hole (slice_index heap (parent_of hole))) (parent_of hole) place))
-        (length heap) hole h.but below b.inside h.inside (omega (arith, old, own, b.later))
-        (ap (rank_at due) x.first) (ap (rank_at due) x.second) (λ k one two. ap (rank_at due) (x.others k one two)))
+    (length heap) hole h.but below b.inside h.inside (omega (arith, old, own, b.later))
+    (ap (rank_at due) x.first) (ap (rank_at due) x.second) (λ k one two. ap (rank_at due) (x.others k one two)))
