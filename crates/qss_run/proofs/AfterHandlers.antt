@@ -93,17 +93,17 @@ module _ (m : Machine) (moved assigned : List ℕ) (old levels pre d before slop
       ∙ ap (λ xs. int_at xs j) (sym was)
 
   -- the conditions, watched up to now
-  pub watched_up_to : (t : ℕ) (changed : List ℕ) (lines after : List Line) (x : List ℤ) (settled : List Bool) (watches : List Watch) (due : List (Option ℕ)) →
-      length lines ≡ state_count m → states_at after t ≡ states_with lines t moved x → length before ≡ state_count m → length slopes ≡ state_count m →
+  pub watched_up_to : (t : ℕ) (reinitialized changed : List ℕ) (lines after : List Line) (x : List ℤ) (settled : List Bool) (watches : List Watch) (due : List (Option ℕ)) →
+      length lines ≡ state_count m → states_at after t ≡ states_with lines t moved x →
+      ((j : ℕ) → j < state_count m → is_among reinitialized j ≡ false → int_at (states_with lines t moved x) j ≡ state_at (line_at lines j) t) → length before ≡ state_count m → length slopes ≡ state_count m →
       ((place : ℕ) → place < length (conditions m) → is_among changed place ≡ false →
       IsWatched m t (states_at lines t) pre before place (watch_at watches place) (due_at due (state_count m + place))) →
       ((place : ℕ) → place < length (conditions m) → is_among changed place ≡ false → flag_at settled place ≡ truth m (condition_at m place) (states_at lines t) pre t) →
-      AreWatchedUpTo m t moved assigned changed (states_at lines t) (states_at after t) pre d before slopes settled watches due
-  watched_up_to t changed lines after x settled watches due many lead before_many slopes_many watched flags = record {
+      AreWatchedUpTo m t moved reinitialized assigned changed (states_at lines t) (states_at after t) pre d before slopes settled watches due
+  watched_up_to t reinitialized changed lines after x settled watches due many lead still before_many slopes_many watched flags = record {
     each = watched;
     settled_so = flags;
-    other_states = λ j h none.
-        ap (λ xs. int_at xs j) lead ∙ other_state lines t moved x j (omega (arith, h, many)) none ∙ sym (int_at-states_at lines t j (omega (arith, h, many)));
+    other_states = λ j h none. ap (λ xs. int_at xs j) lead ∙ still j h none ∙ sym (int_at-states_at lines t j (omega (arith, h, many)));
     other_discretes = are;
     other_slopes = slopes_stay_where;
     many_states = (length-states_at lines t ∙ many, ap length lead ∙ length-states_with lines t moved x ∙ many);

@@ -1,5 +1,5 @@
 -- States of which some go on at new slopes, step by step.
-use Rattle.std.proofs.Common.{◌≡◌, ℕ, ◌+◌, ◌<◌, ◌≤◌, true, false, List, [], ◌∷◌, ◌++◌, length, ℤ, pos, refl, sym, ◌∙◌, ap, subst, arith, flat_map, inl, inr, ◌==◌}
+use Rattle.std.proofs.Common.{◌≡◌, ℕ, ◌<◌, ◌≤◌, true, false, List, [], ◌∷◌, ◌++◌, length, ℤ, pos, refl, sym, ◌∙◌, ap, subst, arith, flat_map, inl, inr, ◌==◌}
 use Rattle.std.proofs.lemmas.Bool.{or_parts, or_cases, cases_Bool, cases_eq}
 use Rattle.std.proofs.lemmas.List.Folds.{list_any-append}
 use Rattle.std.proofs.lemmas.List.FromFn.{get_or-map-range_with_len}
@@ -15,10 +15,12 @@ use Rattle.qss_sched.specs.Ranks.{due_at}
 use Rattle.qss_run.specs.Moves.{is_among}
 use Rattle.qss_run.specs.Places.{line_at, IsTurned}
 use Rattle.qss_run.specs.Renewals.{goes_at}
+use Rattle.qss_run.specs.RowSums.{AreSumsBefore}
 use Rattle.qss_run.specs.Sims.{IsDue}
-use Rattle.qss_run.specs.Turnings.{MayTurn, GoesOn, Courses, AreTurned, AreLevelsBefore}
+use Rattle.qss_run.specs.Turnings.{MayTurn, GoesOn, Courses, AreTurned}
 use Rattle.qss_run.proofs.Among.{among_readers}
 use Rattle.qss_run.proofs.Unread.{unread_at, unread_slope}
+use Rattle.qss_run.specs.declared.shifts.RowSum.TheVariants.{Slope}
 
 -- ---- one state
 
@@ -107,7 +109,7 @@ module _ (m : Machine) (tick : ℕ) (levels slopes : List ℤ) where
 module _ (m : Machine) (k : ℕ) (h : k < state_count m) where
   -- each state goes on at its new slope, since that of one that reads no moved state is its old one
   pub turned_all : (tick : ℕ) (levels before discretes slopes_old slopes : List ℤ) (moved : List ℕ) (old new : Courses) →
-      AreTurned m tick levels slopes (moved ++ flat_map (reading_rows m) moved) old new → AreLevelsBefore m moved levels discretes slopes_old old.lines before →
+      AreTurned m tick levels slopes (moved ++ flat_map (reading_rows m) moved) old new → AreSumsBefore Slope m moved levels discretes slopes_old old.lines before →
       slopes ≡ tabulate (state_count m) (λ j. slope_at m j levels discretes) → (line_at old.lines k).tick ≤ tick → (line_at old.lines k).slope ≡ int_at slopes_old k →
       ((line_at old.lines k).level ≡ int_at levels k → IsDue m tick k (line_at old.lines k) (due_at old.dues k)) →
       IsTurned m tick (state_at (line_at old.lines k) tick) (int_at levels k) (slope_at m k levels discretes) k (line_at new.lines k) (due_at new.dues k)
@@ -121,7 +123,7 @@ module _ (m : Machine) (k : ℕ) (h : k < state_count m) where
         | inr none ↦
             let parts = or_parts (is_among moved k) (is_among (flat_map (reading_rows m) moved) k) (sym (list_any-append (λ (i : ℕ). i == k) moved (flat_map (reading_rows m) moved)) ∙ none) in
             let same : int_at slopes_old k ≡ slope_at m k levels discretes =
-            ap (λ xs. int_at xs k) were.own_slopes ∙ get_or-map-range_with_len (λ j. slope_at m j before discretes) 0 (state_count m) k k (pos 0) h (omega arith)
+            ap (λ xs. int_at xs k) were.own_sums ∙ get_or-map-range_with_len (λ j. slope_at m j before discretes) 0 (state_count m) k k (pos 0) h (omega arith)
             ∙ sym (unread_slope m.f (row_at m k) moved before levels discretes (unread_at moved (row_at m k) (sym (among_readers m k h moved) ∙ parts.1)) were.off) in
             let own_level : (line_at old.lines k).level ≡ int_at levels k = were.own_levels k h ∙ sym (were.off.others k parts.0) in
             still_turned m tick (int_at levels k) (int_at slopes k) k x (line_at old.lines k) (line_at new.lines k) (due_at old.dues k) (due_at new.dues k) refl

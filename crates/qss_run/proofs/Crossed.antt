@@ -1,6 +1,6 @@
 -- A tick at which few states are due and few conditions change.
 use Rattle.std.proofs.Common.{◌≡◌, ◌≢◌, ℕ, ◌+◌, ◌-◌, ◌≤◌, ◌<◌, Bool, true, false, not, List, length, ℤ, pos, refl, sym, ◌∙◌, ap, subst, arith, inl, inr}
-use Rattle.std.proofs.lemmas.Bool.{cases_Bool, cases_lt, or_parts}
+use Rattle.std.proofs.lemmas.Bool.{cases_Bool, cases_lt, or_parts, or_right}
 use Rattle.std.proofs.lemmas.List.{get_or_default, get_or_past}
 use Rattle.std.specs.Prelude.{Option, Some, None, All}
 use Rattle.mu_num.proofs.Tests.{if-true}
@@ -17,6 +17,8 @@ use Rattle.qss_quant.specs.Lines.{state_at, IsNear}
 use Rattle.qss_cross.specs.Crossing.{IsSmall, value_at, holds_at}
 use Rattle.qss_hand.specs.Values.{Values}
 use Rattle.qss_sched.specs.Ranks.{due_at}
+use Rattle.qss_run.specs.RowSums.{AreSumsBefore}
+use Rattle.qss_run.specs.declared.shifts.RowSum.TheVariants.{Slope}
 use Rattle.qss_run.specs.declared.store.Store.{Store}
 use Rattle.qss_run.specs.Handlings.{states_with, is_reinitialized, IsHandled, AreMovedTo}
 use Rattle.qss_run.specs.Moves.{is_among, became_true, IsOff, IsWithout}
@@ -24,7 +26,6 @@ use Rattle.qss_run.specs.Places.{line_at, watch_at, IsWatched}
 use Rattle.qss_run.specs.Rules.{IsRuled}
 use Rattle.qss_run.specs.Sims.{condition_at, IsDue, IsChange, StandsFor, HasNothingBefore}
 use Rattle.qss_run.specs.Stores.{states_at, handling_from, world_of, IsTaken}
-use Rattle.qss_run.specs.Turnings.{AreLevelsBefore}
 use Rattle.qss_run.proofs.AfterHandlers.{length-states_with, int_at-states_with, other_state}
 use Rattle.qss_run.proofs.Handled.{over_early}
 use Rattle.qss_run.proofs.Jumps.{dues_later}
@@ -167,6 +168,12 @@ module _ (m : Machine) (tick : ℕ) (agenda : List (Option ℕ)) (s : Store) (ta
     rest j none =
         (or_parts (is_among s.moved.items j) (is_reinitialized h.rows j) (sym (is.moves j) ∙ none)).0
 
+    -- only states are reinitialized
+    pub reinits_known : (j : ℕ) → is_reinitialized h.rows j ≡ true → j < state_count m
+    reinits_known j e =
+        let found = index_of moved j (is.moves j ∙ or_right (is_among s.moved.items j) (is_reinitialized h.rows j) e) in
+        omega (arith, is.numbers.below found.0 0 found.1, found.2)
+
     line_known : (j : ℕ) → j < state_count m → j < length s.lines.items
     line_known j inside = omega (arith, inside, taken.stands.fits.lines)
 
@@ -200,12 +207,12 @@ module _ (m : Machine) (tick : ℕ) (agenda : List (Option ℕ)) (s : Store) (ta
           (near_after j inside))
           refl own)
 
-    pub levels_before_handlers : (levels : List ℤ) → IsOff moved s.levels.items levels → AreLevelsBefore m moved levels s.work.d s.slopes.items s.lines.items s.levels.items
+    pub levels_before_handlers : (levels : List ℤ) → IsOff moved s.levels.items levels → AreSumsBefore Slope m moved levels s.work.d s.slopes.items s.lines.items s.levels.items
     levels_before_handlers levels off = record {
       off = off;
       small = λ k d inside. subst (IsWithin 43) (get_or_default s.levels.items k (pos 0) d inside) (for.left.small_levels k (omega (arith, inside, taken.stands.fits.levels)));
       light = for.left.light;
-      own_slopes = taken.stands.own_slopes;
+      own_sums = taken.stands.own_slopes;
       own_levels = λ j inside. (for.lines j inside).own_level;
     }
 

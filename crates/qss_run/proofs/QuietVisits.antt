@@ -15,6 +15,8 @@ use Rattle.qss_machine.specs.Runs.{level_rows, tick_rows}
 use Rattle.qss_quant.specs.declared.rule.Rule.{Rule}
 use Rattle.qss_quant.specs.Lines.{state_at, IsNear}
 use Rattle.qss_sched.specs.Ranks.{due_at}
+use Rattle.qss_run.specs.RowSums.{AreSumsBefore}
+use Rattle.qss_run.specs.declared.shifts.RowSum.TheVariants.{Slope}
 use Rattle.qss_run.specs.declared.store.Store.{Store}
 use Rattle.qss_run.specs.Moves.{is_among, became_true, IsOff}
 use Rattle.qss_run.specs.Skips.{NoneRises}
@@ -22,7 +24,6 @@ use Rattle.qss_run.specs.Places.{line_at, watch_at, IsWatched}
 use Rattle.qss_run.specs.Rules.{IsRuled}
 use Rattle.qss_run.specs.Sims.{IsDue, StandsFor, HasNothingBefore}
 use Rattle.qss_run.specs.Speeds.{reads_moved}
-use Rattle.qss_run.specs.Turnings.{AreLevelsBefore}
 use Rattle.qss_run.specs.Stores.{states_at, world_of, IsTaken}
 use Rattle.qss_run.proofs.Called.{none_due}
 use Rattle.qss_run.proofs.Quiet.{int_at-tabulate}
@@ -117,14 +118,14 @@ module _ (m : Machine) (tick : ℕ) (agenda : List (Option ℕ)) (s : Store) (ta
         ]
 
   -- the slopes and the lines are those at the levels before the moved states took theirs
-  pub levels_before : (levels : List ℤ) → IsOff s.moved.items s.levels.items levels → AreLevelsBefore m s.moved.items levels s.work.d s.slopes.items s.lines.items s.levels.items
+  pub levels_before : (levels : List ℤ) → IsOff s.moved.items s.levels.items levels → AreSumsBefore Slope m s.moved.items levels s.work.d s.slopes.items s.lines.items s.levels.items
   levels_before levels off = record {
     off = off;
     small = λ k d h.
         let inside : k < state_count m = omega (arith, h, taken.stands.fits.levels) in
         subst (IsWithin 43) (get_or_default s.levels.items k (pos 0) d h) (for.left.small_levels k inside);
     light = for.left.light;
-    own_slopes = taken.stands.own_slopes;
+    own_sums = taken.stands.own_slopes;
     own_levels = λ j h. (for.lines j h).own_level;
   }
 

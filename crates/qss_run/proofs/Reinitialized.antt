@@ -1,13 +1,16 @@
 -- What the rows of a tick say of states.
-use Rattle.std.proofs.Common.{◌≡◌, ◌≢◌, ℕ, ◌+◌, ◌<◌, true, false, ◌&&◌, ◌||◌, List, length, get_or, set, take, refl, sym, ◌∙◌, ap, subst, inl, inr, ◌⊎◌, arith, eqb}
+use Rattle.std.proofs.Common.{◌≡◌, ◌≢◌, ℕ, ◌+◌, ◌<◌, Bool, true, false, ◌&&◌, ◌||◌, List, [], ◌∷◌, ◌++◌, length, get_or, set, take, map, cond, refl, sym, ◌∙◌, ap, subst, inl, inr, ◌⊎◌, arith, eqb, append-nil, ◌==◌}
 use Rattle.std.proofs.lemmas.Bool.{eqb-true, eqb-false, eq-eqb, or_parts, or_cases, or_left, or_right, cases_eq, cases_Bool}
-use Rattle.std.proofs.lemmas.List.{length-set, get_or-set_same, get_or-set_other}
+use Rattle.std.proofs.lemmas.List.{map-append, length-set, get_or-set_same, get_or-set_other}
+use Rattle.std.proofs.lemmas.List.Elements.{filter_more}
 use Rattle.std.proofs.lemmas.List.Folds.{list_any_more, list_any_at}
+use Rattle.std.specs.List.{filter, list_any}
 use Rattle.std.specs.Prelude.{Option, Some}
 use Rattle.qss_machine.specs.Counts.{is_reinit}
 use Rattle.qss_machine.specs.declared.rows.Row.{Row}
 use Rattle.qss_sched.specs.Ranks.{due_at}
 use Rattle.qss_run.specs.Handlings.{is_reinitialized}
+use Rattle.qss_run.specs.Logs.{reinitialized_of}
 use Rattle.qss_run.specs.Moves.{is_among, AreNumbers, AreDue, IsWithout}
 use Rattle.qss_run.proofs.Writes.{index_of}
 
@@ -100,3 +103,30 @@ module _ (n tick : ℕ) (log : List Row) (due moved : List ℕ) (old back given 
     none = without.none;
     others = λ j e. let both = or_parts (is_among due j) (is_reinitialized log j) (sym (joined j) ∙ e) in without.others j e ∙ are_given.others j both.1 ∙ others j both.0;
   }
+
+-- ---- the list of the states that rows reinitialize
+
+listed : (b : Bool) (row : Row) (rest : List Row) (j : ℕ) → list_any (λ (i : ℕ). i == j) (map (λ (r : Row). r.var) (cond b (row ∷ rest) rest)) ≡ ((b && (row.var == j)) || is_among (map (λ (r : Row). r.var) rest) j)
+listed true row rest j = refl
+listed false row rest j = refl
+
+-- a number stands in it where a row says so
+pub among_reinitialized : (log : List Row) (j : ℕ) → is_among (reinitialized_of log) j ≡ is_reinitialized log j
+among_reinitialized [] j = refl
+among_reinitialized (row ∷ log) j =
+    listed (is_reinit row.kind) row (filter (λ (r : Row). is_reinit r.kind) log) j ∙ ap (λ b. (is_reinit row.kind && (row.var == j)) || b) (among_reinitialized log j)
+
+module _ (log : List Row) (i : ℕ) (d : Row) (h : i < length log) where
+  -- a row of another kind adds nothing
+  pub reinitialized_same : is_reinit (get_or log i d).kind ≡ false → reinitialized_of (take (i + 1) log) ≡ reinitialized_of (take i log)
+  reinitialized_same e =
+      ap (map (λ (row : Row). row.var))
+      (filter_more (λ (row : Row). is_reinit row.kind) log i d h ∙ ap (λ b. filter (λ (row : Row). is_reinit row.kind) (take i log) ++ cond b (get_or log i d ∷ []) []) e
+      ∙ append-nil (filter (λ (row : Row). is_reinit row.kind) (take i log)))
+
+  -- and one of a state adds it
+  pub reinitialized_more : is_reinit (get_or log i d).kind ≡ true → reinitialized_of (take (i + 1) log) ≡ reinitialized_of (take i log) ++ (get_or log i d).var ∷ []
+  reinitialized_more e =
+      ap (map (λ (row : Row). row.var))
+      (filter_more (λ (row : Row). is_reinit row.kind) log i d h ∙ ap (λ b. filter (λ (row : Row). is_reinit row.kind) (take i log) ++ cond b (get_or log i d ∷ []) []) e)
+      ∙ map-append (λ (row : Row). row.var) (filter (λ (row : Row). is_reinit row.kind) (take i log)) (get_or log i d ∷ [])

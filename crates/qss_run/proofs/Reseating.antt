@@ -16,8 +16,9 @@ use Rattle.qss_run.specs.Handlings.{AreAssigned, states_with}
 use Rattle.qss_run.specs.Moves.{is_among}
 use Rattle.qss_run.specs.Places.{line_at, IsTurned}
 use Rattle.qss_run.specs.Renewals.{goes_at, goes_from, renewals, renewals_from}
+use Rattle.qss_run.specs.RowSums.{AreSumsBefore}
 use Rattle.qss_run.specs.Sims.{IsDue}
-use Rattle.qss_run.specs.Turnings.{MayTurn, Courses, AreTurned, AreLevelsBefore}
+use Rattle.qss_run.specs.Turnings.{MayTurn, Courses, AreTurned}
 use Rattle.qss_run.proofs.Assigned.{slope_stays}
 use Rattle.qss_run.proofs.Counting.{count_same}
 use Rattle.qss_run.proofs.Courses.{still_turned, turned_then}
@@ -26,6 +27,7 @@ use Rattle.qss_run.proofs.Renewed.{from_here}
 use Rattle.qss_run.proofs.Seats.{AreSeated, still_begun}
 use Rattle.qss_run.proofs.Unread.{unread_at, unread_slope}
 use Rattle.qss_run.proofs.Among.{among_readers}
+use Rattle.qss_run.specs.declared.shifts.RowSum.TheVariants.{Slope}
 
 -- ---- the states
 
@@ -96,7 +98,7 @@ module _ (m : Machine) (tick : ℕ) (x levels slopes : List ℤ) (moved : List �
   -- ---- and those whose rows read a change go on at new slopes
 
   module _ (assigned : List ℕ) (before pre d slopes_old : List ℤ) (turned last : Courses) (readers : AreTurned m tick levels slopes (flat_map (reading_rows m) moved) between turned)
-      (more : AreTurned m tick levels slopes (flat_map (reading_rows m) assigned) turned last) (were : AreLevelsBefore m moved levels pre slopes_old first.lines before)
+      (more : AreTurned m tick levels slopes (flat_map (reading_rows m) assigned) turned last) (were : AreSumsBefore Slope m moved levels pre slopes_old first.lines before)
       (same : AreAssigned m assigned pre d) (slopes_new : slopes ≡ tabulate (state_count m) (λ j. slope_at m j levels d)) (many_levels : length levels ≡ state_count m)
       (many_before : length pre ≡ discrete_count m) (many_discretes : length d ≡ discrete_count m) (j : ℕ) (h : j < state_count m) where
     abbrev xs : List ℕ
@@ -115,7 +117,7 @@ module _ (m : Machine) (tick : ℕ) (x levels slopes : List ℤ) (moved : List �
     slope_kept : is_among (xs ++ ys) j ≡ false → int_at slopes_old j ≡ int_at slopes j
     slope_kept none =
         let parts = or_parts (is_among xs j) (is_among ys j) (sym (list_any-append (λ (i : ℕ). i == j) xs ys) ∙ none) in
-        ap (λ zs. int_at zs j) were.own_slopes ∙ int_at-tabulate (state_count m) (λ k. slope_at m k before pre) j h
+        ap (λ zs. int_at zs j) were.own_sums ∙ int_at-tabulate (state_count m) (λ k. slope_at m k before pre) j h
         ∙ sym (unread_slope m.f (row_at m j) moved before levels pre (unread_at moved (row_at m j) (sym (among_readers m j h moved) ∙ parts.0)) were.off)
         ∙ sym (slope_stays m levels pre d assigned many_levels many_before many_discretes same j h (sym (among_readers m j h assigned) ∙ parts.1))
         ∙ sym slope_new

@@ -1,5 +1,6 @@
 -- Which conditions settle after handlers.
-use Rattle.std.proofs.Common.{◌≡◌, ℕ, ◌+◌, ◌<◌, Bool, true, false, ◌||◌, List, [], ◌∷◌, ◌++◌, length, flat_map, ℤ, pos, refl, sym, ◌∙◌, ap, arith, inl, inr, ◌==◌}
+use Rattle.std.proofs.Common.{◌≡◌, ℕ, ◌+◌, ◌<◌, Bool, true, false, ◌||◌, List, [], ◌∷◌, ◌++◌, length, flat_map, ℤ, pos, refl, sym, ◌∙◌, ap, arith, inl, inr, append-nil, ◌==◌}
+use Rattle.std.proofs.lemmas.Grind.{flat_map-append}
 use Rattle.std.proofs.lemmas.Bool.{cases_lt, false_from_ne_true}
 use Rattle.std.proofs.lemmas.List.{get_or_past}
 use Rattle.std.proofs.lemmas.List.Folds.{Any-from_list_any, list_any-append, list_any_at}
@@ -13,7 +14,7 @@ use Rattle.qss_machine.specs.Handlers.{conditions}
 use Rattle.qss_machine.specs.Uses.{condition_reads, reading_rows, reading_conditions}
 use Rattle.qss_run.specs.Moves.{is_among}
 use Rattle.qss_run.specs.Reads.{AreArrived}
-use Rattle.qss_run.specs.Rewatchings.{readers_of, touched_by, readers_before, touched_after, depends_on, settles_after, one_reads}
+use Rattle.qss_run.specs.Rewatchings.{readers_of, touched_of, touched_by, readers_before, touched_after, depends_on, settles_after, one_reads}
 use Rattle.qss_run.specs.Sims.{condition_at}
 use Rattle.qss_run.proofs.Among.{place_among}
 use Rattle.qss_run.proofs.Arrived.{arrived_then}
@@ -26,6 +27,10 @@ in_lists : (f : ℕ → List ℕ) (test : ℕ → Bool) (place : ℕ) → ((x : 
 in_lists f test place same [] = refl
 in_lists f test place same (x ∷ xs) =
     in_two (f x) (flat_map f xs) place ∙ ap (λ b. b || is_among (flat_map f xs) place) (same x) ∙ ap (λ b. test x || b) (in_lists f test place same xs)
+
+-- the conditions that one more variable touches
+pub touched_more : (m : Machine) (vars : List ℕ) (var : ℕ) → touched_by m (vars ++ var ∷ []) ≡ touched_by m vars ++ touched_of m var
+touched_more m vars var = flat_map-append (touched_of m) vars (var ∷ []) ∙ ap (λ more. touched_by m vars ++ more) (append-nil (touched_of m var))
 
 module _ (m : Machine) (place : ℕ) (h : place < length (conditions m)) where
   abbrev condition : Condition
@@ -40,26 +45,26 @@ module _ (m : Machine) (place : ℕ) (h : place < length (conditions m)) where
 
   among_touched : (vars : List ℕ) → is_among (touched_by m vars) place ≡ list_any (depends_on m condition) vars
   among_touched vars =
-      in_lists (λ var. readers_of m (reading_rows m var) ++ reading_conditions m var) (depends_on m condition) place
+      in_lists (touched_of m) (depends_on m condition) place
       (λ var.
       in_two (readers_of m (reading_rows m var)) (reading_conditions m var) place
       ∙ ap (λ b. b || is_among (reading_conditions m var) place) (in_lists (reading_conditions m) (λ j. condition_reads j condition) place among_conditions (reading_rows m var))
       ∙ ap (λ b. list_any (λ j. condition_reads j condition) (reading_rows m var) || b) (among_conditions var)) vars
 
   -- the conditions that settle are those that changed and those that read what changed
-  pub among_settling : (moved assigned changed : List ℕ) → is_among (touched_after m moved assigned changed) place ≡ settles_after m moved assigned changed place
-  among_settling moved assigned changed =
-      let by_moved : List ℕ = touched_by m moved in
+  pub among_settling : (reinitialized assigned changed : List ℕ) → is_among (touched_after m reinitialized assigned changed) place ≡ settles_after m reinitialized assigned changed place
+  among_settling reinitialized assigned changed =
+      let by_reinitialized : List ℕ = touched_by m reinitialized in
       let by_assigned : List ℕ = touched_by m assigned in
       let before : List ℕ = readers_before m assigned in
       let on : List ℕ → Bool = list_any (depends_on m condition) in
       let last : is_among before place ≡ list_any (λ var. condition_reads (var + discrete_count m) condition) assigned =
       in_lists (λ var. reading_conditions m (var + discrete_count m)) (λ var. condition_reads (var + discrete_count m) condition) place (λ var. among_conditions (var + discrete_count m)) assigned in
-      let two : is_among (changed ++ by_moved) place ≡ (is_among changed place || on moved) = in_two changed by_moved place ∙ ap (λ b. is_among changed place || b) (among_touched moved) in
-      let three : is_among ((changed ++ by_moved) ++ by_assigned) place ≡ ((is_among changed place || on moved) || on assigned) =
-      in_two (changed ++ by_moved) by_assigned place ∙ ap (λ b. b || is_among by_assigned place) two ∙ ap (λ b. (is_among changed place || on moved) || b) (among_touched assigned) in
-      in_two ((changed ++ by_moved) ++ by_assigned) before place ∙ ap (λ b. b || is_among before place) three
-      ∙ ap (λ b. ((is_among changed place || on moved) || on assigned) || b) last
+      let two : is_among (changed ++ by_reinitialized) place ≡ (is_among changed place || on reinitialized) = in_two changed by_reinitialized place ∙ ap (λ b. is_among changed place || b) (among_touched reinitialized) in
+      let three : is_among ((changed ++ by_reinitialized) ++ by_assigned) place ≡ ((is_among changed place || on reinitialized) || on assigned) =
+      in_two (changed ++ by_reinitialized) by_assigned place ∙ ap (λ b. b || is_among by_assigned place) two ∙ ap (λ b. (is_among changed place || on reinitialized) || b) (among_touched assigned) in
+      in_two ((changed ++ by_reinitialized) ++ by_assigned) before place ∙ ap (λ b. b || is_among before place) three
+      ∙ ap (λ b. ((is_among changed place || on reinitialized) || on assigned) || b) last
 
 -- ---- states that conditions read
 
@@ -84,11 +89,11 @@ arrived_on m xs ys states a b c =
     arrived_then (one_reads m xs) (one_reads m ys) (one_reads m (xs ++ ys)) states a b c (λ j. list_any-append (λ place. condition_reads j (condition_at m place)) xs ys)
 
 -- a state that none of the conditions reads that settle
-pub unread_by : (m : Machine) (moved assigned changed : List ℕ) (j : ℕ) →
-    ((place : ℕ) → place < length (conditions m) → settles_after m moved assigned changed place ≡ true → condition_reads j (condition_at m place) ≡ false) →
-    one_reads m (touched_after m moved assigned changed) j ≡ false
-unread_by m moved assigned changed j none =
-    let touched : List ℕ = touched_after m moved assigned changed in
+pub unread_by : (m : Machine) (reinitialized assigned changed : List ℕ) (j : ℕ) →
+    ((place : ℕ) → place < length (conditions m) → settles_after m reinitialized assigned changed place ≡ true → condition_reads j (condition_at m place) ≡ false) →
+    one_reads m (touched_after m reinitialized assigned changed) j ≡ false
+unread_by m reinitialized assigned changed j none =
+    let touched : List ℕ = touched_after m reinitialized assigned changed in
     let empty : Condition = record { form = record { entries = []; time = pos 0; gamma = pos 0 }; rel = Less } in
     false_from_ne_true (one_reads m touched j)
     (λ some.
@@ -98,6 +103,6 @@ unread_by m moved assigned changed j none =
     let reads : condition_reads j (condition_at m place) ≡ true = found.4 in
     elim (cases_lt place (length (conditions m))) [
       | inl below ↦
-          let not : condition_reads j (condition_at m place) ≡ false = none place below (sym (among_settling m place below moved assigned changed) ∙ among) in absurd (cc)
+          let not : condition_reads j (condition_at m place) ≡ false = none place below (sym (among_settling m place below reinitialized assigned changed) ∙ among) in absurd (cc)
       | inr past ↦ let not : condition_reads j (condition_at m place) ≡ false = ap (condition_reads j) (get_or_past (conditions m) place empty past) in absurd (cc)
     ])

@@ -27,7 +27,7 @@ use Rattle.qss_sched.specs.Ranks.{due_at}
 use Rattle.qss_run.specs.Sims.{condition_at, IsChange}
 use Rattle.qss_run.specs.Places.{watch_at, IsWatched}
 use Rattle.qss_run.specs.Moves.{AreNumbers}
-use Rattle.qss_run.specs.Speeds.{reads_moved, AreWatchedBefore, HasSpeed, GoesOn, AreGoingOn}
+use Rattle.qss_run.specs.Speeds.{reads_moved, AreSlopesBefore, HasSpeed, GoesOn, AreGoingOn}
 use Rattle.qss_run.proofs.KeptReaders.{rows_kept, conditions_kept, conditions_below}
 use Rattle.qss_run.proofs.Turning.{no_watch}
 
@@ -160,8 +160,7 @@ pub speeds_same : (m : Machine) (form : Form) (a b : List ℤ) →
 speeds_same m form a b same =
     ap (λ z. z +ℤ form.time *ℤ pos (2 ^ (m.f + m.p))) (weighted_sum-entries form.entries a ∙ sums_same form.entries a b same ∙ sym (weighted_sum-entries form.entries b))
 
-module _ (m : Machine) (tick : ℕ) (x d before slopes : List ℤ) (moved : List ℕ) (old new : List Watch) (due next : List (Option ℕ))
-    (watched : AreWatchedBefore m tick x d before slopes moved old due) (going : AreGoingOn m tick slopes old new due next)
+module _ (m : Machine) (tick : ℕ) (slopes : List ℤ) (moved : List ℕ) (old new : List Watch) (due next : List (Option ℕ)) (going : AreGoingOn m tick slopes old new due next)
     (numbers : AreNumbers (state_count m) moved) (many : length slopes ≡ state_count m) (all : length old ≡ length (conditions m))
     (speeds : All (λ j. All (λ state. All (HasSpeed m slopes new) (slice_index_or (uses_of m).1 state [])) (slice_index_or (uses_of m).0 j [])) moved) where
   -- whether a state's slope may have changed
@@ -197,9 +196,10 @@ module _ (m : Machine) (tick : ℕ) (x d before slopes : List ℤ) (moved : List
       below a b less = grind (arith, nat_tests)
 
   -- another one keeps it
-  untouched : (place : ℕ) → place < length (conditions m) → list_any touches (condition_at m place).form.entries ≡ false → HasSpeed m slopes new place
-  untouched place h e =
-      kept_speed (going.each place (omega (arith, h, all))) ((watched.each place h).own_speed ∙ speeds_same m (condition_at m place).form before slopes same)
+  untouched : (before : List ℤ) (place : ℕ) → place < length (conditions m) → AreSlopesBefore m moved before slopes place →
+      (watch_at old place).speed ≡ speed_of m (condition_at m place).form before → list_any touches (condition_at m place).form.entries ≡ false → HasSpeed m slopes new place
+  untouched before place h was own e =
+      kept_speed (going.each place (omega (arith, h, all))) (own ∙ speeds_same m (condition_at m place).form before slopes same)
     where
       no_touch : (k : ℕ) (d : Entry) → k < length (condition_at m place).form.entries → touches (get_or (condition_at m place).form.entries k d) ≡ false
       no_touch k d inside =
@@ -213,21 +213,23 @@ module _ (m : Machine) (tick : ℕ) (x d before slopes : List ℤ) (moved : List
       same k d inside =
           let state : ℕ = (get_or (condition_at m place).form.entries k d).var in
           elim (cases_lt state (state_count m)) [
-            | inl below ↦ sym (watched.others state below (second_false (nat_lt state (state_count m)) (reads_moved m moved state) (lt-ltb state (state_count m) below) (no_touch k d inside)))
-            | inr past ↦ get_or_past before state (pos 0) (omega (arith, past, watched.as_many)) ∙ sym (get_or_past slopes state (pos 0) (omega (arith, past, many)))
+            | inl below ↦
+                let reads : condition_reads state (condition_at m place) ≡ true = list_any_at (λ (entry : Entry). entry.var == state) (condition_at m place).form.entries k d inside (eqb-yes state state refl) in
+                sym (was.others state below reads (second_false (nat_lt state (state_count m)) (reads_moved m moved state) (lt-ltb state (state_count m) below) (no_touch k d inside)))
+            | inr past ↦ get_or_past before state (pos 0) (omega (arith, past, was.as_many)) ∙ sym (get_or_past slopes state (pos 0) (omega (arith, past, many)))
           ]
 
-  -- all conditions are watched again
-  pub watched_again : (place : ℕ) → place < length (conditions m) → IsWatched m tick x d slopes place (watch_at new place) (due_at next (state_count m + place))
-  watched_again place h =
-      let first = watched.each place h in
+  -- a condition that was watched is watched again
+  pub watched_again : (x d before : List ℤ) (place : ℕ) → place < length (conditions m) → AreSlopesBefore m moved before slopes place →
+      IsWatched m tick x d before place (watch_at old place) (due_at due (state_count m + place)) → IsWatched m tick x d slopes place (watch_at new place) (due_at next (state_count m + place))
+  watched_again x d before place h was first =
       let on = going.each place (omega (arith, h, all)) in
       let held : holds_at (watch_at old place) tick ≡ truth m (condition_at m place) x d tick =
       ap (λ rel. compares rel (value_at (watch_at old place) tick)) first.own_rel ∙ ap (compares (condition_at m place).rel) first.here in
       record {
         not_later = on.not_later;
         here = on.here ∙ first.here;
-        own_speed = elim (cases_Bool (list_any touches (condition_at m place).form.entries)) [ inl some ↦ touched place h some | inr none ↦ untouched place h none ];
+        own_speed = elim (cases_Bool (list_any touches (condition_at m place).form.entries)) [ inl some ↦ touched place h some | inr none ↦ untouched before place h was first.own_speed none ];
         own_rel = on.same_rel ∙ first.own_rel;
         is_change = subst (λ s. IsChange tick s (watch_at new place) (due_at next (state_count m + place))) held
             (on.is_change (subst (λ s. IsChange tick s (watch_at old place) (due_at due (state_count m + place))) (sym held) first.is_change));

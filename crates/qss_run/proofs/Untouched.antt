@@ -10,20 +10,29 @@ use Rattle.qss_machine.specs.declared.parts.Condition.{Condition}
 use Rattle.qss_machine.specs.declared.parts.Entry.{Entry}
 use Rattle.qss_machine.specs.declared.parts.Rel.TheVariants.{Less}
 use Rattle.qss_machine.specs.declared.system.Machine.{Machine}
-use Rattle.qss_machine.specs.Machines.{state_count, discrete_count, row_at, level_unit, inputs, value_of, speed_of, compares}
+use Rattle.qss_machine.specs.Machines.{state_count, discrete_count, row_at, level_unit, inputs, value_of, compares, truth}
 use Rattle.qss_machine.specs.Numbers.{int_at}
 use Rattle.qss_machine.specs.Handlers.{conditions}
+use Rattle.qss_machine.specs.Firing.{flag_at}
 use Rattle.qss_machine.specs.Uses.{row_reads, condition_reads, reading_rows, reading_conditions}
+use Rattle.qss_cross.specs.Crossing.{Watch}
 use Rattle.qss_sched.specs.Ranks.{due_at}
 use Rattle.qss_run.specs.Handlings.{AreWatchedUpTo}
 use Rattle.qss_run.specs.Moves.{is_among}
-use Rattle.qss_run.specs.Places.{watch_at}
+use Rattle.qss_run.specs.Places.{watch_at, IsWatched}
 use Rattle.qss_run.specs.Sims.{condition_at}
-use Rattle.qss_run.specs.Speeds.{reads_moved}
-use Rattle.qss_run.specs.Rewatchings.{Watchings, IsSettled, AreSettled, readers_of, touched_by, readers_before, touched_after}
+use Rattle.qss_run.specs.Speeds.{reads_moved, AreSlopesBefore}
+use Rattle.qss_run.specs.Rewatchings.{Watchings, AreSettled, readers_of, touched_of, touched_by, readers_before, touched_after}
 use Rattle.qss_run.proofs.Among.{among_rows}
-use Rattle.qss_run.proofs.Rewatching.{still_settled, watched_as}
+use Rattle.qss_run.proofs.Rewatching.{watched_as}
 use Rattle.qss_run.proofs.Speeds.{of_place, speeds_same}
+
+-- a condition is watched at its value, at the speed of slopes before, and has its truth
+pub record IsWatchedThere (m : Machine) (tick : ℕ) (moved : List ℕ) (states d slopes : List ℤ) (place : ℕ) (now : Watchings) : Type 0 where
+  pub before : List ℤ
+  pub slopes_before : AreSlopesBefore m moved before slopes place
+  pub watched : IsWatched m tick states d before place (watch_at now.watches place) (due_at now.dues (state_count m + place))
+  pub own_truth : flag_at now.settled place ≡ truth m (condition_at m place) states d tick
 
 -- a number in none of the lists is not in one of them
 none_among : (f : ℕ → List ℕ) (xs : List ℕ) (place : ℕ) → is_among (flat_map f xs) place ≡ false → (i : ℕ) → is_among xs i ≡ true → is_among (f i) place ≡ false
@@ -61,7 +70,7 @@ module _ (m : Machine) (place : ℕ) (h : place < length (conditions m)) where
   not_one vars none j reads =
       false_from_ne_true (is_among vars j)
       (λ among.
-      let own = in_neither (readers_of m (reading_rows m j)) (reading_conditions m j) place (none_among (λ v. readers_of m (reading_rows m v) ++ reading_conditions m v) vars place none j among) in
+      let own = in_neither (readers_of m (reading_rows m j)) (reading_conditions m j) place (none_among (touched_of m) vars place none j among) in
       clash (is_among (reading_conditions m j) place) (among_readers j reads) own.1)
 
   row_reads_none : (vars : List ℕ) → is_among (touched_by m vars) place ≡ false → (j : ℕ) → j < state_count m → condition_reads j (condition_at m place) ≡ true → reads_moved m vars j ≡ false
@@ -71,7 +80,7 @@ module _ (m : Machine) (place : ℕ) (h : place < length (conditions m)) where
       let found = Any-from_list_any (λ i. row_reads i (row_at m j)) vars some in
       let i : ℕ = found.1 in
       let among : is_among vars i ≡ true = list_any_at (λ (k : ℕ). k == i) vars found.0 i found.2 (eqb-yes _ i found.3) in
-      let own = in_neither (readers_of m (reading_rows m i)) (reading_conditions m i) place (none_among (λ v. readers_of m (reading_rows m v) ++ reading_conditions m v) vars place none i among) in
+      let own = in_neither (readers_of m (reading_rows m i)) (reading_conditions m i) place (none_among (touched_of m) vars place none i among) in
       let row : is_among (reading_rows m i) j ≡ true = among_rows m i j inside ∙ found.4 in
       clash (is_among (reading_conditions m j) place) (among_readers j reads) (none_among (reading_conditions m) (reading_rows m i) place own.0 j row))
 
@@ -104,27 +113,27 @@ in_units unit a b g many same = elim (cases_lt g (length a)) [
 
 -- ---- all conditions
 
-module _ (m : Machine) (tick : ℕ) (moved assigned changed : List ℕ) (x states pre d before slopes : List ℤ) (old new : Watchings)
-    (upto : AreWatchedUpTo m tick moved assigned changed x states pre d before slopes old.settled old.watches old.dues)
-    (are : AreSettled m tick states d slopes (touched_after m moved assigned changed) old new) where
-  module _ (place : ℕ) (h : place < length (conditions m)) (none : is_among (touched_after m moved assigned changed) place ≡ false) where
+module _ (m : Machine) (tick : ℕ) (moved reinitialized assigned changed : List ℕ) (x states pre d before slopes : List ℤ) (old new : Watchings)
+    (upto : AreWatchedUpTo m tick moved reinitialized assigned changed x states pre d before slopes old.settled old.watches old.dues)
+    (are : AreSettled m tick states d slopes (touched_after m reinitialized assigned changed) old new) where
+  module _ (place : ℕ) (h : place < length (conditions m)) (none : is_among (touched_after m reinitialized assigned changed) place ≡ false) where
     not_before_tick : is_among (readers_before m assigned) place ≡ false
-    not_before_tick = (in_neither ((changed ++ touched_by m moved) ++ touched_by m assigned) (readers_before m assigned) place none).1
+    not_before_tick = (in_neither ((changed ++ touched_by m reinitialized) ++ touched_by m assigned) (readers_before m assigned) place none).1
 
-    first_three : is_among ((changed ++ touched_by m moved) ++ touched_by m assigned) place ≡ false
-    first_three = (in_neither ((changed ++ touched_by m moved) ++ touched_by m assigned) (readers_before m assigned) place none).0
+    first_three : is_among ((changed ++ touched_by m reinitialized) ++ touched_by m assigned) place ≡ false
+    first_three = (in_neither ((changed ++ touched_by m reinitialized) ++ touched_by m assigned) (readers_before m assigned) place none).0
 
     not_assigned : is_among (touched_by m assigned) place ≡ false
-    not_assigned = (in_neither (changed ++ touched_by m moved) (touched_by m assigned) place first_three).1
+    not_assigned = (in_neither (changed ++ touched_by m reinitialized) (touched_by m assigned) place first_three).1
 
-    first_two : is_among (changed ++ touched_by m moved) place ≡ false
-    first_two = (in_neither (changed ++ touched_by m moved) (touched_by m assigned) place first_three).0
+    first_two : is_among (changed ++ touched_by m reinitialized) place ≡ false
+    first_two = (in_neither (changed ++ touched_by m reinitialized) (touched_by m assigned) place first_three).0
 
-    not_moved : is_among (touched_by m moved) place ≡ false
-    not_moved = (in_neither changed (touched_by m moved) place first_two).1
+    not_reinitialized : is_among (touched_by m reinitialized) place ≡ false
+    not_reinitialized = (in_neither changed (touched_by m reinitialized) place first_two).1
 
     not_changed : is_among changed place ≡ false
-    not_changed = (in_neither changed (touched_by m moved) place first_two).0
+    not_changed = (in_neither changed (touched_by m reinitialized) place first_two).0
 
     reads_entry : (k : ℕ) (entry : Entry) → k < length (condition_at m place).form.entries →
         condition_reads (get_or (condition_at m place).form.entries k entry).var (condition_at m place) ≡ true
@@ -147,7 +156,7 @@ module _ (m : Machine) (tick : ℕ) (moved assigned changed : List ℕ) (x state
         let many_units : length (units pre) ≡ length (units d) = length-map pre (λ z. z *ℤ unit) ∙ many ∙ sym (length-map d (λ z. z *ℤ unit)) in
         let here : length (units pre) ≡ discrete_count m = length-map pre (λ z. z *ℤ unit) ∙ upto.many_discretes.0 in
         one_after_another x states (units pre ++ units pre) (units d ++ units d) var (upto.many_states.0 ∙ sym upto.many_states.1)
-        (λ below. sym (upto.other_states var (omega (arith, below, upto.many_states.0)) (not_one m place h moved not_moved var reads)))
+        (λ below. sym (upto.other_states var (omega (arith, below, upto.many_states.0)) (not_one m place h reinitialized not_reinitialized var reads)))
         (λ past.
         let g : ℕ = var - length x in
         let e : var ≡ state_count m + g = omega (arith, past, upto.many_states.0) in
@@ -164,36 +173,37 @@ module _ (m : Machine) (tick : ℕ) (moved assigned changed : List ℕ) (x state
         let sums = speeds_same m (condition_at m place).form (inputs m x pre pre) (inputs m states d d) (λ k entry inside. input_same _ (reads_entry k entry inside)) in
         omega (arith, ints, sums)
 
-    same_speed : speed_of m (condition_at m place).form before ≡ speed_of m (condition_at m place).form slopes
-    same_speed =
-        speeds_same m (condition_at m place).form before slopes
-        (λ k entry inside.
-        let var : ℕ = (get_or (condition_at m place).form.entries k entry).var in
-        let reads = reads_entry k entry inside in
-        elim (cases_lt var (state_count m)) [
-          | inl below ↦ sym (upto.other_slopes var below (row_reads_none m place h moved not_moved var below reads) (row_reads_none m place h assigned not_assigned var below reads))
-          | inr past ↦ get_or_past before var (pos 0) (omega (arith, past, upto.many_slopes.0)) ∙ sym (get_or_past slopes var (pos 0) (omega (arith, past, upto.many_slopes.1)))
-        ])
+    -- the slopes of the states that it reads are as they were, but of those whose rows read a moved one
+    slopes_before : AreSlopesBefore m moved before slopes place
+    slopes_before = record {
+      as_many = upto.many_slopes.0;
+      others = λ j below reads still. upto.other_slopes j below still (row_reads_none m place h assigned not_assigned j below reads);
+    }
 
-    untouched : IsSettled m tick states d slopes place new
-    untouched =
-        still_settled m tick states d slopes place old new (are.kept place none)
-        (record {
-          watched = watched_as m tick x pre before states d slopes place (watch_at old.watches place) (due_at old.dues (state_count m + place)) same_value same_speed (upto.each place h not_changed);
-          own_truth = upto.settled_so place h not_changed ∙ ap (compares (condition_at m place).rel) same_value;
-        })
+    kept_watch : IsWatched m tick states d before place (watch_at new.watches place) (due_at new.dues (state_count m + place))
+    kept_watch =
+        let kept = are.kept place none in
+        subst (λ (w : Watch). IsWatched m tick states d before place w (due_at new.dues (state_count m + place))) (sym kept.watch)
+        (subst (IsWatched m tick states d before place (watch_at old.watches place)) (sym kept.due)
+        (watched_as m tick x pre before states d before place (watch_at old.watches place) (due_at old.dues (state_count m + place)) same_value refl (upto.each place h not_changed)))
 
-  -- each condition is settled: one that is not touched as it was
-  each_settled : (place : ℕ) → place < length (conditions m) → IsSettled m tick states d slopes place new
-  each_settled place h = elim (cases_Bool (is_among (touched_after m moved assigned changed) place)) [
-    | inl touched ↦ are.own place touched
-    | inr none ↦ untouched place h none
+    kept_truth : flag_at new.settled place ≡ truth m (condition_at m place) states d tick
+    kept_truth = (are.kept place none).truth ∙ upto.settled_so place h not_changed ∙ ap (compares (condition_at m place).rel) same_value
+
+  -- each condition is watched at its value, and has its truth; it is at its speed where it settled
+  each_watched : (place : ℕ) → place < length (conditions m) → IsWatchedThere m tick moved states d slopes place new
+  each_watched place h = elim (cases_Bool (is_among (touched_after m reinitialized assigned changed) place)) [
+    | inl touched ↦
+        let own = are.own place touched in
+        record { before = slopes; slopes_before = record { as_many = upto.many_slopes.1; others = λ j below reads still. refl }; watched = own.watched; own_truth = own.own_truth }
+    | inr none ↦ record { before = before; slopes_before = slopes_before place h none; watched = kept_watch place h none; own_truth = kept_truth place h none }
   ]
 
--- where the touched conditions are settled, all are
-pub all_settled : (m : Machine) (tick : ℕ) (moved assigned changed : List ℕ) (x states pre d now before slopes : List ℤ) (old new : Watchings) →
-    AreWatchedUpTo m tick moved assigned changed x states pre d before slopes old.settled old.watches old.dues → now ≡ d →
-    AreSettled m tick states now slopes (touched_after m moved assigned changed) old new → (place : ℕ) → place < length (conditions m) → IsSettled m tick states d slopes place new
-all_settled m tick moved assigned changed x states pre d now before slopes old new upto same are place h =
-    each_settled m tick moved assigned changed x states pre d before slopes old new upto
-    (subst (λ (e : List ℤ). AreSettled m tick states e slopes (touched_after m moved assigned changed) old new) same are) place h
+-- where the touched conditions are settled, all are watched at their values
+pub all_watched : (m : Machine) (tick : ℕ) (moved reinitialized listed assigned changed : List ℕ) (x states pre d now before slopes : List ℤ) (old new : Watchings) →
+    AreWatchedUpTo m tick moved reinitialized assigned changed x states pre d before slopes old.settled old.watches old.dues → now ≡ d → listed ≡ reinitialized →
+    AreSettled m tick states now slopes (touched_after m listed assigned changed) old new → (place : ℕ) → place < length (conditions m) → IsWatchedThere m tick moved states d slopes place new
+all_watched m tick moved reinitialized listed assigned changed x states pre d now before slopes old new upto same as_listed are place h =
+    each_watched m tick moved reinitialized assigned changed x states pre d before slopes old new upto
+    (subst (λ (e : List ℤ). AreSettled m tick states e slopes (touched_after m reinitialized assigned changed) old new) same
+    (subst (λ (r : List ℕ). AreSettled m tick states now slopes (touched_after m r assigned changed) old new) as_listed are)) place h

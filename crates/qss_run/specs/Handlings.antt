@@ -66,13 +66,13 @@ pub record AreMovedTo (m : Machine) (moved : List ℕ) (x levels states : List �
   pub own : (j : ℕ) → is_among moved j ≡ true → int_at states j ≡ int_at x j
   pub near : (j : ℕ) → j < state_count m → is_among moved j ≡ false → is_near m j (int_at states j) (int_at levels j) ≡ true
 
--- conditions watched up to a tick at which these states moved, these discrete variables were assigned and these conditions changed
-pub record AreWatchedUpTo (m : Machine) (tick : ℕ) (moved assigned changed : List ℕ) (x states pre d before slopes : List ℤ) (settled : List Bool) (watches : List Watch) (due : List (Option ℕ)) : Type 0 where
+-- conditions watched up to a tick at which these states moved, some of them by reinitialization, these discrete variables were assigned and these conditions changed
+pub record AreWatchedUpTo (m : Machine) (tick : ℕ) (moved reinitialized assigned changed : List ℕ) (x states pre d before slopes : List ℤ) (settled : List Bool) (watches : List Watch) (due : List (Option ℕ)) : Type 0 where
   pub each : (place : ℕ) → place < length (conditions m) → is_among changed place ≡ false →
       IsWatched m tick x pre before place (watch_at watches place) (due_at due (state_count m + place))
   pub settled_so : (place : ℕ) → place < length (conditions m) → is_among changed place ≡ false →
       flag_at settled place ≡ truth m (condition_at m place) x pre tick
-  pub other_states : (j : ℕ) → j < state_count m → is_among moved j ≡ false → int_at states j ≡ int_at x j
+  pub other_states : (j : ℕ) → j < state_count m → is_among reinitialized j ≡ false → int_at states j ≡ int_at x j
   pub other_discretes : AreAssigned m assigned pre d
   pub other_slopes : (j : ℕ) → j < state_count m → reads_moved m moved j ≡ false → reads_moved m assigned j ≡ false → int_at slopes j ≡ int_at before j
   pub many_states : (length x ≡ state_count m) × (length states ≡ state_count m)

@@ -1,6 +1,7 @@
--- Which discrete variables the rows of a tick assign.
+-- Which discrete variables the rows of a tick assign, and which states they reinitialize.
 use Rattle.std.specs.Prelude.{ℕ, Bool, true, false, List, map}
 use Rattle.std.specs.List.{filter}
+use Rattle.qss_machine.specs.Counts.{is_reinit}
 use Rattle.qss_machine.specs.declared.rows.Row.{Row}
 use Rattle.qss_machine.specs.declared.rows.RowKind.{RowKind}
 use Rattle.qss_machine.specs.declared.rows.RowKind.TheVariants as kind
@@ -18,3 +19,7 @@ is_set kind.Overflow = false
 -- the variables that rows say were assigned
 abbrev pub assigned_of : List Row → List ℕ
 assigned_of rows = map (λ row. row.var) (filter (λ row. is_set row.kind) rows)
+
+-- the states that rows say were reinitialized
+abbrev pub reinitialized_of : List Row → List ℕ
+reinitialized_of rows = map (λ row. row.var) (filter (λ row. is_reinit row.kind) rows)

@@ -43,9 +43,13 @@ pub record AreSettled (m : Machine) (tick : ℕ) (x d slopes : List ℤ) (places
 abbrev pub readers_of : Machine → List ℕ → List ℕ
 readers_of m vars = flat_map (reading_conditions m) vars
 
--- the conditions that read one of these variables, or a state whose row reads one
+-- the conditions that read a state whose row reads this variable, or the variable
+abbrev pub touched_of : Machine → ℕ → List ℕ
+touched_of m var = readers_of m (reading_rows m var) ++ reading_conditions m var
+
+-- those of each of these variables
 abbrev pub touched_by : Machine → List ℕ → List ℕ
-touched_by m vars = flat_map (λ var. readers_of m (reading_rows m var) ++ reading_conditions m var) vars
+touched_by m vars = flat_map (touched_of m) vars
 
 -- the conditions that read the value before the tick of one of these discrete variables
 abbrev pub readers_before : Machine → List ℕ → List ℕ
@@ -53,16 +57,16 @@ readers_before m assigned = flat_map (λ var. reading_conditions m (var + discre
 
 -- the conditions that changed, and those that read what changed
 abbrev pub touched_after : Machine → List ℕ → List ℕ → List ℕ → List ℕ
-touched_after m moved assigned changed = ((changed ++ touched_by m moved) ++ touched_by m assigned) ++ readers_before m assigned
+touched_after m reinitialized assigned changed = ((changed ++ touched_by m reinitialized) ++ touched_by m assigned) ++ readers_before m assigned
 
 -- whether a condition reads this variable, or a state whose row reads it
 abbrev pub depends_on : Machine → Condition → ℕ → Bool
 depends_on m condition var = list_any (λ j. condition_reads j condition) (reading_rows m var) || condition_reads var condition
 
--- whether a condition settles after handlers: it changed, it depends on a moved state or an assigned variable, or it reads an assigned variable's value before the tick
+-- whether a condition settles after handlers: it changed, it depends on a reinitialized state or an assigned variable, or it reads an assigned variable's value before the tick
 abbrev pub settles_after : Machine → List ℕ → List ℕ → List ℕ → ℕ → Bool
-settles_after m moved assigned changed place =
-    ((is_among changed place || list_any (depends_on m (condition_at m place)) moved) || list_any (depends_on m (condition_at m place)) assigned)
+settles_after m reinitialized assigned changed place =
+    ((is_among changed place || list_any (depends_on m (condition_at m place)) reinitialized) || list_any (depends_on m (condition_at m place)) assigned)
     || list_any (λ var. condition_reads (var + discrete_count m) (condition_at m place)) assigned
 
 -- whether one of these conditions reads a state

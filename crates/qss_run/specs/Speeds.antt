@@ -1,25 +1,23 @@
 -- Conditions at new speeds, where few states moved.
-use Rattle.std.specs.Prelude.{◌≡◌, ℕ, ◌+◌, ◌<◌, ◌≤◌, Bool, false, List, length, ℤ, Option, Some}
+use Rattle.std.specs.Prelude.{◌≡◌, ℕ, ◌+◌, ◌<◌, ◌≤◌, Bool, true, false, List, length, ℤ, Option}
 use Rattle.std.specs.List.{list_any}
 use Rattle.qss_machine.specs.declared.system.Machine.{Machine}
 use Rattle.qss_machine.specs.Numbers.{int_at}
 use Rattle.qss_machine.specs.Machines.{state_count, row_at, speed_of}
-use Rattle.qss_machine.specs.Handlers.{conditions}
-use Rattle.qss_machine.specs.Uses.{row_reads}
+use Rattle.qss_machine.specs.Uses.{row_reads, condition_reads}
 use Rattle.qss_cross.specs.Crossing.{Watch, value_at, holds_at}
 use Rattle.qss_sched.specs.Ranks.{due_at}
 use Rattle.qss_run.specs.Sims.{condition_at, IsChange}
-use Rattle.qss_run.specs.Places.{watch_at, IsWatched}
+use Rattle.qss_run.specs.Places.{watch_at}
 
 -- whether a state's row reads one of the moved states
 abbrev pub reads_moved : Machine → List ℕ → ℕ → Bool
 reads_moved m moved j = list_any (λ i. row_reads i (row_at m j)) moved
 
--- conditions watched at the speeds of slopes before, of which those of states whose rows read no moved state are as they were
-pub record AreWatchedBefore (m : Machine) (tick : ℕ) (x d before slopes : List ℤ) (moved : List ℕ) (watches : List Watch) (due : List (Option ℕ)) : Type 0 where
-  pub each : (place : ℕ) → place < length (conditions m) → IsWatched m tick x d before place (watch_at watches place) (due_at due (state_count m + place))
+-- slopes before: of the states that a condition reads, those whose rows read no moved state have them still
+pub record AreSlopesBefore (m : Machine) (moved : List ℕ) (before slopes : List ℤ) (place : ℕ) : Type 0 where
   pub as_many : length before ≡ state_count m
-  pub others : (j : ℕ) → j < state_count m → reads_moved m moved j ≡ false → int_at slopes j ≡ int_at before j
+  pub others : (j : ℕ) → j < state_count m → condition_reads j (condition_at m place) ≡ true → reads_moved m moved j ≡ false → int_at slopes j ≡ int_at before j
 
 -- a watch has the speed of its condition
 abbrev pub HasSpeed : Machine → List ℤ → List Watch → ℕ → Type 0

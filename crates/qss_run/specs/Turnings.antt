@@ -1,13 +1,12 @@
 -- States of which some go on from a tick at new slopes, and the others as they were.
-use Rattle.std.specs.Prelude.{◌≡◌, ℕ, ◌<◌, ◌≤◌, ◌⊎◌, List, length, ℤ, Option, None, All, position, true}
+use Rattle.std.specs.Prelude.{◌≡◌, ℕ, ◌<◌, ◌≤◌, ◌⊎◌, List, length, ℤ, Option, true}
 use Rattle.mu_num.specs.Sizes.{IsWithin}
 use Rattle.qss_machine.specs.declared.system.Machine.{Machine}
-use Rattle.qss_machine.specs.Machines.{state_count, level_unit, slope_at, quantum_of}
-use Rattle.qss_machine.specs.Numbers.{int_at, tabulate}
-use Rattle.qss_machine.specs.Ticks.{is_overweight}
+use Rattle.qss_machine.specs.Machines.{state_count, level_unit, quantum_of}
+use Rattle.qss_machine.specs.Numbers.{int_at}
 use Rattle.qss_quant.specs.Lines.{Line, state_at, IsNear}
 use Rattle.qss_sched.specs.Ranks.{due_at}
-use Rattle.qss_run.specs.Moves.{is_among, IsOff}
+use Rattle.qss_run.specs.Moves.{is_among}
 use Rattle.qss_run.specs.Places.{line_at, IsTurned}
 use Rattle.qss_run.specs.Renewals.{goes_at}
 use Rattle.qss_run.specs.Sims.{IsDue}
@@ -37,11 +36,3 @@ pub record AreTurned (m : Machine) (tick : ℕ) (levels slopes : List ℤ) (stat
   pub left : (k : ℕ) → k < state_count m → goes_at (int_at levels k) (int_at slopes k) (line_at old.lines k) ≡ true → line_at new.lines k ≡ line_at old.lines k
   pub as_many : length new.dues ≡ length old.dues
   pub others : (place : ℕ) → state_count m ≤ place → due_at new.dues place ≡ due_at old.dues place
-
--- the levels before those of the moved states changed: within their limit, no row past its limits there, and the slopes and the lines are theirs
-pub record AreLevelsBefore (m : Machine) (moved : List ℕ) (levels discretes slopes : List ℤ) (lines : List Line) (old : List ℤ) : Type 0 where
-  pub off : IsOff moved old levels
-  pub small : All (IsWithin 43) old
-  pub light : position (is_overweight m old discretes) m.rows ≡ None
-  pub own_slopes : slopes ≡ tabulate (state_count m) (λ j. slope_at m j old discretes)
-  pub own_levels : (j : ℕ) → j < state_count m → (line_at lines j).level ≡ int_at old j

@@ -1,6 +1,6 @@
 //! A tick at which conditions are looked at.
 
-ghost use Rattle.std.specs.Prelude.{◌≡◌, ℕ, ◌+◌, ◌<◌, ◌≤◌, ◌^◌, List, ℤ, All, Option, None, Some, length, position, vec_capacity, false, if◌then◌else◌};
+ghost use Rattle.std.specs.Prelude.{◌≡◌, ℕ, ◌+◌, ◌<◌, ◌≤◌, ◌^◌, List, ℤ, All, Option, None, Some, length, position, vec_capacity, true, false, if◌then◌else◌};
 ghost use Rattle.std.specs.List.{list_any};
 ghost use Rattle.mu_num.specs.Sizes.{IsWithin};
 ghost use Rattle.qss_machine.specs.Handlers.{conditions, truths, due_flags};
@@ -9,9 +9,9 @@ ghost use Rattle.qss_machine.specs.Machines.{state_count, level_unit, slope_at, 
 ghost use Rattle.qss_machine.specs.Numbers.{int_at, tabulate};
 ghost use Rattle.qss_machine.specs.Ticks.{is_overweight, world_unless, Step};
 ghost use Rattle.qss_machine.specs.Runs.{tick_rows};
-ghost use Rattle.qss_quant.specs.Lines.{IsNear};
+ghost use Rattle.qss_quant.specs.Lines.{IsNear, state_at};
 ghost use Rattle.qss_sched.specs.Ranks.{due_at};
-ghost use Rattle.qss_run.specs.Handlings.{AreDiscretes, AreAssigned, states_with};
+ghost use Rattle.qss_run.specs.Handlings.{AreDiscretes, AreAssigned, is_reinitialized, states_with};
 ghost use Rattle.qss_run.specs.Moves.{is_among, AreNumbers};
 ghost use Rattle.qss_run.specs.Places.{line_at, watch_at, IsWatched};
 ghost use Rattle.qss_run.specs.Renewals.{renewals_from};
@@ -19,7 +19,8 @@ ghost use Rattle.qss_run.specs.Rules.{IsRuled};
 ghost use Rattle.qss_run.specs.Sims.{condition_at, weights_at, IsDue};
 ghost use Rattle.qss_run.specs.Stores.{states_at, world_of, FitsMachine, Stands, IsTaken};
 ghost use Rattle.qss_run.specs.Touches.{touches_at};
-ghost use Rattle.qss_run.specs.Turnings.{AreLevelsBefore};
+ghost use Rattle.qss_run.specs.declared.shifts.RowSum.TheVariants as sum;
+ghost use Rattle.qss_run.specs.RowSums.{AreSumsBefore};
 
 use crate::handling::handle_changed;
 use crate::requantized::requantize_handled;
@@ -57,6 +58,8 @@ fn go_on_handled<L: Ledger>(m: &Machine, tick: u64, s: &mut Store, steps: &mut S
     requires assigned_known { AreDiscretes m.now s.old.assigned.items }
     requires assigned { AreAssigned m.now s.old.assigned.items s.old.work.pre s.old.work.d }
     requires changed { AreNumbers (length (conditions m.now)) s.old.changed.items }
+    requires reinitialized { (j : ℕ) → is_reinitialized s.old.work.log j ≡ true → j < state_count m.now }
+    requires still { (j : ℕ) → j < state_count m.now → is_reinitialized s.old.work.log j ≡ false → int_at (states_with s.old.lines.items tick s.old.moved.items s.old.work.x) j ≡ state_at (line_at s.old.lines.items j) tick }
     requires small_before { All (IsWithin 43) s.old.work.pre }
     requires small_states { All (IsWithin 88) (states_with s.old.lines.items tick s.old.moved.items s.old.work.x) }
     requires small_levels { All (IsWithin 43) s.old.levels.items }
@@ -67,7 +70,7 @@ fn go_on_handled<L: Ledger>(m: &Machine, tick: u64, s: &mut Store, steps: &mut S
     requires later { (j : ℕ) → j < state_count m.now → (line_at s.old.lines.items j).tick ≤ tick }
     requires small { All (IsWithin 88) (states_at s.old.lines.items tick) }
     requires near { (j : ℕ) → j < state_count m.now → IsNear (level_unit m.now) (int_at (states_with s.old.lines.items tick s.old.moved.items s.old.work.x) j) (int_at s.old.levels.items j) (quantum_of m.now j (int_at s.old.levels.items j)) }
-    requires before { (old : List ℤ) × AreLevelsBefore m.now s.old.moved.items s.old.levels.items s.old.work.pre s.old.slopes.items s.old.lines.items old }
+    requires before { (old : List ℤ) × AreSumsBefore sum.Slope m.now s.old.moved.items s.old.levels.items s.old.work.pre s.old.slopes.items s.old.lines.items old }
     requires own_slope { (j : ℕ) → j < state_count m.now → (line_at s.old.lines.items j).slope ≡ int_at s.old.slopes.items j }
     requires due { (j : ℕ) → j < state_count m.now → is_among s.old.moved.items j ≡ false → (line_at s.old.lines.items j).level ≡ int_at s.old.levels.items j → IsDue m.now tick j (line_at s.old.lines.items j) (due_at s.old.agenda j) }
     requires watched { (place : ℕ) → place < length (conditions m.now) → is_among s.old.changed.items place ≡ false → IsWatched m.now tick (states_at s.old.lines.items tick) s.old.work.pre s.old.slopes.items place (watch_at s.old.watches.items place) (due_at s.old.agenda (state_count m.now + place)) }

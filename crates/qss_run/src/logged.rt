@@ -11,8 +11,8 @@ use crate::due::{give_back, take_due};
 use qss_machine::{Row, RowKind};
 use qss_sched::Agenda;
 
-// Whether a row says that a state was reinitialized.
-fn reinitializes(row: &Row) -> bool
+/// Whether a row says that a state was reinitialized.
+pub(crate) fn reinitializes(row: &Row) -> bool
     ensures { result ≡ is_reinit row.now.kind }
 {
     matches!(row.kind, RowKind::Reinit)

@@ -14,8 +14,9 @@ ghost use Rattle.qss_run.specs.Moves.{is_among, AreNumbers};
 ghost use Rattle.qss_run.specs.Places.{line_at, IsTurned};
 ghost use Rattle.qss_run.specs.Renewals.{goes_from, renewals_from};
 ghost use Rattle.qss_run.specs.Sims.{IsDue};
-ghost use Rattle.qss_run.specs.Turnings.{AreLevelsBefore};
 ghost use Rattle.qss_run.specs.Writes.{IsWritten};
+ghost use Rattle.qss_run.specs.declared.shifts.RowSum.TheVariants as sum;
+ghost use Rattle.qss_run.specs.RowSums.{AreSumsBefore};
 
 use crate::shifts::shift_slopes;
 use crate::slopes::{leaving, renew};
@@ -89,7 +90,7 @@ fn follow_slopes(
     requires small_before { All (IsWithin 43) pre.now }
     requires small_discretes { All (IsWithin 43) d.now }
     requires light { position (is_overweight m.now levels.now d.now) m.now.rows ≡ None }
-    requires before { (old : List ℤ) × AreLevelsBefore m.now moved.now levels.now pre.now slopes.old lines.now old }
+    requires before { (old : List ℤ) × AreSumsBefore sum.Slope m.now moved.now levels.now pre.now slopes.old lines.now old }
     ensures { slopes.new ≡ tabulate (state_count m.now) (λ j. slope_at m.now j levels.now d.now) }
 {
     shift_slopes(m, uses, moved, levels, pre, lines, slopes);
@@ -248,7 +249,7 @@ pub(crate) fn reslope_handled<L: Ledger>(
     requires later { (j : ℕ) → j < state_count m.now → (line_at lines.old j).tick ≤ tick }
     requires small { (j : ℕ) → j < state_count m.now → IsWithin 89 (state_at (line_at lines.old j) tick) }
     requires near { (j : ℕ) → j < state_count m.now → IsNear (level_unit m.now) (int_at (states_with lines.old tick moved.now x.now) j) (int_at levels.now j) (quantum_of m.now j (int_at levels.now j)) }
-    requires before { (old : List ℤ) × AreLevelsBefore m.now moved.now levels.now pre.now slopes.old lines.old old }
+    requires before { (old : List ℤ) × AreSumsBefore sum.Slope m.now moved.now levels.now pre.now slopes.old lines.old old }
     requires own_slope { (j : ℕ) → j < state_count m.now → (line_at lines.old j).slope ≡ int_at slopes.old j }
     requires due { (j : ℕ) → j < state_count m.now → is_among moved.now j ≡ false → (line_at lines.old j).level ≡ int_at levels.now j → IsDue m.now tick j (line_at lines.old j) (due_at agenda.old j) }
     ensures slopes { slopes.new ≡ tabulate (state_count m.now) (λ j. slope_at m.now j levels.now d.now) }

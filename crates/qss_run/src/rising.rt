@@ -13,12 +13,11 @@ fn rises(arrived: &[bool], settled: &[bool]) -> bool
     requires arrived { length arrived.now ≡ length settled.now }
     ensures { result ≡ list_any (λ flag. flag) (due_flags settled.now arrived.now settled.now) }
 {
+    let mut risen = false;
     for place in 0..settled.len() {
-        if settled[place] && !arrived[place] {
-            return true;
-        }
+        risen |= settled[place] & !arrived[place];
     }
-    false
+    risen
 }
 
 /// Whether a condition became true through the handlers. The agenda has the next tick at this place then, and nothing else.

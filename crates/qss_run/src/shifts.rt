@@ -8,8 +8,8 @@ ghost use Rattle.qss_machine.specs.Machines.{state_count, discrete_count, row_at
 ghost use Rattle.qss_machine.specs.Uses.{uses_of};
 ghost use Rattle.qss_run.specs.Moves.{AreNumbers};
 ghost use Rattle.qss_run.specs.RowSums.{taken_by, sum_at, AreSumsBefore, HasFollowed};
-ghost use Rattle.qss_run.specs.Turnings.{AreLevelsBefore};
 ghost use Rattle.qss_run.specs.Writes.{IsWritten};
+ghost use Rattle.qss_run.specs.declared.shifts.RowSum.TheVariants as sum;
 
 use qss_machine::{Machine, Uses};
 use qss_quant::Integrator;
@@ -150,7 +150,7 @@ pub(crate) fn shift_slopes(
     requires lines { length lines.now ≡ state_count m.now }
     requires small_levels { All (IsWithin 43) levels.now }
     requires small_discretes { All (IsWithin 43) d.now }
-    requires before { (old : List ℤ) × AreLevelsBefore m.now moved.now levels.now d.now slopes.old lines.now old }
+    requires before { (old : List ℤ) × AreSumsBefore sum.Slope m.now moved.now levels.now d.now slopes.old lines.now old }
     ensures { slopes.new ≡ tabulate (state_count m.now) (λ j. slope_at m.now j levels.now d.now) }
 {
     shift_sums(RowSum::Slope, m, uses, moved, levels, d, lines, slopes);

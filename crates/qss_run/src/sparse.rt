@@ -17,7 +17,8 @@ ghost use Rattle.qss_run.specs.Rules.{IsRuled};
 ghost use Rattle.qss_run.specs.Sims.{weights_at, IsDue};
 ghost use Rattle.qss_run.specs.Stores.{states_at, world_of, Stands, IsTaken};
 ghost use Rattle.qss_run.specs.Touches.{touches_at};
-ghost use Rattle.qss_run.specs.Turnings.{AreLevelsBefore};
+ghost use Rattle.qss_run.specs.declared.shifts.RowSum.TheVariants as sum;
+ghost use Rattle.qss_run.specs.RowSums.{AreSumsBefore};
 
 use crate::calm::catch_up;
 use crate::conditions::BranchPlace;
@@ -158,7 +159,7 @@ fn go_on_moved<L: Ledger>(
     requires in_time { tick < 2 ^ 32 }
     requires earlier { (j : ℕ) → j < state_count m.now → (line_at lines.old j).tick < tick }
     requires near { (j : ℕ) → j < state_count m.now → IsNear (level_unit m.now) (state_at (line_at lines.old j) tick) (int_at levels.now j) (quantum_of m.now j (int_at levels.now j)) }
-    requires before { (old : List ℤ) × AreLevelsBefore m.now moved.now levels.now work.now.d slopes.old lines.old old }
+    requires before { (old : List ℤ) × AreSumsBefore sum.Slope m.now moved.now levels.now work.now.d slopes.old lines.old old }
     requires own_slope { (j : ℕ) → j < state_count m.now → (line_at lines.old j).slope ≡ int_at slopes.old j }
     requires due { (j : ℕ) → j < state_count m.now → (line_at lines.old j).level ≡ int_at levels.now j → IsDue m.now tick j (line_at lines.old j) (due_at agenda.old j) }
     requires watched { (place : ℕ) → place < length branches.now → IsWatched m.now tick (states_at lines.old tick) work.now.d slopes.old place (watch_at watches.old place) (due_at agenda.old (state_count m.now + place)) }

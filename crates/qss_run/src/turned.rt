@@ -13,7 +13,9 @@ ghost use Rattle.qss_run.specs.Moves.{AreNumbers};
 ghost use Rattle.qss_run.specs.Places.{line_at, IsTurned};
 ghost use Rattle.qss_run.specs.Sims.{IsDue};
 ghost use Rattle.qss_run.specs.Renewals.{goes_at, renewals};
-ghost use Rattle.qss_run.specs.Turnings.{MayTurn, AreTurned, AreLevelsBefore};
+ghost use Rattle.qss_run.specs.Turnings.{MayTurn, AreTurned};
+ghost use Rattle.qss_run.specs.declared.shifts.RowSum.TheVariants as sum;
+ghost use Rattle.qss_run.specs.RowSums.{AreSumsBefore};
 
 use crate::shifts::shift_slopes;
 use crate::slopes::reslope;
@@ -142,7 +144,7 @@ pub(crate) fn reslope_of<L: Ledger>(
     requires earlier { (j : ℕ) → j < state_count m.now → (line_at lines.old j).tick < tick }
     requires small_states { (j : ℕ) → j < state_count m.now → IsWithin 88 (state_at (line_at lines.old j) tick) }
     requires near { (j : ℕ) → j < state_count m.now → IsNear (level_unit m.now) (state_at (line_at lines.old j) tick) (int_at levels.now j) (quantum_of m.now j (int_at levels.now j)) }
-    requires before { (old : List ℤ) × AreLevelsBefore m.now moved.now levels.now d.now slopes.old lines.old old }
+    requires before { (old : List ℤ) × AreSumsBefore sum.Slope m.now moved.now levels.now d.now slopes.old lines.old old }
     requires own_slope { (j : ℕ) → j < state_count m.now → (line_at lines.old j).slope ≡ int_at slopes.old j }
     requires due { (j : ℕ) → j < state_count m.now → (line_at lines.old j).level ≡ int_at levels.now j → IsDue m.now tick j (line_at lines.old j) (due_at agenda.old j) }
     ensures slopes { slopes.new ≡ tabulate (state_count m.now) (λ j. slope_at m.now j levels.now d.now) }

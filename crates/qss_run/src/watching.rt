@@ -9,7 +9,7 @@ ghost use Rattle.qss_cross.specs.Crossing.{IsSmall, value_at};
 ghost use Rattle.qss_sched.specs.Ranks.{due_at};
 ghost use Rattle.qss_run.specs.Places.{AreBranches, watch_at, IsWatched};
 ghost use Rattle.qss_run.specs.Moves.{AreNumbers};
-ghost use Rattle.qss_run.specs.Speeds.{AreWatchedBefore, HasSpeed, GoesOn, AreGoingOn};
+ghost use Rattle.qss_run.specs.Speeds.{AreSlopesBefore, HasSpeed, GoesOn, AreGoingOn};
 
 use crate::conditions::{BranchPlace, condition_of};
 use qss_cross::Detector;
@@ -149,7 +149,8 @@ pub(crate) fn rewatch_of(
     requires in_time { tick < 2 ^ 32 }
     requires later { (place : ℕ) → place < length branches.now → (watch_at watches.old place).tick ≤ tick }
     requires small { (place : ℕ) → place < length branches.now → IsSmall (value_at (watch_at watches.old place) tick) }
-    ensures watches { (x d before : List ℤ) → AreWatchedBefore m.now tick x d before slopes.now moved.now watches.old agenda.old → (place : ℕ) → place < length branches.now → IsWatched m.now tick x d slopes.now place (watch_at watches.new place) (due_at agenda.new (state_count m.now + place)) }
+    ensures watches { (x d before : List ℤ) (place : ℕ) → place < length branches.now → AreSlopesBefore m.now moved.now before slopes.now place → IsWatched m.now tick x d before place (watch_at watches.old place) (due_at agenda.old (state_count m.now + place)) → IsWatched m.now tick x d slopes.now place (watch_at watches.new place) (due_at agenda.new (state_count m.now + place)) }
+    ensures goes_on { AreGoingOn m.now tick slopes.now watches.old watches.new agenda.old agenda.new }
     ensures places { length agenda.new ≡ length agenda.old }
     ensures others { (place : ℕ) → place < state_count m.now → due_at agenda.new place ≡ due_at agenda.old place }
     ensures beyond { (place : ℕ) → state_count m.now + length branches.now ≤ place → due_at agenda.new place ≡ due_at agenda.old place }

@@ -13,11 +13,13 @@ use Rattle.qss_sched.specs.Ranks.{due_at}
 use Rattle.qss_hand.specs.Values.{Values}
 use Rattle.qss_run.specs.declared.store.Store.{Store}
 use Rattle.qss_run.specs.Handlings.{states_with, AreWatchedUpTo}
+use Rattle.qss_run.specs.Logs.{reinitialized_of}
 use Rattle.qss_run.specs.Places.{line_at, watch_at, IsTurned, IsWatched}
 use Rattle.qss_run.specs.Renewals.{renewals_from}
 use Rattle.qss_run.specs.Sims.{weights_at}
 use Rattle.qss_run.specs.Stores.{states_at, world_of, FitsMachine, Stands}
 use Rattle.qss_run.proofs.AfterHandlers.{length-states_with, same_states, same_slopes, same_worlds, lead_to, watched_up_to}
+use Rattle.qss_run.proofs.Reinitialized.{among_reinitialized}
 use Rattle.qss_run.proofs.Turning.{slopes_small}
 use Rattle.qss_run.proofs.Turns.{conditions_few}
 use Rattle.qss_run.proofs.Visits.{state_small, stands_again, same_length}
@@ -81,23 +83,23 @@ rewatch_handled-requires-clause-before g c =
     let x : List ℤ = states_at s.lines.items t in
     let old : List ℤ = c.requires.before.0 in
     let before = c.requires.before.1 in
-    let all : AreWatchedUpTo m t s.moved.items s.assigned.items s.changed.items x (states_at after t) s.work.pre s.work.d s.slopes.items slopes s.settled.items s.watches.items due =
+    let all : AreWatchedUpTo m t s.moved.items (reinitialized_of s.work.log) s.assigned.items s.changed.items x (states_at after t) s.work.pre s.work.d s.slopes.items slopes s.settled.items s.watches.items due =
     watched_up_to m s.moved.items s.assigned.items old s.levels.items s.work.pre s.work.d s.slopes.items slopes before.off c.requires.assigned
-    (sym before.off.as_many ∙ fits.levels) fits.before fits.discretes before.own_slopes slopes_are t s.changed.items s.lines.items after s.work.x s.settled.items s.watches.items due
-    fits.lines lead fits.slopes (c.reslope_handled.auto.slopes ∙ c.as_mut_slice.ensures.len ∙ s.slopes.ok.0 ∙ fits.slopes)
+    (sym before.off.as_many ∙ fits.levels) fits.before fits.discretes before.own_sums slopes_are t (reinitialized_of s.work.log) s.changed.items s.lines.items after s.work.x
+    s.settled.items s.watches.items due fits.lines lead (λ j h none. c.requires.still j h (sym (among_reinitialized s.work.log j) ∙ none)) fits.slopes (c.reslope_handled.auto.slopes ∙ c.as_mut_slice.ensures.len ∙ s.slopes.ok.0 ∙ fits.slopes)
     (λ place h none. subst (IsWatched m t x s.work.pre s.slopes.items place (watch_at s.watches.items place)) (sym (c.reslope_handled.ensures.others (state_count m + place) (omega arith)))
     (c.requires.watched place h none))
     c.requires.settled in (
       x,
       s.work.pre,
       s.slopes.items,
-      subst (λ js. AreWatchedUpTo m t js c.as_slice-9.result.now c.as_slice-10.result.now x (states_at c.as_slice-11.result.now t) s.work.pre s.work.d s.slopes.items c.as_slice-12.result.now c.as_mut_slice-4.result.now c.as_mut_slice-3.result.now due) (sym c.as_slice-8.ensures.value)
-          (subst (λ vs. AreWatchedUpTo m t s.moved.items vs c.as_slice-10.result.now x (states_at c.as_slice-11.result.now t) s.work.pre s.work.d s.slopes.items c.as_slice-12.result.now c.as_mut_slice-4.result.now c.as_mut_slice-3.result.now due) (sym c.as_slice-9.ensures.value)
-          (subst (λ cs. AreWatchedUpTo m t s.moved.items s.assigned.items cs x (states_at c.as_slice-11.result.now t) s.work.pre s.work.d s.slopes.items c.as_slice-12.result.now c.as_mut_slice-4.result.now c.as_mut_slice-3.result.now due) (sym c.as_slice-10.ensures.value)
-          (subst (λ ls. AreWatchedUpTo m t s.moved.items s.assigned.items s.changed.items x (states_at ls t) s.work.pre s.work.d s.slopes.items c.as_slice-12.result.now c.as_mut_slice-4.result.now c.as_mut_slice-3.result.now due) (sym lines)
-          (subst (λ v. AreWatchedUpTo m t s.moved.items s.assigned.items s.changed.items x (states_at after t) s.work.pre s.work.d s.slopes.items v c.as_mut_slice-4.result.now c.as_mut_slice-3.result.now due) (sym of_slopes)
-          (subst (λ b. AreWatchedUpTo m t s.moved.items s.assigned.items s.changed.items x (states_at after t) s.work.pre s.work.d s.slopes.items slopes b c.as_mut_slice-3.result.now due) (sym c.as_mut_slice-4.ensures.value)
-          (subst (λ ws. AreWatchedUpTo m t s.moved.items s.assigned.items s.changed.items x (states_at after t) s.work.pre s.work.d s.slopes.items slopes s.settled.items ws due) (sym c.as_mut_slice-3.ensures.value) all)))))),
+      subst (λ js. AreWatchedUpTo m t js (reinitialized_of s.work.log) c.as_slice-9.result.now c.as_slice-10.result.now x (states_at c.as_slice-11.result.now t) s.work.pre s.work.d s.slopes.items c.as_slice-12.result.now c.as_mut_slice-4.result.now c.as_mut_slice-3.result.now due) (sym c.as_slice-8.ensures.value)
+          (subst (λ vs. AreWatchedUpTo m t s.moved.items (reinitialized_of s.work.log) vs c.as_slice-10.result.now x (states_at c.as_slice-11.result.now t) s.work.pre s.work.d s.slopes.items c.as_slice-12.result.now c.as_mut_slice-4.result.now c.as_mut_slice-3.result.now due) (sym c.as_slice-9.ensures.value)
+          (subst (λ cs. AreWatchedUpTo m t s.moved.items (reinitialized_of s.work.log) s.assigned.items cs x (states_at c.as_slice-11.result.now t) s.work.pre s.work.d s.slopes.items c.as_slice-12.result.now c.as_mut_slice-4.result.now c.as_mut_slice-3.result.now due) (sym c.as_slice-10.ensures.value)
+          (subst (λ ls. AreWatchedUpTo m t s.moved.items (reinitialized_of s.work.log) s.assigned.items s.changed.items x (states_at ls t) s.work.pre s.work.d s.slopes.items c.as_slice-12.result.now c.as_mut_slice-4.result.now c.as_mut_slice-3.result.now due) (sym lines)
+          (subst (λ v. AreWatchedUpTo m t s.moved.items (reinitialized_of s.work.log) s.assigned.items s.changed.items x (states_at after t) s.work.pre s.work.d s.slopes.items v c.as_mut_slice-4.result.now c.as_mut_slice-3.result.now due) (sym of_slopes)
+          (subst (λ b. AreWatchedUpTo m t s.moved.items (reinitialized_of s.work.log) s.assigned.items s.changed.items x (states_at after t) s.work.pre s.work.d s.slopes.items slopes b c.as_mut_slice-3.result.now due) (sym c.as_mut_slice-4.ensures.value)
+          (subst (λ ws. AreWatchedUpTo m t s.moved.items (reinitialized_of s.work.log) s.assigned.items s.changed.items x (states_at after t) s.work.pre s.work.d s.slopes.items slopes s.settled.items ws due) (sym c.as_mut_slice-3.ensures.value) all)))))),
     )
 
 pub note_rising-requires-clause-few : goal.note_rising-requires-clause-few

@@ -5,7 +5,7 @@ use Rattle.std.specs.Option.{option_or}
 use Rattle.std.specs.Prelude.{Option, None, Ok, All, position, vec_capacity}
 use Rattle.std.specs.Vec.{with_items}
 use Rattle.mu_num.specs.Sizes.{IsWithin}
-use Rattle.qss_machine.specs.Handlers.{Handling, conditions, truths}
+use Rattle.qss_machine.specs.Handlers.{Handling, truths}
 use Rattle.qss_machine.specs.Machines.{state_count, slope_at, truth}
 use Rattle.qss_machine.specs.Numbers.{int_at, tabulate, first_past}
 use Rattle.qss_machine.specs.Runs.{level_rows}
@@ -15,8 +15,10 @@ use Rattle.qss_quant.specs.Lines.{Line, state_at}
 use Rattle.qss_cross.specs.Crossing.{Watch, IsSmall, value_at, holds_at}
 use Rattle.qss_hand.specs.Values.{Values}
 use Rattle.qss_sched.specs.Ranks.{due_at}
+use Rattle.qss_run.specs.RowSums.{AreSumsBefore}
+use Rattle.qss_run.specs.declared.shifts.RowSum.TheVariants.{Slope}
 use Rattle.qss_run.specs.declared.store.Store.{Store}
-use Rattle.qss_run.specs.Handlings.{states_with, AreAssigned, IsHandled, AreMovedTo}
+use Rattle.qss_run.specs.Handlings.{states_with, is_reinitialized, AreAssigned, IsHandled, AreMovedTo}
 use Rattle.qss_run.specs.Moves.{is_among, became_true, IsOff}
 use Rattle.qss_run.specs.Places.{line_at, watch_at, IsWatched}
 use Rattle.qss_run.specs.Renewals.{renewals_from}
@@ -24,9 +26,8 @@ use Rattle.qss_run.specs.Rules.{IsRuled}
 use Rattle.qss_run.specs.Sims.{condition_at, weights_at}
 use Rattle.qss_run.specs.Stores.{states_at, handling_from, world_of}
 use Rattle.qss_run.specs.Touches.{touches_at}
-use Rattle.qss_run.specs.Turnings.{AreLevelsBefore}
 use Rattle.qss_run.proofs.AfterHandlers.{same_worlds}
-use Rattle.qss_run.proofs.Crossed.{none_early, later_dues, flag_same, rest_as_before, watched_then, watched_still, moved_to, near_after, due_after, levels_before_handlers, conditions_stay}
+use Rattle.qss_run.proofs.Crossed.{none_early, reinits_known, later_dues, flag_same, rest_as_before, watched_then, watched_still, moved_to, near_after, due_after, levels_before_handlers, conditions_stay}
 use Rattle.qss_run.proofs.DueLevels.{int_at-states_at}
 use Rattle.qss_run.proofs.Handled.{not_some, all_within, rows_handled}
 use Rattle.qss_run.proofs.QuietVisits.{earlier, own_slope, rest_small}
@@ -184,6 +185,8 @@ go_on_handled-requires g c =
     subst (λ l. AreNextLevels (IsRuled c.args.q.now.name) m h.states s.levels.items l) (sym are_fresh) allowed in
     let after = c.handle_changed-over.new.agenda in
     let without = c.handle_changed-over.ensures.without calm in
+    let w : World = world_of c.args.tick s in
+    let of_log = ap (λ (v : Values). v.log) handled.values in
     record {
       fits = record {
         branches = fits.branches;
@@ -213,6 +216,13 @@ go_on_handled-requires g c =
       assigned_known = handled.variables;
       assigned = subst (λ p. AreAssigned m assigned p new.d) (sym of_pre) (subst (λ d. AreAssigned m assigned s.work.d d) (sym of_d) handled.others);
       changed = taken.changing.numbers;
+      reinitialized = λ j e. reinits_known m c.args.tick agenda s taken c.requires.in_time moved assigned new h handled j (sym (ap (λ rows. is_reinitialized rows j) of_log) ∙ e);
+      still = λ j inside none.
+          ap (λ xs. int_at xs j) (sym handled.own_states)
+          ∙ ap (λ (k : Handling). int_at k.states j) is_h
+          ∙ kept_state m t w j (sym (ap (λ rows. is_reinitialized rows j) (of_log ∙ ap (λ (k : Handling). k.rows) is_h)) ∙ none)
+          ∙ ap (λ xs. int_at xs j) (sym (arrives m c.args.tick (record s { agenda = agenda }) taken.stands))
+          ∙ int_at-states_at s.lines.items t j (omega (arith, inside, fits.lines));
       small_before = handled.fits.small_before;
       small_states = subst (All (IsWithin 88)) handled.own_states handled.small;
       small_levels = subst (All (IsWithin 43)) (sym of_levels) (c.requantize_handled-over.ensures.small fine);
@@ -228,7 +238,7 @@ go_on_handled-requires g c =
       near = near_after m c.args.tick agenda s taken c.requires.in_time moved assigned new h handled c.args.q.now.name levels allowed_now;
       before = (
         s.levels.items,
-        subst (λ p. AreLevelsBefore m moved levels p s.slopes.items s.lines.items s.levels.items) (sym of_pre)
+        subst (λ p. AreSumsBefore Slope m moved levels p s.slopes.items s.lines.items s.levels.items) (sym of_pre)
             (levels_before_handlers m c.args.tick agenda s taken c.requires.in_time moved assigned new h handled levels off),
       );
       own_slope = own_slope m c.args.tick agenda s taken c.requires.in_time;

@@ -1,14 +1,10 @@
 -- The conditions that one more variable touches are settled.
-use Rattle.std.proofs.Common.{◌<◌, ◌+◌, ◌++◌, ℕ, List, ℤ, length, get_or, take, sym, ◌∙◌, subst, arith}
+use Rattle.std.proofs.Common.{ℕ, List, get_or, take, sym, subst}
 use Rattle.std.proofs.lemmas.List.{take_all}
-use Rattle.std.specs.Prelude.{All}
-use Rattle.qss_machine.specs.Machines.{state_count, discrete_count}
-use Rattle.qss_machine.specs.Uses.{reading_rows, reading_conditions}
 use Rattle.qss_run.specs.Reads.{AreArrived}
-use Rattle.qss_run.specs.Rewatchings.{Watchings, AreSettled, readers_of, touched_by, one_reads}
+use Rattle.qss_run.specs.Rewatchings.{Watchings, AreSettled, touched_of, touched_by, one_reads}
 use Rattle.qss_run.specs.Stores.{states_at}
 use Rattle.qss_run.proofs.Among.{lists_more}
-use Rattle.qss_run.proofs.KeptReaders.{rows_many, rows_kept, rows_below, conditions_many, conditions_kept, conditions_below}
 use Rattle.qss_run.proofs.Rewatching.{none_settled, settled_then}
 use Rattle.qss_run.proofs.Settling.{none_arrived, arrived_on}
 use Rattle.qss_run.proofs.rewatched.settle_touched.Goals as goal
@@ -21,63 +17,22 @@ loop-var-init c = record {
   small = c.requires.small_x;
 }
 
-pub rows_of-rows-requires : goal.rows_of-rows-requires
-rows_of-rows-requires c =
-    let known = c.requires.known c.loop-var.var-index 0 c.loop-var-test.true in omega (arith, known, rows_many c.args.m.now c.args.uses.now c.requires.uses)
-
-pub settle_readers-requires-clause-known : goal.settle_readers-requires-clause-known
-settle_readers-requires-clause-known c =
-    let m = c.args.m.now in
-    let var : ℕ = get_or c.args.vars.now c.loop-var.var-index 0 in
-    subst (All (λ row. row < state_count m + discrete_count m)) (sym c.rows_of-rows.ensures)
-    (rows_below m c.args.uses.now c.requires.uses var (c.requires.known c.loop-var.var-index 0 c.loop-var-test.true) (state_count m + discrete_count m) (omega arith))
-
-pub conditions_of-places-requires : goal.conditions_of-places-requires
-conditions_of-places-requires c =
-    let known = c.requires.known c.loop-var.var-index 0 c.loop-var-test.true in omega (arith, known, conditions_many c.args.m.now c.args.uses.now c.requires.uses)
-
-pub settle_places-requires-clause-known : goal.settle_places-requires-clause-known
-settle_places-requires-clause-known c =
-    let var : ℕ = get_or c.args.vars.now c.loop-var.var-index 0 in
-    let known = c.requires.known c.loop-var.var-index 0 c.loop-var-test.true in
-    subst (All (λ place. place < length c.args.branches.now)) (sym c.conditions_of-places.ensures)
-    (conditions_below c.args.m.now c.args.uses.now c.requires.uses var (omega (arith, known)) (length c.args.branches.now) (omega (arith, c.requires.branches.as_many)))
-
 pub loop-var-preserved : goal.loop-var-preserved
 loop-var-preserved c =
     let m = c.args.m.now in
     let i : ℕ = c.loop-var.var-index in
     let var : ℕ = get_or c.args.vars.now i 0 in
-    let known = c.requires.known i 0 c.loop-var-test.true in
-    let full : List ℤ = states_at c.args.lines.now c.args.tick in
+    let full = states_at c.args.lines.now c.args.tick in
     let first : Watchings = record { watches = c.args.watches.now; settled = c.args.settled.now; dues = c.args.agenda.now } in
     let before : Watchings = record { watches = c.loop-var.watches; settled = c.loop-var.settled; dues = c.loop-var.agenda } in
-    let between : Watchings = record { watches = c.settle_readers.new.watches; settled = c.settle_readers.new.settled; dues = c.settle_readers.new.agenda } in
-    let after : Watchings = record { watches = c.settle_places.new.watches; settled = c.settle_places.new.settled; dues = c.settle_places.new.agenda } in
-    let of_rows : AreSettled m c.args.tick full c.args.d.now c.args.slopes.now (readers_of m (reading_rows m var)) before between =
-    subst (λ (rows : List ℕ). AreSettled m c.args.tick full c.args.d.now c.args.slopes.now (readers_of m rows) before between)
-    (c.rows_of-rows.ensures ∙ rows_kept m c.args.uses.now c.requires.uses var known) c.settle_readers.ensures.settled in
-    let own : AreSettled m c.args.tick full c.args.d.now c.args.slopes.now (reading_conditions m var) between after =
-    subst (λ (places : List ℕ). AreSettled m c.args.tick full c.args.d.now c.args.slopes.now places between after)
-    (c.conditions_of-places.ensures ∙ conditions_kept m c.args.uses.now c.requires.uses var (omega (arith, known))) c.settle_places.ensures.settled in
-    let more : AreSettled m c.args.tick full c.args.d.now c.args.slopes.now (readers_of m (reading_rows m var) ++ reading_conditions m var) before after =
-    settled_then m c.args.tick full c.args.d.now c.args.slopes.now (readers_of m (reading_rows m var)) (reading_conditions m var) before between after of_rows own in
-    let own_x : AreArrived (one_reads m (reading_conditions m var)) full c.settle_readers.new.x c.settle_places.new.x =
-    subst (λ (places : List ℕ). AreArrived (one_reads m places) full c.settle_readers.new.x c.settle_places.new.x)
-    (c.conditions_of-places.ensures ∙ conditions_kept m c.args.uses.now c.requires.uses var (omega (arith, known))) c.settle_places.ensures.arrived in
-    let rows_x : AreArrived (one_reads m (readers_of m (reading_rows m var))) full c.loop-var.x c.settle_readers.new.x =
-    subst (λ (rows : List ℕ). AreArrived (one_reads m (readers_of m rows)) full c.loop-var.x c.settle_readers.new.x)
-    (c.rows_of-rows.ensures ∙ rows_kept m c.args.uses.now c.requires.uses var known) c.settle_readers.ensures.arrived in
-    let more_x = arrived_on m (readers_of m (reading_rows m var)) (reading_conditions m var) full c.loop-var.x c.settle_readers.new.x c.settle_places.new.x rows_x own_x in
+    let after : Watchings = record { watches = c.settle_touched_of.new.watches; settled = c.settle_touched_of.new.settled; dues = c.settle_touched_of.new.agenda } in
     record {
-      settled = subst (λ (places : List ℕ). AreSettled m c.args.tick full c.args.d.now c.args.slopes.now places first after)
-          (sym (lists_more (λ v. readers_of m (reading_rows m v) ++ reading_conditions m v) c.args.vars.now i c.loop-var-test.true))
-          (settled_then m c.args.tick full c.args.d.now c.args.slopes.now (touched_by m (take i c.args.vars.now)) (readers_of m (reading_rows m var) ++ reading_conditions m var) first before after
-          c.loop-var.invariant.settled more);
-      arrived = subst (λ (places : List ℕ). AreArrived (one_reads m places) full c.args.x.now c.settle_places.new.x)
-          (sym (lists_more (λ v. readers_of m (reading_rows m v) ++ reading_conditions m v) c.args.vars.now i c.loop-var-test.true))
-          (arrived_on m (touched_by m (take i c.args.vars.now)) (readers_of m (reading_rows m var) ++ reading_conditions m var) full c.args.x.now c.loop-var.x c.settle_places.new.x c.loop-var.invariant.arrived more_x);
-      small = c.settle_places.ensures.small_x;
+      settled = subst (λ (places : List ℕ). AreSettled m c.args.tick full c.args.d.now c.args.slopes.now places first after) (sym (lists_more (touched_of m) c.args.vars.now i c.loop-var-test.true))
+          (settled_then m c.args.tick full c.args.d.now c.args.slopes.now (touched_by m (take i c.args.vars.now)) (touched_of m var) first before after c.loop-var.invariant.settled
+          c.settle_touched_of.ensures.settled);
+      arrived = subst (λ (places : List ℕ). AreArrived (one_reads m places) full c.args.x.now c.settle_touched_of.new.x) (sym (lists_more (touched_of m) c.args.vars.now i c.loop-var-test.true))
+          (arrived_on m (touched_by m (take i c.args.vars.now)) (touched_of m var) full c.args.x.now c.loop-var.x c.settle_touched_of.new.x c.loop-var.invariant.arrived c.settle_touched_of.ensures.arrived);
+      small = c.settle_touched_of.ensures.small_x;
     }
 
 pub returns-clause-settled : goal.returns-clause-settled

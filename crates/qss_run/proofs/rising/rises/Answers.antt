@@ -1,13 +1,11 @@
 -- A condition that became true is found.
-use Rattle.std.proofs.Common.{◌≡◌, true, rules, sym, arith}
-use Rattle.qss_run.specs.Moves.{became_true}
+use Rattle.std.proofs.Common.{sym, ◌∙◌, arith, inl, inr}
+use Rattle.std.proofs.lemmas.Bool.{cases_Bool}
 use Rattle.qss_run.proofs.Called.{none_due, some_due}
 use Rattle.qss_run.proofs.rising.rises.Goals as goal
 
-pub returns-then-not-arrived-place : goal.returns-then-not-arrived-place
-returns-then-not-arrived-place c =
-    let risen : became_true c.args.arrived.now c.args.settled.now c.loop-place.place ≡ true = search rules in
-    sym (some_due c.args.arrived.now c.args.settled.now c.requires.arrived c.loop-place.place risen)
-
 pub returns : goal.returns
-returns c = sym (none_due c.args.arrived.now c.args.settled.now c.requires.arrived (λ place h. c.loop-place.invariant place (omega (arith, h, c.loop-place-test.false))))
+returns c = elim (cases_Bool c.loop-place.risen) [
+  | inl risen ↦ risen ∙ sym (some_due c.args.arrived.now c.args.settled.now c.requires.arrived (c.loop-place.invariant.some risen).0 (c.loop-place.invariant.some risen).1)
+  | inr none ↦ none ∙ sym (none_due c.args.arrived.now c.args.settled.now c.requires.arrived (λ place h. c.loop-place.invariant.none none place (omega (arith, h, c.loop-place-test.false))))
+]

@@ -1,7 +1,10 @@
-use Rattle.std.proofs.Common.{◌≡◌, ℕ, ◌<◌, false}
+use Rattle.std.proofs.Common.{◌≡◌, ℕ, ◌<◌, true, false}
 use Rattle.qss_run.specs.Moves.{became_true}
 use Rattle.qss_run.proofs.rising.rises.Given as goal
 
--- none of the conditions so far became true
+-- whether one of the conditions so far became true
 abbrev pub invariant-loop-place : goal.invariant-loop-place
-invariant-loop-place l = (place : ℕ) → place < l.place → became_true l.arrived l.settled place ≡ false
+invariant-loop-place l = record {
+  none : l.risen ≡ false → (place : ℕ) → place < l.place → became_true l.arrived l.settled place ≡ false;
+  some : l.risen ≡ true → (place : ℕ) × (became_true l.arrived l.settled place ≡ true);
+}

@@ -6,7 +6,7 @@ use Rattle.qss_cross.specs.Crossing.{IsSmall}
 use Rattle.qss_hand.specs.Values.{Values}
 use Rattle.qss_run.specs.Places.{watch_at, IsWatched}
 use Rattle.qss_run.specs.Sims.{condition_at}
-use Rattle.qss_run.specs.Speeds.{AreWatchedBefore}
+use Rattle.qss_run.specs.Speeds.{AreSlopesBefore}
 use Rattle.qss_run.specs.Stores.{states_at}
 use Rattle.qss_run.proofs.QuietTick.{value_small, condition_bounded}
 use Rattle.qss_run.proofs.QuietVisits.{slopes_stay}
@@ -39,11 +39,10 @@ returns-clause-watches g c place h =
     let of_d : c.as_slice-d.result.now ≡ d = c.as_slice-d.ensures.value ∙ ap (λ (v : Values). v.d) c.work.view_is in
     let slopes : c.reslope_of.new.slopes ≡ tabulate (state_count m) (λ j. slope_at m j c.args.levels.now d) =
     c.reslope_of.ensures.slopes ∙ ap (λ e. tabulate (state_count m) (λ j. slope_at m j c.args.levels.now e)) of_d in
-    let before : AreWatchedBefore m t x d c.args.slopes.now c.reslope_of.new.slopes c.args.moved.now c.args.watches.now c.reslope_of.new.agenda = record {
-      each = λ place inside.
-          subst (IsWatched m t x d c.args.slopes.now place (watch_at c.args.watches.now place)) (sym (c.reslope_of.ensures.others (state_count m + place) (omega arith)))
-          (c.requires.watched place (omega (arith, inside, c.requires.branches.as_many)));
+    let before : AreSlopesBefore m c.args.moved.now c.args.slopes.now c.reslope_of.new.slopes place = record {
       as_many = c.requires.slopes;
-      others = slopes_stay m c.args.moved.now c.requires.before.0 c.args.levels.now d c.args.slopes.now c.reslope_of.new.slopes c.requires.before.1.off c.requires.before.1.own_slopes slopes;
+      others = λ j inside reads none.
+          slopes_stay m c.args.moved.now c.requires.before.0 c.args.levels.now d c.args.slopes.now c.reslope_of.new.slopes c.requires.before.1.off c.requires.before.1.own_sums slopes j inside none;
     } in
-    c.rewatch_of.ensures.watches x d c.args.slopes.now before place h
+    c.rewatch_of.ensures.watches x d c.args.slopes.now place h before
+    (subst (IsWatched m t x d c.args.slopes.now place (watch_at c.args.watches.now place)) (sym (c.reslope_of.ensures.others (state_count m + place) (omega arith))) (c.requires.watched place h))

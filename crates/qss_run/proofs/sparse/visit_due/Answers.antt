@@ -14,6 +14,8 @@ use Rattle.qss_machine.specs.Runs.{level_rows}
 use Rattle.qss_quant.specs.Lines.{state_at, IsNear}
 use Rattle.qss_sched.specs.Ranks.{due_at}
 use Rattle.qss_hand.specs.Values.{Values}
+use Rattle.qss_run.specs.RowSums.{AreSumsBefore}
+use Rattle.qss_run.specs.declared.shifts.RowSum.TheVariants.{Slope}
 use Rattle.qss_run.specs.declared.store.Store.{Store}
 use Rattle.qss_run.specs.Moves.{is_among, IsOff}
 use Rattle.qss_run.specs.Places.{line_at, watch_at, IsTurned, IsWatched}
@@ -23,7 +25,6 @@ use Rattle.qss_run.specs.Sims.{weights_at, IsDue}
 use Rattle.qss_run.specs.Stores.{states_at, world_of, FitsMachine}
 use Rattle.qss_run.specs.Touches.{touches_at}
 use Rattle.qss_run.proofs.Handled.{not_some, clash, all_within}
-use Rattle.qss_run.specs.Turnings.{AreLevelsBefore}
 use Rattle.qss_run.proofs.QuietVisits.{steps_or, leads, rest_small, own_slope, levels_before, handled, arrived, near, kept_due, same_truths, watched, not_rising, rising, rows_then}
 use Rattle.qss_run.proofs.QuietTick.{none_rises_then}
 use Rattle.qss_run.proofs.Touched.{renewals_touched}
@@ -201,11 +202,11 @@ go_on_moved-requires-clause-before g c =
     let off : IsOff s.moved.items s.levels.items fresh =
     subst (λ l. IsOff l s.levels.items fresh) c.as_slice-2.ensures.value (subst (λ l. IsOff c.as_slice-2.result.now l fresh) c.as_mut_slice.ensures.value c.requantize_moved-over.ensures.others) in (
       s.levels.items,
-      subst (λ js. AreLevelsBefore m js c.as_slice-5.result.now c.requantize_moved-over.new.work.d c.as_mut_slice-4.result.now c.as_mut_slice-5.result.now s.levels.items) (sym c.as_slice-4.ensures.value)
-          (subst (λ l. AreLevelsBefore m s.moved.items l c.requantize_moved-over.new.work.d c.as_mut_slice-4.result.now c.as_mut_slice-5.result.now s.levels.items) (sym levels)
-          (subst (λ d. AreLevelsBefore m s.moved.items fresh d c.as_mut_slice-4.result.now c.as_mut_slice-5.result.now s.levels.items) (sym of_d)
-          (subst (λ v. AreLevelsBefore m s.moved.items fresh s.work.d v c.as_mut_slice-5.result.now s.levels.items) (sym c.as_mut_slice-4.ensures.value)
-          (subst (λ ls. AreLevelsBefore m s.moved.items fresh s.work.d s.slopes.items ls s.levels.items) (sym c.as_mut_slice-5.ensures.value)
+      subst (λ js. AreSumsBefore Slope m js c.as_slice-5.result.now c.requantize_moved-over.new.work.d c.as_mut_slice-4.result.now c.as_mut_slice-5.result.now s.levels.items) (sym c.as_slice-4.ensures.value)
+          (subst (λ l. AreSumsBefore Slope m s.moved.items l c.requantize_moved-over.new.work.d c.as_mut_slice-4.result.now c.as_mut_slice-5.result.now s.levels.items) (sym levels)
+          (subst (λ d. AreSumsBefore Slope m s.moved.items fresh d c.as_mut_slice-4.result.now c.as_mut_slice-5.result.now s.levels.items) (sym of_d)
+          (subst (λ v. AreSumsBefore Slope m s.moved.items fresh s.work.d v c.as_mut_slice-5.result.now s.levels.items) (sym c.as_mut_slice-4.ensures.value)
+          (subst (λ ls. AreSumsBefore Slope m s.moved.items fresh s.work.d s.slopes.items ls s.levels.items) (sym c.as_mut_slice-5.ensures.value)
           (levels_before m c.args.tick agenda s taken c.requires.in_time fresh off))))),
     )
 

@@ -40,12 +40,12 @@ loop-state-preserved c =
 
 pub returns-clause-watches : goal.returns-clause-watches
 returns-clause-watches c =
-    λ x d before watched place h.
+    λ x d before place h was first.
     let m = c.args.m.now in
     let Speeds = λ (uses : List (List ℕ) × List (List ℕ)).
     All (λ j. All (λ state. All (HasSpeed m c.args.slopes.now c.loop-state.watches) (slice_index_or uses.1 state [])) (slice_index_or uses.0 j [])) c.args.moved.now in
     let own : Speeds c.args.uses.now =
     All-from_get_or (λ j. All (λ state. All (HasSpeed m c.args.slopes.now c.loop-state.watches) (slice_index_or c.args.uses.now.1 state [])) (slice_index_or c.args.uses.now.0 j [])) c.args.moved.now 0
     (λ k below. c.loop-state.invariant.own_speeds k (omega (arith, below, c.loop-state-test.false))) in
-    watched_again m c.args.tick x d before c.args.slopes.now c.args.moved.now c.args.watches.now c.loop-state.watches c.args.agenda.now c.loop-state.agenda watched c.loop-state.invariant.going
-    c.requires.moved c.requires.slopes (c.requires.watches ∙ c.requires.branches.as_many) (subst Speeds c.requires.uses own) place (omega (arith, h, c.requires.branches.as_many))
+    watched_again m c.args.tick c.args.slopes.now c.args.moved.now c.args.watches.now c.loop-state.watches c.args.agenda.now c.loop-state.agenda c.loop-state.invariant.going c.requires.moved
+    c.requires.slopes (c.requires.watches ∙ c.requires.branches.as_many) (subst Speeds c.requires.uses own) x d before place (omega (arith, h, c.requires.branches.as_many)) was first

@@ -1,5 +1,5 @@
 -- One more condition has its speed.
-use Rattle.std.proofs.Common.{◌≡◌, ◌<◌, ℕ, length, get_or, ◌∙◌, arith, below_more}
+use Rattle.std.proofs.Common.{◌≡◌, length, get_or, ◌∙◌, arith, below_more}
 use Rattle.std.proofs.lemmas.List.Elements.{All-from_get_or}
 use Rattle.qss_run.specs.Speeds.{HasSpeed}
 use Rattle.qss_run.proofs.Speeds.{going_on_more, kept_speed}
