@@ -11,6 +11,7 @@ pub mod SlopeLaws
 pub mod Distinct
 pub mod ModeTests
 pub mod Powers
+pub mod ProductStates
 pub mod Ranges
 pub mod Rules
 pub mod OneRun

@@ -1,22 +1,18 @@
 -- A weight is what entries give, what products add, and the constant's size.
-use Rattle.std.proofs.Common.{◌≡◌, ℕ, zero, suc, ◌<◌, ◌≤ℤ◌, ◌+◌, ◌^◌, List, [], ◌∷◌, ◌++◌, length, map, ℤ, pos, ◌+ℤ◌, ◌-ℤ◌, ◌*ℤ◌, refl, sym, ◌∙◌, ap, arith, length-append}
-use Rattle.std.proofs.Math.IntN.{zero-*ℤ, pos-*ℤ-pos, +ℤ_idr}
+use Rattle.std.proofs.Common.{◌≡◌, ℕ, zero, suc, ◌<◌, ◌≤ℤ◌, ◌+◌, List, [], ◌∷◌, ◌++◌, length, map, ℤ, pos, ◌+ℤ◌, ◌-ℤ◌, ◌*ℤ◌, refl, sym, ◌∙◌, ap, arith, length-append}
+use Rattle.std.proofs.Math.IntN.{pos-*ℤ-pos}
 use Rattle.std.proofs.Math.ListN.{get_or-map}
 use Rattle.std.proofs.lemmas.Int.{ints, unsigned_abs-mul}
 use Rattle.std.proofs.lemmas.List.{get_or_append_left, get_or-append-add, length-map}
 use Rattle.std.specs.Int.RustNames.{unsigned_abs}
 use Rattle.std.specs.Prelude.{if◌then◌else◌, ◌==◌}
 use Rattle.std.specs.List.Sorted.{IsStrictlyIncreasing}
-use Rattle.mu_num.specs.Rounding.{nearest_of}
 use Rattle.mu_num.proofs.Integers.{add-mul}
-use Rattle.mu_num.proofs.Quotients.{nearest-zero}
 use Rattle.qss_machine.specs.declared.parts.Entry.{Entry}
-use Rattle.qss_machine.specs.declared.parts.Product.{Product}
 use Rattle.qss_machine.specs.declared.parts.SlopeRow.{SlopeRow}
 use Rattle.qss_machine.specs.Numbers.{int_at, size, sum_over, sum_below}
-use Rattle.qss_machine.specs.Slopes.{coefficient_of, products_of, mode_coefficient, slope_of, weight_of}
-use Rattle.qss_machine.proofs.Powers.{power_positive}
-use Rattle.qss_machine.proofs.SumLaws.{sum_below-add, sum_below-same, sum_below-zero, sum_below-split, weighted_sum-entries}
+use Rattle.qss_machine.specs.Slopes.{coefficient_of, mode_coefficient, slope_of, weight_of}
+use Rattle.qss_machine.proofs.SumLaws.{sum_below-add, sum_below-same, sum_below-split, weighted_sum-entries}
 use Rattle.qss_machine.proofs.Distinct.{plain, coefficient_size}
 
 size-mul : (a b : ℤ) → size a *ℤ size b ≡ size (a *ℤ b)
@@ -49,28 +45,6 @@ sizes_sum-entries entries values rising =
     ∙ sum_over-map plain (λ (entry : Entry). entry.coef *ℤ int_at (map size values) entry.var) entries
     ∙ sum_over-alike (λ (entry : Entry). size entry.coef *ℤ int_at (map size values) entry.var) (λ (entry : Entry). size (entry.coef *ℤ int_at values entry.var)) entries
     (λ entry. ap (λ z. size entry.coef *ℤ z) (size_at values entry.var) ∙ size-mul entry.coef (int_at values entry.var))
-
--- without products they add nothing
-pub no_excess : (row : SlopeRow) (bits n : ℕ) (discretes levels : List ℤ) → length row.products ≡ 0 →
-    sum_below n (λ i. (size (mode_coefficient bits n row discretes i) -ℤ size (coefficient_of row.entries i)) *ℤ size (int_at levels i)) ≡ pos 0
-no_excess row bits n discretes levels e =
-    sum_below-same n (λ i. (size (mode_coefficient bits n row discretes i) -ℤ size (coefficient_of row.entries i)) *ℤ size (int_at levels i)) (λ i. pos 0)
-    (λ i h. ap (λ z. (size z -ℤ size (coefficient_of row.entries i)) *ℤ size (int_at levels i)) (plain_mode i)
-    ∙ ap (λ z. z *ℤ size (int_at levels i)) (gone (size (coefficient_of row.entries i))) ∙ zero-*ℤ (size (int_at levels i)))
-    ∙ sum_below-zero n
-  where
-    gone : (z : ℤ) → z -ℤ z ≡ pos 0
-    gone z = omega (arith, ints)
-
-    none : (products : List Product) (i : ℕ) → length products ≡ 0 → products_of products n discretes i ≡ pos 0
-    none [] i f = refl
-    none (product ∷ products) i f = absurd (omega (arith, f))
-
-    plain_mode : (i : ℕ) → mode_coefficient bits n row discretes i ≡ coefficient_of row.entries i
-    plain_mode i =
-        ap (λ z. coefficient_of row.entries i +ℤ nearest_of z (pos (2 ^ bits))) (none row.products i e)
-        ∙ ap (λ z. coefficient_of row.entries i +ℤ z) (nearest-zero (pos (2 ^ bits)) (power_positive bits))
-        ∙ +ℤ_idr (coefficient_of row.entries i)
 
 -- the entries over levels and discrete values
 sizes_split : (row : SlopeRow) (levels discretes : List ℤ) →

@@ -44,8 +44,12 @@ pub(crate) fn mode_coefficient_of(
     ensures bound { IsWithin 112 result }
 {
     let own = coefficient(row.entries.as_slice(), state);
-    let products = product_sum(row.products.as_slice(), state_count, discretes, state);
-    own + scaled_down(products, level_bits)
+    let products = row.products.as_slice();
+    if products.is_empty() {
+        return own;
+    }
+    let sum = product_sum(products, state_count, discretes, state);
+    own + scaled_down(sum, level_bits)
 }
 
 // Whether a number is more than 2^44 in size.
@@ -55,7 +59,7 @@ fn is_large(z: i128) -> bool
     z.unsigned_abs() > 1 << 44
 }
 
-/// Whether the mode coefficients of a row are at most 2^44 in size.
+/// Whether the mode coefficients of a row are at most 2^44 in size, as those of states without products are.
 pub(crate) fn modes_fit(
     row: &SlopeRow,
     level_bits: u8,
@@ -68,11 +72,17 @@ pub(crate) fn modes_fit(
     requires small { All (IsWithin 43) discretes.now }
     ensures { result ≡ mode_fits level_bits state_count row.now discretes.now }
 {
-    for state in 0..state_count {
-        let mode = mode_coefficient_of(row, level_bits, state_count, discretes, state as u32);
+    let mut past = 0;
+    for product in row.products.as_slice() {
+        let state = product.state;
+        if state < past {
+            continue;
+        }
+        let mode = mode_coefficient_of(row, level_bits, state_count, discretes, state);
         if is_large(mode) {
             return false;
         }
+        past = state + 1;
     }
     true
 }

@@ -64,7 +64,7 @@ fn product_level(
     wide_term(rounded, levels[state])
 }
 
-// Each state's rounded products times its level, added up.
+// Each state's rounded products times its level, added up over the states that have products.
 fn product_slope(row: &SlopeRow, level_bits: u8, levels: &[i64], discretes: &[i64]) -> i128
     requires bits { level_bits ≤ 24 }
     requires few { length levels.now + length discretes.now ≤ 4096 }
@@ -76,27 +76,16 @@ fn product_slope(row: &SlopeRow, level_bits: u8, levels: &[i64], discretes: &[i6
     ensures bound { unsigned_abs result ≤ 2 ^ 100 }
 {
     let mut sum: i128 = 0;
-    for state in 0..levels.len() {
+    let mut past = 0;
+    for product in row.products.as_slice() {
+        let state = product.state as usize;
+        if state < past {
+            continue;
+        }
         sum += product_level(row, level_bits, levels, discretes, state);
+        past = state + 1;
     }
     sum
-}
-
-// The part of a slope that comes from products, which most rows lack.
-fn products_slope(row: &SlopeRow, level_bits: u8, levels: &[i64], discretes: &[i64]) -> i128
-    requires bits { level_bits ≤ 24 }
-    requires few { length levels.now + length discretes.now ≤ 4096 }
-    requires row { IsRow (length levels.now) (length discretes.now) row.now }
-    requires levels { All (IsWithin 43) levels.now }
-    requires discretes { All (IsWithin 43) discretes.now }
-    requires modes { IsTrue (mode_fits level_bits (length levels.now) row.now discretes.now) }
-    ensures value { result ≡ sum_below (length levels.now) (λ i. nearest_of (products_of row.now.products (length levels.now) discretes.now i) (pos (2 ^ level_bits)) *ℤ int_at levels.now i) }
-    ensures bound { unsigned_abs result ≤ 2 ^ 100 }
-{
-    if row.products.as_slice().is_empty() {
-        return 0;
-    }
-    product_slope(row, level_bits, levels, discretes)
 }
 
 /// The slope of a row at these levels and discrete values.
@@ -111,6 +100,6 @@ pub(crate) fn row_slope(row: &SlopeRow, level_bits: u8, levels: &[i64], discrete
     ensures bound { IsWithin 101 result }
 {
     let own = entry_sum(row.entries.as_slice(), levels, discretes);
-    let products = products_slope(row, level_bits, levels, discretes);
+    let products = product_slope(row, level_bits, levels, discretes);
     add_three(own, products, row.beta)
 }

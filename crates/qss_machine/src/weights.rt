@@ -95,27 +95,16 @@ fn excess_sum(row: &SlopeRow, level_bits: u8, levels: &[i64], discretes: &[i64])
     ensures bound { unsigned_abs result ≤ 2 ^ 100 }
 {
     let mut sum: i128 = 0;
-    for state in 0..levels.len() {
+    let mut past = 0;
+    for product in row.products.as_slice() {
+        let state = product.state as usize;
+        if state < past {
+            continue;
+        }
         sum += state_excess(row, level_bits, levels, discretes, state);
+        past = state + 1;
     }
     sum
-}
-
-// The same; most rows have no products.
-fn products_weight(row: &SlopeRow, level_bits: u8, levels: &[i64], discretes: &[i64]) -> i128
-    requires bits { level_bits ≤ 24 }
-    requires few { length levels.now + length discretes.now ≤ 4096 }
-    requires row { IsRow (length levels.now) (length discretes.now) row.now }
-    requires levels { All (IsWithin 43) levels.now }
-    requires discretes { All (IsWithin 43) discretes.now }
-    requires modes { IsTrue (mode_fits level_bits (length levels.now) row.now discretes.now) }
-    ensures value { result ≡ sum_below (length levels.now) (λ i. (size (mode_coefficient level_bits (length levels.now) row.now discretes.now i) -ℤ size (coefficient_of row.now.entries i)) *ℤ size (int_at levels.now i)) }
-    ensures bound { unsigned_abs result ≤ 2 ^ 100 }
-{
-    if row.products.as_slice().is_empty() {
-        return 0;
-    }
-    excess_sum(row, level_bits, levels, discretes)
 }
 
 /// The weight of a row at these levels and discrete values.
@@ -129,6 +118,6 @@ pub(crate) fn row_weight(row: &SlopeRow, level_bits: u8, levels: &[i64], discret
     ensures { result ≡ weight_of level_bits row.now levels.now discretes.now }
 {
     let own = entry_weight(row.entries.as_slice(), levels, discretes);
-    let products = products_weight(row, level_bits, levels, discretes);
+    let products = excess_sum(row, level_bits, levels, discretes);
     add_three(own, products, row.beta.abs())
 }

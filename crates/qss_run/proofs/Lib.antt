@@ -41,7 +41,6 @@ pub mod Agreeing
 pub mod Arrived
 pub mod Among
 pub mod Least
-pub mod PlainRows
 pub mod Courses
 pub mod Shifting
 pub mod Counting

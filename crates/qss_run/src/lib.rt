@@ -35,7 +35,6 @@ mod visit;
 mod watches;
 mod watching;
 mod weighing;
-mod weights;
 
 pub use course::Course;
 pub use laws::{

@@ -15,7 +15,6 @@ ghost use Rattle.qss_run.specs.Writes.{IsWritten};
 
 use crate::readers::least_reader;
 use crate::shifts::{RowSum, shift_sums};
-use crate::weights::modes_fit;
 use qss_machine::{Machine, Uses};
 use qss_quant::Integrator;
 
@@ -54,7 +53,7 @@ fn weigh_row(m: &Machine, row: u32, levels: &[i64], d: &[i64]) -> i128
     requires small_discretes { All (IsWithin 43) d.now }
     ensures { IsWeighed m.now levels.now d.now row result }
 {
-    if modes_fit(m, row, d) {
+    if m.mode_fits(row, d) {
         m.weight(row, levels, d)
     } else {
         i128::MAX
