@@ -1,0 +1,95 @@
+ghost use Rattle.std.specs.Prelude.{◌≡◌, ℕ, Option, ◌+◌, ◌*◌, ◌^◌, ◌<◌, ◌↔◌, IsTrue, IfOk, length, vec_len, slice_index, slice_set};
+ghost use Rattle.qss_sched.specs.Ranks.{due_at, place_of, rank_of, AreTicks, HasNone};
+
+use std::alloc::{AllocError, Global};
+
+// How many ranks there are of one due tick: one for each place.
+const PLACES: u128 = 1 << 32;
+
+// The least rank without a due tick.
+const NO_TICK: u128 = 1 << 96;
+
+/// A place's rank by its due tick.
+#[tactic(auto, unfolding(crate::specs::Ranks::place_of))]
+pub(crate) fn rank_of(tick: Option<u64>, place: u32) -> u128
+    ensures rank { result ≡ rank_of tick place }
+    ensures place { place_of result ≡ place }
+{
+    match tick {
+        Some(tick) => tick as u128 * PLACES + place as u128,
+        None => NO_TICK + place as u128,
+    }
+}
+
+/// The place that has a rank.
+#[tactic(auto, unfolding(crate::specs::Ranks::place_of))]
+pub(crate) fn place_of(rank: u128) -> u32
+    ensures { result ≡ place_of rank }
+{
+    (rank % PLACES) as u32
+}
+
+/// The ranks of n places without due ticks, rising.
+pub(crate) fn ranks_without_ticks(alloc: Global, n: u32) -> Result<Vec<u128>, AllocError>
+    ensures length { IfOk result (λ ranks. vec_len ranks ≡ n) }
+    ensures each { IfOk result (λ ranks. (i : ℕ) → i < n → slice_index ranks.items i ≡ 2 ^ 96 + i) }
+{
+    let mut ranks = Vec::with_capacity(alloc, n as usize)?;
+    for place in 0..n {
+        ranks.push(rank_of(None, place))?;
+    }
+    Ok(ranks)
+}
+
+/// The numbers below n, rising.
+pub(crate) fn numbers_below(alloc: Global, n: u32) -> Result<Vec<u32>, AllocError>
+    ensures length { IfOk result (λ numbers. vec_len numbers ≡ n) }
+    ensures each { IfOk result (λ numbers. (i : ℕ) → i < n → slice_index numbers.items i ≡ i) }
+{
+    let mut numbers = Vec::with_capacity(alloc, n as usize)?;
+    for number in 0..n {
+        numbers.push(number)?;
+    }
+    Ok(numbers)
+}
+
+/// No due tick for each of n places.
+pub(crate) fn no_ticks(alloc: Global, n: u32) -> Result<Vec<Option<u64>>, AllocError>
+    ensures length { IfOk result (λ ticks. vec_len ticks ≡ n) }
+    ensures none { IfOk result (λ ticks. HasNone ticks.items) }
+{
+    let mut ticks = Vec::with_capacity(alloc, n as usize)?;
+    for _ in 0..n {
+        ticks.push(None)?;
+    }
+    Ok(ticks)
+}
+
+/// A place's due tick.
+pub(crate) fn tick_of(due: &[Option<u64>], place: u32) -> Option<u64>
+    requires { place < length due.now }
+    ensures { result ≡ due_at due.now place }
+{
+    due[place as usize]
+}
+
+/// A place takes this due tick.
+pub(crate) fn put_tick(due: &mut [Option<u64>], place: u32, tick: Option<u64>)
+    requires place { place < length due.old }
+    requires small { AreTicks due.old }
+    ensures put { due.new ≡ slice_set due.old place tick }
+    ensures small { AreTicks due.new }
+{
+    due[place as usize] = tick;
+}
+
+/// Whether two due ticks are the same.
+pub(crate) fn is_same(tick: Option<u64>, other: Option<u64>) -> bool
+    ensures { IsTrue result ↔ (tick ≡ other) }
+{
+    match (tick, other) {
+        (Some(tick), Some(other)) => tick == other,
+        (None, None) => true,
+        _ => false,
+    }
+}
