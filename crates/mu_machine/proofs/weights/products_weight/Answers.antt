@@ -1,7 +1,6 @@
 use Rattle.std.proofs.Common.{length, sym, ◌∙◌}
 use Rattle.mu_num.proofs.Tests.{eqb-true}
-use Rattle.qss_machine.proofs.WeightLaws.{no_excess}
-use Rattle.mu_machine.proofs.Modes.{no_products_fit}
+use Rattle.mu_machine.proofs.Modes.{no_products_fit, no_excess}
 use Rattle.mu_machine.proofs.weights.products_weight.Goals as goal
 
 pub returns-then-is_empty-clause-value : goal.returns-then-is_empty-clause-value
