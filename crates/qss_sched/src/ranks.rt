@@ -1,4 +1,4 @@
-ghost use Rattle.std.specs.Prelude.{◌≡◌, ℕ, Option, ◌+◌, ◌*◌, ◌^◌, ◌<◌, ◌↔◌, IsTrue, IfOk, length, vec_len, slice_index, slice_set};
+ghost use Rattle.std.specs.Prelude.{◌≡◌, ℕ, Option, ◌+◌, ◌^◌, ◌<◌, ◌↔◌, IsTrue, IfOk, length, vec_len, slice_index, slice_set};
 ghost use Rattle.qss_sched.specs.Ranks.{due_at, place_of, rank_of, AreTicks, HasNone};
 
 use std::alloc::{AllocError, Global};
