@@ -45,7 +45,7 @@ pub record AreLookedAt (n conditions tick : ℕ) (due : List (Option ℕ)) (w : 
   pub changing : (place : ℕ) → place < conditions → due_at due (n + place) ≡ Some tick → is_among changed place ≡ true
   pub risen : (place : ℕ) → place < conditions → became_true w.arrived w.settled place ≡ true → is_among changed place ≡ true
 
--- the same agenda, but the conditions that became true through the handlers are due at a tick, and the place behind the conditions has none; their places come after those of n states
+-- the same due ticks of states and conditions, but those conditions that became true through the handlers are due at a tick, and the place behind has none; conditions come after n states
 pub record IsCalled (n tick : ℕ) (arrived settled : List Bool) (old new : List (Option ℕ)) : Type 0 where
   pub as_many : length new ≡ length old
   pub states : (j : ℕ) → j < n → due_at new j ≡ due_at old j
@@ -60,7 +60,7 @@ pub record IsTakenAfter (first : ℕ) (found : List ℕ) (old new : List (Option
   pub none : (place : ℕ) → is_among found place ≡ true → due_at new (first + place) ≡ None
   pub others : (place : ℕ) → is_among found place ≡ false → due_at new (first + place) ≡ due_at old (first + place)
 
--- the same agenda, but without the due ticks of these states and of these conditions, of which the agenda has `count` after n states, and of the place behind them
+-- the same due ticks, but without those of these states, of these conditions, of which there are `count` after n states, and of the place behind them
 pub record IsTakenOut (n count : ℕ) (moved changed : List ℕ) (old new : List (Option ℕ)) : Type 0 where
   pub as_many : length new ≡ length old
   pub states : (j : ℕ) → is_among moved j ≡ true → due_at new j ≡ None

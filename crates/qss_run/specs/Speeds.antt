@@ -23,7 +23,7 @@ pub record AreSlopesBefore (m : Machine) (moved : List ℕ) (before slopes : Lis
 abbrev pub HasSpeed : Machine → List ℤ → List Watch → ℕ → Type 0
 HasSpeed m slopes watches place = (watch_at watches place).speed ≡ speed_of m (condition_at m place).form slopes
 
--- a watch goes on from the same value at a tick, with the due tick of its first change, and is left as it is where it has the speed
+-- a watch goes on from the same value at a tick, has the due tick of its first change if it had, and is left as it is where it has the speed
 pub record GoesOn (tick : ℕ) (speed : ℤ) (old new : Watch) (old_due new_due : Option ℕ) : Type 0 where
   pub not_later : new.tick ≤ tick
   pub here : value_at new tick ≡ value_at old tick

@@ -386,8 +386,8 @@ fn settle_handled(
 }
 
 /// After handlers the conditions go on from a tick that changed, that read a reinitialized state or an assigned variable, or
-/// that read a state whose row reads one of these; the states that they read arrive along the lines, and no others. Then
-/// those go on at their new speeds that read a state whose row reads a moved one; the others are left.
+/// that read a state whose row reads one of these; of the values that handlers work on only those of states that they read
+/// are written. Then those go on at their new speeds that read a state whose row reads a moved one; the others are left.
 pub(crate) fn rewatch_handled(
     m: &Machine,
     uses: &Uses,

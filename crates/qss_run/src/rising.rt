@@ -20,7 +20,7 @@ fn rises(arrived: &[bool], settled: &[bool]) -> bool
     risen
 }
 
-/// Whether a condition became true through the handlers. The agenda has the next tick at this place then, and nothing else.
+/// Whether a condition became true through the handlers. Then this place of the agenda has the next tick, and else none.
 pub(crate) fn rise(
     tick: u64,
     arrived: &[bool],

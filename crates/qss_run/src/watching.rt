@@ -16,7 +16,7 @@ use qss_cross::Detector;
 use qss_machine::{Machine, Uses};
 use qss_sched::Agenda;
 
-// A watch goes on from a tick at a speed, and the agenda has the tick of its first change. Where it has the speed already,
+// A watch goes on from a tick at a speed, and the agenda has the tick of its first change, if it had. Where it has the speed already,
 // it is left as it is.
 fn respeed(watch: &mut Detector, tick: u64, speed: i128, place: u32, agenda: &mut Agenda)
     requires later { watch.old.tick ≤ tick }
@@ -126,8 +126,8 @@ fn rewatch_states(
     }
 }
 
-/// The conditions that read a state whose row reads a moved one go on from a tick at their speeds, and the agenda has the
-/// ticks of their first changes.
+/// The conditions that read a state whose row reads a moved one go on from a tick at their speeds. Those that were watched at
+/// the slopes before are watched, and the agenda has the ticks of their first changes.
 pub(crate) fn rewatch_of(
     m: &Machine,
     uses: &Uses,

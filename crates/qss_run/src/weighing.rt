@@ -99,7 +99,7 @@ fn weigh_readers(
 }
 
 /// The weights of all rows follow where the moved states take their levels, from those of their lines, and where discrete
-/// variables were assigned. It gives the least row past its limits, if one is.
+/// variables were assigned. It gives the least row past its limits, if one is; the weights are good for nothing then.
 pub(crate) fn reweigh_handled(
     m: &Machine,
     uses: &Uses,
