@@ -12,3 +12,4 @@ pub mod Powers
 pub mod Reading
 pub mod Tokens
 pub mod Decimals
+pub mod CurveLaws

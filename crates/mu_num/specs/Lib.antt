@@ -6,3 +6,4 @@ pub mod Levels
 pub mod Fraction
 pub mod Decimal
 pub mod Significand
+pub mod Curves

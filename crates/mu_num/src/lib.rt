@@ -2,6 +2,7 @@
 //! ticks, and roots.
 #![tactic(auto)]
 
+mod curves;
 mod division;
 mod laws;
 mod literal;
@@ -9,6 +10,7 @@ mod ratio;
 mod root;
 mod ticks;
 
+pub use curves::first_curve;
 pub use division::{ceil_div, floor_div, near_div};
 pub use laws::{decimals_are_right, levels_are_near, lowest_terms_are_right, quotients_are_right};
 pub use literal::decimal;

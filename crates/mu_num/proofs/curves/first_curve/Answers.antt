@@ -1,0 +1,19 @@
+-- A curve leaves where its opposite does.
+use Rattle.std.proofs.lemmas.Int.{to_z-of_z}
+use Rattle.std.specs.Int.RustNames.{FitsSigned}
+use Rattle.mu_num.proofs.CurveLaws.{first_opposite}
+use Rattle.mu_num.proofs.curves.first_curve.Goals as goal
+use mir.Syntax.{w128}
+
+pub returns-then-b-lt0 : goal.returns-then-b-lt0
+returns-then-b-lt0 c =
+    let of_c = c.ranges.c in
+    let of_b = c.ranges.b in
+    let of_a = c.ranges.a in
+    let of_bound = c.ranges.bound in
+    let of_start : FitsSigned w128 c.opposite.result = record { sfits = c.opposite.type_inv } in
+    let of_slope : FitsSigned w128 c.opposite-then-b-lt0.result = record { sfits = c.opposite-then-b-lt0.type_inv } in
+    let of_bend : FitsSigned w128 c.opposite-then-b-lt0-2.result = record { sfits = c.opposite-then-b-lt0-2.type_inv } in
+    first_opposite c.args.c c.args.b c.args.a c.opposite.result c.opposite-then-b-lt0.result c.opposite-then-b-lt0-2.result c.args.bound c.args.reach c.first_leaving.result
+    (simp to_z-of_z at c.opposite.ensures.value) (simp to_z-of_z at c.opposite-then-b-lt0.ensures.value) (simp to_z-of_z at c.opposite-then-b-lt0-2.ensures.value)
+    (simp to_z-of_z at c.first_leaving.ensures)
