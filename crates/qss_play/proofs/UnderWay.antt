@@ -111,7 +111,7 @@ end_is rule now new (Over tick var) same n =
     (ap (λ (e : ℕ × Option ℕ). e.1) end, omega (arith, count, is.is_next))
 
 -- a run that goes on to another ends as that one
-same_end : (outcome : Outcome) (now first : ℕ) (run whole : Run) → end_of now run ≡ end_of first whole → EndsFrom outcome now run → EndsFrom outcome first whole
+pub same_end : (outcome : Outcome) (now first : ℕ) (run whole : Run) → end_of now run ≡ end_of first whole → EndsFrom outcome now run → EndsFrom outcome first whole
 same_end (Events tick) now first run whole e ends = ends
 same_end Done now first run whole e ends = sym (ap (λ (p : ℕ × Option ℕ). p.1) e) ∙ ends
 same_end (Over tick var) now first run whole e ends =

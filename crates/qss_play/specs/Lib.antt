@@ -1,3 +1,4 @@
 pub mod Plays
 pub mod Writings
 pub mod Ahead
+pub mod Tallies

@@ -5,7 +5,9 @@ mod events;
 mod played;
 mod playing;
 mod rules;
+mod tallying;
 mod written;
 
 pub use played::Played;
 pub use playing::play;
+pub use tallying::{Tallied, tally};

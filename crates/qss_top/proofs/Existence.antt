@@ -15,12 +15,13 @@ use Rattle.cert_answer.specs.Answers.{IsCertification, IsUpgrade}
 use Rattle.cert_answer.specs.declared.ending.CertificateRefusal.TheVariants as certs
 use Rattle.cert_answer.proofs.Sameness.{one_each}
 use Rattle.cert_answer.proofs.Scopes.{scope_of}
-use Rattle.qss_top.specs.Commands.{RunOptions, Command, run_model, print_model, certify_model, upgrade_model, command_of, files_of}
-use Rattle.qss_top.specs.Answers.{Answer, Told, Reply, refusal, printed, printed_text, usage, quiet, too_long, answered, absent, untold, IsSourceRefusal, IsTreeRefusal, IsSourceMachine, IsSourceTree, IsRunAnswer, IsPrintAnswer, uncertifying, certificate_answer, IsCertificateAnswer, Says, ReadsThen, Finds, Reads, InScope, ByMachine, ReadsCertificate, ReadsBoth, LeadsTo, Defines}
+use Rattle.qss_generate.specs.Source.{source}
+use Rattle.qss_words.specs.Commands.{RunOptions, Command, run_model, print_model, certify_model, upgrade_model, generate_model, command_of, files_of}
+use Rattle.qss_top.specs.Answers.{Answer, Told, Reply, refusal, printed, printed_text, summed, usage, quiet, too_long, answered, absent, untold, IsSourceRefusal, IsTreeRefusal, IsSourceMachine, IsSourceTree, IsRunAnswer, IsPrintAnswer, IsGenerationAnswer, uncertifying, certificate_answer, IsCertificateAnswer, Says, ReadsThen, Finds, Reads, InScope, ByMachine, ReadsCertificate, ReadsBoth, LeadsTo, Defines}
 use Rattle.qss_top.specs.Laws.{AnswersExist}
 use Rattle.qss_top.specs.TopCall.{Replies}
 use Rattle.qss_top.specs.declared.status.Status.TheVariants as ends
-use Rattle.qss_top.proofs.CommandShares.{HasShare, command_share}
+use Rattle.qss_words.proofs.CommandShares.{HasShare, command_share}
 use Rattle.qss_top.proofs.Sources.{source_judged, tree_judged, long_for, long_refusal}
 
 -- each source has an answer
@@ -37,6 +38,13 @@ print_answer bytes = by (tree_judged bytes)
     by : ((a : Answer) × IsTreeRefusal bytes a) ⊎ ((tree : ModelTree) × IsSourceTree bytes tree) → (answer : Answer) × IsPrintAnswer bytes answer
     by (inl refuses) = (refuses.0, inl refuses.1)
     by (inr found) = (printed_text found.0, inr (found.0, found.1, refl))
+
+pub generation_answer : (seed cells : ℕ) → (answer : Answer) × IsGenerationAnswer seed cells answer
+generation_answer seed cells = by (source_judged 0 (omega arith) (source seed cells))
+  where
+    by : ((a : Answer) × IsSourceRefusal (source seed cells) a) ⊎ ((m : Machine) × IsSourceMachine 0 (source seed cells) m) → (answer : Answer) × IsGenerationAnswer seed cells answer
+    by (inl refuses) = (refuses.0, inl refuses.1)
+    by (inr found) = (summed cells found.0, inr (found.0, found.1, refl))
 
 read_told : (name : List ℕ) (Is : List ℕ → Answer → Type 0) → ((bytes : List ℕ) → (answer : Answer) × Is bytes answer) → (found : Option (List ℕ)) → (told : Told) × ReadsThen name (λ bytes. Says (Is bytes)) found told
 read_told name Is some None = (record { arrivals = name ∷ []; reply = absent }, refl)
@@ -94,6 +102,9 @@ command_told (run_model model options) few files = file_told model (IsRunAnswer 
 command_told (print_model model) few files = file_told model IsPrintAnswer print_answer files
 command_told (certify_model model certificate share) few files = both_told share few model certificate IsCertification one_each.some_certification (Some files)
 command_told (upgrade_model model certificate) few files = both_told 0 (omega arith) model certificate IsUpgrade one_each.some_upgrade (Some files)
+command_told (generate_model seed cells) few files =
+    let answer = generation_answer seed cells in
+    (record { arrivals = []; reply = answered answer.0 }, (answer.0, answer.1, refl))
 
 all_told : (command : Option Command) → IfSome command HasShare → (files : Option Files) → (told : Told) × Defines command files told
 all_told None few files = (record { arrivals = []; reply = answered (refusal ends.Usage usage) }, (refusal ends.Usage usage, refl, refl))
@@ -153,6 +164,7 @@ refuses_long (certify_model model certificate share) bytes long =
 refuses_long (upgrade_model model certificate) bytes long =
     let p = says_reply (IsSourceRefusal bytes) (refusal ends.ModelRefused too_long, long_refusal bytes long) in
     bytes_reply model (λ bytes. ByMachine 0 bytes (λ m. ReadsCertificate certificate IsUpgrade m None)) bytes (p.0, p.1, inl p.2, p.3)
+refuses_long (generate_model seed cells) bytes long = says_reply (IsGenerationAnswer seed cells) (generation_answer seed cells)
 
 -- what holds of each answer is so of each reply
 pub replies_all : (Is : Answer → Type 0) → ((answer : Answer) → Is answer) → (reply : Reply) → Replies Is reply

@@ -1,12 +1,11 @@
 pub mod Sources
 pub mod Refusals
 pub mod Sameness
-pub mod CommandShares
 pub mod Existence
 pub mod OutcomeFacts
 pub mod Serving
 pub mod Tellings
+pub mod Generations
 pub mod TopFacts
 pub mod TwoFiles
 pub mod Certified
-pub mod WordLaws

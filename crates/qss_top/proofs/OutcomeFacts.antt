@@ -14,7 +14,7 @@ use Rattle.qss_play.proofs.Writing.{lines_passed-append, lines_passed-true}
 use Rattle.qss_rows.specs.Filters.{passes, lines_passed}
 use Rattle.qss_rows.specs.Lines.{header, fields_of, line_of, lines_of}
 use Rattle.qss_top.specs.Answers.{Answer, printed}
-use Rattle.qss_top.specs.Commands.{RunOptions}
+use Rattle.qss_words.specs.Commands.{RunOptions}
 use Rattle.qss_top.specs.Outcomes.{IsOutcome, status_of}
 use Rattle.qss_top.specs.Statuses.{is_defined}
 use Rattle.qss_top.specs.TopCall.{IsCutShort}

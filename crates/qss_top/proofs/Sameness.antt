@@ -10,8 +10,9 @@ use Rattle.cert_answer.specs.declared.ending.CertificateRefusal.TheVariants as c
 use Rattle.cert_answer.proofs.Sameness.{one_each}
 use Rattle.cert_answer.proofs.Scopes.{one_outside, not_outside}
 use Rattle.qss_machine.specs.declared.system.Machine.{Machine}
-use Rattle.qss_top.specs.Commands.{RunOptions, Command, run_model, print_model, certify_model, upgrade_model, command_of}
-use Rattle.qss_top.specs.Answers.{Answer, Told, printed, printed_text, IsSourceRefusal, IsTreeRefusal, IsSourceMachine, IsSourceTree, IsRunAnswer, IsPrintAnswer, answered, uncertifying, certificate_answer, IsCertificateAnswer, Says, ReadsThen, Reads, InScope, ByMachine, ReadsBoth, LeadsTo, Defines}
+use Rattle.qss_generate.specs.Source.{source}
+use Rattle.qss_words.specs.Commands.{RunOptions, Command, run_model, print_model, certify_model, upgrade_model, generate_model, command_of}
+use Rattle.qss_top.specs.Answers.{Answer, Told, printed, printed_text, summed, IsSourceRefusal, IsTreeRefusal, IsSourceMachine, IsSourceTree, IsRunAnswer, IsPrintAnswer, IsSummedAnswer, IsGenerationAnswer, answered, uncertifying, certificate_answer, IsCertificateAnswer, Says, ReadsThen, Reads, InScope, ByMachine, ReadsBoth, LeadsTo, Defines}
 use Rattle.qss_top.specs.Laws.{AnswersAreUnique}
 use Rattle.qss_top.proofs.Sources.{one_source_refusal, one_tree_refusal, one_source_machine, one_source_tree, source_fine, tree_fine}
 
@@ -29,6 +30,10 @@ one_run options bytes a b p q =
 
 pub one_print : (bytes : List ℕ) (a b : Answer) → IsPrintAnswer bytes a → IsPrintAnswer bytes b → a ≡ b
 one_print bytes a b p q = one_choice (IsTreeRefusal bytes) (IsSourceTree bytes) printed_text (one_tree_refusal bytes) (one_source_tree bytes) (tree_fine bytes) a b p q
+
+pub one_summed : (cells : ℕ) (bytes : List ℕ) (a b : Answer) → IsSummedAnswer cells bytes a → IsSummedAnswer cells bytes b → a ≡ b
+one_summed cells bytes a b p q =
+    one_choice (IsSourceRefusal bytes) (IsSourceMachine 0 bytes) (summed cells) (one_source_refusal bytes) (one_source_machine 0 bytes) (source_fine 0 bytes) a b p q
 
 one_says : (P : Answer → Type 0) → ((a b : Answer) → P a → P b → a ≡ b) → (s t : Told) → Says P s → Says P t → s ≡ t
 one_says P one s t p q = p.2 ∙ ap (λ (answer : Answer). record { arrivals = []; reply = answered answer }) (one p.0 q.0 p.1 q.1) ∙ sym q.2
@@ -85,6 +90,7 @@ one_command (print_model model) files s t p q =
     one_file model (λ bytes. Says (IsPrintAnswer bytes)) (λ bytes. one_says (IsPrintAnswer bytes) (one_print bytes)) files s t p q
 one_command (certify_model model certificate share) files s t p q = one_both share model certificate IsCertification one_each.one_certification files s t p q
 one_command (upgrade_model model certificate) files s t p q = one_both 0 model certificate IsUpgrade one_each.one_upgrade files s t p q
+one_command (generate_model seed cells) files s t p q = one_says (IsGenerationAnswer seed cells) (one_summed cells (source seed cells)) s t p q
 
 one_told : (command : Option Command) (files : Option Files) (s t : Told) → Defines command files s → Defines command files t → s ≡ t
 one_told None files s t p q = one_says _ (λ a b e f. e ∙ sym f) s t p q

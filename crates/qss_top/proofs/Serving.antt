@@ -8,7 +8,7 @@ use Rattle.mu_io.specs.Faults.{Rose, OnlyCounts}
 use Rattle.mu_io.specs.Files.{Files, file_of}
 use Rattle.mu_io.specs.Sinks.{AppendsPrefix}
 use Rattle.qss_top.specs.Answers.{Answer, Told, Reply, answered, absent, untold, Says, ReadsThen, Reads, LeadsTo, LeadsFrom, Defines}
-use Rattle.qss_top.specs.Commands.{Command, files_of}
+use Rattle.qss_words.specs.Commands.{Command, files_of}
 use Rattle.qss_top.specs.Outcomes.{IsOutcome, Meets, Serves, status_of}
 use Rattle.qss_top.specs.Statuses.{is_defined}
 use Rattle.qss_top.specs.TopCall.{IsReplied, Replies, IsCutShort, SomeRose}
@@ -55,9 +55,15 @@ unwritten reply old = replies_all (λ answer. AppendsPrefix old old answer.out) 
 pub uncut : (reply : Reply) (old : Option (List ℕ)) → Replies (IsCutShort old old) reply
 uncut reply old = replies_all (IsCutShort old old) (λ answer. inl (Appends-nil old)) reply
 
+-- want of memory tells nothing of the answer
+pub untold_memory : (reply : Reply) (old : Option (List ℕ)) → IsReplied reply ends.Memory old old
+untold_memory (answered answer) old = λ d. absurd (cc d)
+untold_memory absent old = inr refl
+untold_memory (untold command) old = λ d. absurd (cc d)
+
 -- ---- a whole command
 
-told_meets : (command : Command) (files : Option Files) (what : Outcome) (old new : Option (List ℕ)) (out_before out_now : ℕ) (before now : List ℕ → ℕ)
+pub told_meets : (command : Command) (files : Option Files) (what : Outcome) (old new : Option (List ℕ)) (out_before out_now : ℕ) (before now : List ℕ → ℕ)
     → Serves files (files_of command) (LeadsTo command) what old new out_before out_now before now → (told : Told) → LeadsFrom command files told → Meets told what old new out_before out_now before now
 told_meets command None what old new out_before out_now before now h told leads =
     subst (λ (t : Told). Meets t what old new out_before out_now before now) (sym leads) (record {

@@ -9,18 +9,19 @@ use Rattle.mu_tree.specs.ModelTree.{ModelTree}
 use Rattle.qss_compile.specs.Meanings.{IsUnspelled, IsRefused}
 use Rattle.qss_compile.specs.declared.fault.Refused.{Refused}
 use Rattle.qss_machine.specs.declared.system.Machine.{Machine}
-use Rattle.qss_top.specs.Answers.{Answer, Told, Line, Tells, refusal, refused as refused_line, printed, printed_text, too_long, usage, answered, IsRefusalFor, IsSourceRefusal, IsTreeRefusal, IsSourceMachine, IsSourceTree, IsRunAnswer, IsPrintAnswer, Says, Reads, LeadsTo}
-use Rattle.qss_top.specs.Commands.{RunOptions, files_of}
-use Rattle.qss_top.specs.Words.{command_with, options_in, IsTaskAnswer}
-use Rattle.qss_top.specs.declared.command.Task.{Task}
-use Rattle.qss_top.specs.declared.command.Task.TheVariants as tasks
+use Rattle.qss_top.specs.Answers.{Answer, Told, Line, Tells, refusal, refused as refused_line, printed, printed_text, too_long, usage, answered, IsRefusalFor, IsSourceRefusal, IsTreeRefusal, IsSourceMachine, IsSourceTree, IsRunAnswer, IsPrintAnswer, IsGenerationAnswer, Says, Reads, LeadsTo}
+use Rattle.qss_words.specs.Commands.{RunOptions, generate_model, files_of}
+use Rattle.qss_words.specs.Requests.{command_with, options_in}
+use Rattle.qss_top.specs.Tasks.{IsTaskAnswer}
+use Rattle.qss_words.specs.declared.request.Task.{Task}
+use Rattle.qss_words.specs.declared.request.Task.TheVariants as tasks
 use Rattle.qss_top.specs.Outcomes.{IsOutcome, Meets, Serves, IsRefusedFor, status_of, line_text}
 use Rattle.qss_top.specs.declared.outcome.Outcome.{Outcome}
 use Rattle.qss_top.specs.declared.outcome.Outcome.TheVariants as outcome
 use Rattle.qss_top.specs.declared.status.Status.TheVariants as ends
-use Rattle.qss_top.proofs.Existence.{MayReply, says_reply, run_answer, print_answer, bytes_of, longer}
+use Rattle.qss_top.proofs.Existence.{MayReply, says_reply, run_answer, print_answer, generation_answer, bytes_of, longer}
 use Rattle.qss_top.proofs.Sameness.{one_run, one_print}
-use Rattle.qss_top.proofs.Serving.{says_served, read_served, fault_served, memory_served, long_served}
+use Rattle.qss_top.proofs.Serving.{says_served, read_served, fault_served, memory_served, long_served, unwritten, uncut, untold_memory}
 use Rattle.qss_top.proofs.Sources.{one_refusal, long_for, short_for, source_fine, tree_fine}
 use Rattle.qss_top.proofs.OutcomeFacts.{no_prefix, nothing_outcome}
 
@@ -136,3 +137,22 @@ usage_meets told old out_before before says =
       read_fault = λ e. absurd (cc e);
       others = λ other apart. refl;
     })
+
+-- memory was wanting before anything was done
+pub memory_meets : (told : Told) (old : Option (List ℕ)) (out_before : ℕ) (before : List ℕ → ℕ) → Meets told outcome.Memory old old out_before out_before before before
+memory_meets told old out_before before = record {
+  replied = untold_memory told.reply old;
+  line = λ e. absurd (cc e);
+  prefix = unwritten told.reply old;
+  short = λ e. uncut told.reply old;
+  quiet = λ e. refl;
+  read_fault = λ e. absurd (cc e);
+  others = λ other apart. refl;
+}
+
+-- the answer to a command that reads no file
+pub generation_served : (seed cells : ℕ) (files : Option Files) (what : Outcome) (old new : Option (List ℕ)) (out_before out_now : ℕ) (before : List ℕ → ℕ)
+    → ((a : Answer) → IsGenerationAnswer seed cells a → IsOutcome a what old new out_before out_now) → what ≢ outcome.ReadFault
+    → Serves files (files_of (generate_model seed cells)) (LeadsTo (generate_model seed cells)) what old new out_before out_now before before
+generation_served seed cells files what old new out_before out_now before is not_read =
+    says_served files (IsGenerationAnswer seed cells) what old new out_before out_now before is (generation_answer seed cells) not_read

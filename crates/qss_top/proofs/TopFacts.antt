@@ -145,6 +145,10 @@ pub status_by : (status : Status) (what : Outcome) → IsStatus status what → 
 status_by status what (inl e) other = e
 status_by status what (inr e) other = absurd (other e.1)
 
+pub usage_or_memory : (status : Status) (what : Outcome) → IsStatus status what → (what ≡ outcome.Usage) ⊎ (what ≡ outcome.Memory) → (status ≡ ends.Usage) ⊎ (status ≡ ends.Memory)
+usage_or_memory status what h (inl is) = inl (status_by status what h (λ o. absurd (cc (ap takes_memory is, o))) ∙ ap status_of is)
+usage_or_memory status what h (inr is) = inr (status_by status what h (λ o. absurd (cc (ap takes_memory is, o))) ∙ ap status_of is)
+
 pub no_write : (status : Status) (what : Outcome) → IsStatus status what → status ≢ ends.WriteFault → what ≢ outcome.WriteFault
 no_write status what h other e = other (status_by status what h (λ o. absurd (cc (ap takes_memory e, o))) ∙ ap status_of e)
 

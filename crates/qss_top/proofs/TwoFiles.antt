@@ -27,14 +27,14 @@ use Rattle.qss_compile.specs.Meanings.{IsRefused}
 use Rattle.qss_compile.specs.declared.fault.Refused.{Refused}
 use Rattle.qss_top.specs.Answers.{Answer, Line, Tells, refused, Told, Reply, answered, absent, untold, refusal, too_long, IsSourceRefusal, IsSourceMachine, uncertified, uncertifying, certificate_answer, status_of_refusal, IsCertificateAnswer, Says, Reads, InScope, ByMachine, ReadsCertificate, LeadsTo}
 use Rattle.qss_top.specs.Certificates.{IsDone, outcome_by, share_in}
-use Rattle.qss_top.specs.Commands.{files_of}
+use Rattle.qss_words.specs.Commands.{files_of}
 use Rattle.qss_top.specs.Outcomes.{IsOutcome, IsRefusedFor, Meets, Serves, status_of, line_text as outcome_text}
 use Rattle.qss_top.specs.Statuses.{leaves_out}
 use Rattle.qss_top.specs.TopCall.{IsReplied}
-use Rattle.qss_top.specs.Words.{command_on}
-use Rattle.qss_top.specs.declared.options.Deed.{Deed}
-use Rattle.qss_top.specs.declared.options.Deed.TheVariants as deeds
-use Rattle.qss_top.specs.declared.options.Share.{Share}
+use Rattle.qss_words.specs.Requests.{command_on}
+use Rattle.qss_words.specs.declared.request.Deed.{Deed}
+use Rattle.qss_words.specs.declared.request.Deed.TheVariants as deeds
+use Rattle.qss_words.specs.declared.request.Share.{Share}
 use Rattle.qss_top.specs.declared.outcome.Outcome.{Outcome}
 use Rattle.qss_top.specs.declared.outcome.Outcome.TheVariants as outcome
 use Rattle.qss_top.specs.declared.status.Status.{Status}

@@ -1,5 +1,6 @@
 -- What the words, with the files they name, define as the answer.
-use Rattle.std.specs.Prelude.{◌≡◌, ◌⊎◌, ℕ, ◌+◌, ◌^◌, ◌≤◌, List, [], ◌∷◌, ◌++◌, length, nat_lt, codes, decimal, Option, Some, None, IsSome, MatchBool}
+use Rattle.std.specs.Prelude.{◌≡◌, ◌⊎◌, ℕ, ℤ, ◌+◌, ◌^◌, ◌≤◌, List, [], ◌∷◌, ◌++◌, length, nat_lt, codes, decimal, Option, Some, None, IsSome, MatchBool}
+use Rattle.std.specs.Fmt.{signed_decimal}
 use Rattle.mu_io.specs.Files.{Files, file_of}
 use Rattle.mu_tree.specs.Canonical.{canonical_text}
 use Rattle.mu_tree.specs.ModelTree.{ModelTree}
@@ -9,7 +10,11 @@ use Rattle.qss_rows.specs.Lines.{name_of}
 use Rattle.qss_compile.specs.Lines as Refusals
 use Rattle.qss_compile.specs.Meanings.{SpellsTree, IsUnspelled, Means, IsRefused}
 use Rattle.qss_compile.specs.declared.fault.Refused.{Refused}
+use Rattle.qss_generate.specs.Source.{source}
+use Rattle.qss_machine.specs.Runs.{run_rows}
 use Rattle.qss_play.specs.Plays.{run_under, text_of as run_text}
+use Rattle.qss_play.specs.Tallies.{level_count, end_sum}
+use Rattle.qss_quant.specs.declared.rule.Rule.TheVariants.{Floor}
 use Rattle.cert_check.specs.Scope.{IsInScope, IsOutsideBy}
 use Rattle.cert_check.specs.declared.outside.Outside.{Outside}
 use Rattle.cert_answer.specs.Answers as Certificates
@@ -17,7 +22,7 @@ use Rattle.cert_answer.specs.Answers.{IsCertification, IsUpgrade}
 use Rattle.cert_answer.specs.declared.ending.CertificateRefusal.TheVariants as certs
 use Rattle.cert_answer.specs.Endings.{refusal_line}
 use Rattle.cert_answer.specs.declared.ending.CertificateRefusal.{CertificateRefusal}
-use Rattle.qss_top.specs.Commands.{RunOptions, Command, run_model, print_model, certify_model, upgrade_model, command_of, files_of}
+use Rattle.qss_words.specs.Commands.{RunOptions, Command, run_model, print_model, certify_model, upgrade_model, generate_model, command_of, files_of}
 use Rattle.qss_top.specs.Shares.{IsShared}
 use Rattle.qss_top.specs.declared.status.Status.{Status}
 use Rattle.qss_top.specs.declared.status.Status.TheVariants as ends
@@ -127,6 +132,33 @@ IsRunAnswer options bytes answer = IsSourceRefusal bytes answer ⊎ ((m : Machin
 abbrev pub IsPrintAnswer : List ℕ → Answer → Type 0
 IsPrintAnswer bytes answer = IsTreeRefusal bytes answer ⊎ ((tree : ModelTree) × IsSourceTree bytes tree × (answer ≡ printed_text tree))
 
+-- a header, and a line with the number of cells, the last tick, how often a level changes in a run, and its levels at the end, added up
+abbrev pub summary_of : (cells last levels : ℕ) → (sum : ℤ) → List ℕ
+summary_of cells last levels sum =
+    codes "cells,last,levels,sum\n" ++ decimal cells ++ codes "," ++ decimal last ++ codes "," ++ decimal levels ++ codes "," ++ signed_decimal sum ++ codes "\n"
+
+abbrev pub summary_text : (cells : ℕ) → Machine → Run → List ℕ
+summary_text cells m run = summary_of cells m.last (level_count (run_rows m run)) (end_sum (run_rows m run))
+
+-- the answer that sums up the run of a machine by the rule `floor`
+abbrev pub summed : (cells : ℕ) → Machine → Answer
+summed cells m = answer_by (run_under Floor m)
+  where
+    text_by : Run → Option ℕ → List ℕ
+    text_by run None = summary_text cells m run
+    text_by run (Some var) = []
+
+    answer_by : Run → Answer
+    answer_by run = record { status = status_of_run run; out = text_by run run.overflow; line = line_of_run m run }
+
+-- the answer that sums up a source: it is refused, or the run of its machine is summed up
+abbrev pub IsSummedAnswer : (cells : ℕ) → List ℕ → Answer → Type 0
+IsSummedAnswer cells bytes answer = IsSourceRefusal bytes answer ⊎ ((m : Machine) × IsSourceMachine 0 bytes m × (answer ≡ summed cells m))
+
+-- the answer to `gen`
+abbrev pub IsGenerationAnswer : (seed cells : ℕ) → Answer → Type 0
+IsGenerationAnswer seed cells answer = IsSummedAnswer cells (source seed cells) answer
+
 -- how the program ends that refuses a certificate
 abbrev pub status_of_refusal : CertificateRefusal → Status
 status_of_refusal (certs.Outside why) = ends.Rejected
@@ -198,6 +230,7 @@ LeadsTo (run_model model options) files told = Reads files model (λ bytes. Says
 LeadsTo (print_model model) files told = Reads files model (λ bytes. Says (IsPrintAnswer bytes)) told
 LeadsTo (certify_model model certificate share) files told = ReadsBoth share model certificate IsCertification files told
 LeadsTo (upgrade_model model certificate) files told = ReadsBoth 0 model certificate IsUpgrade files told
+LeadsTo (generate_model seed cells) files told = Says (IsGenerationAnswer seed cells) told
 
 -- for some bytes that the command reads, the answer to it is such a one
 abbrev pub MayAnswer : Command → (Answer → Type 0) → Type 0

@@ -4,8 +4,8 @@ use Rattle.qss_machine.specs.declared.system.Machine.{Machine}
 use Rattle.cert_answer.specs.Answers as Certificates
 use Rattle.cert_answer.specs.declared.ending.Ending.{Ending}
 use Rattle.cert_answer.specs.declared.ending.Ending.TheVariants as ending
-use Rattle.qss_top.specs.declared.options.Deed.{Deed}
-use Rattle.qss_top.specs.declared.options.Deed.TheVariants as deeds
+use Rattle.qss_words.specs.declared.request.Deed.{Deed}
+use Rattle.qss_words.specs.declared.request.Deed.TheVariants as deeds
 use Rattle.qss_top.specs.declared.outcome.Outcome.{Outcome}
 use Rattle.qss_top.specs.declared.outcome.Outcome.TheVariants as outcome
 

@@ -7,7 +7,7 @@ use Rattle.cert_lines.specs.Bounds.{bounds_text}
 use Rattle.cert_text.specs.Texts.{IsTextOf}
 use Rattle.qss_machine.specs.declared.system.Machine.{Machine}
 use Rattle.qss_top.specs.Answers.{Answer, Told, answered, Finds, IsSourceMachine, LeadsTo}
-use Rattle.qss_top.specs.Commands.{certify_model}
+use Rattle.qss_words.specs.Commands.{certify_model}
 use Rattle.qss_top.specs.declared.status.Status.TheVariants as ends
 
 -- for the bytes of both files, the machine that the model means and the certificate that is spelled: the text is the certificate's bounds, any two

@@ -1,7 +1,5 @@
 pub mod Shares
-pub mod Saying
-pub mod Commands
-pub mod Words
+pub mod Tasks
 pub mod Certificates
 pub mod Answers
 pub mod Statuses

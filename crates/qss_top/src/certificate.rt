@@ -4,19 +4,19 @@ ghost use Rattle.mu_io.specs.Sinks.{EndsByFault};
 ghost use Rattle.cert_check.specs.Scope.{IsInScope};
 ghost use Rattle.qss_top.specs.Answers.{Answer, IsCertificateAnswer, ByMachine, ReadsCertificate, Reads, Says, LeadsTo};
 ghost use Rattle.qss_top.specs.Certificates.{IsDone, outcome_by, share_in};
-ghost use Rattle.qss_top.specs.Commands.{files_of};
+ghost use Rattle.qss_words.specs.Commands.{files_of};
 ghost use Rattle.qss_top.specs.Outcomes.{IsOutcome, Serves, status_of};
 ghost use Rattle.qss_top.specs.Statuses.{leaves_out};
-ghost use Rattle.qss_top.specs.Words.{command_on};
+ghost use Rattle.qss_words.specs.Requests.{command_on};
 
 use crate::command::MODEL_LIMIT;
-use crate::options::{Deed, Share};
 use crate::outcome::Outcome;
 use crate::source::machine_of;
 use cert_answer::{CertificateRefusal, Ending, certify, upgrade};
 use cert_check::scope;
 use mu_io::{ReadErr, Shelf, Sink, read_all};
 use qss_machine::Machine;
+use qss_words::{Deed, Share};
 use std::alloc::Global;
 
 // The longest certificate that is read, in bytes.

@@ -1,116 +1,29 @@
 // The commands: what the words ask for, and what is done for it.
-ghost use Rattle.std.specs.Prelude.{length, ◌≡◌, ◌≢◌, ◌≤◌, ◌↔◌, ◌^◌, true, false, map, option_map, None, ℕ, List, IfOk};
+ghost use Rattle.std.specs.Prelude.{length, ◌≡◌, ◌≢◌, ◌≤◌, ◌⊎◌, ◌^◌, true, false, map, option_map, None, Some, ℕ, List, IfOk};
 ghost use Rattle.mu_io.specs.Faults.{OnlyCounts};
 ghost use Rattle.mu_io.specs.Sinks.{EndsByFault};
 ghost use Rattle.mu_tree.specs.ModelTree.{model};
-ghost use Rattle.qss_top.specs.Answers.{Answer, Told, IsRunAnswer, IsPrintAnswer, printed, printed_text, LeadsTo, IsTold};
-ghost use Rattle.qss_top.specs.Commands.{command_by, command_of_two, command_said, command_of, files_of, writes_as_it_goes};
+ghost use Rattle.qss_top.specs.Answers.{Answer, Told, IsRunAnswer, IsPrintAnswer, printed, printed_text, LeadsTo, LeadsFrom, IsTold};
+ghost use Rattle.qss_words.specs.Commands.{command_of, files_of, writes_as_it_goes};
 ghost use Rattle.qss_top.specs.Outcomes.{IsOutcome, Meets, Serves, status_of};
 ghost use Rattle.qss_top.specs.Statuses.{leaves_out};
-ghost use Rattle.qss_top.specs.Words.{command_in, command_with, options_in, said_in, task_goes, IsTaskAnswer};
+ghost use Rattle.qss_words.specs.Requests.{command_in, command_with, options_in};
+ghost use Rattle.qss_top.specs.Tasks.{task_goes, IsTaskAnswer};
 
 use crate::certificate::on_certificate;
-use crate::options::{Deed, Options};
+use crate::generation::on_generation;
 use crate::outcome::Outcome;
 use crate::source::{machine_of, model_of};
-use crate::values::{is_bare, options_said, share_alone};
-use crate::words::Said;
 use mu_io::{Name, ReadErr, Shelf, Sink, WriteErr, read_all, write_all};
 use mu_tree::canonical::write_model;
 use mu_tree::tree::Model;
 use qss_machine::Machine;
 use qss_play::{Played, play};
+use qss_words::{Options, Request, Task, read_words};
 use std::alloc::{AllocError, Global};
 
 // The longest model that is read, in bytes.
 pub(crate) const MODEL_LIMIT: usize = 1 << 20;
-
-/// What is done with a model.
-#[derive(Clone, Copy, Debug)]
-pub enum Task<'a> {
-    Run(Options<'a>),
-    Print,
-}
-
-/// What the words ask for: what is done with the model of a name, or with it and the certificate of another.
-#[derive(Clone, Copy, Debug)]
-pub enum Request<'a> {
-    Source {
-        task: Task<'a>,
-        model: &'a str,
-    },
-    Certificate {
-        deed: Deed,
-        model: &'a str,
-        certificate: &'a str,
-    },
-}
-
-// What the words ask for, where they are a command.
-fn requested<'a>(words: &[&'a str]) -> Option<Request<'a>>
-    ensures { option_map command_in result ≡ command_of (map (λ word. word.now) words.now) }
-{
-    let said = Said::of_words(words)?;
-    request_said(said)
-}
-
-// What is asked for, where no option is without a value.
-fn request_said<'a>(said: Said<'a>) -> Option<Request<'a>>
-    ensures { option_map command_in result ≡ command_said (said_in said.entry) }
-{
-    match (said.awaited, said.verb, said.name, said.other) {
-        (None, Some(verb), Some(model), None) => request_by(verb, model, said),
-        (None, Some(verb), Some(model), Some(certificate)) => {
-            request_of_two(verb, model, certificate, said)
-        }
-        _ => None,
-    }
-}
-
-// What a verb asks for with the model of a name.
-fn request_by<'a>(verb: &str, model: &'a str, said: Said<'a>) -> Option<Request<'a>>
-    ensures { option_map command_in result ≡ command_by verb.now model.now (said_in said.entry) }
-{
-    if verb == "run" {
-        let options = options_said(said)?;
-        let task = Task::Run(options);
-        return Some(Request::Source { task, model });
-    }
-    if verb == "print" && is_bare(said) {
-        let task = Task::Print;
-        return Some(Request::Source { task, model });
-    }
-    None
-}
-
-// What a verb asks for with the model and the certificate of two names.
-fn request_of_two<'a>(
-    verb: &str,
-    model: &'a str,
-    certificate: &'a str,
-    said: Said<'a>,
-) -> Option<Request<'a>>
-    ensures { option_map command_in result ≡ command_of_two verb.now model.now certificate.now (said_in said.entry) }
-{
-    if verb == "certify" {
-        let share = share_alone(said)?;
-        let deed = Deed::Certify(share);
-        return Some(Request::Certificate {
-            deed,
-            model,
-            certificate,
-        });
-    }
-    if verb == "upgrade" && is_bare(said) {
-        let deed = Deed::Upgrade;
-        return Some(Request::Certificate {
-            deed,
-            model,
-            certificate,
-        });
-    }
-    None
-}
 
 /// Does what the words ask for, and writes on out.
 pub(crate) fn answer<S: Shelf, O: Sink>(
@@ -120,7 +33,8 @@ pub(crate) fn answer<S: Shelf, O: Sink>(
     out: &mut O,
 ) -> Outcome
     ensures meets { (told : Told) → IsTold (map (λ word. word.now) words.now) (S.files shelf.old) told → Meets told result (O.written out.old) (O.written out.new) (O.faults out.old) (O.faults out.new) (S.faults shelf.old) (S.faults shelf.new) }
-    ensures usage { (result ≡ Outcome.Usage) ↔ (command_of (map (λ word. word.now) words.now) ≡ None) }
+    ensures usage { result ≡ Outcome.Usage → command_of (map (λ word. word.now) words.now) ≡ None }
+    ensures no_command { command_of (map (λ word. word.now) words.now) ≡ None → (result ≡ Outcome.Usage) ⊎ (result ≡ Outcome.Memory) }
     ensures untouched { leaves_out (writes_as_it_goes (command_of (map (λ word. word.now) words.now))) (status_of result) ≡ true → out.new ≡ out.old }
     ensures calm { result ≢ Outcome.WriteFault → O.faults out.new ≡ O.faults out.old }
     ensures last { result ≡ Outcome.WriteFault → EndsByFault O.written O.faults out.old out.new }
@@ -128,16 +42,37 @@ pub(crate) fn answer<S: Shelf, O: Sink>(
     ensures later { (name : List ℕ) → S.faults shelf.old name ≤ S.faults shelf.new name }
     ensures unharmed { result ≢ Outcome.ReadFault → (name : List ℕ) → S.faults shelf.new name ≡ S.faults shelf.old name }
 {
-    match requested(words) {
-        Some(Request::Source { task, model }) => on_file(alloc, task, model, shelf, out),
-        Some(
-            Request::Certificate {
-                deed,
-                model,
-                certificate,
-            },
-        ) => on_certificate(alloc, deed, model, certificate, shelf, out),
-        None => Outcome::Usage,
+    match read_words(alloc, words) {
+        Ok(Some(request)) => on_request(alloc, request, shelf, out),
+        Ok(None) => Outcome::Usage,
+        Err(_) => Outcome::Memory,
+    }
+}
+
+// Does what is asked for.
+fn on_request<S: Shelf, O: Sink>(
+    alloc: Global,
+    request: Request,
+    shelf: &mut S,
+    out: &mut O,
+) -> Outcome
+    ensures meets { (told : Told) → LeadsFrom (command_in request.entry) (S.files shelf.old) told → Meets told result (O.written out.old) (O.written out.new) (O.faults out.old) (O.faults out.new) (S.faults shelf.old) (S.faults shelf.new) }
+    ensures not_usage { result ≢ Outcome.Usage }
+    ensures untouched { leaves_out (writes_as_it_goes (Some (command_in request.entry))) (status_of result) ≡ true → out.new ≡ out.old }
+    ensures calm { result ≢ Outcome.WriteFault → O.faults out.new ≡ O.faults out.old }
+    ensures last { result ≡ Outcome.WriteFault → EndsByFault O.written O.faults out.old out.new }
+    ensures files { S.files shelf.new ≡ S.files shelf.old }
+    ensures later { (name : List ℕ) → S.faults shelf.old name ≤ S.faults shelf.new name }
+    ensures unharmed { result ≢ Outcome.ReadFault → (name : List ℕ) → S.faults shelf.new name ≡ S.faults shelf.old name }
+{
+    match request {
+        Request::Source { task, model } => on_file(alloc, task, model, shelf, out),
+        Request::Certificate {
+            deed,
+            model,
+            certificate,
+        } => on_certificate(alloc, deed, model, certificate, shelf, out),
+        Request::Generated(generation) => on_generation(alloc, generation, out),
     }
 }
 
@@ -232,12 +167,12 @@ fn run_source<O: Sink>(alloc: Global, options: Options, bytes: &[u8], out: &mut 
 }
 
 // A name, where there is one.
-fn name_of(alloc: Global, name: Option<&[u8]>) -> Result<Option<Name>, AllocError>
-    ensures { IfOk result (λ copy. copy ≡ option_map (λ bytes. bytes.now) name.entry) }
+fn name_of(alloc: Global, name: Option<&str>) -> Result<Option<Name>, AllocError>
+    ensures { IfOk result (λ copy. copy ≡ option_map (λ text. text.now) name.entry) }
 {
     match name {
-        Some(bytes) => {
-            let name = Name::new(alloc, bytes)?;
+        Some(text) => {
+            let name = Name::new(alloc, text.as_bytes())?;
             Ok(Some(name))
         }
         None => Ok(None),

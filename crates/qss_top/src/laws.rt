@@ -1,6 +1,6 @@
 // Laws on what is told.
 ghost use Rattle.qss_top.specs.CertifiedRuns.{CertifiedRunsStayNear};
-ghost use Rattle.qss_top.specs.Laws.{AnswersAreUnique, AnswersExist, OptionsAreSingle, WordsMeanTheSame};
+ghost use Rattle.qss_top.specs.Laws.{AnswersAreUnique, AnswersExist};
 
 /// Law: words and files define at most one answer, with the files at which it arrives.
 pub fn answers_are_unique()
@@ -16,14 +16,4 @@ pub fn answers_exist()
 /// starts, lie within the bounds that are printed, and the machine's own runs are among these.
 pub fn certified_runs_stay_near()
     ensures { CertifiedRunsStayNear }
-{}
-
-/// Law: which words of a command line mean the same, wherever options stand, however their values are given, and behind `--`.
-pub fn words_mean_the_same()
-    ensures { WordsMeanTheSame }
-{}
-
-/// Law: words where an option comes last without its value, or comes again, are no command.
-pub fn options_are_single()
-    ensures { OptionsAreSingle }
 {}

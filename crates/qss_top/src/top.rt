@@ -1,9 +1,9 @@
 // The top call.
-ghost use Rattle.std.specs.Prelude.{◌≡◌, ◌≢◌, ◌≤◌, ◌↔◌, [], true, List, ℕ, map, Some, None, Contains};
+ghost use Rattle.std.specs.Prelude.{◌≡◌, ◌≢◌, ◌≤◌, ◌⊎◌, [], true, List, ℕ, map, Some, None, Contains};
 ghost use Rattle.mu_io.specs.Faults.{Rose};
 ghost use Rattle.mu_io.specs.Sinks.{AppendsPrefix, EndsByFault};
 ghost use Rattle.qss_top.specs.Answers.{Told, IsTold};
-ghost use Rattle.qss_top.specs.Commands.{command_of, writes_as_it_goes};
+ghost use Rattle.qss_words.specs.Commands.{command_of, writes_as_it_goes};
 ghost use Rattle.qss_top.specs.Statuses.{leaves_out};
 ghost use Rattle.qss_top.specs.TopCall.{IsReplied, Replies, IsCutShort, text_of, SomeRose, ReportsStatus};
 
@@ -32,8 +32,9 @@ pub fn qss_main<S: Shelf, O: Sink, E: Sink>(
     // of a run; or all of a run that overflows.
     ensures short { (told : Told) → IsTold (map (λ word. word.now) words.now) (S.files shelf.old) told → result ≡ Status.Memory → Replies (IsCutShort (O.written out.old) (O.written out.new)) told.reply }
 
-    // Words that are no command are told as such, and nothing else is.
-    ensures usage { (result ≡ Status.Usage) ↔ (command_of (map (λ word. word.now) words.now) ≡ None) }
+    // Words that are no command are told as such, where memory for them is found, and nothing else is.
+    ensures usage { result ≡ Status.Usage → command_of (map (λ word. word.now) words.now) ≡ None }
+    ensures no_command { command_of (map (λ word. word.now) words.now) ≡ None → (result ≡ Status.Usage) ⊎ (result ≡ Status.Memory) }
 
     // A read fault comes only of a file at which the answer arrives, and no other file has one.
     ensures read_fault { (told : Told) → IsTold (map (λ word. word.now) words.now) (S.files shelf.old) told → result ≡ Status.ReadFault → SomeRose told.arrivals (S.faults shelf.old) (S.faults shelf.new) }

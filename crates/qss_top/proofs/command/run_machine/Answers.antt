@@ -1,5 +1,5 @@
 use Rattle.std.proofs.Common.{refl}
-use Rattle.qss_top.specs.Words.{options_in}
+use Rattle.qss_words.specs.Requests.{options_in}
 use Rattle.qss_top.proofs.OutcomeFacts.{cut_short, out_of_memory, run_cut, run_done, run_over, not_begun}
 use Rattle.qss_top.proofs.command.run_machine.Goals as goal
 

@@ -2,7 +2,7 @@ use Rattle.std.proofs.Common.{subst}
 use Rattle.qss_compile.specs.Meanings.{IsRefused}
 use Rattle.qss_top.specs.Answers.{Answer}
 use Rattle.qss_top.specs.Outcomes.{IsOutcome}
-use Rattle.qss_top.specs.Words.{options_in}
+use Rattle.qss_words.specs.Requests.{options_in}
 use Rattle.qss_top.proofs.Refusals.{not_usage, not_read, not_write}
 use Rattle.qss_top.proofs.Tellings.{run_is, run_refused}
 use Rattle.qss_top.proofs.command.run_source.Goals as goal

@@ -1,8 +1,6 @@
-use Rattle.std.proofs.Common.{ap, ◌∙◌}
 use Rattle.std.specs.Prelude.{map}
-use Rattle.qss_top.specs.Commands.{command_of, writes_as_it_goes}
-use Rattle.qss_top.specs.Outcomes.{status_of, takes_memory}
-use Rattle.qss_top.proofs.TopFacts.{replied, defined_of, leaves_of, read_of, write_of, done_of, usage_of, status_by, no_write, no_read, short_of, line_is}
+use Rattle.qss_words.specs.Commands.{command_of, writes_as_it_goes}
+use Rattle.qss_top.proofs.TopFacts.{replied, defined_of, leaves_of, read_of, write_of, done_of, usage_of, status_by, no_write, no_read, short_of, line_is, usage_or_memory}
 use Rattle.qss_top.proofs.top.qss_main.Goals as goal
 
 pub returns-clause-replied : goal.returns-clause-replied
@@ -22,11 +20,10 @@ pub returns-clause-quiet : goal.returns-clause-quiet
 returns-clause-quiet g c told h = (c.answer-outcome.ensures.meets told h).quiet
 
 pub returns-clause-usage : goal.returns-clause-usage
-returns-clause-usage g c = (
-  λ e. c.answer-outcome.ensures.usage.0 (usage_of c.report.result c.answer-outcome.result c.report.ensures.status e),
-  λ none. let is = c.answer-outcome.ensures.usage.1 none in
-      status_by c.report.result c.answer-outcome.result c.report.ensures.status (λ o. absurd (cc (ap takes_memory is, o))) ∙ ap status_of is,
-)
+returns-clause-usage g c e = c.answer-outcome.ensures.usage (usage_of c.report.result c.answer-outcome.result c.report.ensures.status e)
+
+pub returns-clause-no_command : goal.returns-clause-no_command
+returns-clause-no_command g c none = usage_or_memory c.report.result c.answer-outcome.result c.report.ensures.status (c.answer-outcome.ensures.no_command none)
 
 pub returns-clause-read_fault : goal.returns-clause-read_fault
 returns-clause-read_fault g c told h e = (c.answer-outcome.ensures.meets told h).read_fault (read_of c.report.result c.answer-outcome.result c.report.ensures.status e)

@@ -1,0 +1,99 @@
+// The run of a generated model, summed up.
+ghost use Rattle.std.specs.Prelude.{length, ◌≡◌, ◌≢◌, ◌≤◌, ◌^◌, true, false, IfOk};
+ghost use Rattle.mu_io.specs.Sinks.{EndsByFault};
+ghost use Rattle.qss_top.specs.Answers.{Answer, IsGenerationAnswer, IsSummedAnswer, summary_of, summed};
+ghost use Rattle.qss_top.specs.Outcomes.{IsOutcome, status_of};
+ghost use Rattle.qss_top.specs.Statuses.{leaves_out};
+
+use crate::outcome::Outcome;
+use crate::source::machine_of;
+use mu_io::{Sink, WriteErr, write_all};
+use qss_generate::generate;
+use qss_machine::Machine;
+use qss_play::{Tallied, tally};
+use qss_words::Generation;
+use std::alloc::{AllocError, Global};
+
+/// Sums up the run of a generated model.
+pub(crate) fn on_generation<O: Sink>(
+    alloc: Global,
+    generation: Generation,
+    out: &mut O,
+) -> Outcome
+    ensures outcome { (answer : Answer) → IsGenerationAnswer generation.seed generation.cells answer → IsOutcome answer result (O.written out.old) (O.written out.new) (O.faults out.old) (O.faults out.new) }
+    ensures not_usage { result ≢ Outcome.Usage }
+    ensures not_read { result ≢ Outcome.ReadFault }
+    ensures untouched { leaves_out false (status_of result) ≡ true → out.new ≡ out.old }
+    ensures calm { result ≢ Outcome.WriteFault → O.faults out.new ≡ O.faults out.old }
+    ensures last { result ≡ Outcome.WriteFault → EndsByFault O.written O.faults out.old out.new }
+{
+    match generate(alloc, generation.seed, generation.cells) {
+        Ok(source) => sum_source(alloc, generation.cells, &source, out),
+        Err(_) => Outcome::Memory,
+    }
+}
+
+// Sums up the run of the machine that a source means.
+fn sum_source<O: Sink>(alloc: Global, cells: u32, source: &[u8], out: &mut O) -> Outcome
+    requires { length source.now ≤ 2 ^ 20 }
+    ensures outcome { (answer : Answer) → IsSummedAnswer cells source.now answer → IsOutcome answer result (O.written out.old) (O.written out.new) (O.faults out.old) (O.faults out.new) }
+    ensures not_usage { result ≢ Outcome.Usage }
+    ensures not_read { result ≢ Outcome.ReadFault }
+    ensures untouched { leaves_out false (status_of result) ≡ true → out.new ≡ out.old }
+    ensures calm { result ≢ Outcome.WriteFault → O.faults out.new ≡ O.faults out.old }
+    ensures last { result ≡ Outcome.WriteFault → EndsByFault O.written O.faults out.old out.new }
+{
+    match machine_of(alloc, 0, source) {
+        Ok(m) => sum_machine(alloc, cells, m, out),
+        Err(what) => what,
+    }
+}
+
+// Sums up the run of a machine.
+fn sum_machine<O: Sink>(alloc: Global, cells: u32, m: Machine, out: &mut O) -> Outcome
+    ensures outcome { IsOutcome (summed cells m) result (O.written out.old) (O.written out.new) (O.faults out.old) (O.faults out.new) }
+    ensures not_usage { result ≢ Outcome.Usage }
+    ensures not_read { result ≢ Outcome.ReadFault }
+    ensures untouched { leaves_out false (status_of result) ≡ true → out.new ≡ out.old }
+    ensures calm { result ≢ Outcome.WriteFault → O.faults out.new ≡ O.faults out.old }
+    ensures last { result ≡ Outcome.WriteFault → EndsByFault O.written O.faults out.old out.new }
+{
+    let last = m.last;
+    match tally(alloc, m) {
+        Tallied::Ended { levels, sum } => match summary(alloc, cells, last, levels, sum) {
+            Ok(text) => match write_all(out, &text) {
+                Ok(()) => Outcome::Done,
+                Err(WriteErr::Fault) => Outcome::WriteFault,
+            },
+            Err(_) => Outcome::Memory,
+        },
+        Tallied::Overflowed { name, tick } => Outcome::Overflow { name, tick },
+        Tallied::Memory => Outcome::Memory,
+    }
+}
+
+// The header and the line that tell what a run comes to.
+fn summary(
+    alloc: Global,
+    cells: u32,
+    last: u64,
+    levels: u128,
+    sum: i128,
+) -> Result<Vec<u8>, AllocError>
+    ensures { IfOk result (λ text. text.items ≡ summary_of cells last levels sum) }
+{
+    let cells = cells.to_string(alloc)?;
+    let last = last.to_string(alloc)?;
+    let levels = levels.to_string(alloc)?;
+    let sum = sum.to_string(alloc)?;
+    let mut text = b"cells,last,levels,sum\n".to_vec(alloc)?;
+    text.extend_from_slice(cells.as_bytes())?;
+    text.extend_from_slice(b",")?;
+    text.extend_from_slice(last.as_bytes())?;
+    text.extend_from_slice(b",")?;
+    text.extend_from_slice(levels.as_bytes())?;
+    text.extend_from_slice(b",")?;
+    text.extend_from_slice(sum.as_bytes())?;
+    text.extend_from_slice(b"\n")?;
+    Ok(text)
+}
