@@ -15,8 +15,11 @@ mod system;
 mod terms;
 mod verdict;
 
+pub use building::affine_system;
 pub use certificate::Certificate;
 pub use checker::check;
+pub use column::Column;
 pub use laws::{promises_are_kept, smaller_quanta_are_legitimate};
 pub use outside::{Outside, scope};
+pub use system::AffineSystem;
 pub use verdict::Verdict;

@@ -48,7 +48,7 @@ record-few cfg s fields field (c ∷ rest) p e =
         (omega (arith, h.0, fields-more (step cfg s c).1 fields field), omega (arith, h.1))
 
 -- the records of a text of few bytes have few fields
-rows-few : (cfg : Config) (s s2 : State) (xs ys : List ℕ) (rows : List (List (List ℕ))) (most : ℕ) → length xs < most → Reached cfg s xs rows s2 ys
+pub rows-few : (cfg : Config) (s s2 : State) (xs ys : List ℕ) (rows : List (List (List ℕ))) (most : ℕ) → length xs < most → Reached cfg s xs rows s2 ys
     → All (λ row. length row ≤ most) rows
 unfolding Reached
 rows-few cfg s s2 xs ys [] most h r k d l = absurd (omega arith)
@@ -59,7 +59,7 @@ rows-few cfg s s2 xs ys (row ∷ rows) most h (p, next, at, more) (suc k) d l =
     let a = record-few cfg s [] [] xs p next in
     rows-few cfg p.1 s2 p.2 ys rows most (omega (arith, a.1)) more k d (omega arith)
 
-strip-≤ : (xs : List ℕ) → length (strip_bom xs) ≤ length xs
+pub strip-≤ : (xs : List ℕ) → length (strip_bom xs) ≤ length xs
 unfolding strip_bom
 strip-≤ [] = omega arith
 strip-≤ (a ∷ []) = omega arith

@@ -13,5 +13,6 @@ mod records;
 mod writing;
 
 pub use fault::CertErr;
+pub use number::number as number_of_field;
 pub use reading::read_certificate;
 pub use writing::write_certificate;
