@@ -1,0 +1,83 @@
+"""The first build shows its way, a newer source is built again, and a build that fails says why."""
+import os
+import shutil
+import subprocess
+
+from support import ROOT, InFolder
+
+CRATES = "# lowest first\nlow:\nmiddle: low itoa\nqss: middle\nlow_tests: low\n"
+
+# A stand-in for rt: it proves three crates and builds a program that prints its words, or fails as FAILS asks.
+RT = """#!/bin/sh
+if [ "$1" = all ]; then
+    echo "rt: waiting for another rt to finish in a folder" >&2
+    [ "$FAILS" = early ] && { echo "src/lib.rt:1:1: error"; exit 1; }
+    echo "== low"; echo "logic=proved"
+    if [ "$FAILS" = proof ]; then
+        echo "== middle"; seq 30; printf '== summary\\nlow: ok\\nmiddle: failed (1)\\n1 of 3 crates ok\\n'; exit 1
+    fi
+    printf '== middle\\n== qss\\n== summary\\n3 of 3 crates ok\\n'
+    exit 0
+fi
+[ "$FAILS" = link ] && { echo "rt: no linker"; exit 2; }
+mkdir -p out && printf '#!/bin/sh\\necho ran "$@"\\nexit 5\\n' > out/qss && chmod +x out/qss
+echo "rows of the stored model"
+"""
+
+
+class Builds(InFolder):
+    def setUp(self):
+        super().setUp()
+        for name in ("low", "middle", "qss", "low_tests"):
+            os.makedirs(f"{self.folder}/crates/{name}/src")
+            self.file(f"crates/{name}/src/lib.rt", "")
+        self.file("crates.txt", CRATES)
+        os.makedirs(f"{self.folder}/tools")
+        shutil.copy(f"{ROOT}/qss", self.folder)
+        shutil.copy(f"{ROOT}/tools/build-program", f"{self.folder}/tools")
+        os.makedirs(f"{self.folder}/bin")
+        os.chmod(self.file("bin/rt", RT), 0o755)
+
+    def run_it(self, fails=""):
+        """Runs the front; its status, its output and its lines on standard error."""
+        environment = {**os.environ, "PATH": f"{self.folder}/bin:{os.environ['PATH']}", "FAILS": fails, "QSS_JOBS": "2"}
+        done = subprocess.run([f"{self.folder}/qss", "run", "a.mo"], env=environment, stdout=subprocess.PIPE, stderr=subprocess.PIPE)
+        return done.returncode, done.stdout.decode(), done.stderr.decode().splitlines()
+
+    def age(self, name, seconds):
+        """Gives a file a time that lies this many seconds ahead."""
+        ahead = os.stat(f"{self.folder}/{name}").st_mtime + seconds
+        os.utime(f"{self.folder}/{name}", (ahead, ahead))
+
+    def test_first_build(self):
+        status, out, err = self.run_it()
+        self.assertEqual((status, out), (5, "ran run a.mo\n"))
+        self.assertEqual(err[0], "qss: proving and building 3 crates, 2 at a time")
+        self.assertIn("rt: waiting for another rt to finish in a folder", err)
+        steps = [it.partition(", after")[0] for it in err if " of 3: " in it]
+        self.assertEqual(steps, ["qss: 1 of 3: low", "qss: 2 of 3: middle", "qss: 3 of 3: qss"])
+        self.assertEqual(self.run_it(), (5, "ran run a.mo\n", []))
+
+    def test_newer_sources(self):
+        for name in ("crates/low/src/lib.rt", "crates.txt"):
+            self.run_it()
+            self.age(name, 100)
+            status, out, err = self.run_it()
+            self.assertEqual((status, out), (5, "ran run a.mo\n"))
+            self.assertTrue(err, name)
+            self.age(name, -200)
+        self.run_it()
+        self.age("crates/low_tests/src/lib.rt", 100)
+        self.assertEqual(self.run_it()[2], [])
+
+    def test_failures(self):
+        for fails, why, last in (
+            ("proof", "qss: middle is not proved; the last lines of why:", "30"),
+            ("early", "qss: the build failed; the last lines of why:", "src/lib.rt:1:1: error"),
+            ("link", "qss: the program was proved and could not be built; the last lines of why:", "rt: no linker"),
+        ):
+            status, out, err = self.run_it(fails)
+            self.assertEqual((status, out), (9, ""))
+            self.assertIn(why, err)
+            self.assertEqual(err[-1], last)
+            self.assertLessEqual(len(err) - err.index(why), 21)
