@@ -31,6 +31,7 @@ Status: 0 all was drawn, 1 all was drawn and the run overflowed, 2 a fault: noth
 
 WIDTH, HEIGHT, TEXT_WIDTH = 720, 110, 66
 MOST_PANELS = 12
+LETTER = 9  # pixels of a letter with its share of the unit
 MOST_CURVES = 40
 
 
@@ -199,8 +200,10 @@ class Drawing:
             output.write(text)
 
     def with_unit(self, label):
-        """A label with the unit of its first variable, where the source tells it."""
+        """A label with the unit of its first variable, where the source tells it; of a long one the names of its declarations."""
         unit = self.units.get(label.split("+")[0].split("[")[0])
+        if len(label) * LETTER > self.height:
+            label = ", ".join(dict.fromkeys(part.strip().split("[")[0] for part in label.split("+")))
         return "%s [%s]" % (label, unit) if unit else label
 
 
