@@ -6,17 +6,23 @@ MOST_MODES = 16  # discrete variables that are tried one by one
 
 
 def modes(flat):
-    """Lists of discrete values: those of the start, and each variable at 0 and at 1 beside these."""
+    """Lists of discrete values: those of the start, and beside these each other value that a multiplied variable may take."""
     start = [float(value) for value in flat.starts[flat.states:flat.states + flat.discretes]]
     yield start
-    multiplied = sorted({key[2] - flat.states for row in flat.rows() if row.kind == "state" for key in row.form.parts if key[0] == "product"})
-    for place in multiplied[:MOST_MODES]:
-        for value in (0.0, 1.0):
-            if start[place] != value:
+    values = {}
+    for row in flat.rows():
+        if row.kind == "state":
+            for key in row.form.parts:
+                if key[0] == "product":
+                    values.setdefault(key[2], {0.0, 1.0})
+    for row in flat.rows():
+        if row.kind == "set" and row.variable in values and not row.form.parts:
+            values[row.variable].add(float(row.form.constant))
+    for number in sorted(values)[:MOST_MODES]:
+        place = number - flat.states
+        for value in sorted(values[number]):
+            if value != start[place]:
                 yield start[:place] + [value] + start[place + 1:]
-    for value in (0.0, 1.0):
-        if multiplied:
-            yield [value if place in multiplied else old for place, old in enumerate(start)]
 
 
 def matrix(flat, discrete):
