@@ -1,0 +1,457 @@
+"""Models from tokens, by the grammar of docs/LANGUAGE.md; every part keeps its place."""
+from collections import namedtuple
+
+from .source import SETTINGS
+
+DEEPEST = 64  # open brackets, `for` and `when`
+
+Number = namedtuple("Number", "text at")
+Name = namedtuple("Name", "ref at")
+Time = namedtuple("Time", "at")
+Pre = namedtuple("Pre", "ref at")
+Sum = namedtuple("Sum", "parts at")  # parts: (minus, place of the sign, value)
+Product = namedtuple("Product", "parts at")  # parts: (divide, place of the sign, value)
+Power = namedtuple("Power", "base exponent sign at")
+Ref = namedtuple("Ref", "name index at")
+
+Declaration = namedtuple("Declaration", "prefix whole name size start value quantum at")
+Loop = namedtuple("Loop", "variable first last body at")
+Equation = namedtuple("Equation", "der target value at span")
+Assignment = namedtuple("Assignment", "reinit target value at span")
+Condition = namedtuple("Condition", "left relation right sign at span")
+Branch = namedtuple("Branch", "condition body")
+Clause = namedtuple("Clause", "branches at")
+Setting = namedtuple("Setting", "name value at span")
+ReadOver = namedtuple("ReadOver", "where text at")  # an item of an annotation that has no effect
+
+
+class SyntaxFault(Exception):
+    """The token at which a model can no longer go on, and what could have stood there."""
+
+    def __init__(self, token, wanted, deep=False):
+        super().__init__(wanted)
+        self.token = token
+        self.wanted = wanted
+        self.deep = deep
+
+
+class Model:
+    """A model as it is written."""
+
+    def __init__(self):
+        self.name = self.end_name = ""
+        self.end_at = 0
+        self.declarations, self.starts, self.equations, self.clauses = [], [], [], []
+        self.settings, self.read_over = [], []
+        self.settings_end = None  # where another setting could be added
+
+
+class Parser:
+    """Reads a model from a source, token by token."""
+
+    def __init__(self, source):
+        self.tokens = source.tokens
+        self.end = len(source.data)
+        self.next = 0
+        self.depth = 0
+
+    # tokens
+
+    def kind(self, ahead=0):
+        place = self.next + ahead
+        return self.tokens[place].kind if place < len(self.tokens) else None
+
+    def text(self, ahead=0):
+        place = self.next + ahead
+        return self.tokens[place].text if place < len(self.tokens) else None
+
+    def at(self):
+        return self.tokens[self.next].at if self.next < len(self.tokens) else self.end
+
+    def last_end(self):
+        token = self.tokens[self.next - 1]
+        return token.at + len(token.text)
+
+    def fail(self, wanted):
+        raise SyntaxFault(self.next, wanted)
+
+    def deepen(self):
+        self.depth += 1
+        if self.depth > DEEPEST:
+            raise SyntaxFault(self.next, "at most %d open brackets" % DEEPEST, deep=True)
+
+    def take(self):
+        token = self.tokens[self.next]
+        if token.kind == "mark":
+            if token.text in "([{":
+                self.deepen()
+            elif token.text in ")]}":
+                self.depth -= 1
+        self.next += 1
+        return token
+
+    def sees(self, *texts):
+        return self.kind() in ("word", "mark") and self.text() in texts
+
+    def sees_name(self, *texts):
+        return self.kind() == "name" and (not texts or self.text() in texts)
+
+    def need(self, text, where):
+        if not self.sees(text):
+            self.fail("'%s' %s" % (text, where))
+        return self.take()
+
+    def need_name(self, what):
+        if not self.sees_name():
+            self.fail(what)
+        return self.take()
+
+    def skip_string(self):
+        if self.kind() == "string":
+            self.take()
+
+    # the model
+
+    def model(self):
+        found = Model()
+        self.need("model", "at the beginning of the file")
+        found.name = self.need_name("a name for the model").text
+        self.skip_string()
+        while self.sees("import", "parameter", "constant", "discrete", "Real"):
+            if self.sees("import"):
+                self.import_line()
+            else:
+                self.declarations(found)
+        while self.sees("equation", "algorithm", "initial"):
+            self.section(found)
+        if self.sees("annotation"):
+            self.annotation(found, None)
+            self.need(";", "after the annotation")
+        self.need("end", "with the model's name, or an equation, a clause or a declaration")
+        found.end_at = self.at()
+        found.end_name = self.need_name("the model's name").text
+        self.need(";", "after the last 'end'")
+        if self.next < len(self.tokens):
+            self.fail("nothing more: a file holds one model")
+        return found
+
+    def import_line(self):
+        self.take()
+        while not self.sees(";"):
+            if self.next == len(self.tokens):
+                self.fail("';' after the import")
+            self.next += 1
+        self.take()
+
+    def declarations(self, found):
+        prefix = ""
+        if self.sees("parameter", "constant", "discrete"):
+            prefix = self.take().text
+        if not self.sees("Real") and not (prefix in ("parameter", "constant") and self.sees("Integer")):
+            self.fail("'Real'" if prefix in ("", "discrete") else "'Real' or 'Integer'")
+        whole = self.take().text == "Integer"
+        found.declarations.append(self.component(prefix, whole, found))
+        while self.sees(","):
+            self.take()
+            found.declarations.append(self.component(prefix, whole, found))
+        self.need(";", "after the declaration")
+
+    def component(self, prefix, whole, found):
+        name = self.need_name("a variable's name")
+        size = start = value = None
+        if self.sees("["):
+            self.take()
+            size = self.sum()
+            self.need("]", "after the size")
+        if self.sees("("):
+            start = self.modifications()
+        if self.sees("="):
+            self.take()
+            value = self.sum()
+        self.skip_string()
+        quantum = self.annotation(found, name.text) if self.sees("annotation") else None
+        return Declaration(prefix, whole, name.text, size, start, value, quantum, name.at)
+
+    def modifications(self):
+        start = None
+        self.take()
+        while True:
+            if self.sees("each"):
+                self.take()
+            if self.sees_name("start"):
+                self.take()
+                self.need("=", "after 'start'")
+                start = self.sum()
+            else:
+                self.skip_item()
+            if not self.sees(","):
+                break
+            self.take()
+        self.need(")", "after the start value")
+        return start
+
+    def skip_item(self):
+        """Reads over tokens with balanced brackets, up to a comma or a closing bracket outside them."""
+        begin, waiting = self.next, []
+        while self.next < len(self.tokens):
+            if not waiting and self.sees(",", ")"):
+                break
+            if self.kind() == "mark" and self.text() in "([{":
+                waiting.append({"(": ")", "[": "]", "{": "}"}[self.text()])
+            elif self.sees(")", "]", "}"):
+                if not waiting or waiting.pop() != self.text():
+                    self.fail("brackets that are balanced")
+            self.take()
+        if self.next == begin or self.next == len(self.tokens):
+            self.fail("an item, or the end of the brackets")
+        return " ".join(token.text for token in self.tokens[begin:self.next])
+
+    def read_over(self, found, where):
+        at = self.at()
+        found.read_over.append(ReadOver(where, self.skip_item(), at))
+
+    def annotation(self, found, component):
+        """The annotation of a component, whose quantum is given back, or of the model."""
+        quantum, seen = None, False
+        self.take()
+        self.need("(", "after 'annotation'")
+        while not self.sees(")"):
+            if self.sees_name("experiment") and not seen:
+                seen = component is None
+                self.experiment(found, component)
+            elif component is not None and self.sees_name("QSS_Quantum"):
+                self.take()
+                self.need("=", "after 'QSS_Quantum'")
+                quantum = self.sum()
+            else:
+                self.read_over(found, component or "annotation")
+            if not self.sees(","):
+                break
+            self.take()
+            if self.sees(")"):
+                self.fail("an item after ','")
+        self.need(")", "after the annotation")
+        return quantum
+
+    def experiment(self, found, component):
+        self.take()
+        self.need("(", "after 'experiment'")
+        while not self.sees(")"):
+            if self.sees_name(*SETTINGS):
+                name, begin = self.take(), self.last_end() - len(self.text(-1))
+                self.need("=", "after the setting's name")
+                value = self.sum()
+                if component is None:
+                    found.settings.append(Setting(name.text, value, name.at, (begin, self.last_end())))
+            else:
+                self.read_over(found, "experiment" if component is None else component)
+            if not self.sees(","):
+                break
+            self.take()
+            if self.sees(")"):
+                self.fail("a setting after ','")
+        if component is None:
+            found.settings_end = self.at()
+        self.need(")", "after the settings")
+
+    # sections
+
+    def section(self, found):
+        word = self.take().text
+        if word == "equation":
+            while self.sees("der", "for") or self.sees_name():
+                found.equations.append(self.equation())
+        elif word == "algorithm":
+            while self.sees("when", "for"):
+                found.clauses.append(self.clause())
+        else:
+            self.need("algorithm", "after 'initial'")
+            while self.sees("for") or self.sees_name():
+                found.starts.append(self.assignment(True))
+
+    def loop(self, item):
+        at = self.at()
+        self.deepen()
+        self.take()
+        variable = self.need_name("a loop variable")
+        self.need("in", "after the loop variable")
+        first = self.sum()
+        self.need(":", "between the bounds")
+        last = self.sum()
+        self.need("loop", "after the bounds")
+        body = []
+        while not self.sees("end"):
+            body.append(item())
+        self.close("for")
+        return Loop(variable.text, first, last, body, variable.at if variable else at)
+
+    def close(self, word):
+        self.need("end", "and '%s', or another line" % word)
+        self.need(word, "after 'end'")
+        self.depth -= 1
+        self.need(";", "after 'end %s'" % word)
+
+    def equation(self):
+        if self.sees("for"):
+            return self.loop(self.equation)
+        at = self.at()
+        der = self.sees("der")
+        if der:
+            self.take()
+            self.need("(", "after 'der'")
+        elif not self.sees_name():
+            self.fail("an equation, or 'end'")
+        target = self.ref()
+        if der:
+            self.need(")", "after the state's name")
+        self.need("=", "in the equation")
+        begin = self.at()
+        value = self.sum()
+        end = self.last_end()
+        self.skip_string()
+        self.need(";", "or an operator after the equation")
+        return Equation(der, target, value, at, (begin, end))
+
+    def clause(self):
+        if self.sees("for"):
+            return self.loop(self.clause)
+        if not self.sees("when"):
+            self.fail("'when', 'for' or 'end'")
+        at = self.at()
+        self.deepen()
+        branches = []
+        while True:
+            self.take()
+            condition = self.condition()
+            self.need("then", "or an operator after the condition")
+            body = []
+            while self.sees("reinit", "for") or self.sees_name():
+                body.append(self.assignment(False))
+            branches.append(Branch(condition, body))
+            if not self.sees("elsewhen"):
+                break
+        self.close("when")
+        return Clause(branches, at)
+
+    def assignment(self, start):
+        if self.sees("for"):
+            return self.loop(lambda: self.assignment(start))
+        at = self.at()
+        if self.sees("reinit") and not start:
+            self.take()
+            self.need("(", "after 'reinit'")
+            target = self.ref()
+            self.need(",", "after the state's name")
+            begin = self.at()
+            value = self.sum()
+            end = self.last_end()
+            self.need(")", "after the value")
+            self.need(";", "after the statement")
+            return Assignment(True, target, value, at, (begin, end))
+        if not self.sees_name():
+            self.fail("a statement, or 'end'")
+        target = self.ref()
+        self.need(":=", "in the statement")
+        begin = self.at()
+        value = self.sum()
+        end = self.last_end()
+        self.need(";", "or an operator after the statement")
+        return Assignment(False, target, value, at, (begin, end))
+
+    # expressions
+
+    def condition(self):
+        at = self.at()
+        found = self.relation(True)
+        return found._replace(at=at, span=(at, self.last_end()))
+
+    def relation(self, required):
+        """A relation; or a sum, where a bracket may still close behind it."""
+        at = self.at()
+        if self.sees("("):
+            self.take()
+            inner = self.relation(False)
+            self.need(")", "after the condition")
+            if isinstance(inner, Condition):
+                return inner
+            left = self.sum(inner, at)
+        else:
+            left = self.sum()
+        if self.sees("<", "<=", ">", ">="):
+            sign = self.take()
+            right = self.sum()
+            return Condition(left, sign.text, right, sign.at, at, (at, self.last_end()))
+        if required:
+            self.fail("'<', '<=', '>' or '>=' in the condition")
+        return left
+
+    def sum(self, begun=None, begun_at=None):
+        at = self.at() if begun is None else begun_at
+        parts = []
+        if begun is None:
+            minus = False
+            if self.sees("+", "-"):
+                minus = self.take().text == "-"
+            parts.append((minus, at, self.product()))
+        else:
+            parts.append((False, at, self.product(begun, begun_at)))
+        while self.sees("+", "-"):
+            sign = self.take()
+            parts.append((sign.text == "-", sign.at, self.product()))
+        if len(parts) == 1 and not parts[0][0]:
+            return parts[0][2]
+        return Sum(tuple(parts), at)
+
+    def product(self, begun=None, begun_at=None):
+        at = self.at() if begun is None else begun_at
+        parts = [(False, at, self.power(begun, begun_at))]
+        while self.sees("*", "/"):
+            sign = self.take()
+            parts.append((sign.text == "/", sign.at, self.power()))
+        return parts[0][2] if len(parts) == 1 else Product(tuple(parts), at)
+
+    def power(self, begun=None, begun_at=None):
+        at = self.at() if begun is None else begun_at
+        base = self.primary() if begun is None else begun
+        if not self.sees("^"):
+            return base
+        sign = self.take()
+        if self.kind() != "number" or self.text() not in tuple("012345678"):
+            self.fail("a digit from 0 to 8 after '^'")
+        return Power(base, int(self.take().text), sign.at, at)
+
+    def primary(self):
+        at = self.at()
+        if self.kind() == "number":
+            return Number(self.take().text, at)
+        if self.sees_name():
+            return Name(self.ref(), at)
+        if self.sees("time"):
+            self.take()
+            return Time(at)
+        if self.sees("pre"):
+            self.take()
+            self.need("(", "after 'pre'")
+            ref = self.ref()
+            self.need(")", "after the variable's name")
+            return Pre(ref, at)
+        if self.sees("("):
+            self.take()
+            inner = self.sum()
+            self.need(")", "or an operator")
+            return inner
+        return self.fail("a number, a variable, 'time', 'pre' or '('")
+
+    def ref(self):
+        name = self.need_name("a variable's name")
+        index = None
+        if self.sees("["):
+            self.take()
+            index = self.sum()
+            self.need("]", "after the index")
+        return Ref(name.text, index, name.at)
+
+
+def parse(source):
+    """The model that a source spells, or a SyntaxFault."""
+    return Parser(source).model()

@@ -1,0 +1,36 @@
+"""What is told of a fault: a place, a sentence, and ways out."""
+
+
+class Story:
+    """A sentence about a byte of a source (None where no byte is meant), and lines with ways out."""
+
+    def __init__(self, at, sentence, *ways, width=None, of_certificate=False):
+        self.at = at
+        self.sentence = sentence
+        self.ways = [way for way in ways if way]
+        self.width = width
+        self.of_certificate = of_certificate
+
+    def text(self, source, certificate=None):
+        """The story as lines: the place and the sentence, the source's line with a caret, the ways out."""
+        file = certificate if self.of_certificate and certificate is not None else source
+        if self.at is None:
+            lines = ["%s: %s" % (file.name, self.sentence)]
+        else:
+            row, column = file.place(self.at)
+            lines = ["%s:%d:%d: %s" % (file.name, row, column, self.sentence)] + excerpt(file, self.at, column, self.width)
+        return "\n".join(lines + ["  " + way for way in self.ways])
+
+
+LONGEST_EXCERPT = 100
+
+
+def excerpt(source, at, column, width=None):
+    """The source's line and a caret below the place; a long line is cut around it."""
+    line = source.line_at(at).replace("\t", " ")
+    if not line.strip():
+        return []
+    width = min(width or source.width_at(at), max(1, len(line) - column + 1))
+    begin = max(0, column - 1 - LONGEST_EXCERPT // 2) if len(line) > LONGEST_EXCERPT else 0
+    shown = line[begin:begin + LONGEST_EXCERPT]
+    return ["    " + shown, "    " + " " * (column - 1 - begin) + "^" * min(width, LONGEST_EXCERPT)]

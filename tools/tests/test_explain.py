@@ -1,0 +1,144 @@
+"""Faults are placed by line and column, and told with a way out."""
+import glob
+import os
+import re
+import unittest
+
+from refused_sources import REFUSED
+from support import ROOT, InFolder, run
+
+from qss_tools.certificates import keyword_of
+from qss_tools.explain import explain
+from qss_tools.fault import Fault
+from qss_tools.source import Source
+
+# A source and the line of its refusal, as the tests of the program's own crates hold them.
+PAIR = re.compile(r'\(\s*b?"((?:\\.|[^"\\])*)",\s*b?"(refused: [^"\\]*)\\n",?\s*\)', re.DOTALL)
+
+BUCK = "model m Real x; equation der(x) = -1000000*x; end m;"
+
+DECAY = ("model decay Real x(start = 64); equation der(x) = -1*x; annotation(experiment(StopTime = 1, QSS_CoefBits = 8,"
+         " QSS_TickBits = 4, QSS_LevelBits = 0, QSS_Quantum = 4)); end decay;")
+CERTIFICATE = ("form,1\nP,1\np,1\nmu,128\nlambda,384\nh1,1\nG1,0\nh2,1\nG2,0\nc,0\nR,4096\nZ,64\nS,5\nsigmaR,41472\nC,432\n"
+               "sigmaC,165888\nE,21\n")
+
+# A habit of Modelica, the line that the program has for it, the place, and a part of the way out.
+HABITS = [
+    ("der(x) = if x > 1 then 0 else 1;", "parse 1 11", "4:10", "'if' has no place"),
+    ("der(x) = sin(x);", "parse 1 12", "4:13", "no functions"),
+    ("der(x) = 2*Modelica.Constants.pi*x;", "parse 1 14", "4:20", "no library"),
+    ("for i in 1:2:4 loop der(x) = 1; end for;", "parse 1 12", "4:13", "no step"),
+    ("2*der(x) = 1;", "parse 1 6", "4:1", ""),
+    ("x*der(x) = 1;", "parse 1 7", "4:2", "divide the right side"),
+    ("der(x) = 2^0.5;", "parse 1 13", "4:12", "digit from 0 to 8"),
+    ("der(x) = {1, 2};", "parse 1 11", "4:10", "no array constructors"),
+    ("x == 1;", "parse 1 7", "4:3", "not compared for equality"),
+    ("connect(x, x);", "parse 1 6", "4:1", "one model"),
+    ("der(x) = 1\nend m;", "parse 1 12", "5:1", "perhaps a ';' is missing at the end of line 4"),
+    ("der(x) = \u2212x;", "lex 1 34", "4:10", "type '-'"),
+]
+
+
+def told(text, line, certificate=None):
+    source = Source("m.mo", text.encode())
+    other = None if certificate is None else Source("m.cert", certificate.encode())
+    return explain(source, line, other).text(source, other)
+
+
+class Places(unittest.TestCase):
+    def test_each_refusal_has_its_place(self):
+        for text, line, place, word in REFUSED:
+            with self.subTest(line=line, text=text[:80]):
+                source = Source("m.mo", text.encode())
+                story = explain(source, line)
+                self.assertEqual("%d:%d" % source.place(story.at), place)
+                column = int(place.split(":")[1])
+                self.assertTrue(source.line_at(story.at)[column - 1:].startswith(word))
+                self.assertTrue(story.text(source).startswith("m.mo:%s: " % place))
+
+    def test_refusals_of_the_crates_are_placed(self):
+        """Of all refused sources in the tests of the crates at least 95 in 100 are placed."""
+        found = placed = 0
+        for name in glob.glob(os.path.join(ROOT, "crates", "*_tests", "src", "*.rt")):
+            with open(name, encoding="utf-8") as file:
+                for text, line in PAIR.findall(file.read()):
+                    found += 1
+                    source = Source("m.mo", text.encode().decode("unicode_escape").encode("latin-1"))
+                    placed += explain(source, line).at is not None
+        self.assertGreaterEqual(found, 70)
+        self.assertGreaterEqual(100 * placed, 95 * found)
+
+    def test_habits_have_a_way_out(self):
+        for line_of_source, line, place, way in HABITS:
+            with self.subTest(line_of_source):
+                text = "model m\nReal x;\nequation\n%s\n%s" % (line_of_source, "" if "end m;" in line_of_source else "end m;\n")
+                story = told(text, "refused: " + line)
+                self.assertTrue(story.startswith("m.mo:%s: " % place), story)
+                self.assertIn(way, story)
+
+    def test_columns_count_characters(self):
+        story = told("model m \"\u00fc\" $", "refused: lex 1 13")
+        self.assertTrue(story.startswith("m.mo:1:13: "), story)
+
+    def test_a_long_line_is_cut_around_the_place(self):
+        text = "model m Real x; equation der(x) = " + "1 + " * 500 + "y; end m;"
+        story = told(text, "refused: names 3 2034").split("\n")
+        self.assertLess(len(story[1]), 110)
+        self.assertEqual(story[1][len(story[2]) - 1], "y")
+
+
+class Overflows(unittest.TestCase):
+    def test_a_tick_that_is_too_long_is_named(self):
+        story = told(BUCK, "overflow: x at tick 7")
+        self.assertIn("at time 0.00683594 (tick 7)", story)
+        self.assertIn("each tick overshoots", story)
+
+    def test_a_model_that_grows_is_named(self):
+        text = "model m Real x(start = 1); equation der(x) = x; annotation(experiment(StopTime = 1000)); end m;"
+        self.assertIn("the model itself grows", told(text, "overflow: x at tick 20000"))
+
+
+class Certificates(unittest.TestCase):
+    def test_a_rejection_points_at_its_number(self):
+        story = told(DECAY, "rejected: inequality 11 place 1 left 165504 right 165888", CERTIFICATE.replace("C,432", "C,431"))
+        self.assertTrue(story.startswith("m.cert:15:3: inequality 11, place 1: lambda C is below"), story)
+        story = told(DECAY, "rejected: inequality 1 place 12 left -1 right 0", CERTIFICATE.replace("E,21", "E,-1"))
+        self.assertTrue(story.startswith("m.cert:17:3: inequality 1, place 12: E of x"), story)
+
+    def test_a_text_that_is_none_points_at_its_field(self):
+        story = told(DECAY, "certificate refused: 3 2 2", CERTIFICATE.replace("P,1", "P,x"))
+        self.assertTrue(story.startswith("m.cert:2:3: record 2 ('P'), field 2"), story)
+        self.assertIn("no certificate", told("model m Real x; equation der(x) = 1; algorithm when x > 1 then end when; end m;",
+                                             "rejected: clauses 1"))
+
+    def test_records_in_their_order(self):
+        self.assertEqual([keyword_of(2, record) for record in (1, 2, 3, 4, 8, 10, 11, 12, 20, 21, 22, 23, 24)],
+                         ["form", "P", "P", "p", "G1", "h2", "G2", "G2", "E", "start1", "start2", "Q", None])
+
+
+class Tool(InFolder):
+    def test_the_way_of_a_fault(self):
+        model = self.file("m.mo", "model m Real x; equation der(x) = y; end m;\n")
+        status, out, err = run("qss-explain", model, given="refused: names 3 34\n")
+        self.assertEqual((status, err), (1, ""))
+        self.assertTrue(out.startswith(model + ":1:35: "))
+        self.assertEqual(run("qss-explain", model, given=""), (0, "", ""))
+
+    def test_a_file_that_is_not_there_is_named(self):
+        status, out, err = run("qss-explain", os.path.join(self.folder, "none.mo"), given="read fault\n")
+        self.assertEqual((status, err), (1, ""))
+        self.assertIn("none.mo: there is no such file", out)
+
+    def test_faults_are_one_line(self):
+        model = self.file("m.mo", "model m Real x; equation der(x) = 1; end m;\n")
+        self.assert_fault(run("qss-explain", os.path.join(self.folder, "none.mo"), "--line", "refused: top 1"), "no such file")
+        for line in ("refused: parse 1 90", "refused: lex 1 4", "refused: names 3 500", "refused: causal 1 z",
+                     "refused: machine 4 9", "overflow: z at tick 3", "refused: top 1", "refused: names 9 0"):
+            with self.subTest(line):
+                self.assert_fault(run("qss-explain", model, "--line", line), "not of this source")
+        self.assert_fault(run("qss-explain", model, "--line", "hello"), "no line of the program")
+        self.assert_fault(run("qss-explain", model, "--nonsense"), "--help")
+
+
+if __name__ == "__main__":
+    unittest.main()
