@@ -139,7 +139,7 @@ def worst_of(flat, numbers, samples, values):
 
 def firings(samples, reference, run):
     """How many branches fired in both runs, and by how much the latest of them is late where they are as many."""
-    if not reference.conditions:
+    if not reference.clauses:
         return "- | -"
     here = [(tick / 2 ** run.units.time, label) for tick, label in samples.fired]
     there = [(time, label) for time, label in reference.fired if time <= float(run.flat.settings["StopTime"])]

@@ -12,7 +12,7 @@ from .rates import fastest, matrix
 
 FEW = 40  # states whose exponential is taken
 MOST_CACHED = 4000
-BISECTIONS = 60
+BISECTIONS = 44
 MOST_TURNS = 50  # of handlers that make each other due
 STEPS = 400  # at least so many looks at conditions in a run
 RELATIVE, ABSOLUTE = 1e-9, 1e-12
@@ -67,36 +67,40 @@ class Flow:
         return self.dense[2](time)
 
 
-class Condition:
-    """A condition over states, discrete values and time."""
+class Conditions:
+    """All conditions, over states, discrete values and time."""
 
-    def __init__(self, flat, row):
-        self.states = numpy.zeros(flat.states)
-        self.discretes = numpy.zeros(flat.discretes)
-        self.time = 0.0
-        self.constant = float(row.form.constant)
-        for key, value in row.form.parts.items():
-            if key[0] == "time":
-                self.time = float(value)
-            elif key[0] == "pre" or key[1] >= flat.states:
-                self.discretes[key[1] - flat.states] += float(value)
-            else:
-                self.states[key[1]] = float(value)
-        relation = row.part.relation
-        self.sign = 1.0 if relation in (">", ">=") else -1.0
-        self.closed = relation in (">=", "<=")
-        self.of_time = not self.states.any()
+    def __init__(self, flat, rows):
+        count = len(rows)
+        self.states = numpy.zeros((count, flat.states))
+        self.discretes = numpy.zeros((count, flat.discretes))
+        self.time = numpy.zeros(count)
+        self.constant = numpy.array([float(row.form.constant) for row in rows])
+        for place, row in enumerate(rows):
+            for key, value in row.form.parts.items():
+                if key[0] == "time":
+                    self.time[place] = float(value)
+                elif key[0] == "pre" or key[1] >= flat.states:
+                    self.discretes[place, key[1] - flat.states] += float(value)
+                else:
+                    self.states[place, key[1]] = float(value)
+        relations = [row.part.relation for row in rows]
+        self.sign = numpy.array([1.0 if relation in (">", ">=") else -1.0 for relation in relations])
+        self.closed = numpy.array([relation in (">=", "<=") for relation in relations], bool)
+        self.of_time = ~self.states.any(axis=1) & (self.time != 0.0)
+        self.watched = ~self.of_time
 
-    def holds(self, time, states, discretes):
-        value = self.sign * (self.states @ states + self.discretes @ discretes + self.time * time + self.constant)
-        return value >= 0.0 if self.closed else value > 0.0
+    def rest(self, discretes):
+        """What discrete values and constants give."""
+        return self.discretes @ discretes + self.constant
 
-    def change(self, time, discretes):
-        """The time at which a condition of time alone changes, or None."""
-        if not self.time:
-            return None
-        found = -(self.discretes @ discretes + self.constant) / self.time
-        return found if found > time else None
+    def hold(self, time, states, discretes):
+        value = self.sign * (self.states @ states + self.rest(discretes) + self.time * time)
+        return numpy.where(self.closed, value >= 0.0, value > 0.0)
+
+    def changes(self, discretes):
+        """The times at which the conditions of time alone change."""
+        return -self.rest(discretes)[self.of_time] / self.time[self.of_time]
 
 
 class Statement:
@@ -133,33 +137,30 @@ class Reference:
         self.flat = flat
         self.states = numpy.array([float(value) for value in flat.starts[:flat.states]])
         self.discretes = numpy.array([float(value) for value in flat.starts[flat.states:flat.states + flat.discretes]])
-        self.conditions, self.clauses = [], []
+        self.clauses, conditions = [], []
         for row in flat.rows()[flat.states:]:
             if row.kind == "condition":
                 label = row.label.split()[-1]
                 if label.endswith(".1"):
                     self.clauses.append([])
-                self.clauses[-1].append((len(self.conditions), label, []))
-                self.conditions.append(Condition(flat, row))
+                self.clauses[-1].append((len(conditions), label, []))
+                conditions.append(row)
             else:
                 self.clauses[-1][-1][2].append(Statement(flat, row))
+        self.conditions = Conditions(flat, conditions)
         self.flows = {}
         self.fired = []
         self.time = 0.0
         stop, rate = float(flat.settings["StopTime"]), fastest(flat)
-        self.step = min([stop / STEPS] + ([0.25 / rate] if rate else [])) if self.conditions else stop
+        self.step = min([stop / STEPS] + ([0.25 / rate] if rate else [])) if conditions else stop
         self.least = LEAST_LAPSE * stop
-        self.held = self.truths(self.states)
+        self.held = self.conditions.hold(0.0, self.states, self.discretes)
 
     def flow(self):
         key = self.discretes.tobytes()
         if key not in self.flows:
             self.flows[key] = Flow(matrix(self.flat, list(self.discretes)))
         return self.flows[key]
-
-    def truths(self, states, time=None):
-        time = self.time if time is None else time
-        return [condition.holds(time, states, self.discretes) for condition in self.conditions]
 
     def values(self, times):
         """States and discrete values at rising times."""
@@ -183,27 +184,27 @@ class Reference:
     def first_change(self, step):
         """How long it takes until a condition changes, within a step, or None."""
         flow, found = self.flow(), None
-        for condition in self.conditions:
-            change = condition.change(self.time, self.discretes) if condition.of_time else None
-            if change is not None and change - self.time <= step and (found is None or change - self.time < found):
-                found = change - self.time
+        ahead = self.conditions.changes(self.discretes) - self.time
+        ahead = ahead[(ahead > 0.0) & (ahead <= step)]
+        if ahead.size:
+            found = float(ahead.min())
         low, high = 0.0, step if found is None else found
-        ahead = flow.after(self.states, high)
-        watched = [place for place, condition in enumerate(self.conditions) if not condition.of_time]
-        if not self.changes(watched, ahead, self.time + high):
+        if not self.differ(flow.after(self.states, high), self.time + high):
             return found
         for _ in range(BISECTIONS):
             middle = (low + high) / 2
             if not low < middle < high:
                 break
-            if self.changes(watched, flow.after(self.states, middle), self.time + middle):
+            if self.differ(flow.after(self.states, middle), self.time + middle):
                 high = middle
             else:
                 low = middle
         return high
 
-    def changes(self, places, states, time):
-        return any(self.conditions[place].holds(time, states, self.discretes) != self.held[place] for place in places)
+    def differ(self, states, time):
+        """Whether a condition of states is not as it was."""
+        conditions = self.conditions
+        return bool(((conditions.hold(time, states, self.discretes) != self.held) & conditions.watched).any())
 
     def handle(self):
         """Fires what is due here, and what that makes due."""
@@ -218,21 +219,19 @@ class Reference:
                             statement.run(self.time, self.states, self.discretes, before)
                         break
             after = self.arrivals()
-            again = [new and not old for new, old in zip(after, arrived)]
-            before_held = [new and not due for new, due in zip(after, again)]
+            again = after & ~arrived
+            before_held = after & ~again
             arrived = after
-            if not any(again):
+            if not again.any():
                 break
         self.held = self.arrivals()
 
     def arrivals(self):
         """The conditions here; one of time that changes here holds as it does just after."""
-        found = []
-        for condition in self.conditions:
-            if condition.of_time and condition.time:
-                change = -(condition.discretes @ self.discretes + condition.constant) / condition.time
-                if abs(change - self.time) <= 1e-12 * max(1.0, abs(self.time)):
-                    found.append(condition.sign * condition.time > 0)
-                    continue
-            found.append(condition.holds(self.time, self.states, self.discretes))
+        conditions = self.conditions
+        found = conditions.hold(self.time, self.states, self.discretes)
+        if conditions.of_time.any():
+            near = numpy.abs(conditions.changes(self.discretes) - self.time) <= 1e-12 * max(1.0, abs(self.time))
+            after = (conditions.sign * conditions.time > 0.0)[conditions.of_time]
+            found[conditions.of_time] = numpy.where(near, after, found[conditions.of_time])
         return found
