@@ -8,7 +8,7 @@ from fractions import Fraction
 from .fault import Fault, unreadable
 from .flat import Flat, Meaningless
 from .grammar import parse
-from .program import canonical_text, find_program, start
+from .program import call, canonical_text, find_program, start
 from .source import Source
 
 HEADER = "tick,event,name,level,state\n"
@@ -50,8 +50,11 @@ class Run:
             self.flat = Flat(parse(source))
             self.units = Units(self.flat)
             self.last = int(self.flat.last_tick())
-        except (Meaningless, ValueError) as error:
-            raise Fault("%s: the model means no machine: %s (tools/qss-explain %s shows the place)" % (model, error, model)) from error
+            self.flat.rows()
+        except Meaningless as error:
+            # It is printed and means nothing, so it is refused at once.
+            line = call(program, ["run", model, "--only", "-"], keep=False).line
+            raise Fault("%s: %s (tools/qss-explain %s shows the place)" % (model, line or error, model)) from error
         flat = self.flat
         self.names = {one.name: number for number, one in enumerate(flat.variables[:flat.states + flat.discretes])}
 

@@ -1,7 +1,7 @@
 """A rough run in floating point, to see how large the states of a model get and how fast they move."""
 import time
 
-from .rates import fastest
+from .rates import fastest, matrix
 
 MOST_STEPS = 40000
 MOST_SECONDS = 1.0
@@ -74,30 +74,11 @@ class Derivatives:
     """The right sides, with the discrete values put in."""
 
     def __init__(self, flat):
-        self.plain, self.held = [], []
-        for row in flat.rows()[:flat.states]:
-            plain, held = [], []
-            for key, value in row.form.parts.items():
-                if key[0] == "product":
-                    held.append((key[1], key[2] - flat.states, float(value)))
-                elif key[1] < flat.states:
-                    plain.append((key[1], float(value)))
-                else:
-                    held.append((None, key[1] - flat.states, float(value)))
-            self.plain.append((plain, float(row.form.constant)))
-            self.held.append(held)
+        self.flat = flat
         self.chosen = []
 
     def choose(self, discretes):
-        self.chosen = []
-        for (plain, constant), held in zip(self.plain, self.held):
-            entries = list(plain)
-            for state, discrete, value in held:
-                if state is None:
-                    constant += value * discretes[discrete]
-                else:
-                    entries.append((state, value * discretes[discrete]))
-            self.chosen.append((entries, constant))
+        self.chosen = [(list(entries.items()), rest) for entries, rest in matrix(self.flat, discretes)]
 
     def at(self, states):
         return [constant + sum(value * states[state] for state, value in entries) for entries, constant in self.chosen]
