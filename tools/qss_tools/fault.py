@@ -45,6 +45,9 @@ def run_tool(name, tool):
     except BrokenPipeError:
         os.dup2(os.open(os.devnull, os.O_WRONLY), sys.stdout.fileno())
         status = FAULTY
+    except OSError as error:
+        print("%s: %s" % (name, (error.strerror or "input or output failed").lower()), file=sys.stderr)
+        status = FAULTY
     except KeyboardInterrupt:
         print("%s: interrupted" % name, file=sys.stderr)
         status = FAULTY

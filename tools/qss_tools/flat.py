@@ -82,7 +82,7 @@ class Flat:
         self.starts = [variable.start for variable in self.variables]
         for assignment, loop in self.unrolled(model.starts):
             self.starts[self.number(assignment.target, loop)] = self.constant(assignment.value, loop)
-        self._equations = self._rows = None
+        self._equations = self._rows = self.float_rows = None
         self._solved = {}
 
     # names and constants

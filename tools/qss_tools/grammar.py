@@ -14,7 +14,7 @@ Product = namedtuple("Product", "parts at")  # parts: (divide, place of the sign
 Power = namedtuple("Power", "base exponent sign at")
 Ref = namedtuple("Ref", "name index at")
 
-Declaration = namedtuple("Declaration", "prefix whole name size start value quantum at")
+Declaration = namedtuple("Declaration", "prefix whole name size start value quantum at start_span quantum_span end annotated")
 Loop = namedtuple("Loop", "variable first last body at")
 Equation = namedtuple("Equation", "der target value at span")
 Assignment = namedtuple("Assignment", "reinit target value at span")
@@ -44,6 +44,8 @@ class Model:
         self.declarations, self.starts, self.equations, self.clauses = [], [], [], []
         self.settings, self.read_over = [], []
         self.settings_end = None  # where another setting could be added
+        self.annotated = None  # where an item could be added to the model's annotation
+        self.end_line = 0  # where the last `end` begins
 
 
 class Parser:
@@ -127,6 +129,7 @@ class Parser:
         if self.sees("annotation"):
             self.annotation(found, None)
             self.need(";", "after the annotation")
+        found.end_line = self.at()
         self.need("end", "with the model's name, or an equation, a clause or a declaration")
         found.end_at = self.at()
         found.end_name = self.need_name("the model's name").text
@@ -158,22 +161,24 @@ class Parser:
 
     def component(self, prefix, whole, found):
         name = self.need_name("a variable's name")
-        size = start = value = None
+        size = start = start_span = value = None
         if self.sees("["):
             self.take()
             size = self.sum()
             self.need("]", "after the size")
         if self.sees("("):
-            start = self.modifications()
+            start, start_span = self.modifications(found, name.text)
         if self.sees("="):
             self.take()
             value = self.sum()
         self.skip_string()
-        quantum = self.annotation(found, name.text) if self.sees("annotation") else None
-        return Declaration(prefix, whole, name.text, size, start, value, quantum, name.at)
+        end, annotated = self.last_end(), self.sees("annotation")
+        quantum, quantum_span = self.annotation(found, name.text) if annotated else (None, None)
+        return Declaration(prefix, whole, name.text, size, start, value, quantum, name.at, start_span, quantum_span, end, annotated)
 
-    def modifications(self):
-        start = None
+    def modifications(self, found, component):
+        """The start value of a component and its span."""
+        start = span = None
         self.take()
         while True:
             if self.sees("each"):
@@ -181,14 +186,16 @@ class Parser:
             if self.sees_name("start"):
                 self.take()
                 self.need("=", "after 'start'")
+                begin = self.at()
                 start = self.sum()
+                span = begin, self.last_end()
             else:
-                self.skip_item()
+                self.read_over(found, component)
             if not self.sees(","):
                 break
             self.take()
         self.need(")", "after the start value")
-        return start
+        return start, span
 
     def skip_item(self):
         """Reads over tokens with balanced brackets, up to a comma or a closing bracket outside them."""
@@ -211,10 +218,12 @@ class Parser:
         found.read_over.append(ReadOver(where, self.skip_item(), at))
 
     def annotation(self, found, component):
-        """The annotation of a component, whose quantum is given back, or of the model."""
-        quantum, seen = None, False
+        """The annotation of a component, whose quantum and its span are given back, or of the model."""
+        quantum, span, seen = None, None, False
         self.take()
         self.need("(", "after 'annotation'")
+        if component is None:
+            found.annotated = self.last_end()
         while not self.sees(")"):
             if self.sees_name("experiment") and not seen:
                 seen = component is None
@@ -222,7 +231,9 @@ class Parser:
             elif component is not None and self.sees_name("QSS_Quantum"):
                 self.take()
                 self.need("=", "after 'QSS_Quantum'")
+                begin = self.at()
                 quantum = self.sum()
+                span = begin, self.last_end()
             else:
                 self.read_over(found, component or "annotation")
             if not self.sees(","):
@@ -231,15 +242,16 @@ class Parser:
             if self.sees(")"):
                 self.fail("an item after ','")
         self.need(")", "after the annotation")
-        return quantum
+        return quantum, span
 
     def experiment(self, found, component):
         self.take()
         self.need("(", "after 'experiment'")
         while not self.sees(")"):
             if self.sees_name(*SETTINGS):
-                name, begin = self.take(), self.last_end() - len(self.text(-1))
+                name = self.take()
                 self.need("=", "after the setting's name")
+                begin = self.at()
                 value = self.sum()
                 if component is None:
                     found.settings.append(Setting(name.text, value, name.at, (begin, self.last_end())))

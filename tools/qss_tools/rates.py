@@ -6,31 +6,53 @@ MOST_MODES = 16  # discrete variables that are tried one by one
 
 
 def modes(flat):
-    """Lists of discrete values: those of the start, and each variable at 0 and at 1 beside these."""
+    """Lists of discrete values: those of the start, and beside these each other value that a multiplied variable may take."""
     start = [float(value) for value in flat.starts[flat.states:flat.states + flat.discretes]]
     yield start
-    multiplied = sorted({key[2] - flat.states for row in flat.rows() if row.kind == "state" for key in row.form.parts if key[0] == "product"})
-    for place in multiplied[:MOST_MODES]:
-        for value in (0.0, 1.0):
-            if start[place] != value:
+    values = {}
+    for row in flat.rows():
+        if row.kind == "state":
+            for key in row.form.parts:
+                if key[0] == "product":
+                    values.setdefault(key[2], {0.0, 1.0})
+    for row in flat.rows():
+        if row.kind == "set" and row.variable in values and not row.form.parts:
+            values[row.variable].add(float(row.form.constant))
+    for number in sorted(values)[:MOST_MODES]:
+        place = number - flat.states
+        for value in sorted(values[number]):
+            if value != start[place]:
                 yield start[:place] + [value] + start[place + 1:]
-    for value in (0.0, 1.0):
-        if multiplied:
-            yield [value if place in multiplied else old for place, old in enumerate(start)]
+
+
+def float_rows(flat):
+    """The states' equations in floating point, made once: of each the entries (state or None, discrete variable or None, value), and the constant."""
+    if flat.float_rows is None:
+        flat.float_rows = []
+        for row in flat.rows()[:flat.states]:
+            entries = []
+            for key, value in row.form.parts.items():
+                if key[0] == "product":
+                    entries.append((key[1], key[2] - flat.states, float(value)))
+                elif key[1] < flat.states:
+                    entries.append((key[1], None, float(value)))
+                else:
+                    entries.append((None, key[1] - flat.states, float(value)))
+            flat.float_rows.append((entries, float(row.form.constant)))
+    return flat.float_rows
 
 
 def matrix(flat, discrete):
     """Of each state's equation in a mode: its coefficients by state, and what does not depend on states."""
     rows = []
-    for row in flat.rows()[:flat.states]:
-        entries, rest = {}, float(row.form.constant)
-        for key, value in row.form.parts.items():
-            if key[0] == "product":
-                entries[key[1]] = entries.get(key[1], 0.0) + float(value) * discrete[key[2] - flat.states]
-            elif key[1] < flat.states:
-                entries[key[1]] = entries.get(key[1], 0.0) + float(value)
+    for parts, rest in float_rows(flat):
+        entries = {}
+        for state, place, value in parts:
+            weight = value if place is None else value * discrete[place]
+            if state is None:
+                rest += weight
             else:
-                rest += float(value) * discrete[key[1] - flat.states]
+                entries[state] = entries.get(state, 0.0) + weight
         rows.append((entries, rest))
     return rows
 

@@ -1,0 +1,23 @@
+// A boost converter from 12 V to 24 V at 50 kHz; the switch stands in products with states.
+// Units: us, V, A, uH, uF, Ohm.
+// Look at uC, which first falls before it rises over 24 V.
+// Plot: tools/qss-plot examples/boost_ccm.mo --names iL,uC --unit us
+model boost_ccm "boost converter in continuous conduction"
+  parameter Real U = 12 "V", L = 100 "uH", C = 47 "uF", R = 20 "Ohm";
+  parameter Real period = 20 "us", duty = 0.5;
+  Real iL(start = 0, unit = "A"), uC(start = 12, unit = "V");
+  discrete Real s(start = 1), on(start = period), off(start = period*duty);
+equation
+  der(iL) = (U - (1 - s)*uC)/L;
+  der(uC) = ((1 - s)*iL - uC/R)/C;
+algorithm
+  when time >= on then
+    s := 1;
+    on := pre(on) + period;
+  end when;
+  when time >= off then
+    s := 0;
+    off := pre(off) + period;
+  end when;
+  annotation(experiment(StopTime = 5000, QSS_CoefBits = 32, QSS_TickBits = 6, QSS_LevelBits = 20, QSS_Quantum = 0.015625));
+end boost_ccm;

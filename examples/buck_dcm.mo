@@ -1,0 +1,27 @@
+// A buck converter whose diode stops the current: discontinuous conduction at a light load.
+// Units: us, V, A, uH, uF, Ohm.
+// Look at iL, which rests at 0 between two pulses. 'The current is below 0 and the switch is off' is one affine relation with a big number.
+// Plot: tools/qss-plot examples/buck_dcm.mo --names iL,uC --unit us
+model buck_dcm "buck converter in discontinuous conduction"
+  parameter Real U = 24 "V", L = 100 "uH", C = 100 "uF", R = 100 "Ohm";
+  parameter Real period = 100 "us", duty = 0.25, big = 32;
+  Real iL(start = 0, unit = "A"), uC(start = 0, unit = "V");
+  discrete Real s(start = 1) "1: the switch is on", leads(start = 1) "1: the inductor leads current", on(start = period), off(start = period*duty);
+equation
+  der(iL) = U/L*s - leads*uC/L;
+  der(uC) = (iL - uC/R)/C;
+algorithm
+  when time >= on then
+    s := 1; leads := 1;
+    on := pre(on) + period;
+  end when;
+  when time >= off then
+    s := 0;
+    off := pre(off) + period;
+  end when;
+  when iL + big*s <= 0 then
+    leads := 0;
+    reinit(iL, 0);
+  end when;
+  annotation(experiment(StopTime = 20000, QSS_CoefBits = 30, QSS_TickBits = 6, QSS_LevelBits = 20, QSS_Quantum = 0.0078125));
+end buck_dcm;

@@ -1,0 +1,36 @@
+// An interleaved buck converter with N phases; N may be some hundreds.
+// Units: us, V, A, uH, uF, Ohm.
+// Look at total[4], the sum of the phases' currents, beside one phase: the ripples of the four phases cancel.
+// Plot: tools/qss-plot examples/interleaved.mo --names 'uC,iL[1]+total[4]' --unit us
+model interleaved "interleaved buck converter"
+  parameter Integer N = 4;
+  parameter Real U = 24 "V", L = 100 "uH", C = 100 "uF", R = 10 "Ohm", period = 100 "us", duty = 0.5;
+  Real iL[N](each unit = "A"), uC(start = 0, unit = "V"), total[N] "total[k] is the current of the phases 1 to k";
+  discrete Real s[N], on[N], off[N];
+initial algorithm
+  for k in 1:N loop
+    on[k] := (k - 1)*period/N + period/64;
+    off[k] := (k - 1)*period/N + period/64 + period*duty;
+  end for;
+equation
+  total[1] = iL[1];
+  for k in 2:N loop
+    total[k] = total[k - 1] + iL[k];
+  end for;
+  for k in 1:N loop
+    der(iL[k]) = (U*s[k] - uC - iL[k]/8)/L;
+  end for;
+  der(uC) = (total[N] - uC/R)/C;
+algorithm
+  for k in 1:N loop
+    when time >= on[k] then
+      s[k] := 1;
+      on[k] := pre(on[k]) + period;
+    end when;
+    when time >= off[k] then
+      s[k] := 0;
+      off[k] := pre(off[k]) + period;
+    end when;
+  end for;
+  annotation(experiment(StopTime = 2000, QSS_CoefBits = 30, QSS_TickBits = 6, QSS_LevelBits = 20, QSS_Quantum = 0.015625));
+end interleaved;

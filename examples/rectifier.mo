@@ -1,0 +1,26 @@
+// A full bridge rectifier with a smoothing capacitor at 50 Hz; the sine comes from an oscillator of two states.
+// Units: ms, V, A, Ohm, mF.
+// Look at uC and at charge, the current's pulses.
+// Plot: tools/qss-plot examples/rectifier.mo --names vs+uC,charge --unit ms
+model rectifier "full bridge rectifier"
+  parameter Real w = 0.314159265 "rad per ms", amp = 325 "V", rs = 2 "Ohm", C = 1 "mF", R = 100 "Ohm";
+  Real vs(start = 0, unit = "V") annotation(QSS_Quantum = 0.125), vc(start = amp) annotation(QSS_Quantum = 0.125), uC(start = 0, unit = "V"), charge(unit = "A");
+  discrete Real pos(start = 0), neg(start = 0);
+equation
+  der(vs) = w*vc;
+  der(vc) = -w*vs;
+  charge = pos*(vs - uC)/rs - neg*(vs + uC)/rs;
+  der(uC) = (charge - uC/R)/C;
+algorithm
+  when vs > uC then
+    pos := 1;
+  elsewhen vs < uC then
+    pos := 0;
+  end when;
+  when -vs > uC then
+    neg := 1;
+  elsewhen -vs < uC then
+    neg := 0;
+  end when;
+  annotation(experiment(StopTime = 100, QSS_CoefBits = 30, QSS_TickBits = 12, QSS_LevelBits = 16, QSS_Quantum = 0.125));
+end rectifier;

@@ -1,0 +1,19 @@
+// Two tanks in a row with linear outflow; a valve opens and closes by the level of the second.
+// Units: s, m.
+// Look at h1, h2 and valve.
+// Plot: tools/qss-plot examples/tanks.mo --names h1+h2,valve --unit s
+model tanks "two tanks with an on-off valve"
+  parameter Real inflow = 0.02, k1 = 0.01, k2 = 0.008;
+  Real h1(start = 0.5, unit = "m"), h2(start = 0.2, unit = "m");
+  discrete Real valve(start = 1);
+equation
+  der(h1) = inflow*valve - k1*h1;
+  der(h2) = k1*h1 - k2*h2;
+algorithm
+  when h2 > 1.2 then
+    valve := 0;
+  elsewhen h2 < 0.8 then
+    valve := 1;
+  end when;
+  annotation(experiment(StopTime = 1500, QSS_CoefBits = 24, QSS_TickBits = 8, QSS_LevelBits = 20, QSS_Quantum = 0.0009765625));
+end tanks;

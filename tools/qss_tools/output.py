@@ -1,0 +1,59 @@
+"""Output that comes whole or not at all."""
+import os
+import shutil
+import sys
+import tempfile
+
+from .fault import Fault, unreadable
+
+IN_MEMORY = 1 << 23  # bytes that are held in memory before they go to a temporary file
+
+
+class Output:
+    """A file, or standard output for None, that is written at the end alone, when all went well."""
+
+    def __init__(self, path):
+        self.path = path
+        self.held = tempfile.SpooledTemporaryFile(IN_MEMORY)
+
+    def write(self, text):
+        self.held.write(text.encode())
+
+    def finish(self):
+        """Passes on all that was written."""
+        self.held.seek(0)
+        if self.path is None:
+            sys.stdout.flush()
+            shutil.copyfileobj(self.held, sys.stdout.buffer)
+            sys.stdout.buffer.flush()
+            return
+        write_whole(self.path, self.held)
+
+    def __enter__(self):
+        return self
+
+    def __exit__(self, kind, error, trace):
+        try:
+            if kind is None:
+                self.finish()
+        finally:
+            self.held.close()
+
+
+def write_whole(path, held):
+    """Writes a file under its name when it is complete."""
+    folder = os.path.dirname(os.path.abspath(path))
+    if os.path.isdir(path):
+        raise Fault("%s: this is a folder" % path)
+    try:
+        handle, partial = tempfile.mkstemp(prefix=".qss-", dir=folder)
+    except OSError as error:
+        raise unreadable(path, error) from error
+    try:
+        with os.fdopen(handle, "wb") as file:
+            shutil.copyfileobj(held, file)
+        os.chmod(partial, 0o644)
+        os.replace(partial, path)
+    except OSError as error:
+        os.unlink(partial)
+        raise unreadable(path, error) from error

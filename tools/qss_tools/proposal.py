@@ -1,0 +1,123 @@
+"""Settings that fit a model."""
+import math
+from collections import namedtuple
+from fractions import Fraction
+
+from .flat import STATE
+from .limits import log2
+from .trial import time_like
+
+# Units of time that are tried: how many of them are one of the model's own.
+SHORTER = (1, 1000, 1000000, 1000000000)
+LONGER = (Fraction(1, 60), Fraction(1, 3600), Fraction(1, 86400))
+UNIT_NAMES = {1000: "ms", 1000000: "us", 1000000000: "ns", Fraction(1, 60): "minutes", Fraction(1, 3600): "hours",
+              Fraction(1, 86400): "days"}
+
+TICKS_A_TIME_CONSTANT = 64
+TICKS_A_CLOCK = 1024
+QUANTA_A_RANGE = 1000
+LEAST_UNITS = 13  # bits of the least coefficient
+GOOD_UNITS = 17
+MOST_TICK_BITS, MOST_COEF_BITS, MOST_LEVEL_BITS = 20, 32, 24
+COMFORT_TICK_BITS = 18  # of a longer unit of time
+
+Proposal = namedtuple("Proposal", "unit coef_bits tick_bits level_bits quantum own stop fits")
+Proposal.__doc__ = """Settings: the unit (how many are one of the model's own), the bits, the model's quantum, the own quanta by
+declaration, StopTime, and whether all limits are kept."""
+
+
+def power_below(value):
+    """The greatest power of two at most a positive number."""
+    return Fraction(2) ** math.floor(math.log2(value))
+
+
+def wanted_quanta(flat, trial):
+    """The quantum of the model, and by name those of declarations that need an own one."""
+    written = any(setting.name == "QSS_Quantum" for setting in flat.model.settings)
+    wanted = {}
+    for number in range(flat.states):
+        one = flat.variables[number]
+        if one.quantum_at is not None or written or trial.grown or not trial.size[number]:
+            size = one.quantum if one.quantum > 0 else Fraction(1, 1024)
+        else:
+            size = power_below(trial.size[number] / QUANTA_A_RANGE)
+        wanted[one.declaration.name] = max(size, wanted.get(one.declaration.name, Fraction(0)))
+    free = [size for name, size in wanted.items()]
+    model = flat.settings["QSS_Quantum"] if written and flat.settings["QSS_Quantum"] > 0 else min(free, default=Fraction(1, 1024))
+    own = {name: size for name, size in wanted.items() if size >= 4 * model or size < model}
+    return model, own
+
+
+def propose(flat, trial):
+    """The first unit of time in which all fits, and the settings in it."""
+    quantum, own = wanted_quanta(flat, trial)
+    quanta = [own.get(variable.declaration.name, quantum) for variable in flat.variables[:flat.states]]
+    proposals = [in_unit(flat, trial, Fraction(unit), quantum, own, quanta) for unit in SHORTER + LONGER]
+    return next((one for one in proposals if one.fits), proposals[0])
+
+
+def longest_tick(flat, trial, quanta):
+    """How long a tick may be, in the model's own unit of time."""
+    lengths = [1.0 / (TICKS_A_TIME_CONSTANT * trial.rate)] if trial.rate else []
+    lengths += [trial.clock / TICKS_A_CLOCK] if trial.clock else []
+    if not trial.grown:
+        lengths += [float(quantum) / slope for quantum, slope in zip(quanta, trial.slope) if slope]
+    return min(lengths, default=float(flat.settings["StopTime"]) / 1024 or 1.0)
+
+
+def in_unit(flat, trial, unit, quantum, own, quanta):
+    """The settings in a unit of time, and whether they fit."""
+    stop = flat.settings["StopTime"] * unit
+    k = max(0, math.ceil(-math.log2(longest_tick(flat, trial, quanta) * float(unit))))
+    most_k = 32 - (math.floor(log2(stop)) + 1 if stop > 0 else 0)
+    good = k <= min(MOST_TICK_BITS if unit == 1 else COMFORT_TICK_BITS, most_k)
+    k = max(0, min(k, MOST_TICK_BITS, most_k))
+    least, highest = coefficient_bits(flat, unit)
+    p_most = min(MOST_COEF_BITS, 44 - k, highest)
+    good = good and p_most >= 0 and least + LEAST_UNITS <= p_most
+    p = max(0, min(p_most, max(8, least + GOOD_UNITS)))
+    f, fine = level_bits(flat, trial, unit, min(MOST_LEVEL_BITS, 62 - p - k), quanta + [quantum])
+    if not fine and p > 8:
+        room = min(p - 8, max(0, p - least - LEAST_UNITS))
+        p -= room
+        f, fine = level_bits(flat, trial, unit, min(MOST_LEVEL_BITS, 62 - p - k), quanta + [quantum])
+    return Proposal(unit, p, k, f, quantum, own, stop, good and fine)
+
+
+def coefficient_bits(flat, unit):
+    """The bits below which the least coefficient vanishes, and the most that the greatest one allows."""
+    least, highest = 0, 64
+    clocks = time_like(flat)
+    for row in flat.rows():
+        scale = 1 / unit if row.kind == STATE else 1
+        sizes = [abs(value * scale) for key, value in row.form.parts.items()
+                 if row.kind == STATE or not (key[0] == "time" or key[1] in clocks)]
+        if not sizes:
+            continue
+        least = max(least, math.ceil(-log2(min(sizes))))
+        if row.kind == STATE:
+            highest = min(highest, 43 - math.ceil(log2(max(sizes))))
+        else:
+            highest = min(highest, 37 - math.ceil(log2(sum(sizes) + 2)))
+    return least, highest
+
+
+def level_bits(flat, trial, unit, most, quanta):
+    """Bits of levels, and whether quanta, discrete values and sizes are kept well by them."""
+    clocks = time_like(flat)
+    largest = max([size for size in trial.size if not trial.grown] + [1.0])
+    most = min(most, math.floor(40 - math.log2(largest)))
+    values = []
+    for number, start in enumerate(flat.starts[flat.states:flat.states + flat.discretes], flat.states):
+        values.append(start * unit if number in clocks else start)
+    for row in flat.rows():
+        if row.kind == "set" and row.form.constant:
+            values.append(row.form.constant * unit if row.variable in clocks else row.form.constant)
+    longest = max([abs(value) for value in values] + [flat.settings["StopTime"] * unit if clocks else 0, 1])
+    most = min(most, math.floor(42 - log2(longest)))
+    needed = max(math.ceil(-log2(min(quanta))), 0) + 2
+    for bits in range(max(12, min(needed, most)), most + 1):
+        if all(abs(round(value * 2 ** bits) / Fraction(2 ** bits) - value) <= abs(value) / 10000 for value in values if value):
+            if bits >= needed:
+                return max(bits, min(20, most)), True
+    return max(0, min(most, MOST_LEVEL_BITS)), False

@@ -1,0 +1,166 @@
+"""A model in another unit of time, with other settings."""
+from fractions import Fraction
+
+from .grammar import Name, Number, Power, Pre, Product, Sum, Time
+from .spelling import bracketed, decimal_text, spell
+from .trial import time_like
+from .walks import leaves
+
+SETTING_NAMES = ("StopTime", "QSS_CoefBits", "QSS_TickBits", "QSS_LevelBits", "QSS_Quantum")
+
+
+def annotation(proposal):
+    """The annotation of the model, ready to paste."""
+    return "annotation(experiment(%s));" % ", ".join("%s = %s" % pair for pair in settings_of(proposal))
+
+
+def settings_of(proposal):
+    values = (proposal.stop, Fraction(proposal.coef_bits), Fraction(proposal.tick_bits), Fraction(proposal.level_bits), proposal.quantum)
+    return [(name, decimal_text(value)) for name, value in zip(SETTING_NAMES, values)]
+
+
+def rewritten(source, flat, proposal):
+    """The text of the model with the proposal's settings, in its unit of time."""
+    edits = settings_edits(source, flat.model, proposal)
+    edits += quanta_edits(flat.model, proposal)
+    if proposal.unit != 1:
+        edits += Units(flat, proposal.unit).edits()
+    data = source.data
+    for begin, end, text in sorted(edits, reverse=True):
+        data = data[:begin] + text.encode() + data[end:]
+    if proposal.unit != 1:
+        data = ("// Unit of time: 1/%s of the unit that the model was written in (qss-advise).\n" % decimal_text(proposal.unit)).encode() + data
+    return data
+
+
+def settings_edits(source, model, proposal):
+    """The edits that write each setting."""
+    pairs = settings_of(proposal)
+    written = {setting.name: setting for setting in model.settings}
+    edits = [(written[name].span[0], written[name].span[1], text) for name, text in pairs if name in written]
+    added = ", ".join("%s = %s" % (name, text) for name, text in pairs if name not in written)
+    if not added:
+        return edits
+    if model.annotated is None:
+        return edits + [(model.end_line, model.end_line, "  annotation(experiment(%s));\n" % added)]
+    if model.settings_end is None:
+        comma = "" if source.text[model.annotated:].lstrip().startswith(")") else ", "
+        return edits + [(model.annotated, model.annotated, "experiment(%s)%s" % (added, comma))]
+    begun = source.text[:model.settings_end].rstrip().endswith("(")
+    return edits + [(model.settings_end, model.settings_end, added if begun else ", " + added)]
+
+
+def quanta_edits(model, proposal):
+    """The edits that write own quanta, where a component has no annotation yet."""
+    edits = []
+    for one in model.declarations:
+        if one.name in proposal.own and not one.annotated:
+            edits.append((one.end, one.end, " annotation(QSS_Quantum = %s)" % decimal_text(proposal.own[one.name])))
+    return edits
+
+
+class Units:
+    """The edits that turn a model into another unit of time; each exact form stays what it was, but for that unit."""
+
+    def __init__(self, flat, unit):
+        self.flat = flat
+        self.unit = unit
+        self.clocks = {flat.variables[number].declaration.name for number in time_like(flat)}
+
+    def edits(self):
+        model, found = self.flat.model, []
+        for one in model.declarations:
+            if one.name in self.clocks and one.start_span:
+                found.append(one.start_span + (self.scaled(one.start),))
+        for one in leaves(model.starts):
+            if one.target.name in self.clocks:
+                found.append(one.span + (self.scaled(one.value),))
+        for one in leaves(model.equations):
+            if one.der:
+                found.append(one.span + (self.divided(one.value),))
+        for clause in leaves(model.clauses):
+            for branch in clause.branches:
+                found += self.condition(branch.condition)
+                for one in leaves(branch.body):
+                    if self.has_time(one.value) or one.target.name in self.clocks:
+                        spelt = self.scaled(one.value) if one.target.name in self.clocks else spell(self.plain(one.value))
+                        found.append(one.span + (spelt,))
+        return found
+
+    def condition(self, one):
+        """The edit of a condition: both sides times the unit where all of them are times, else each time over the unit."""
+        if not (self.has_time(one.left) or self.has_time(one.right)):
+            return []
+        sides = (one.left, one.right)
+        if all(self.is_time(side) for side in sides):
+            left, right = (self.scaled(side) for side in sides)
+        else:
+            left, right = (spell(self.plain(side)) for side in sides)
+        return [one.span + ("%s %s %s" % (left, one.relation, right),)]
+
+    def is_clock(self, part):
+        return isinstance(part, Time) or isinstance(part, (Name, Pre)) and part.ref.name in self.clocks
+
+    def has_time(self, part):
+        if isinstance(part, (Sum, Product)):
+            return any(self.has_time(value) for _, _, value in part.parts)
+        return self.has_time(part.base) if isinstance(part, Power) else self.is_clock(part)
+
+    def is_time(self, part):
+        """The value of an expression is a time: sums of clocks and constants."""
+        if self.is_clock(part):
+            return True
+        if isinstance(part, (Sum, Product)):
+            return all(self.is_time(value) for _, _, value in part.parts)
+        if isinstance(part, Power):
+            return self.is_time(part.base)
+        return isinstance(part, Number) or isinstance(part, Name) and part.ref.name in self.flat.parameters
+
+    def number(self):
+        return decimal_text(self.unit)
+
+    def divided(self, part):
+        """The text of an expression over the unit."""
+        if self.unit < 1:
+            return "%s*%s" % (decimal_text(1 / self.unit), bracketed(part, (Sum,)))
+        return "%s/%s" % (bracketed(part, (Sum,)), self.number())
+
+    def factor(self):
+        """The unit as a first factor."""
+        return self.number() + "*" if self.unit >= 1 else "1/%s*" % decimal_text(1 / self.unit)
+
+    def scaled(self, part):
+        """The text of an expression times the unit, whose clocks are in the unit already."""
+        if self.is_clock(part):
+            return spell(part)
+        if isinstance(part, Sum):
+            texts = []
+            for place, (minus, _, value) in enumerate(part.parts):
+                sign = ("-" if minus else "") if not place else " - " if minus else " + "
+                text = self.scaled(value)
+                texts.append(sign + ("(%s)" % text if isinstance(value, Sum) else text))
+            return "".join(texts)
+        if isinstance(part, Number):
+            value = Fraction(part.text) * self.unit
+            return decimal_text(value) if value.denominator < 10 ** 9 else self.factor() + part.text
+        if isinstance(part, Product):
+            place = next((place for place, (divide, _, value) in enumerate(part.parts) if self.has_time(value) and not divide), None)
+            if place is not None:
+                return "".join(("/" if divide else "*" if number else "") + self._factor_text(value, number == place)
+                               for number, (divide, _, value) in enumerate(part.parts))
+        return self.factor() + (spell(part) if isinstance(part, Product) else bracketed(part, (Sum,)))
+
+    def _factor_text(self, value, scale):
+        text = self.scaled(value) if scale else spell(value)
+        return "(%s)" % text if isinstance(value, (Sum, Product)) else text
+
+    def plain(self, part):
+        """The expression with each clock over the unit."""
+        if self.is_clock(part):
+            above = Number(decimal_text(1 / self.unit) if self.unit < 1 else self.number(), part.at)
+            if self.unit < 1:
+                return Product(((False, part.at, above), (False, part.at, part)), part.at)
+            return Product(((False, part.at, part), (True, part.at, above)), part.at)
+        if isinstance(part, (Sum, Product)):
+            return type(part)(tuple((inverse, at, self.plain(value)) for inverse, at, value in part.parts), part.at)
+        return part

@@ -1,0 +1,190 @@
+"""Advice on settings, and models in another unit of time."""
+import os
+import unittest
+
+from support import STAND_IN, InFolder, run
+
+from qss_tools.advice import findings
+from qss_tools.flat import Flat
+from qss_tools.grammar import parse
+from qss_tools.proposal import propose
+from qss_tools.rewriting import rewritten
+from qss_tools.source import Source
+from qss_tools.trial import Trial, time_like
+
+BUCK = """model buck_si "buck converter in seconds, henry and farad"
+  parameter Real U = 24 "V", L = 1e-4 "H", C = 1e-4 "F", R = 10 "Ohm";
+  parameter Real period = 1e-4 "s", duty = 0.5;
+  Real iL(start = 0, unit = "A"), uC(start = 0, unit = "V");
+  discrete Real s(start = 1), on(start = period), off(start = period*duty);
+equation
+  der(iL) = (U*s - uC)/L;
+  der(uC) = (iL - uC/R)/C;
+algorithm
+  when time >= on then
+    s := 1;
+    on := pre(on) + period;
+  end when;
+  when time >= off then
+    s := 0;
+    off := pre(off) + period;
+  end when;
+  annotation(experiment(StopTime = 0.005));
+end buck_si;
+"""
+
+PEAK = """model peak
+  parameter Real T = 2e-5, slope = 1000, big = 64;
+  Real i(start = 3) annotation(QSS_Quantum = 1/256);
+  discrete Real s(start = 1), on(start = T), began, duty(start = 1/4);
+equation
+  der(i) = (20*s - 12)/1e-4;
+algorithm
+  when time >= on then
+    s := 1; began := time; on := pre(on) + T*(1 - duty) + T*duty;
+  elsewhen time > 1e-3 + began then
+    duty := 2*duty;
+  end when;
+  when i + slope*(time - began) - big*(1 - s) > 3.5 then
+    s := 0;
+  end when;
+  annotation(experiment(StopTime = 1e-3, QSS_Quantum = 1/256));
+end peak;
+"""
+
+
+def flat_of(text):
+    return Flat(parse(Source("m.mo", text.encode())))
+
+
+def told(text):
+    flat = flat_of(text)
+    return [finding.sentence for finding in findings(flat, Trial(flat))]
+
+
+class Findings(unittest.TestCase):
+    def assert_told(self, text, part):
+        self.assertTrue(any(part in sentence for sentence in told(text)), (part, told(text)))
+
+    def test_the_buck_converter_in_seconds(self):
+        self.assert_told(BUCK, "a tick is 2^-10 = 0.000976562, 10.2")
+        self.assert_told(BUCK, "off steps by 0.0001, which discrete values of 2^-16 keep as 0.000106812 (6.8 % off)")
+        self.assert_told(BUCK, "the start of off, 5e-05, is kept as 4.57764e-05")
+
+    def test_what_is_read_over(self):
+        text = "model m Real x(Start = 1); equation der(x) = -x; annotation(StopTime = 2, experiment(%s)); end m;"
+        self.assert_told(text % "QSS_Tickbits = 14", "'QSS_Tickbits' is no setting")
+        self.assert_told(text % "Stoptime = 4", "'Stoptime' is no setting")
+        self.assert_told(text % "QSS_Solver = 2", "'QSS_Solver' is no setting")
+        self.assert_told(text % "Tolerance = 1e-6", "Tolerance has no effect")
+        self.assert_told(text % "", "'StopTime' stands outside experiment")
+        self.assert_told(text % "", "'Start' of x is read over")
+        self.assertEqual(told("model m Real x(start = 1, unit = \"V\"); equation der(x) = -x; annotation(Icon(a = 1),"
+                              " experiment(MMO_Solver = QSS3, StopTime = 1)); end m;"), [])
+
+    def test_what_is_rounded(self):
+        self.assert_told("model m Real x(start = 1); equation der(x) = -0.001*x; annotation(experiment(QSS_CoefBits = 12)); end m;",
+                         "the coefficient -0.001 of x is kept as -0.000976562")
+        self.assert_told("model m Real x(start = 1); equation der(x) = -1e-9*x; end m;", "is kept as 0")
+        self.assert_told("model m Real x(start = 1) annotation(QSS_Quantum = 0.3); equation der(x) = -x;"
+                         " annotation(experiment(QSS_LevelBits = 2)); end m;", "the quantum of x, 0.3, is kept as 0.25")
+        self.assert_told("model m Real x; discrete Real d; equation der(x) = 1; algorithm when x > 0.5 then d := d + 0.0002*x; end when;"
+                         " end m;", "d is a sum of small steps: what is added below 2^-17 is lost, so x below 0.038147 adds nothing")
+
+    def test_what_is_near_a_limit(self):
+        self.assert_told("model m Real x(start = 1); equation der(x) = -1000000*x; annotation(experiment(QSS_CoefBits = 24)); end m;",
+                         "take 43.9 of 44 bits")
+        self.assert_told("model m Real x; equation der(x) = 1; algorithm when 100000*x > 1 then reinit(x, 0); end when; end m;",
+                         "refused (machine 4)")
+
+    def test_conditions_that_hold_at_the_start(self):
+        room = ("model m Real T(start = 25); discrete Real on(start = %d); equation der(T) = 20 - T - 8*on; algorithm when T > 20.5 then"
+                " on := 1; end when; annotation(experiment(QSS_CoefBits = 16, QSS_Quantum = 0.0625)); end m;")
+        self.assert_told(room % 0, "this condition is true at the start")
+        self.assertEqual(told(room % 1), [])
+
+
+class Rewritten(unittest.TestCase):
+    def assert_same_forms(self, text):
+        """The forms of the rewritten model are those of the model, in the unit of time."""
+        source, flat = Source("m.mo", text.encode()), flat_of(text)
+        proposal = propose(flat, Trial(flat))
+        self.assertTrue(proposal.fits)
+        self.assertNotEqual(proposal.unit, 1)
+        other = flat_of(rewritten(source, flat, proposal).decode())
+        unit, clocks = proposal.unit, time_like(flat)
+
+        def scaled(form, scale):
+            parts = {}
+            for key, value in form.parts.items():
+                is_time = key[0] == "time" or key[0] in ("x", "pre") and key[1] in clocks
+                parts[key] = value * scale / (unit if is_time else 1)
+            return parts, form.constant * scale
+
+        self.assertEqual(len(flat.rows()), len(other.rows()))
+        for old, new in zip(flat.rows(), other.rows()):
+            scale = 1 / unit if old.kind == "state" else unit if old.variable in clocks else 1
+            parts, constant = scaled(old.form, scale)
+            if old.kind == "condition" and (parts, constant) != (new.form.parts, new.form.constant):
+                parts, constant = scaled(old.form, unit)
+            self.assertEqual((parts, constant), (new.form.parts, new.form.constant), old.label)
+        for number, start in enumerate(flat.starts):
+            self.assertEqual(start * (unit if number in clocks else 1), other.starts[number])
+        self.assertEqual(other.settings["StopTime"], flat.settings["StopTime"] * unit)
+        return other
+
+    def test_the_buck_converter(self):
+        other = self.assert_same_forms(BUCK)
+        self.assertEqual([sentence for sentence in told_of(other)], [])
+
+    def test_a_clause_of_times_and_states(self):
+        self.assert_same_forms(PEAK)
+
+    def test_settings_where_there_are_none(self):
+        for end in ("", "annotation(); ", "annotation(Icon(a = 1)); ", "annotation(experiment()); ", "annotation(experiment(StopTime = 1)); "):
+            text = "model m Real x(start = 1); equation der(x) = -x; %send m;" % end
+            source, flat = Source("m.mo", text.encode()), flat_of(text)
+            other = flat_of(rewritten(source, flat, propose(flat, Trial(flat))).decode())
+            self.assertEqual(len(other.model.settings), 5, end)
+
+
+def told_of(flat):
+    return [finding.sentence for finding in findings(flat, Trial(flat)) if finding.grave]
+
+
+class Tool(InFolder):
+    def test_the_buck_converter_gets_settings_and_a_model(self):
+        model, other = self.file("buck.mo", BUCK), os.path.join(self.folder, "other.mo")
+        status, out, err = run("qss-advise", model, "--program", STAND_IN, "--rewrite", other)
+        self.assertEqual((status, err), (1, ""))
+        self.assertIn(model + ":18:41: warning: a tick is 2^-10", out)
+        self.assertIn("annotation(experiment(StopTime = 5, QSS_CoefBits = ", out)
+        status, out, _ = run("qss-advise", other, "--program", STAND_IN)
+        self.assertEqual(status, 0, out)
+        status, out, _ = run("qss-advise", model, "--program", STAND_IN, "--rewrite", "-")
+        with open(other, encoding="utf-8") as file:
+            self.assertEqual(out, file.read())
+
+    def test_numbers_that_are_refused_are_advised_on(self):
+        model = self.file("m.mo", "// stand-in: 5 refused: machine 4 1\nmodel m Real x; equation der(x) = -1e9*x; end m;\n")
+        status, out, _ = run("qss-advise", model, "--program", STAND_IN)
+        self.assertEqual(status, 1)
+        self.assertIn(model + ":2:26: refused: the coefficient 1e+09 of x in der(x) passes 2^44", out)
+
+    def test_faults_are_one_line(self):
+        other = os.path.join(self.folder, "other.mo")
+        none = os.path.join(self.folder, "none.mo")
+        self.assert_fault(run("qss-advise", none, "--program", STAND_IN), "read fault")
+        refused = self.file("r.mo", "// stand-in print: 5 refused: parse 1 3\nmodel m x\n")
+        self.assert_fault(run("qss-advise", refused, "--program", STAND_IN, "--rewrite", other), "qss-explain")
+        refused = self.file("n.mo", "// stand-in: 5 refused: names 3 72\nmodel m Real x; equation der(x) = y; end m;\n")
+        self.assert_fault(run("qss-advise", refused, "--program", STAND_IN, "--rewrite", other), "refused: names 3 72")
+        self.assertFalse(os.path.exists(other))
+        model = self.file("buck.mo", BUCK)
+        self.assert_fault(run("qss-advise", model, "--program", none), "no program")
+        self.assert_fault(run("qss-advise", model, "--program", STAND_IN, "--rewrite", os.path.join(none, "x.mo")), "no such file")
+        self.assert_fault(run("qss-advise", model, "--program", STAND_IN, "--rewrite", self.folder), "folder")
+
+
+if __name__ == "__main__":
+    unittest.main()

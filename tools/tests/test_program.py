@@ -1,0 +1,71 @@
+"""The tools with the program itself, where it is built."""
+import glob
+import os
+import re
+import subprocess
+import unittest
+
+from refused_sources import REFUSED
+from support import BUILT, ROOT, InFolder, run
+
+EXAMPLES = sorted(glob.glob(os.path.join(ROOT, "examples", "*.mo")))
+SMALL = ("ball", "boost", "buck", "cable", "decay", "thermostat")  # with settings for reading
+
+
+@unittest.skipUnless(os.path.exists(BUILT), "the program is not built: its tests are left out")
+class WithTheProgram(InFolder):
+    def test_refused_sources_have_these_lines(self):
+        for number, (text, line, place, _) in enumerate(REFUSED):
+            with self.subTest(line=line, text=text[:80]):
+                model = self.file("m%d.mo" % number, text)
+                done = subprocess.run([BUILT, "run", model], stdout=subprocess.PIPE, stderr=subprocess.PIPE)
+                self.assertEqual((done.returncode, done.stdout, done.stderr.decode()), (5, b"", line + "\n"))
+        status, out, err = run("qss-explain", model, given=line)
+        self.assertEqual((status, err), (1, ""))
+        self.assertTrue(out.startswith("%s:%s: " % (model, place)))
+
+    def test_nothing_spoils_the_examples(self):
+        for path in EXAMPLES:
+            name = os.path.splitext(os.path.basename(path))[0]
+            if name not in SMALL:
+                with self.subTest(name):
+                    status, out, err = run("qss-advise", path)
+                    self.assertEqual((status, err), (0, ""), out)
+
+    def test_a_model_that_is_refused(self):
+        model = self.file("m.mo", "model m Real x; equation der(x) = y; end m;\n")
+        for tool in ("qss-table", "qss-plot", "qss-advise"):
+            self.assert_fault(run(tool, model), "refused: names 3 34")
+
+    def test_an_overflow_and_a_certificate(self):
+        model = self.file("m.mo", "model m Real x(start = 1); equation der(x) = 1000000*x; annotation(experiment(QSS_CoefBits = 16)); end m;\n")
+        status, _, err = run("qss-table", model, "-o", os.path.join(self.folder, "t.csv"))
+        self.assertEqual(status, 1, err)
+        decay = os.path.join(ROOT, "examples", "decay")
+        status, out, _ = run("qss-explain", decay + ".mo", "--certificate", decay + ".cert", "--line",
+                             "rejected: inequality 11 place 1 left 165504 right 165888")
+        self.assertEqual(status, 1)
+        self.assertTrue(out.startswith(decay + ".cert:15:3: inequality 11"), out)
+
+    def test_the_tutorial_says_what_comes(self):
+        status, _, err = run("run-tutorial", "--check")
+        self.assertEqual((status, err), (0, ""))
+
+
+class Sources(unittest.TestCase):
+    def test_the_examples_of_the_gate_are_those_of_the_gallery(self):
+        """The sources in program_tests are the examples, but for their head comments and stop times."""
+        path = os.path.join(ROOT, "crates", "program_tests", "src", "examples.rt")
+        with open(path, encoding="utf-8") as file:
+            gate = file.read()
+        sources = re.findall(r"const (\w+): &str =\s*\"((?:\\.|[^\"\\])*)\";", gate)
+        self.assertEqual(len(sources), 10)
+        for name, text in sources:
+            with open(os.path.join(ROOT, "examples", name.lower() + ".mo"), encoding="utf-8") as file:
+                example = file.read()
+            stop = re.compile(r"StopTime = [\d.]+")
+            self.assertEqual(stop.sub("", text.encode().decode("unicode_escape")), stop.sub("", example[example.index("\nmodel ") + 1:]), name)
+
+
+if __name__ == "__main__":
+    unittest.main()
