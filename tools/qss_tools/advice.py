@@ -202,7 +202,7 @@ def near_limits(flat, trial):
             told.add(row.part.at)
             yield Finding(row.part.at, "the coefficients of %s take %.1f of %d bits%s" % (
                 row.label, used, limit, ": the model is refused (machine 4)" if used > limit else ""),
-                "write QSS_CoefBits = %d or less" % max(0, math.floor(p - (used - limit) - 1)), used > limit)
+                "write QSS_CoefBits = %d or less" % max(0, math.floor(p - (used - limit))) if used > limit else None, used > limit)
     for number in range(flat.states):
         if trial.size[number] and not trial.grown and math.log2(trial.size[number]) + f > LEVEL_BITS - 3:
             yield Finding(flat.variables[number].declaration.at, "%s gets about %s large, and its levels end at %s" % (

@@ -105,7 +105,7 @@ def panel(picture, top, width, height, label, curves):
     """A panel with its grid, its curves and their names."""
     bounds = [curve.bounds() for curve, _ in curves if curve.columns]
     scale = Scale((min(low for low, _ in bounds), max(high for _, high in bounds)) if bounds else (0, 1), height)
-    for value in nice_steps(scale.least, scale.greatest, max(2, height // 36)):
+    for value in nice_steps(scale.least, scale.greatest, max(3, height // 26)):
         y = top + height - scale.pixel(value)
         picture.line(LEFT, y, LEFT + width, y)
         picture.text(LEFT - 5, y + 4, number_text(value), "end")
