@@ -1,11 +1,18 @@
 -- Counting equations variable by variable.
-use Rattle.std.proofs.Common.{◌≡◌, ◌∙◌, ℕ, ap, subst, arith, inl, inr, ◌+◌, ◌<◌, ◌≤◌, List, length, get_or, map, sym}
-use Rattle.std.specs.Prelude.{true, false, Option, Some, None, slice_get, ◌⊎◌}
+use Rattle.std.proofs.Common.{◌≡◌, ◌∙◌, ℕ, ap, subst, arith, inl, inr, ◌+◌, ◌<◌, ◌≤◌, Bool, List, [], ◌∷◌, ◌++◌, length, get_or, map, take, sym, refl, add-zero}
+use Rattle.std.specs.Prelude.{true, false, if◌then◌else◌, nat_eq, Option, Some, None, slice_get, ◌⊎◌}
 use Rattle.std.proofs.lemmas.Option.{slice_get_within, slice_get-get_or, slice_get-map}
 use Rattle.std.proofs.lemmas.Bool.{cases_lt}
 use Rattle.mu_tree.specs.declared.flat.FlatVar.{FlatVar}
 use Rattle.mu_tree.specs.FlatExpression.{flat_variable, FlatVariable, FlatModelTree}
-use Rattle.mu_causal.specs.Dependencies.{wants_equation, HasOneEquation, AreCounted, AreCountedBelow}
+use Rattle.std.proofs.lemmas.Bool.Decides.{nat_tests}
+use Rattle.std.proofs.lemmas.List.{take_more, map-append, length-map, length-take-le, append-nil, get_or_default}
+use Rattle.mu_tree.specs.declared.flat.FlatEquation.{FlatEquation}
+use Rattle.mu_tree.specs.FlatExpression.{flat_equation, FlatEquationTree}
+use Rattle.mu_causal.specs.declared.count.Given.{Given}
+use Rattle.mu_causal.specs.declared.count.Given.TheVariants.{Never}
+use Rattle.mu_causal.specs.Answers.{IsGiven}
+use Rattle.mu_causal.specs.Dependencies.{numbers_from, wants_equation, HasOneEquation, AreCounted, AreCountedBelow}
 
 -- the variable that is read at a place
 pub variable_there : (ds : List FlatVar) (v : ℕ) (d : FlatVar) → v < length ds → d ≡ get_or ds v d → slice_get (map flat_variable ds) v ≡ Some (flat_variable d)
@@ -29,3 +36,43 @@ counted_more m v d below at one w lt wants =
 -- all variables are counted
 pub counted_all : (m : FlatModelTree) (n : ℕ) → AreCountedBelow m n → length m.vars ≤ n → AreCounted m
 counted_all m n below h w wants = below w (omega (arith, slice_get_within m.vars w wants.variable wants.at)) wants
+
+-- ---- the equations for a variable
+
+if_push : (b : Bool) (n : ℕ) (long short tail : List ℕ) → long ≡ short ++ tail → (if b then n ∷ long else long) ≡ (if b then n ∷ short else short) ++ tail
+if_push true n long short tail e = ap (λ ns. n ∷ ns) e
+if_push false n long short tail e = e
+
+-- one equation more
+numbers_from-push : (number : ℕ) (es : List FlatEquationTree) (e : FlatEquationTree) (v : ℕ) →
+    numbers_from number (es ++ e ∷ []) v ≡ numbers_from number es v ++ (if nat_eq e.target v then (number + length es) ∷ [] else [])
+numbers_from-push number [] e v = rw add-zero refl
+numbers_from-push number (d ∷ es) e v =
+    let there : number + 1 + length es ≡ number + length (d ∷ es) = omega arith in
+    if_push (nat_eq d.target v) number _ _ _ (rw there at (numbers_from-push (number + 1) es e v))
+
+module _ (equations : List FlatEquation) (i v : ℕ) (d : FlatEquation) (within : i < length equations) where
+  grown : map flat_equation (take (i + 1) equations) ≡ map flat_equation (take i equations) ++ flat_equation (get_or equations i d) ∷ []
+  grown = ap (map flat_equation) (take_more equations i d within) ∙ map-append flat_equation (take i equations) (get_or equations i d ∷ [])
+
+  size : length (map flat_equation (take i equations)) ≡ i
+  size = length-map (take i equations) flat_equation ∙ length-take-le i equations (omega arith)
+
+  -- an equation for the variable is the next one of its equations
+  pub numbers_more : (get_or equations i d).target ≡ v → numbers_from 1 (map flat_equation (take (i + 1) equations)) v ≡ numbers_from 1 (map flat_equation (take i equations)) v ++ (i + 1) ∷ []
+  numbers_more same =
+      let is : nat_eq (get_or equations i d).target v ≡ true = grind (arith, nat_tests) in
+      let there : 1 + length (map flat_equation (take i equations)) ≡ i + 1 = omega (arith, size) in
+      ap (λ es. numbers_from 1 es v) grown ∙ numbers_from-push 1 (map flat_equation (take i equations)) (flat_equation (get_or equations i d)) v ∙ rw (is, there) refl
+
+  -- one for another variable is none
+  pub numbers_same : ((get_or equations i d).target ≡ v → ⊥) → numbers_from 1 (map flat_equation (take (i + 1) equations)) v ≡ numbers_from 1 (map flat_equation (take i equations)) v
+  numbers_same other =
+      let not : nat_eq (get_or equations i d).target v ≡ false = grind (arith, nat_tests, other) in
+      ap (λ es. numbers_from 1 es v) grown ∙ numbers_from-push 1 (map flat_equation (take i equations)) (flat_equation (get_or equations i d)) v ∙ rw not (append-nil (numbers_from 1 (map flat_equation (take i equations)) v))
+
+-- what is read of a variable is what its equations give
+pub given_there : (equations : List FlatEquation) (given : List Given) (v : ℕ) (found : Given) → v < length given → found ≡ get_or given v found →
+    IsGiven (numbers_from 1 (map flat_equation equations) v) (get_or given v Never) → IsGiven (numbers_from 1 (map flat_equation equations) v) found
+given_there equations given v found within read is =
+    subst (IsGiven (numbers_from 1 (map flat_equation equations) v)) (get_or_default given v Never found within ∙ sym read) is

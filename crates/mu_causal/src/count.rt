@@ -1,15 +1,17 @@
 // How many equations each variable has.
 
-ghost use Rattle.std.specs.Prelude.{◌≡◌, ◌<◌, ◌^◌, length, map, OnOk, IfErr};
+ghost use Rattle.std.specs.Prelude.{◌≡◌, ℕ, ◌<◌, ◌^◌, List, [], ◌∷◌, ◌++◌, length, map, slice_index_or, OnOk, IfOk, IfErr};
 ghost use Rattle.mu_tree.specs.FlatExpression.{flat_equation, flat_model};
+ghost use Rattle.mu_causal.specs.declared.count.Given.TheVariants.{Never};
 ghost use Rattle.mu_causal.specs.Answers.{IsGiven, IsCausalFault};
 ghost use Rattle.mu_causal.specs.Dependencies.{numbers_from, AreCounted, IsNumbered, wants_equation};
 
 use crate::answer::CausalErr;
 use mu_tree::flat::{FlatEquation, FlatModel, FlatRole};
+use std::alloc::{AllocError, Global};
 
 /// Which equations give a variable, by their numbers from 1 on.
-#[derive(Drop)]
+#[derive(Clone, Copy)]
 pub enum Given {
     /// No equation.
     Never,
@@ -17,6 +19,19 @@ pub enum Given {
     Once(u32),
     /// Two equations or more: the first two.
     Often(u32, u32),
+}
+
+impl Given {
+    // What a later equation for the variable makes of it.
+    fn and(self, number: u32) -> Self
+        ensures { (numbers : List ℕ) → IsGiven numbers self → IsGiven (numbers ++ number ∷ []) result }
+    {
+        match self {
+            Given::Never => Given::Once(number),
+            Given::Once(first) => Given::Often(first, number),
+            Given::Often(first, second) => Given::Often(first, second),
+        }
+    }
 }
 
 // Whether a variable wants an equation: a state or an algebraic variable.
@@ -29,38 +44,40 @@ fn wants_equation(role: FlatRole) -> bool
     }
 }
 
-// Which equations give a variable.
-fn equations_for(equations: &[FlatEquation], var: u32) -> Given
+// Which equations give each variable, by one pass over the equations.
+fn equations_by_target(
+    alloc: Global,
+    equations: &[FlatEquation],
+    count: usize,
+) -> Result<Vec<Given>, AllocError>
     requires { length equations.now < 2 ^ 32 }
-    ensures { IsGiven (numbers_from 1 (map flat_equation equations.now) var) result }
+    ensures count { IfOk result (λ given. length given.items ≡ count) }
+    ensures each { IfOk result (λ given. (v : ℕ) → v < count → IsGiven (numbers_from 1 (map flat_equation equations.now) v) (slice_index_or given.items v Never)) }
 {
-    let mut before = None;
+    let mut given = vec![in alloc; Given::Never; count]?;
     for (place, equation) in equations.iter().enumerate() {
-        if equation.target == var {
-            let number = place as u32 + 1;
-            match before {
-                None => before = Some(number),
-                Some(first) => return Given::Often(first, number),
-            }
+        let target = equation.target as usize;
+        if target < count {
+            given[target] = given[target].and(place as u32 + 1);
         }
     }
-    match before {
-        None => Given::Never,
-        Some(number) => Given::Once(number),
-    }
+    Ok(given)
 }
 
 /// Whether each state and each algebraic variable has one equation; if not, the least one that has
 /// none, or more than one.
-pub fn check_counts(m: &FlatModel) -> Result<(), CausalErr>
+pub fn check_counts(alloc: Global, m: &FlatModel) -> Result<(), CausalErr>
     requires { IsNumbered (flat_model m.now) }
     ensures ok { OnOk result (AreCounted (flat_model m.now)) }
     ensures err { IfErr result (IsCausalFault (flat_model m.now)) }
 {
+    let Ok(given) = equations_by_target(alloc, &m.equations, m.vars.len()) else {
+        return Err(CausalErr::Memory);
+    };
     for (place, variable) in m.vars.iter().enumerate() {
         if wants_equation(variable.role) {
             let var = place as u32;
-            match equations_for(&m.equations, var) {
+            match given[place] {
                 Given::Never => return Err(CausalErr::NoEquation { var }),
                 Given::Once(_) => {}
                 Given::Often(first, second) => {

@@ -23,7 +23,7 @@ pub fn order(alloc: Global, m: &FlatModel) -> Result<Order, CausalErr>
     ensures order { IfOk result (λ o. IsOrder (IsAlgebraic (flat_model m.now)) (DependsOn (flat_model m.now)) o.vars) }
     ensures refused { IfErr result (IsCausalFault (flat_model m.now)) }
 {
-    if let Err(fault) = check_counts(m) {
+    if let Err(fault) = check_counts(alloc, m) {
         return Err(fault);
     }
     let Ok(graph) = graph_of(alloc, m) else {

@@ -1,5 +1,5 @@
 -- That the quotients of Rounding are the numbers that their inequalities allow.
-use Rattle.std.proofs.Common.{Bool, true, false, ◌≡◌, ℕ, zero, suc, ◌+◌, ◌*◌, ◌%◌, ◌≤◌, ℤ, pos, negsuc, ◌+ℤ◌, ◌-ℤ◌, ◌*ℤ◌, ◌≤ℤ◌, ◌<ℤ◌, neg_ℤ, refl, arith, ◌≢◌}
+use Rattle.std.proofs.Common.{Bool, true, false, ◌≡◌, ℕ, zero, suc, ◌+◌, ◌*◌, ◌%◌, ◌≤◌, ℤ, pos, negsuc, ◌+ℤ◌, ◌-ℤ◌, ◌*ℤ◌, ◌≤ℤ◌, ◌<ℤ◌, neg_ℤ, refl, sym, ◌∙◌, ap, arith, ◌≢◌}
 use Rattle.std.proofs.lemmas.Int.{ints, unsigned_abs-mul}
 use Rattle.std.proofs.Math.Nat.{mul-le-mul_right}
 use Rattle.std.proofs.Math.IntN.{*ℤ-one}
@@ -8,12 +8,18 @@ use Rattle.mu_num.proofs.Tests.{if_cases, int_lt-true, int_lt-false, eqb-true, e
 use Rattle.std.specs.Int.RustNames.{unsigned_abs, int_lt}
 use Rattle.std.specs.Prelude.{if◌then◌else◌}
 use Rattle.std.specs.Int.{int_rem_euclid}
+use Rattle.std.specs.Int.Signed.{shr_z}
 use Rattle.mu_num.specs.Rounding.{IsFloor, IsCeiling, IsNearest, floor_of, ceiling_of, nearest_of, even_of}
 
 pub floor_meets : (n d : ℤ) → pos 0 <ℤ d → IsFloor n d (floor_of n d)
 floor_meets (pos a) (pos b) h = record { at_most = omega (arith, ints); greatest = omega (arith, ints) }
 floor_meets (negsuc a) (pos b) h = record { at_most = omega (arith, ints); greatest = omega (arith, ints) }
 floor_meets n (negsuc b) h = absurd (omega (arith, ints))
+
+-- a shift to the right is a quotient by a power of two
+pub shift_is : (n : ℤ) (m : ℕ) → shr_z n m ≡ floor_of n (pos m)
+shift_is (pos a) m = refl
+shift_is (negsuc a) m = refl
 
 -- how far n is from d q, and from d (q + 1)
 near_low : (n d q : ℤ) → (d *ℤ q) ≤ℤ n → (pos 2 *ℤ (n -ℤ d *ℤ q)) <ℤ d → IsNearest n d q
@@ -62,6 +68,9 @@ pub rem_is : (n d : ℤ) → pos 0 <ℤ d → int_rem_euclid n d ≡ n -ℤ d *�
 rem_is (pos a) (pos b) h = omega (arith, ints)
 rem_is (negsuc a) (pos b) h = omega (arith, ints)
 rem_is n (negsuc b) h = absurd (omega (arith, ints))
+
+pub rest_is : (n d q r : ℤ) → pos 0 <ℤ d → q ≡ floor_of n d → r ≡ n -ℤ d *ℤ q → r ≡ int_rem_euclid n d
+rest_is n d q r positive quotient rest = rest ∙ ap (λ q. n -ℤ d *ℤ q) quotient ∙ sym (rem_is n d positive)
 
 -- a quotient rounded to the nearest is hardly larger than what is divided
 pub nearest_bound : (n d q : ℤ) → pos 0 <ℤ d → IsNearest n d q → unsigned_abs q ≤ unsigned_abs n + unsigned_abs d

@@ -1,6 +1,6 @@
 // Quotients of whole numbers, rounded down, up and to the nearest.
 
-ghost use Rattle.std.specs.Prelude.{◌≡◌, pos, ◌<ℤ◌};
+ghost use Rattle.std.specs.Prelude.{◌≡◌, pos, ◌-ℤ◌, ◌*ℤ◌, ◌<ℤ◌, ◌≤ℤ◌};
 ghost use Rattle.mu_num.specs.Rounding.{IsFloor, IsCeiling, IsNearest, floor_of, ceiling_of, nearest_of};
 
 /// The greatest whole number at most `n / d`.
@@ -9,6 +9,10 @@ pub fn floor_div(n: i128, d: i128) -> i128
     ensures floor { IsFloor n d result }
     ensures value { result ≡ floor_of n d }
 {
+    let bits = d.trailing_zeros();
+    if bits < 127 && d == 1 << bits {
+        return n >> bits;
+    }
     n.div_euclid(d)
 }
 
@@ -30,13 +34,22 @@ pub fn near_div(n: i128, d: i128) -> i128
     rounded(n, d)
 }
 
+// What a quotient rounded down leaves; the product may pass the range of numbers where the rest does not.
+fn rest_of(n: i128, d: i128, quotient: i128) -> i128
+    requires { IsFloor n d quotient }
+    ensures value { result ≡ n -ℤ d *ℤ quotient }
+    ensures range { (pos 0 ≤ℤ result) × (result <ℤ d) }
+{
+    n.wrapping_sub(d.wrapping_mul(quotient))
+}
+
 // The quotient, or one more where there is a rest.
 fn rounded_up(n: i128, d: i128) -> i128
     requires { pos 0 <ℤ d }
     ensures { IsCeiling n d result }
 {
-    let quotient = n.div_euclid(d);
-    if n.rem_euclid(d) == 0 {
+    let quotient = floor_div(n, d);
+    if rest_of(n, d, quotient) == 0 {
         return quotient;
     }
     quotient + 1
@@ -47,8 +60,8 @@ fn rounded(n: i128, d: i128) -> i128
     requires { pos 0 <ℤ d }
     ensures { result ≡ nearest_of n d }
 {
-    let quotient = n.div_euclid(d);
-    let rest = n.rem_euclid(d);
+    let quotient = floor_div(n, d);
+    let rest = rest_of(n, d, quotient);
     let gap = d - rest;
     if rest < gap {
         return quotient;

@@ -3,6 +3,17 @@
 ghost use Rattle.std.specs.Prelude.{◌≡◌, ℕ, pos, ◌+◌, ◌*◌, ◌/◌, ◌^◌, ◌<◌, ◌≤◌, ◌*ℤ◌, ◌<ℤ◌, ◌≤ℤ◌};
 ghost use Rattle.mu_num.specs.Ticks.{FirstAfter, later_tick};
 
+// The quotient, by a division of 64 bits where both numbers have no more: it takes a fraction of the time.
+fn quotient_of(n: u128, d: u128) -> u128
+    requires { 0 < d }
+    ensures { result ≡ n / d }
+{
+    if n <= u128::from(u64::MAX) && d <= u128::from(u64::MAX) {
+        return u128::from(n as u64 / d as u64);
+    }
+    n / d
+}
+
 // The first tick at which a distance is passed, at a speed above 0.
 fn ticks_past(dist: u128, speed: u128) -> Option<u64>
     requires { 0 < speed }
@@ -11,7 +22,7 @@ fn ticks_past(dist: u128, speed: u128) -> Option<u64>
     if dist / (1 << 32) >= speed {
         return None;
     }
-    Some((dist / speed) as u64 + 1)
+    Some(quotient_of(dist, speed) as u64 + 1)
 }
 
 /// The first tick n from 1 to 2^32 with `dist < n * speed`; `None` where there is none. It divides only

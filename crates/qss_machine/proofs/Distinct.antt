@@ -23,7 +23,7 @@ head_below x xs h (suc k) within =
     let next : get_or xs k 0 < get_or xs (suc k) 0 = rw add-one at (h (suc k) (rw add-one (omega (arith, within)))) in
     omega (arith, next, head_below x xs h k (omega arith))
 
-none_at : (entries : List Entry) (var : ℕ) → All (λ entry. entry.var ≢ var) entries → coefficient_of entries var ≡ pos 0
+pub none_at : (entries : List Entry) (var : ℕ) → All (λ entry. entry.var ≢ var) entries → coefficient_of entries var ≡ pos 0
 none_at [] var h = refl
 none_at (entry ∷ entries) var h =
     ap (λ z. z +ℤ coefficient_of entries var) (if-false (entry.var == var) entry.coef (pos 0) (eqb-no entry.var var (All-head (λ (entry : Entry). entry.var ≢ var) entry entries h)))
@@ -37,6 +37,19 @@ rest_differs entry entries h k d within =
     let inside : k < length vars = rw (length-map entries (λ (entry : Entry). entry.var)) within in
     let below : entry.var < (get_or entries k d).var = rw (get_or-map (λ (entry : Entry). entry.var) entries k d 0 within) at (head_below entry.var vars h k inside) in
     λ e. omega (arith, below, e)
+
+-- the entry of a variable is its coefficient
+pub coefficient_at : (entries : List Entry) (var k : ℕ) (d : Entry) → IsStrictlyIncreasing (map (λ (entry : Entry). entry.var) entries) →
+    k < length entries → (get_or entries k d).var ≡ var → coefficient_of entries var ≡ (get_or entries k d).coef
+coefficient_at [] var k d rising within same = absurd (omega arith)
+coefficient_at (entry ∷ entries) var zero d rising within same =
+    let none : coefficient_of entries var ≡ pos 0 = none_at entries var (λ k d within. λ e. rest_differs entry entries rising k d within (e ∙ sym same)) in
+    ap (λ z. z +ℤ coefficient_of entries var) (if-true (entry.var == var) entry.coef (pos 0) (eqb-yes entry.var var same)) ∙ ap (λ z. entry.coef +ℤ z) none ∙ +ℤ_idr entry.coef
+coefficient_at (entry ∷ entries) var (suc k) d rising within same =
+    let inside : k < length entries = omega (arith, within) in
+    let other : entry.var ≢ var = λ e. rest_differs entry entries rising k d inside (same ∙ sym e) in
+    ap (λ z. z +ℤ coefficient_of entries var) (if-false (entry.var == var) entry.coef (pos 0) (eqb-no entry.var var other)) ∙ +ℤ_idl (coefficient_of entries var)
+    ∙ coefficient_at entries var k d (tail_rises entry.var (map (λ (entry : Entry). entry.var) entries) rising) inside same
 
 pub coefficient_small : (entries : List Entry) (var : ℕ) → IsStrictlyIncreasing (map (λ (entry : Entry). entry.var) entries) →
     All (λ entry. IsWithin 44 entry.coef) entries → IsWithin 44 (coefficient_of entries var)

@@ -17,3 +17,5 @@ pub mod Rules
 pub mod OneRun
 pub mod Places
 pub mod Marking
+mod Halving
+mod StateProducts

@@ -30,7 +30,7 @@ AreBelow products i past = (k : ℕ) (d : Product) → k < i → (get_or product
 
 -- ---- the order of products
 
-rising_to : (xs : List ℕ) → IsStrictlyIncreasing xs → (k m : ℕ) → k + m < length xs → slice_index xs k ≤ slice_index xs (k + m)
+pub rising_to : (xs : List ℕ) → IsStrictlyIncreasing xs → (k m : ℕ) → k + m < length xs → slice_index xs k ≤ slice_index xs (k + m)
 rising_to xs rising k zero h = rw add-zero (omega arith)
 rising_to xs rising k (suc m) h =
     let step : slice_index xs (k + m) < slice_index xs (k + m + 1) = rising (k + m) (omega (arith, h)) in
@@ -48,7 +48,7 @@ module _ (n count : ℕ) (products : List Product) (are : AreProducts n count pr
   key : Product → ℕ
   key product = product.state * (n + count) + product.discrete
 
-  rising_states : (i k : ℕ) (c d : Product) → i ≤ k → k < length products → (get_or products i c).state ≤ (get_or products k d).state
+  pub rising_states : (i k : ℕ) (c d : Product) → i ≤ k → k < length products → (get_or products i c).state ≤ (get_or products k d).state
   unfolding key
   rising_states i k c d le inside =
       let keys : List ℕ = map key products in

@@ -7,7 +7,7 @@ ghost use Rattle.qss_machine.specs.Slopes.{mode_coefficient, mode_fits};
 ghost use Rattle.qss_machine.specs.Limits.{IsRow};
 
 use crate::parts::SlopeRow;
-use crate::sums::{coefficient, product_sum};
+use crate::sums::{coefficient_among, product_sum};
 use mu_num::near_div;
 
 /// Two to the power of a number of bits.
@@ -43,7 +43,7 @@ pub(crate) fn mode_coefficient_of(
     ensures value { result ≡ mode_coefficient level_bits state_count row.now discretes.now state }
     ensures bound { IsWithin 112 result }
 {
-    let own = coefficient(row.entries.as_slice(), state);
+    let own = coefficient_among(row.entries.as_slice(), state);
     let products = row.products.as_slice();
     if products.is_empty() {
         return own;

@@ -1,8 +1,10 @@
 //! Sums of entries and products over levels and discrete values.
 
-ghost use Rattle.std.specs.Prelude.{◌≡◌, ℕ, ◌+◌, ◌*◌, ◌^◌, ◌<◌, ◌≤◌, length, All, pos, ◌-◌, ◌*ℤ◌, ◌++◌, unsigned_abs, ◌==◌, if◌then◌else◌};
+ghost use Rattle.std.specs.Prelude.{◌≡◌, ℕ, ◌+◌, ◌*◌, ◌^◌, ◌<◌, ◌≤◌, length, All, pos, ◌-◌, ◌*ℤ◌, ◌++◌, map, unsigned_abs, ◌==◌, if◌then◌else◌};
+ghost use Rattle.std.specs.List.Sorted.{IsStrictlyIncreasing};
 ghost use Rattle.mu_num.specs.Sizes.{IsWithin};
 ghost use Rattle.qss_machine.specs.Numbers.{int_at};
+ghost use Rattle.qss_machine.specs.Limits.{AreProducts};
 ghost use Rattle.qss_machine.specs.Slopes.{weighted_sum, coefficient_of, products_of};
 
 use crate::parts::{Entry, Product};
@@ -57,6 +59,18 @@ pub fn coefficient(entries: &[Entry], var: u32) -> i128
     sum
 }
 
+/// The coefficient of a variable among entries by rising variable, 0 where no entry is of it. It halves the entries.
+pub(crate) fn coefficient_among(entries: &[Entry], var: u32) -> i128
+    requires rising { IsStrictlyIncreasing (map (λ entry. entry.var) entries.now) }
+    ensures value { result ≡ coefficient_of entries.now var }
+    ensures bound { IsWithin 63 result }
+{
+    match entries.binary_search_by_key(&var, |entry| entry.var) {
+        Ok(place) => i128::from(entries[place].coef),
+        Err(_) => 0,
+    }
+}
+
 /// An entry's coefficient times the value of its variable.
 pub(crate) fn entry_term(entry: Entry, first: &[i64], second: &[i64]) -> i128
     requires small { IsWithin 44 entry.coef }
@@ -86,37 +100,38 @@ pub(crate) fn entry_sum(entries: &[Entry], first: &[i64], second: &[i64]) -> i12
     sum
 }
 
-// A product's coefficient times the value of its discrete variable where it is of this state, else 0.
-fn product_term(product: Product, first: usize, discretes: &[i64], state: u32) -> i128
+// A product's coefficient times the value of its discrete variable.
+fn product_term(product: Product, first: usize, discretes: &[i64]) -> i128
     requires small { IsWithin 44 product.coef }
     requires from { first ≤ product.discrete }
     requires to { product.discrete < first + length discretes.now }
     requires values { All (IsWithin 43) discretes.now }
-    ensures value { result ≡ (if product.state == state then product.coef *ℤ int_at discretes.now (product.discrete - first) else pos 0) }
+    ensures value { result ≡ product.coef *ℤ int_at discretes.now (product.discrete - first) }
     ensures bound { unsigned_abs result ≤ 2 ^ 87 }
 {
-    if product.state == state {
-        term(
-            product.coef,
-            value_at(discretes, &[], product.discrete as usize - first),
-        )
-    } else {
-        0
-    }
+    term(
+        product.coef,
+        value_at(discretes, &[], product.discrete as usize - first),
+    )
 }
 
-/// The products of a state, each with the value of its discrete variable, added up.
+/// The products of a state, each with the value of its discrete variable, added up. It halves the products to find
+/// the first of the state's.
 pub(crate) fn product_sum(products: &[Product], first: usize, discretes: &[i64], state: u32) -> i128
     requires few { length products.now ≤ 2 ^ 24 }
+    requires products { AreProducts first (length discretes.now) products.now }
     requires small { All (λ product. IsWithin 44 product.coef) products.now }
-    requires known { All (λ product. (first ≤ product.discrete) × (product.discrete < first + length discretes.now)) products.now }
     requires values { All (IsWithin 43) discretes.now }
     ensures value { result ≡ products_of products.now first discretes.now state }
     ensures bound { IsWithin 111 result }
 {
+    let from = products.partition_point(|product| product.state < state);
     let mut sum: i128 = 0;
-    for product in products {
-        sum += product_term(*product, first, discretes, state);
+    for product in &products[from..] {
+        if product.state != state {
+            return sum;
+        }
+        sum += product_term(*product, first, discretes);
     }
     sum
 }

@@ -10,7 +10,7 @@ use crate::forms::add_three;
 use crate::modes::mode_coefficient_of;
 use crate::parts::{Entry, SlopeRow};
 use crate::slopes::wide_term;
-use crate::sums::{coefficient, entry_term};
+use crate::sums::{coefficient_among, entry_term};
 
 /// The size of an entry's coefficient times the value of its variable.
 pub fn entry_size(entry: Entry, first: &[i64], second: &[i64]) -> i128
@@ -79,7 +79,7 @@ fn state_excess(
     ensures bound { unsigned_abs result ≤ 2 ^ 88 }
 {
     let mode = mode_coefficient_of(row, level_bits, levels.len(), discretes, state as u32);
-    let own = coefficient(row.entries.as_slice(), state as u32);
+    let own = coefficient_among(row.entries.as_slice(), state as u32);
     wide_term(excess(mode, own), level_size(levels[state]))
 }
 

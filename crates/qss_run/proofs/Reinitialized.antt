@@ -104,6 +104,21 @@ module _ (n tick : ℕ) (log : List Row) (due moved : List ℕ) (old back given 
     others = λ j e. let both = or_parts (is_among due j) (is_reinitialized log j) (sym (joined j) ∙ e) in without.others j e ∙ are_given.others j both.1 ∙ others j both.0;
   }
 
+-- rows of other kinds reinitialize no state
+pub none_reinitialized : (log : List Row) → list_any (λ (row : Row). is_reinit row.kind) log ≡ false → (j : ℕ) → is_reinitialized log j ≡ false
+none_reinitialized [] none j = refl
+none_reinitialized (row ∷ log) none j =
+    let parts = or_parts (is_reinit row.kind) (list_any (λ (r : Row). is_reinit r.kind) log) none in
+    ap (λ b. (b && (row.var == j)) || is_reinitialized log j) parts.0 ∙ none_reinitialized log parts.1 j
+
+-- so nothing joins the moved states
+pub joins_nothing : (log : List Row) → list_any (λ (row : Row). is_reinit row.kind) log ≡ false → (moved : List ℕ) (j : ℕ) → is_among moved j ≡ (is_among moved j || is_reinitialized log j)
+joins_nothing log none moved j = sym (ap (λ b. is_among moved j || b) (none_reinitialized log none j) ∙ or_false (is_among moved j))
+  where
+    or_false : (b : Bool) → b || false ≡ b
+    or_false true = refl
+    or_false false = refl
+
 -- ---- the list of the states that rows reinitialize
 
 listed : (b : Bool) (row : Row) (rest : List Row) (j : ℕ) → list_any (λ (i : ℕ). i == j) (map (λ (r : Row). r.var) (cond b (row ∷ rest) rest)) ≡ ((b && (row.var == j)) || is_among (map (λ (r : Row). r.var) rest) j)

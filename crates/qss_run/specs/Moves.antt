@@ -28,6 +28,11 @@ pub record IsWithout (moved : List ℕ) (old new : List (Option ℕ)) : Type 0 w
   pub none : (j : ℕ) → is_among moved j ≡ true → due_at new j ≡ None
   pub others : (place : ℕ) → is_among moved place ≡ false → due_at new place ≡ due_at old place
 
+-- an agenda in which nothing is due up to a tick, and the moved states not at all
+pub record IsTakenFrom (tick : ℕ) (moved : List ℕ) (due : List (Option ℕ)) : Type 0 where
+  pub later : (place at : ℕ) → due_at due place ≡ Some at → tick < at
+  pub none : (j : ℕ) → is_among moved j ≡ true → due_at due j ≡ None
+
 -- the conditions, of `conditions`, that change at a tick, rising; the agenda has their places after those of n states
 pub record AreChanging (n conditions tick : ℕ) (due : List (Option ℕ)) (changed : List ℕ) : Type 0 where
   pub numbers : AreNumbers conditions changed

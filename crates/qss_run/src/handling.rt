@@ -11,7 +11,7 @@ ghost use Rattle.qss_sched.specs.Ranks.{due_at};
 ghost use Rattle.qss_hand.specs.Works.{row_room};
 ghost use Rattle.qss_cross.specs.Crossing.{IsSmall, value_at, holds_at};
 ghost use Rattle.qss_run.specs.Handlings.{IsHandled};
-ghost use Rattle.qss_run.specs.Moves.{is_among, AreNumbers, IsWithout};
+ghost use Rattle.qss_run.specs.Moves.{is_among, AreNumbers, IsTakenFrom, IsWithout};
 ghost use Rattle.qss_run.specs.Places.{AreBranches, line_at, watch_at};
 ghost use Rattle.qss_run.specs.Sims.{condition_at};
 ghost use Rattle.qss_run.specs.Stores.{states_at, handling_from};
@@ -45,7 +45,7 @@ fn arrive_moved(lines: &[Integrator], tick: u64, moved: &[u32], work: &mut Work)
 }
 
 /// The handlers of a tick at which these states are due, and these conditions change or became true through the handlers
-/// before. Reinitialized states join the moved ones, which leave the agenda. It gives the variable that overflows, on
+/// before. Reinitialized states join the moved ones, all of which leave the agenda. It gives the variable that overflows, on
 /// arrival or by an assignment, if one does.
 pub(crate) fn handle_changed(
     m: &Machine,
@@ -79,7 +79,7 @@ pub(crate) fn handle_changed(
     requires moved { AreNumbers (state_count m.now) moved.old.items }
     requires places { state_count m.now ≤ length agenda.old }
     requires later { (j : ℕ) → j < length lines.now → (line_at lines.now j).tick ≤ tick }
-    requires later_dues { (place due : ℕ) → due_at agenda.old place ≡ Some due → tick < due }
+    requires taken { IsTakenFrom tick moved.old.items agenda.old }
     requires in_time { tick < 2 ^ 32 }
     requires others_small { (j : ℕ) → j < state_count m.now → is_among moved.old.items j ≡ false → IsWithin 88 (state_at (line_at lines.now j) tick) }
     requires watched { (place : ℕ) → place < length branches.now → ((watch_at watches.now place).tick ≤ tick) × (All (IsWithin 88) (states_at lines.now tick) → IsSmall (value_at (watch_at watches.now place) tick)) × (holds_at (watch_at watches.now place) tick ≡ truth m.now (condition_at m.now place) (states_at lines.now tick) work.old.d tick) }

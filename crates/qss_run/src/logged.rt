@@ -1,11 +1,12 @@
 //! What the rows of a tick's handlers say: which states were reinitialized, and which discrete variables assigned.
 
 ghost use Rattle.std.specs.Prelude.{◌≡◌, ℕ, ◌<◌, ◌≤◌, ◌||◌, Some, length, true, false, vec_capacity};
+ghost use Rattle.std.specs.List.{list_any};
 ghost use Rattle.qss_machine.specs.Counts.{is_reinit};
 ghost use Rattle.qss_sched.specs.Ranks.{due_at};
 ghost use Rattle.qss_run.specs.Handlings.{is_reinitialized};
 ghost use Rattle.qss_run.specs.Logs.{is_set, assigned_of};
-ghost use Rattle.qss_run.specs.Moves.{is_among, AreNumbers, IsWithout};
+ghost use Rattle.qss_run.specs.Moves.{is_among, AreNumbers, IsTakenFrom, IsWithout};
 
 use crate::due::{give_back, take_due};
 use qss_machine::{Row, RowKind};
@@ -16,6 +17,13 @@ pub(crate) fn reinitializes(row: &Row) -> bool
     ensures { result ≡ is_reinit row.now.kind }
 {
     matches!(row.kind, RowKind::Reinit)
+}
+
+// Whether some row says that a state was reinitialized.
+fn some_reinitialize(log: &[Row]) -> bool
+    ensures { result ≡ list_any (λ row. is_reinit row.kind) log.now }
+{
+    log.iter().any(|row| reinitializes(row))
 }
 
 // Whether a row says that a discrete variable was assigned.
@@ -39,7 +47,7 @@ fn give_reinitialized(agenda: &mut Agenda, tick: u64, log: &[Row])
     }
 }
 
-/// The states that these rows reinitialize join the moved ones, which leave the agenda.
+/// The states that these rows reinitialize join the moved ones, all of which leave the agenda.
 pub(crate) fn join_reinitialized(
     agenda: &mut Agenda,
     tick: u64,
@@ -51,12 +59,15 @@ pub(crate) fn join_reinitialized(
     requires places { states ≤ length agenda.old }
     requires moved { AreNumbers states moved.old.items }
     requires known { (j : ℕ) → is_reinitialized log.now j ≡ true → j < states }
-    requires later { (place due : ℕ) → due_at agenda.old place ≡ Some due → tick < due }
+    requires taken { IsTakenFrom tick moved.old.items agenda.old }
     ensures numbers { AreNumbers states moved.new.items }
     ensures each { (j : ℕ) → is_among moved.new.items j ≡ (is_among moved.old.items j || is_reinitialized log.now j) }
     ensures without { IsWithout moved.new.items agenda.old agenda.new }
     ensures room { vec_capacity moved.new ≡ vec_capacity moved.old }
 {
+    if !some_reinitialize(log) {
+        return;
+    }
     give_back(agenda, tick, moved.as_slice());
     give_reinitialized(agenda, tick, log);
     take_due(agenda, tick, states, moved);

@@ -54,7 +54,8 @@ fn shift(coefficient: i128, old: i64, new: i64) -> i128
     ensures bound { IsWithin 88 result }
 {
     let change = new - old;
-    coefficient * i128::from(change)
+    // One multiplication, since both fit in 64 bits.
+    i128::from(coefficient as i64) * i128::from(change)
 }
 
 // How much a row's sum changes where a state takes another level.

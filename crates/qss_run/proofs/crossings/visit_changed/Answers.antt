@@ -36,9 +36,11 @@ use Rattle.qss_run.proofs.Touched.{renewals_from_touched}
 use Rattle.qss_run.proofs.Visits.{arrives, handles_from, both_none, early, late, steps_to, end_of, same_length, levels_small}
 use Rattle.qss_run.proofs.crossings.visit_changed.Goals as goal
 
-pub handle_changed-over-requires-clause-later_dues : goal.handle_changed-over-requires-clause-later_dues
-handle_changed-over-requires-clause-later_dues g c =
-    later_dues c.args.m.now c.args.tick c.requires.taken.0 c.args.s.now c.requires.taken.1 c.requires.in_time
+pub handle_changed-over-requires-clause-taken : goal.handle_changed-over-requires-clause-taken
+handle_changed-over-requires-clause-taken g c = record {
+  later = later_dues c.args.m.now c.args.tick c.requires.taken.0 c.args.s.now c.requires.taken.1 c.requires.in_time;
+  none = c.requires.taken.1.without.states;
+}
 
 pub handle_changed-over-requires-clause-others_small : goal.handle_changed-over-requires-clause-others_small
 handle_changed-over-requires-clause-others_small g c j h none =

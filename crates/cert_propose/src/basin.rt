@@ -1,0 +1,179 @@
+//! The fifth step: the basin.
+
+ghost use Rattle.std.specs.Prelude.{◌≡◌, ◌<◌, ◌≤◌, ◌^◌, pos, ◌≤ℤ◌, length, ℕ, IfSome};
+ghost use Rattle.mu_num.specs.Rounding.{ceiling_of};
+ghost use Rattle.cert_matrix.specs.Matrix.{table, vector};
+ghost use Rattle.cert_check.specs.Reading.{system};
+ghost use Rattle.cert_propose.specs.Sums.{root_up_of};
+ghost use Rattle.cert_propose.specs.Candidate as Step;
+ghost use Rattle.cert_propose.specs.Limits.{IsFormed, IsBound, AreBounds, ArePositive};
+
+use crate::bounds::Bounds;
+use crate::centre::rest_slopes;
+use crate::columns::column_of;
+use crate::products::{differences, dot, rows_times, sizes_times, squares, sum_of, sums};
+use cert_check::{AffineSystem, Column};
+use cert_matrix::Matrix;
+use mu_num::{ceil_div, root_up};
+
+/// How far states may lie from the centre and move in a tick, how far they may lie from their levels, and what each may add
+/// to the form.
+#[derive(Drop)]
+pub(crate) struct Reach {
+    pub z: Column,
+    pub s: Column,
+    pub w: Column,
+    pub sigma: Column,
+}
+
+/// The basin.
+#[derive(Drop)]
+pub(crate) struct Basin {
+    pub r: i128,
+    pub reach: Reach,
+}
+
+// The form of the start's distance from the centre.
+fn start_value(m: &AffineSystem, start: &Column, c: &Column, pm: &Matrix) -> Option<i128>
+    requires formed { IsFormed m.now }
+    requires size { length pm.now ≡ m.now.n }
+    ensures { result ≡ Step.start_value (system m.now) (vector start.now) c.now pm.now }
+{
+    let y = differences(m.n, start, m.unit, c)?;
+    let z = rows_times(&Column::new(), pm, &y)?;
+    dot(m.n, &y, &z)
+}
+
+// The least number of squares of a level that the start's form needs.
+fn start_basin(m: &AffineSystem, start: &Column, c: &Column, pm: &Matrix) -> Option<i128>
+    requires formed { IsFormed m.now }
+    requires size { length pm.now ≡ m.now.n }
+    ensures { result ≡ Step.start_basin (system m.now) (vector start.now) c.now pm.now }
+{
+    let value = start_value(m, start, c, pm)?;
+    Some(ceil_div(value, m.unit * m.unit).max(0))
+}
+
+// The root of a number over the one at place `k` of a column.
+fn root_over(p: &Column, z: &i128, k: u8) -> i128
+    requires positive { pos 1 ≤ℤ vector p.now k }
+    requires bound { IsBound z.now }
+    ensures { result ≡ root_up_of (ceiling_of z.now (vector p.now k)) }
+{
+    root_up(ceil_div(*z, p.at(k)))
+}
+
+/// The roots of a number over each of a column.
+pub(crate) fn roots_over(n: u8, p: &Column, z: &i128) -> Column
+    requires few { n ≤ 16 }
+    requires positive { ArePositive n (vector p.now) }
+    requires bound { IsBound z.now }
+    ensures { result ≡ Step.roots_over n p.now z.now }
+{
+    column_of(n, |k| root_over(p, z, k))
+}
+
+// Each number over d, rounded up.
+fn ceiling_each(n: u8, numbers: &Column, d: &i128) -> Column
+    requires few { n ≤ 16 }
+    requires divisor { pos 1 ≤ℤ d.now }
+    ensures { result ≡ Step.ceiling_each n numbers.now (λ i. d.now) }
+{
+    column_of(n, |i| ceil_div(numbers.at(i), *d))
+}
+
+/// The squares of gains over mu.
+pub(crate) fn gains_over(n: u8, mu: &Column, gains: &Column) -> Option<Column>
+    requires few { n ≤ 16 }
+    requires positive { ArePositive n (vector mu.now) }
+    ensures { result ≡ Step.gains_over n mu.now gains.now }
+{
+    let squares = squares(n, gains)?;
+    Some(column_of(n, |i| ceil_div(squares.at(i), mu.at(i))))
+}
+
+// How far states may move in a tick.
+fn moves_of(m: &AffineSystem, rho: &Column, z: &Column) -> Option<Column>
+    requires { IsFormed m.now }
+    ensures { result ≡ Step.moves_of (system m.now) rho.now z.now }
+{
+    let reaches = sums(m.n, z, &m.quantum)?;
+    let slopes = sizes_times(rho, &m.coef, &reaches)?;
+    Some(ceiling_each(m.n, &slopes, &m.unit))
+}
+
+// The bounds of one step from the centre.
+fn centre_gains(pm: &Matrix, pa: &Matrix, rho: &Column, w: &Column) -> Option<Column>
+    requires { length pa.now ≡ length pm.now }
+    ensures { result ≡ Step.centre_gains (length pm.now) pm.now pa.now rho.now w.now }
+{
+    let rests = rows_times(&Column::new(), pm, rho)?;
+    sizes_times(&rests, pa, w)
+}
+
+// The reach of states within z of the centre.
+fn reach_from(m: &AffineSystem, pm: &Matrix, b: &Bounds, rho: &Column, z: Column) -> Option<Reach>
+    requires formed { IsFormed m.now }
+    requires size { length pm.now ≡ m.now.n }
+    requires bounds { AreBounds m.now.n b.now }
+    ensures { result ≡ Step.reach_from (system m.now) pm.now b.now rho.now z }
+{
+    let s = moves_of(m, rho, &z)?;
+    let w = sums(m.n, &m.quantum, &s)?;
+    let gains = centre_gains(pm, &b.pa, rho, &w)?;
+    let sigma = gains_over(m.n, &b.mu, &gains)?;
+    Some(Reach { z, s, w, sigma })
+}
+
+// What a basin of this size reaches.
+fn reach_of(m: &AffineSystem, c: &Column, pm: &Matrix, b: &Bounds, r: &i128) -> Option<Reach>
+    requires formed { IsFormed m.now }
+    requires size { length pm.now ≡ m.now.n }
+    requires bounds { AreBounds m.now.n b.now }
+    requires basin { IsBound r.now }
+    ensures { result ≡ Step.reach_of (system m.now) c.now pm.now b.now r.now }
+{
+    let rho = rest_slopes(m, c)?;
+    reach_from(m, pm, b, &rho, roots_over(m.n, &b.p, r))
+}
+
+// A round: the basin is at least what the states add to the form, divided by lambda.
+fn basin_round(m: &AffineSystem, c: &Column, pm: &Matrix, b: &Bounds, r: &i128) -> Option<i128>
+    requires formed { IsFormed m.now }
+    requires size { length pm.now ≡ m.now.n }
+    requires bounds { AreBounds m.now.n b.now }
+    requires basin { IsBound r.now }
+    ensures { result ≡ Step.basin_round (system m.now) c.now pm.now b.now r.now }
+{
+    let reach = reach_of(m, c, pm, b, r)?;
+    let sum = sum_of(m.n, &reach.sigma)?;
+    Some(ceil_div(sum, b.lambda).max(*r))
+}
+
+// The basin after 64 rounds from a start.
+fn grown(m: &AffineSystem, c: &Column, pm: &Matrix, b: &Bounds, start: &i128) -> Option<i128>
+    requires formed { IsFormed m.now }
+    requires size { length pm.now ≡ m.now.n }
+    requires bounds { AreBounds m.now.n b.now }
+    requires basin { IsBound start.now }
+    ensures { result ≡ Step.grown (system m.now) c.now pm.now b.now start.now }
+{
+    let mut r = *start;
+    for _round in 0..64u8 {
+        r = basin_round(m, c, pm, b, &r)?;
+    }
+    Some(r)
+}
+
+/// The basin, after 64 rounds.
+pub(crate) fn basin_of(m: &AffineSystem, start: &Column, c: &Column, pm: &Matrix, b: &Bounds) -> Option<Basin>
+    requires formed { IsFormed m.now }
+    requires size { length pm.now ≡ m.now.n }
+    requires bounds { AreBounds m.now.n b.now }
+    ensures { result ≡ Step.basin_of (system m.now) (vector start.now) c.now pm.now b.now }
+{
+    let least = start_basin(m, start, c, pm)?;
+    let r = grown(m, c, pm, b, &least)?;
+    let reach = reach_of(m, c, pm, b, &r)?;
+    Some(Basin { r, reach })
+}

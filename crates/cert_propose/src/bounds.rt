@@ -1,0 +1,91 @@
+//! The fourth step: the lower bounds.
+
+ghost use Rattle.std.specs.Prelude.{◌≡◌, ◌<◌, ◌≤◌, pos, ◌≤ℤ◌, length};
+ghost use Rattle.cert_matrix.specs.Matrix.{table, vector};
+ghost use Rattle.cert_check.specs.Reading.{system};
+ghost use Rattle.cert_propose.specs.Candidate as Step;
+ghost use Rattle.cert_propose.specs.Limits.{IsFormed};
+
+use crate::columns::column_of;
+use crate::matrices::matrix_by;
+use crate::products::{differences, doubled, over_sizes, product, row_sizes};
+use crate::sums::add_turned;
+use cert_check::{AffineSystem, Column};
+use cert_matrix::Matrix;
+use mu_num::floor_div;
+
+/// The lower bounds of the form and of its fall, and the form's matrix times the coefficients.
+#[derive(Drop)]
+pub(crate) struct Bounds {
+    pub pa: Matrix,
+    pub p: Column,
+    pub lambda: i128,
+    pub mu: Column,
+}
+
+// The first `n` numbers of a column, raised to 1 where they are less.
+fn raised(n: u8, numbers: &Column) -> Column
+    requires { n ≤ 16 }
+    ensures { result ≡ Step.raised n numbers.now }
+{
+    column_of(n, |i| numbers.at(i).max(1))
+}
+
+// What the form falls by.
+fn falls_of(pa: &Matrix) -> Option<Matrix>
+    ensures { result ≡ Step.falls_of (length pa.now) pa.now }
+{
+    matrix_by(pa.size(), |i, j| add_turned(pa.get(i, j), pa.get(j, i)))
+}
+
+// The quotient of t and twice the sizes of the form's row `i`, rounded down.
+fn quotient(t: &Column, doubles: &Column, i: u8) -> i128
+    ensures { result ≡ Step.quotient_at t.now doubles.now i }
+{
+    floor_div(t.at(i), doubles.at(i).max(1))
+}
+
+// The least of these quotients, and at least 1.
+fn rate_of(n: u8, t: &Column, doubles: &Column) -> i128
+    ensures { result ≡ Step.rate_of n t.now doubles.now }
+{
+    let mut least = quotient(t, doubles, 0);
+    for i in 0..n {
+        least = least.min(quotient(t, doubles, i));
+    }
+    least.max(1)
+}
+
+// What is left of t by lambda times the sizes of the form's rows, at least 1.
+fn rests_of(n: u8, t: &Column, sizes: &Column, lambda: i128) -> Option<Column>
+    requires { n ≤ 16 }
+    ensures { result ≡ Step.rests_of n t.now sizes.now lambda }
+{
+    let rests = differences(n, t, lambda, sizes)?;
+    Some(raised(n, &rests))
+}
+
+// The bounds, of t and of the sizes of the form's rows.
+fn falling_of(p: Column, pa: Matrix, t: &Column, sizes: &Column) -> Option<Bounds>
+    ensures { result ≡ Step.falling_of (length pa) p pa t.now sizes.now }
+{
+    let n = pa.size();
+    let doubles = doubled(n, sizes)?;
+    let lambda = rate_of(n, t, &doubles);
+    let mu = rests_of(n, t, sizes, lambda)?;
+    Some(Bounds { pa, p, lambda, mu })
+}
+
+/// The lower bounds of a form.
+pub(crate) fn bounds_of(m: &AffineSystem, pm: &Matrix) -> Option<Bounds>
+    requires formed { IsFormed m.now }
+    requires size { length pm.now ≡ m.now.n }
+    ensures { result ≡ Step.bounds_of (system m.now) pm.now }
+{
+    let p = over_sizes(pm)?;
+    let pa = product(pm, &m.coef)?;
+    let falls = falls_of(&pa)?;
+    let t = over_sizes(&falls)?;
+    let sizes = row_sizes(pm)?;
+    falling_of(raised(m.n, &p), pa, &t, &sizes)
+}

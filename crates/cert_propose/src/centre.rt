@@ -1,0 +1,62 @@
+//! The second step: the centre.
+
+ghost use Rattle.std.specs.Prelude.{◌≡◌, ◌<◌, ◌≤◌, ◌^◌, pos};
+ghost use Rattle.mu_num.specs.Rounding.{nearest_of};
+ghost use Rattle.cert_matrix.specs.Matrix.{vector};
+ghost use Rattle.cert_check.specs.Reading.{system};
+ghost use Rattle.cert_propose.specs.Candidate as Step;
+ghost use Rattle.cert_propose.specs.Limits.{IsFormed};
+
+use crate::columns::column_of;
+use crate::exponent::power;
+use crate::products::{rows_times, sums};
+use cert_check::{AffineSystem, Column};
+use mu_num::near_div;
+
+/// The slopes at the centre.
+pub(crate) fn rest_slopes(m: &AffineSystem, c: &Column) -> Option<Column>
+    requires { IsFormed m.now }
+    ensures { result ≡ Step.rest_slopes (system m.now) c.now }
+{
+    rows_times(&m.constant, &m.coef, c)
+}
+
+// The number at place `i` over 2^q, rounded to the nearest.
+fn nearest_at(numbers: &Column, q: u8, i: u8) -> i128
+    requires { q < 64 }
+    ensures { result ≡ nearest_of (vector numbers.now i) (pos (2 ^ q)) }
+{
+    near_div(numbers.at(i), power(q))
+}
+
+// The first `n` numbers of a column over 2^q, rounded to the nearest.
+fn nearest_each(n: u8, numbers: &Column, q: u8) -> Column
+    requires states { n ≤ 16 }
+    requires few { q < 64 }
+    ensures { result ≡ Step.nearest_each n numbers.now (pos (2 ^ q)) }
+{
+    column_of(n, |i| nearest_at(numbers, q, i))
+}
+
+// A round: each number, and the slope there over 2^q.
+fn centre_round(m: &AffineSystem, q: u8, c: &Column) -> Option<Column>
+    requires formed { IsFormed m.now }
+    requires few { q < 64 }
+    ensures { result ≡ Step.centre_round (system m.now) q c.now }
+{
+    let slopes = rest_slopes(m, c)?;
+    sums(m.n, c, &nearest_each(m.n, &slopes, q))
+}
+
+/// The centre, after 4,096 rounds.
+pub(crate) fn centre(m: &AffineSystem, q: u8) -> Option<Column>
+    requires formed { IsFormed m.now }
+    requires few { q < 64 }
+    ensures { result ≡ Step.centre (system m.now) q }
+{
+    let mut c = column_of(m.n, |_i| 0);
+    for _round in 0..4096u16 {
+        c = centre_round(m, q, &c)?;
+    }
+    Some(c)
+}

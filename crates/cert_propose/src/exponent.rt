@@ -1,0 +1,54 @@
+//! The first step: the exponent.
+
+ghost use Rattle.std.specs.Prelude.{◌≡◌, ◌<◌, ◌^◌, ◌*ℤ◌, int_le, pos, length};
+ghost use Rattle.cert_matrix.specs.Matrix.{table};
+ghost use Rattle.cert_propose.specs.Candidate as Step;
+
+use crate::products::row_size;
+use cert_matrix::Matrix;
+
+/// 2^q.
+pub(crate) fn power(q: u8) -> i128
+    requires { q < 127 }
+    ensures { result ≡ pos (2 ^ q) }
+{
+    1 << q
+}
+
+// Whether 2^q is at least 16 times the sizes of row `i`.
+fn is_above(a: &Matrix, i: u8, q: u8) -> bool
+    requires row { i < length a.now }
+    requires few { q < 64 }
+    ensures { result ≡ int_le (pos 16 *ℤ Step.row_size (length a.now) (table a.now) i) (pos (2 ^ q)) }
+{
+    match row_size(a, i) {
+        Some(size) => size <= (1 << q) / 16,
+        None => false,
+    }
+}
+
+// Whether 2^q is at least 16 times the sizes of each row.
+fn is_exponent(a: &Matrix, q: u8) -> bool
+    requires { q < 64 }
+    ensures { result ≡ Step.is_exponent (length a.now) (table a.now) q }
+{
+    for i in 0..a.size() {
+        if !is_above(a, i, q) {
+            return false;
+        }
+    }
+    true
+}
+
+/// The least such q.
+pub(crate) fn exponent(a: &Matrix) -> u8
+    ensures value { result ≡ Step.exponent (length a.now) (table a.now) }
+    ensures few { result < 64 }
+{
+    for q in 0..64 {
+        if is_exponent(a, q) {
+            return q;
+        }
+    }
+    0
+}

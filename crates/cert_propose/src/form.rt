@@ -1,0 +1,99 @@
+//! The third step: the form.
+
+ghost use Rattle.std.specs.Prelude.{◌≡◌, ◌<◌, ◌≤◌, ◌^◌, ◌*◌, ◌+ℤ◌, pos, length};
+ghost use Rattle.mu_num.specs.Rounding.{nearest_of};
+ghost use Rattle.cert_matrix.specs.Matrix.{table};
+ghost use Rattle.cert_check.specs.Reading.{system};
+ghost use Rattle.cert_propose.specs.Sums.{ranged_sum};
+ghost use Rattle.cert_propose.specs.Candidate as Step;
+ghost use Rattle.cert_propose.specs.Limits.{IsFormed, AreSmall};
+
+use crate::exponent::power;
+use crate::matrices::{matrix_by, matrix_of};
+use crate::products::product;
+use crate::sums::add;
+use cert_check::AffineSystem;
+use cert_matrix::Matrix;
+use mu_num::near_div;
+
+// A number on the diagonal, else 0.
+fn on_diagonal(number: i128, i: u8, j: u8) -> i128
+    ensures { result ≡ Step.on_diagonal number i j }
+{
+    if i == j { number } else { 0 }
+}
+
+// The coefficient in row `i` and column `j`, and 2^q on the diagonal.
+fn shifted_at(m: &AffineSystem, q: u8, i: u8, j: u8) -> i128
+    requires formed { IsFormed m.now }
+    requires small { AreSmall (system m.now) }
+    requires few { q < 64 }
+    requires row { i < m.now.n }
+    requires column { j < m.now.n }
+    ensures { result ≡ Step.on_diagonal (pos (2 ^ q)) i j +ℤ table m.now.coef i j }
+{
+    on_diagonal(power(q), i, j) + m.coef.get(i, j)
+}
+
+// The coefficients, and 2^q on the diagonal.
+fn shifted(m: &AffineSystem, q: u8) -> Matrix
+    requires formed { IsFormed m.now }
+    requires small { AreSmall (system m.now) }
+    requires few { q < 64 }
+    ensures { result ≡ Step.shifted (system m.now) q }
+{
+    matrix_of(m.n, |i, j| shifted_at(m, q, i, j))
+}
+
+// The rows as columns.
+fn turned(m: &Matrix) -> Matrix
+    ensures { result ≡ Step.turned (length m.now) m.now }
+{
+    matrix_of(m.size(), |i, j| m.get(j, i))
+}
+
+// 1024 on the diagonal, and the number in row `i` and column `j` over the square of 2^q, rounded to the nearest.
+fn next_at(q: u8, y: &Matrix, i: u8, j: u8) -> Option<i128>
+    requires few { q < 64 }
+    requires row { i < length y.now }
+    requires column { j < length y.now }
+    ensures { result ≡ ranged_sum (Step.on_diagonal (pos 1024) i j) (nearest_of (table y.now i j) (pos (2 ^ (2 * q)))) }
+{
+    add(on_diagonal(1024, i, j), near_div(y.get(i, j), power(2 * q)))
+}
+
+// 1024 on the diagonal, and each number over the square of 2^q, rounded to the nearest.
+fn next_form(q: u8, y: &Matrix) -> Option<Matrix>
+    requires { q < 64 }
+    ensures { result ≡ Step.next_form (length y.now) (pos (2 ^ (2 * q))) y.now }
+{
+    matrix_by(y.size(), |i, j| next_at(q, y, i, j))
+}
+
+// A round: the form between a matrix and its rows as columns, over the square of 2^q.
+fn form_round(q: u8, phi: &Matrix, columns: &Matrix, p: &Matrix) -> Option<Matrix>
+    requires few { q < 64 }
+    requires size { length phi.now ≡ length p.now }
+    requires columns { columns.now ≡ Step.turned (length p.now) phi.now }
+    ensures { result ≡ Step.form_round (length p.now) q phi.now p.now }
+{
+    let right = product(p, phi)?;
+    let both = product(columns, &right)?;
+    next_form(q, &both)
+}
+
+/// The form's matrix, after 4,096 rounds.
+pub(crate) fn form_matrix(m: &AffineSystem, q: u8) -> Option<Matrix>
+    requires formed { IsFormed m.now }
+    requires small { AreSmall (system m.now) }
+    requires few { q < 64 }
+    ensures { result ≡ Step.form_matrix (system m.now) q }
+{
+    let phi = shifted(m, q);
+    let columns = turned(&phi);
+    let mut p = Matrix::new(m.n);
+    for _round in 0..4096u16 {
+        p = form_round(q, &phi, &columns, &p)?;
+    }
+    Some(p)
+}

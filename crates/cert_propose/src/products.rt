@@ -1,0 +1,148 @@
+//! Products of matrices and columns.
+
+ghost use Rattle.std.specs.Prelude.{◌≡◌, ◌<◌, ◌≤◌, ℕ, ℤ, pos, neg_ℤ, length};
+ghost use Rattle.cert_matrix.specs.Matrix.{table, vector};
+ghost use Rattle.cert_matrix.specs.Sums.{size};
+ghost use Rattle.cert_propose.specs.Sums as Spec;
+ghost use Rattle.cert_propose.specs.Candidate as Step;
+
+use crate::columns::column_by;
+use crate::matrices::matrix_by;
+use crate::sums::{add, multiply, subtract, sum_by, sum_sizes_by};
+use cert_check::Column;
+use cert_matrix::{Matrix, RangedSum};
+
+// A number, and row `i` of a matrix times a column.
+fn row_times(base: i128, m: &Matrix, i: u8, y: &Column) -> Option<i128>
+    requires { i < length m.now }
+    ensures { result ≡ Spec.ranged base (length m.now) (table m.now i) (vector y.now) }
+{
+    sum_by(base, m.size(), |k| m.get(i, k), |k| y.at(k))
+}
+
+/// Each row of a matrix times a column, and a number.
+pub(crate) fn rows_times(base: &Column, m: &Matrix, y: &Column) -> Option<Column>
+    ensures { result ≡ Spec.rows_times (length m.now) (vector base.now) (table m.now) (vector y.now) }
+{
+    column_by(m.size(), |i| row_times(base.at(i), m, i, y))
+}
+
+// The size of a number, and the sizes of row `i` of a matrix times a column.
+fn row_sizes_times(base: i128, m: &Matrix, i: u8, y: &Column) -> Option<i128>
+    requires { i < length m.now }
+    ensures { result ≡ Spec.ranged_sizes (size base) (length m.now) (table m.now i) (vector y.now) }
+{
+    let start = RangedSum::new().plus_size(base, 1)?;
+    sum_sizes_by(start, m.size(), |k| m.get(i, k), |k| y.at(k))
+}
+
+/// The sizes of each row of a matrix times a column, and the size of a number.
+pub(crate) fn sizes_times(base: &Column, m: &Matrix, y: &Column) -> Option<Column>
+    ensures { result ≡ Spec.sizes_times (length m.now) (vector base.now) (table m.now) (vector y.now) }
+{
+    column_by(m.size(), |i| row_sizes_times(base.at(i), m, i, y))
+}
+
+/// The sizes of row `i`, added up.
+pub(crate) fn row_size(m: &Matrix, i: u8) -> Option<i128>
+    requires { i < length m.now }
+    ensures { result ≡ Spec.ranged_sizes (pos 0) (length m.now) (table m.now i) (λ j. pos 1) }
+{
+    sum_sizes_by(RangedSum::new(), m.size(), |k| m.get(i, k), |_k| 1)
+}
+
+/// The sizes of each row, added up.
+pub(crate) fn row_sizes(m: &Matrix) -> Option<Column>
+    ensures { result ≡ Step.row_sizes (length m.now) m.now }
+{
+    column_by(m.size(), |i| row_size(m, i))
+}
+
+// The entry in row `i` and column `j`, or 0 on the diagonal.
+fn beside_diagonal(m: &Matrix, i: u8, j: u8) -> i128
+    requires row { i < length m.now }
+    requires column { j < length m.now }
+    ensures { result ≡ Step.beside_diagonal (table m.now) i j }
+{
+    if i == j { 0 } else { m.get(i, j) }
+}
+
+// The number on the diagonal in row `i`, less the sizes beside it.
+fn over_sizes_at(m: &Matrix, i: u8) -> Option<i128>
+    requires { i < length m.now }
+    ensures { result ≡ Spec.ranged_sizes (table m.now i i) (length m.now) (Step.beside_diagonal (table m.now) i) (λ j. neg_ℤ (pos 1)) }
+{
+    let start = RangedSum::new().plus(m.get(i, i), 1)?;
+    sum_sizes_by(start, m.size(), |k| beside_diagonal(m, i, k), |_k| -1)
+}
+
+/// Each number on the diagonal, less the sizes beside it.
+pub(crate) fn over_sizes(m: &Matrix) -> Option<Column>
+    ensures { result ≡ Step.over_sizes (length m.now) m.now }
+{
+    column_by(m.size(), |i| over_sizes_at(m, i))
+}
+
+/// The products of the first `n` numbers of two columns, added up.
+pub(crate) fn dot(n: u8, y: &Column, z: &Column) -> Option<i128>
+    ensures { result ≡ Spec.ranged (pos 0) n (vector y.now) (vector z.now) }
+{
+    sum_by(0, n, |k| y.at(k), |k| z.at(k))
+}
+
+/// The first `n` numbers of a column, added up.
+pub(crate) fn sum_of(n: u8, z: &Column) -> Option<i128>
+    ensures { result ≡ Step.sum_of n z.now }
+{
+    sum_by(0, n, |k| z.at(k), |_k| 1)
+}
+
+/// The first `n` numbers of a column and of another, added up place by place.
+pub(crate) fn sums(n: u8, x: &Column, y: &Column) -> Option<Column>
+    requires { n ≤ 16 }
+    ensures { result ≡ Spec.sums n (vector x.now) (vector y.now) }
+{
+    column_by(n, |i| add(x.at(i), y.at(i)))
+}
+
+/// The squares of the first `n` numbers of a column.
+pub(crate) fn squares(n: u8, x: &Column) -> Option<Column>
+    requires { n ≤ 16 }
+    ensures { result ≡ Spec.products n (vector x.now) (vector x.now) }
+{
+    column_by(n, |i| multiply(x.at(i), x.at(i)))
+}
+
+/// Twice the first `n` numbers of a column.
+pub(crate) fn doubled(n: u8, x: &Column) -> Option<Column>
+    requires { n ≤ 16 }
+    ensures { result ≡ Step.doubled n x.now }
+{
+    column_by(n, |i| multiply(2, x.at(i)))
+}
+
+/// The first `n` numbers of a column, less `k` times those of another.
+pub(crate) fn differences(n: u8, x: &Column, k: i128, y: &Column) -> Option<Column>
+    requires { n ≤ 16 }
+    ensures { result ≡ Spec.differences n (vector x.now) k (vector y.now) }
+{
+    column_by(n, |i| subtract(x.at(i), k, y.at(i)))
+}
+
+// The entry in row `i` and column `j` of the product of two matrices.
+fn product_at(x: &Matrix, y: &Matrix, i: u8, j: u8) -> Option<i128>
+    requires same { length y.now ≡ length x.now }
+    requires row { i < length x.now }
+    requires column { j < length x.now }
+    ensures { result ≡ Spec.ranged (pos 0) (length x.now) (table x.now i) (λ k. table y.now k j) }
+{
+    sum_by(0, x.size(), |k| x.get(i, k), |k| y.get(k, j))
+}
+
+/// The product of two matrices.
+pub(crate) fn product(x: &Matrix, y: &Matrix) -> Option<Matrix>
+    requires { length y.now ≡ length x.now }
+    ensures { result ≡ Spec.product_of (length x.now) (table x.now) (table y.now) }
+{
+    matrix_by(x.size(), |i, j| product_at(x, y, i, j))
+}

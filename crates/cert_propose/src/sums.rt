@@ -1,0 +1,78 @@
+//! Sums that are taken where they are in range.
+
+ghost use Rattle.std.specs.Prelude.{◌≡◌, ◌<◌, ◌+◌, ◌+ℤ◌, ◌*ℤ◌, neg_ℤ, ℕ, ℤ};
+ghost use Rattle.cert_matrix.specs.Sums.{total, size};
+ghost use Rattle.cert_matrix.specs.Form.{Vector};
+ghost use Rattle.cert_matrix.specs.Matrix.{weight};
+ghost use Rattle.cert_matrix.specs.RangedSums.{total_of, weight_of};
+ghost use Rattle.cert_propose.specs.Sums.{where_in_range, ranged, ranged_sum, ranged_product, ranged_less};
+
+use cert_matrix::RangedSum;
+
+/// The sum of two numbers.
+pub(crate) fn add(x: i128, y: i128) -> Option<i128>
+    ensures { result ≡ ranged_sum x y }
+{
+    let sum = RangedSum::new().plus(x, 1)?.plus(y, 1)?;
+    Some(sum.total())
+}
+
+/// The sum of two numbers with the other signs.
+pub(crate) fn add_turned(x: i128, y: i128) -> Option<i128>
+    ensures { result ≡ ranged_sum (neg_ℤ x) (neg_ℤ y) }
+{
+    let sum = RangedSum::new().minus(x, 1)?.minus(y, 1)?;
+    Some(sum.total())
+}
+
+/// The product of two numbers.
+pub(crate) fn multiply(x: i128, y: i128) -> Option<i128>
+    ensures { result ≡ ranged_product x y }
+{
+    let sum = RangedSum::new().plus(x, y)?;
+    Some(sum.total())
+}
+
+/// A number less a product.
+pub(crate) fn subtract(x: i128, k: i128, y: i128) -> Option<i128>
+    ensures { result ≡ ranged_less x k y }
+{
+    let sum = RangedSum::new().plus(x, 1)?.minus(k, y)?;
+    Some(sum.total())
+}
+
+/// A number, and the products of the first `n` numbers of two functions of the places.
+pub(crate) fn sum_by<F: Fn(u8) -> i128, G: Fn(u8) -> i128>(
+    base: i128,
+    n: u8,
+    left: F,
+    right: G,
+) -> Option<i128>
+    requires left { (k : ℕ) → k < n → F.pre left k }
+    requires right { (k : ℕ) → k < n → G.pre right k }
+    ensures { (f g : Vector) → ((k : ℕ) (x : ℤ) → k < n → F.post left k x → x ≡ f k) → ((k : ℕ) (x : ℤ) → k < n → G.post right k x → x ≡ g k) → result ≡ ranged base n f g }
+{
+    let mut sum = RangedSum::new().plus(base, 1)?;
+    for k in 0..n {
+        sum = sum.plus(left(k), right(k))?;
+    }
+    Some(sum.total())
+}
+
+/// A sum, and the products of the sizes of the first `n` numbers of a function of the places with those of another.
+pub(crate) fn sum_sizes_by<F: Fn(u8) -> i128, G: Fn(u8) -> i128>(
+    start: RangedSum,
+    n: u8,
+    left: F,
+    right: G,
+) -> Option<i128>
+    requires left { (k : ℕ) → k < n → F.pre left k }
+    requires right { (k : ℕ) → k < n → G.pre right k }
+    ensures { (f g : Vector) → ((k : ℕ) (x : ℤ) → k < n → F.post left k x → x ≡ f k) → ((k : ℕ) (x : ℤ) → k < n → G.post right k x → x ≡ g k) → result ≡ where_in_range (weight_of start + weight n f g) (total_of start +ℤ total n (λ k. size (f k) *ℤ g k)) }
+{
+    let mut sum = start;
+    for k in 0..n {
+        sum = sum.plus_size(left(k), right(k))?;
+    }
+    Some(sum.total())
+}

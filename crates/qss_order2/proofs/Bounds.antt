@@ -1,0 +1,109 @@
+-- Sizes in a motion from a world that passed its look.
+use Rattle.std.proofs.Common.{◌≡◌, ℕ, zero, suc, ◌+◌, ◌*◌, ◌<◌, ◌≤◌, ◌^◌, List, length, get_or, ℤ, pos, ◌-ℤ◌, ◌*ℤ◌, ◌≤ℤ◌, ◌<ℤ◌, refl, sym, ◌∙◌, ap, subst, arith}
+use Rattle.std.proofs.Math.Nat.{mul-le-mul_right}
+use Rattle.std.proofs.lemmas.Int.{ints, unsigned_abs-mul}
+use Rattle.std.proofs.lemmas.List.{get_or_default}
+use Rattle.std.proofs.lemmas.Nat.{mul-le}
+use Rattle.std.specs.Int.RustNames.{unsigned_abs}
+use Rattle.std.specs.Option.{option_or}
+use Rattle.std.specs.Prelude.{All, Option, Some, None}
+use Rattle.mu_num.specs.Sizes.{IsWithin}
+use Rattle.qss_machine.specs.declared.system.Machine.{Machine}
+use Rattle.qss_machine.specs.Numbers.{int_at, tabulate, size, sum_below, first_past}
+use Rattle.qss_machine.specs.Machines.{state_count}
+use Rattle.qss_machine.specs.Legitimate.{start_coefficient}
+use Rattle.qss_machine.proofs.Ranges.{none_past}
+use Rattle.qss_order2.specs.declared.motion.Motion.{Motion}
+use Rattle.qss_order2.specs.Worlds.{rise_at, rise_weight, bend_weight, reach_of, past_limit}
+use Rattle.qss_order2.specs.Laws.{bend_at}
+use Rattle.qss_order2.specs.Stores.{Moves}
+use Rattle.qss_order2.proofs.Sizes.{unit_fits, reach_small}
+use Rattle.qss_order2.proofs.Tables.{at_table, all_of}
+
+-- a value that was read
+pub at_index : (xs : List ℤ) (j n : ℕ) (z : ℤ) → length xs ≡ n → j < n → z ≡ get_or xs j z → z ≡ int_at xs j
+at_index xs j n z many h is = is ∙ get_or_default xs j z (pos 0) (omega (arith, h, many))
+
+pub none_of : (o p : Option ℕ) → option_or o p ≡ None → (o ≡ None) × (p ≡ None)
+none_of None p e = (refl, e)
+none_of (Some var) p e = absurd (cc)
+
+sum_within_sizes : (n : ℕ) (f : ℕ → ℤ) → size (sum_below n f) ≤ℤ sum_below n (λ i. size (f i))
+sum_within_sizes zero f = omega (arith, ints)
+sum_within_sizes (suc n) f = omega (arith, ints, sum_within_sizes n f)
+
+pub rise_by_weight : (m : Machine) (levels : List ℤ) → first_past 94 (tabulate (state_count m) (rise_weight m levels)) ≡ None → (j : ℕ) → j < state_count m → IsWithin 94 (rise_at m j levels)
+rise_by_weight m levels light j h =
+    let weights = tabulate (state_count m) (rise_weight m levels) in
+    let own : IsWithin 94 (int_at weights j) = none_past 94 weights light j in
+    let heavy : IsWithin 94 (rise_weight m levels j) = subst (IsWithin 94) (at_table (state_count m) (rise_weight m levels) j h) own in
+    omega (arith, ints, heavy, sum_within_sizes (state_count m) (λ i. start_coefficient m j i *ℤ int_at levels i))
+
+-- no state is past a limit
+module _ (m : Machine) (levels changes : List ℤ) (within : past_limit m levels changes ≡ None) where
+  parts : (first_past 49 levels ≡ None) × (option_or (first_past 94 (tabulate (state_count m) (rise_weight m levels))) (first_past 94 (tabulate (state_count m) (bend_weight m changes))) ≡ None)
+  parts = none_of _ _ within
+
+  pub level_within : (j : ℕ) → IsWithin 49 (int_at levels j)
+  level_within j = none_past 49 levels parts.0 j
+
+  pub rise_within : (j : ℕ) → j < state_count m → IsWithin 94 (rise_at m j levels)
+  rise_within j h = rise_by_weight m levels (none_of _ _ parts.1).0 j h
+
+  pub bend_within : (j : ℕ) → j < state_count m → IsWithin 94 (bend_at m j changes)
+  bend_within j h =
+      let weights = tabulate (state_count m) (bend_weight m changes) in
+      let own : IsWithin 94 (int_at weights j) = none_past 94 weights (none_of _ _ parts.1).1 j in
+      let heavy : IsWithin 94 (bend_weight m changes j) = subst (IsWithin 94) (at_table (state_count m) (bend_weight m changes) j h) own in
+      omega (arith, ints, heavy, sum_within_sizes (state_count m) (λ i. start_coefficient m j i *ℤ int_at changes i))
+
+-- a state near a small level is small
+near_small : (k : ℕ) (x level reach : ℤ) → k ≤ 2 ^ 44 → unsigned_abs level ≤ 2 ^ 49 → pos (unsigned_abs (x -ℤ pos k *ℤ level)) <ℤ reach → reach ≤ℤ pos (2 ^ 82) → IsWithin 94 x
+near_small k x level reach few small near limit =
+    let product : unsigned_abs (pos k *ℤ level) ≤ 2 ^ 44 * 2 ^ 49 = omega (arith, unsigned_abs-mul (pos k) level, mul-le k (unsigned_abs level) (2 ^ 44) (2 ^ 49) few small) in
+    omega (arith, ints, product, near, limit)
+
+-- a number of which a multiple is small is small
+factor_small : (k : ℕ) (z : ℤ) → 1 ≤ k → IsWithin 95 (pos k *ℤ z) → IsWithin 95 z
+factor_small k z some small =
+    let once : 1 * unsigned_abs z ≤ k * unsigned_abs z = mul-le-mul_right (unsigned_abs z) some in
+    omega (arith, unsigned_abs-mul (pos k) z, once, small)
+
+module _ (m : Machine) (q : Motion) (moves : Moves m q) where
+  pub small_levels : All (IsWithin 49) q.levels.items
+  small_levels = all_of (IsWithin 49) q.levels.items (state_count m) moves.sized.levels (λ j h. level_within m q.levels.items q.changes.items moves.within j)
+
+  pub state_small : (j : ℕ) → j < state_count m → IsWithin 94 (int_at q.states.items j)
+  state_small j h =
+      let u = unit_fits m in
+      near_small (2 ^ (m.p + m.k)) (int_at q.states.items j) (int_at q.levels.items j) (reach_of m j) (omega (arith, u.within))
+      (level_within m q.levels.items q.changes.items moves.within j) (moves.near j h) (reach_small m j h)
+
+  pub small_states : All (IsWithin 94) q.states.items
+  small_states = all_of (IsWithin 94) q.states.items (state_count m) moves.sized.states state_small
+
+  pub rise_is : (j : ℕ) → j < state_count m → int_at q.rises.items j ≡ rise_at m j q.levels.items
+  rise_is j h = ap (λ xs. int_at xs j) moves.has_rises.rises ∙ at_table (state_count m) (λ j. rise_at m j q.levels.items) j h
+
+  pub bend_is : (j : ℕ) → j < state_count m → int_at q.bends.items j ≡ bend_at m j q.changes.items
+  bend_is j h = ap (λ xs. int_at xs j) moves.has_rises.bends ∙ at_table (state_count m) (λ j. bend_at m j q.changes.items) j h
+
+  pub rise_small : (j : ℕ) → j < state_count m → IsWithin 94 (int_at q.rises.items j)
+  rise_small j h = subst (IsWithin 94) (sym (rise_is j h)) (rise_within m q.levels.items q.changes.items moves.within j h)
+
+  pub bend_small : (j : ℕ) → j < state_count m → IsWithin 94 (int_at q.bends.items j)
+  bend_small j h = subst (IsWithin 94) (sym (bend_is j h)) (bend_within m q.levels.items q.changes.items moves.within j h)
+
+  pub small_rises : All (IsWithin 94) q.rises.items
+  small_rises = all_of (IsWithin 94) q.rises.items (state_count m) moves.sized.rises rise_small
+
+  pub small_bends : All (IsWithin 94) q.bends.items
+  small_bends = all_of (IsWithin 94) q.bends.items (state_count m) moves.sized.bends bend_small
+
+  pub change_small : (j : ℕ) → j < state_count m → IsWithin 95 (int_at q.changes.items j)
+  change_small j h =
+      let u = unit_fits m in
+      factor_small (2 ^ (m.p + m.k)) (int_at q.changes.items j) (omega (arith, ints, u.from_one)) (moves.has_rises.held j h)
+
+  pub small_changes : All (IsWithin 95) q.changes.items
+  small_changes = all_of (IsWithin 95) q.changes.items (state_count m) moves.sized.changes change_small

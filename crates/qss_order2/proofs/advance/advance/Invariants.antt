@@ -1,0 +1,20 @@
+use Rattle.std.proofs.Common.{◌≡◌, ◌-◌, ◌≤◌, List}
+use Rattle.std.specs.Prelude.{None}
+use Rattle.qss_order2.specs.Calls.{AreSilent2}
+use Rattle.qss_order2.specs.Rules.{IsRuled2}
+use Rattle.qss_order2.specs.Stores.{world_of, Stands}
+use Rattle.qss_order2.specs.Worlds.{World2}
+use Rattle.qss_order2.proofs.advance.advance.Given as goal
+
+-- the store stands at the tick, within its limits, and the ticks up to it had no rows
+abbrev pub invariant-loop-tick : goal.invariant-loop-tick
+invariant-loop-tick g l = record {
+  stands : Stands l.f.machine l.tick l.s;
+  within : l.s.over ≡ None;
+  began : l.fn.s.over ≡ None;
+  in_time : l.tick ≤ l.f.machine.last;
+  are_silent : (silent : List World2) × AreSilent2 (IsRuled2 l.rule.nearest) l.f.machine l.fn.from (world_of l.fn.s.motion) silent l.tick (world_of l.s.motion);
+}
+
+abbrev pub decreases-loop-tick : goal.decreases-loop-tick
+decreases-loop-tick g l = l.f.machine.last - l.tick

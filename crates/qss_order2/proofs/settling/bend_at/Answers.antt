@@ -1,0 +1,24 @@
+-- A row's sum is that of the definitions.
+use Rattle.std.proofs.Common.{◌∙◌, ap, sym, subst}
+use Rattle.std.proofs.lemmas.Int.{to_z-of_z}
+use Rattle.std.specs.Int.RustNames.{FitsSigned}
+use Rattle.mu_num.specs.Sizes.{passes}
+use Rattle.qss_order2.specs.Fixed.{AreModes}
+use Rattle.qss_order2.proofs.FixedFacts.{row_is}
+use Rattle.qss_order2.proofs.FixedSums.{bend_is, bend_weight_is}
+use Rattle.qss_order2.proofs.settling.bend_at.Goals as goal
+use mir.Syntax.{w128}
+
+pub change_sum-requires-clause-within : goal.change_sum-requires-clause-within
+change_sum-requires-clause-within c =
+    let m = c.args.f.now.machine in
+    let modes : AreModes m c.args.row c.index.result.now = row_is c.args.f.now c.args.row c.requires.row c.index.result.now c.index.ensures in
+    ap (passes 94) (bend_weight_is m c.args.row c.as_slice.result.now (subst (AreModes m c.args.row) (sym c.as_slice.ensures) modes) c.args.changes.now c.requires.changes) ∙ c.requires.within
+
+pub returns : goal.returns
+returns c =
+    let m = c.args.f.now.machine in
+    let modes : AreModes m c.args.row c.index.result.now = row_is c.args.f.now c.args.row c.requires.row c.index.result.now c.index.ensures in
+    let fits : FitsSigned w128 c.change_sum.result = record { sfits = c.change_sum.type_inv } in
+    to_z-of_z w128 c.change_sum.result fits ∙ c.change_sum.ensures
+    ∙ bend_is m c.args.row c.as_slice.result.now (subst (AreModes m c.args.row) (sym c.as_slice.ensures) modes) c.args.changes.now c.requires.changes

@@ -1,0 +1,32 @@
+-- Where a call that goes on leaves a simulator.
+use Rattle.std.specs.Prelude.{◌≡◌, ℕ, ◌+◌, ℤ, List, length, Option, Some, None}
+use Rattle.qss_machine.specs.declared.system.Machine.{Machine}
+use Rattle.qss_order2.specs.declared.outcome2.Outcome2.{Outcome2}
+use Rattle.qss_order2.specs.declared.outcome2.Outcome2.TheVariants.{Events, Done, Over}
+use Rattle.qss_order2.specs.declared.store.Store.{Store}
+use Rattle.qss_order2.specs.Worlds.{World2}
+use Rattle.qss_order2.specs.Runs.{last_world2}
+use Rattle.qss_order2.specs.Events.{Standing2, LeadsSilently2}
+use Rattle.qss_order2.specs.Stores.{world_of}
+
+-- a store at a tick, as it is seen
+abbrev pub standing_of : Machine → ℕ → Store → Option Outcome2 → Standing2
+standing_of m tick s end = record { machine = m; tick = tick; world = world_of s.motion; rows = s.rows.items; end = end }
+
+-- the tick at which a call leaves it
+abbrev pub tick_of : ℕ → Outcome2 → ℕ
+tick_of last (Events tick) = tick
+tick_of last Done = last
+tick_of last (Over tick var) = tick
+
+-- how the run has ended then, if it has
+abbrev pub end_of : Outcome2 → Option Outcome2
+end_of (Events tick) = None
+end_of Done = Some Done
+end_of (Over tick var) = Some (Over tick var)
+
+-- ticks without rows lead from a world at a tick to one at another tick
+pub record AreSilent2 (Rule : ℤ → ℤ → ℤ → Type 0) (m : Machine) (from : ℕ) (w0 : World2) (silent : List World2) (tick : ℕ) (w : World2) : Type 0 where
+  pub leads : LeadsSilently2 Rule m from w0 silent
+  pub as_many : from + length silent ≡ tick
+  pub reached : last_world2 w0 silent ≡ w

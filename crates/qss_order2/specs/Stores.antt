@@ -1,0 +1,131 @@
+-- What a second-order simulator keeps, and the world that it stands for.
+use Rattle.std.specs.Prelude.{◌≡◌, ℕ, ◌+◌, ◌<◌, ◌≤◌, ◌%◌, ◌⊎◌, Bool, true, false, ◌==◌, List, [], ◌∷◌, length, ℤ, pos, ◌-ℤ◌, ◌*ℤ◌, ◌<ℤ◌, ◌≤ℤ◌, unsigned_abs, Option, Some, None, slice_index_or, flat_map, replicate, vec_capacity, if◌then◌else◌}
+use Rattle.std.specs.List.{range_with_len}
+use Rattle.mu_num.specs.Curves.{FirstUpTo}
+use Rattle.mu_num.specs.Rounding.{floor_of}
+use Rattle.mu_num.specs.Sizes.{IsWithin}
+use Rattle.qss_machine.specs.declared.system.Machine.{Machine}
+use Rattle.qss_machine.specs.Firing.{flag_at}
+use Rattle.qss_machine.specs.Numbers.{int_at, tabulate}
+use Rattle.qss_machine.specs.Machines.{state_count, discrete_count, level_unit}
+use Rattle.qss_order2.specs.declared.motion.Motion.{Motion}
+use Rattle.qss_order2.specs.declared.store.Store.{Store}
+use Rattle.qss_order2.specs.declared.outcome2.Outcome2.{Outcome2}
+use Rattle.qss_order2.specs.declared.rows.Row2.{Row2}
+use Rattle.qss_order2.specs.declared.rows.Kind2.{Kind2}
+use Rattle.qss_order2.specs.Runs.{level_row, slope_row}
+use Rattle.qss_order2.specs.Worlds.{World2, rise_at, reach_of, past_limit, AreChanges, fine_states, fine_levels, look_span, is_look, leaves, requantizes, next_states, next_levels}
+use Rattle.qss_order2.specs.Laws.{bend_at, world2_after, gap_after, IsCalm2}
+
+-- the world of a motion
+abbrev pub world_of : Motion → World2
+world_of q = record { states = q.states.items; levels = q.levels.items; changes = q.changes.items }
+
+-- lists with a number for each state
+pub record IsSized (m : Machine) (q : Motion) : Type 0 where
+  pub states : length q.states.items ≡ state_count m
+  pub levels : length q.levels.items ≡ state_count m
+  pub changes : length q.changes.items ≡ state_count m
+  pub rises : length q.rises.items ≡ state_count m
+  pub bends : length q.bends.items ≡ state_count m
+
+-- rises and bends are those of the world, and changes have answered rises within the limits
+pub record HasRises (m : Machine) (q : Motion) : Type 0 where
+  pub rises : q.rises.items ≡ tabulate (state_count m) (λ j. rise_at m j q.levels.items)
+  pub bends : q.bends.items ≡ tabulate (state_count m) (λ j. bend_at m j q.changes.items)
+  pub held : (j : ℕ) → j < state_count m → IsWithin 95 (level_unit m *ℤ int_at q.changes.items j)
+
+-- from these levels and old changes, what follows: changes that the rule allows, and the least state past a limit; where there is none, the motion has them
+pub record IsSettled (Rule : ℤ → ℤ → ℤ → Type 0) (m : Machine) (asked : ℕ → Bool) (old new : Motion) (over : Option ℕ) : Type 0 where
+  pub changes : List ℤ
+  pub are_changes : AreChanges Rule m asked old.levels.items old.changes.items changes
+  pub is_over : over ≡ past_limit m old.levels.items changes
+  pub taken : over ≡ None → new.changes.items ≡ changes
+  pub has_rises : over ≡ None → HasRises m new
+
+-- each state is near its level
+abbrev pub IsNear2 : Machine → World2 → Type 0
+IsNear2 m w = (j : ℕ) → j < state_count m → pos (unsigned_abs (int_at w.states j -ℤ level_unit m *ℤ int_at w.levels j)) <ℤ reach_of m j
+
+-- a motion from a world that passed its look
+pub record Moves (m : Machine) (q : Motion) : Type 0 where
+  pub sized : IsSized m q
+  pub near : IsNear2 m (world_of q)
+  pub within : past_limit m q.levels.items q.changes.items ≡ None
+  pub has_rises : HasRises m q
+
+-- the levels after some ticks, where these states leave
+abbrev pub levels_after : Machine → World2 → List Bool → ℕ → List ℤ
+levels_after m w left ticks =
+    tabulate (state_count m) (λ j. if flag_at left j then floor_of (int_at (world2_after m w ticks).states j) (level_unit m) else int_at (world2_after m w ticks).levels j)
+
+-- after how many ticks a state leaves
+abbrev pub due_at : List (Option ℕ) → ℕ → Option ℕ
+due_at dues j = slice_index_or dues j None
+
+-- the first of the ticks after a world, up to so many, at which a state is its quantum away from its level
+abbrev pub IsDue2 : Machine → World2 → ℕ → ℕ → Option ℕ → Type 0
+IsDue2 m w reach j found = FirstUpTo (λ k. reach_of m j ≤ℤ pos (unsigned_abs (gap_after m w j k))) reach found
+
+-- whether a state leaves after so many ticks
+abbrev pub is_due : Option ℕ → ℕ → Bool
+is_due (Some due) ticks = due == ticks
+is_due None ticks = false
+
+-- how many ticks it is from a tick to the next one at which the limits are looked at in any case
+pub record IsWindow (tick last reach : ℕ) : Type 0 where
+  pub some : 1 ≤ reach
+  pub few : reach ≤ look_span
+  pub in_time : tick + reach ≤ last
+  pub no_look : tick % look_span + reach ≤ look_span
+  pub ends : (tick + reach ≡ last) ⊎ ((tick + reach) % look_span ≡ 0)
+
+-- the next look after a world at a tick comes after so many ticks, and these states leave there
+pub record IsNextLook (m : Machine) (tick : ℕ) (w : World2) (dues : List (Option ℕ)) (left : List Bool) (ticks : ℕ) : Type 0 where
+  pub reach : ℕ
+  pub is_window : IsWindow tick m.last reach
+  pub within : ticks ≤ reach
+  pub each : (j : ℕ) → j < state_count m → IsDue2 m w reach j (due_at dues j)
+  pub none_before : (j d : ℕ) → j < state_count m → due_at dues j ≡ Some d → ticks ≤ d
+  pub reached : ticks < reach → (j : ℕ) × (j < state_count m) × (due_at dues j ≡ Some ticks)
+  pub flags : (j : ℕ) → j < state_count m → flag_at left j ≡ is_due (due_at dues j) ticks
+
+-- from a world at a tick to the next look: so many calm ticks, and one more, at which these states leave
+pub record IsMovedOn (m : Machine) (tick : ℕ) (w : World2) (calm : ℕ) (left : List Bool) (states levels : List ℤ) : Type 0 where
+  pub is_calm : IsCalm2 m tick w calm
+  pub in_time : tick + calm < m.last
+  pub flags : (j : ℕ) → j < state_count m → flag_at left j ≡ leaves m (world2_after m w calm) j
+  pub states_there : states ≡ next_states m (world2_after m w calm)
+  pub levels_there : levels ≡ next_levels m (world2_after m w calm)
+  pub looks : is_look m (tick + calm + 1) (requantizes m (world2_after m w calm)) ≡ true
+
+-- the rows of the states that left: of a level, and of how much that changes
+abbrev pub rows_of_left : Kind2 → ℕ → World2 → List Bool → ℕ → List Row2
+rows_of_left kind tick w left count = flat_map (λ j. if flag_at left j then level_row kind tick w j ∷ slope_row tick w j ∷ [] else []) (range_with_len 0 count)
+
+-- lists of the machine's lengths, and memory for all rows of a tick
+pub record FitsMachine (m : Machine) (s : Store) : Type 0 where
+  pub sized : IsSized m s.motion
+  pub dues : length s.dues.items ≡ state_count m
+  pub left : length s.left.items ≡ state_count m
+  pub room : state_count m + state_count m + discrete_count m + 1 ≤ vec_capacity s.rows
+
+-- a store stands for its world at a tick; where a state is past a limit there, it is tick 0
+pub record Stands (m : Machine) (tick : ℕ) (s : Store) : Type 0 where
+  pub fits : FitsMachine m s
+  pub over : past_limit m s.motion.levels.items s.motion.changes.items ≡ s.over
+  pub at_start : (var : ℕ) → s.over ≡ Some var → tick ≡ 0
+  pub moves : s.over ≡ None → Moves m s.motion
+
+-- a store with memory, and the states and levels of the start, at which the rule is to be asked for each state
+pub record IsBlank (m : Machine) (s : Store) : Type 0 where
+  pub fits : FitsMachine m s
+  pub states : s.motion.states.items ≡ fine_states m
+  pub levels : s.motion.levels.items ≡ fine_levels m
+  pub changes : s.motion.changes.items ≡ replicate (state_count m) (pos 0)
+  pub left : s.left.items ≡ replicate (state_count m) true
+
+-- what a simulator keeps: a tick of the run, and until the end of the run a store that stands there
+pub record IsSim (m : Machine) (tick : ℕ) (end : Option Outcome2) (s : Store) : Type 0 where
+  pub in_time : tick ≤ m.last
+  pub stands : end ≡ None → Stands m tick s

@@ -1,0 +1,90 @@
+//! A second-order run under way.
+
+ghost use Rattle.std.specs.Prelude.{◌≡◌};
+
+use crate::advance::advance;
+use crate::fixed_machine::FixedMachine;
+use crate::outcome2::Outcome2;
+use crate::rows::Row2;
+use crate::slope_rule::SlopeRule;
+use crate::start::start_store;
+use crate::store::Store;
+use qss_machine::Machine;
+use std::alloc::{AllocError, Global};
+use std::marker::Model;
+
+/// A machine without clauses at a tick of its second-order run.
+#[derive(Drop)]
+pub struct Course2 {
+    fixed: FixedMachine,
+    tick: u64,
+    end: Option<Outcome2>,
+    store: Store,
+}
+
+impl Model for Course2 {
+    ghost use Rattle.qss_order2.specs.Events.{Standing2};
+
+    ghost Value = { Standing2 };
+
+    ghost use Rattle.qss_order2.specs.Stores.{IsSim};
+    ghost use Rattle.qss_order2.specs.Calls.{standing_of};
+
+    ghost view = { λ s. standing_of s.fixed.machine s.tick s.store s.end };
+
+    ghost invariant = { λ s. IsSim s.fixed.machine s.tick s.end s.store };
+}
+
+impl Course2 {
+    ghost use Rattle.std.specs.Prelude.{◌≡◌, ◌++◌, true, None, Some, [], IfOk};
+    ghost use Rattle.qss_order2.specs.declared.outcome2.Outcome2.{Outcome2};
+    ghost use Rattle.qss_order2.specs.Events.{IsStarted, IsNext2, rows2_left};
+    ghost use Rattle.qss_order2.specs.Rules.{IsRuled2};
+    ghost use Rattle.qss_order2.specs.Worlds.{near_change};
+
+    /// A machine at tick 0, with the start rows. It takes all the memory that it ever needs.
+    pub fn new(alloc: Global, m: Machine, rule: &SlopeRule) -> Result<Course2, AllocError>
+        requires { m.clauses ≡ [] }
+        ensures { IfOk result (λ course. IsStarted (IsRuled2 rule.now.nearest) m course) }
+    {
+        let fixed = FixedMachine::new(alloc, m)?;
+        let store = start_store(alloc, &fixed, rule)?;
+        Ok(Course2 {
+            fixed,
+            tick: 0,
+            end: None,
+            store,
+        })
+    }
+
+    /// Goes on to the next tick with rows, to an overflow, or to the last tick. After the end of the run it gives the same
+    /// answer again and changes nothing. It takes no memory.
+    pub fn next_event(&mut self, rule: &SlopeRule) -> Outcome2
+        ensures same { self.new.machine ≡ self.old.machine }
+        ensures again { (end : Outcome2) → self.old.end ≡ Some end → (result ≡ end) × (self.new ≡ self.old) }
+        ensures next { self.old.end ≡ None → IsNext2 (IsRuled2 rule.now.nearest) self.old self.new result }
+        ensures rows { rule.now.nearest ≡ true → self.old.end ≡ None → rows2_left near_change self.old ≡ self.new.rows ++ rows2_left near_change self.new }
+    {
+        if let Some(end) = self.end {
+            return end;
+        }
+        let outcome = advance(&self.fixed, rule, self.tick, &mut self.store);
+        self.tick = outcome.tick(self.fixed.machine.last);
+        self.end = outcome.end();
+        outcome
+    }
+
+    /// The rows of the last event, or at tick 0 the start rows.
+    pub fn rows(&self) -> &[Row2]
+        ensures { result.now ≡ self.now.rows }
+    {
+        self.store.rows.as_slice()
+    }
+
+    /// Lends the machine.
+    pub fn machine(&self) -> &Machine
+        ensures { result.now ≡ self.now.machine }
+    {
+        &self.fixed.machine
+    }
+}

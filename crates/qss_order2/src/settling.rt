@@ -1,0 +1,152 @@
+//! What follows from new levels: how states rise, and how their levels are to change.
+
+ghost use Rattle.std.specs.Prelude.{◌≡◌, ℕ, ◌<◌, All, None, false, length, ◌*ℤ◌, MatchBool};
+ghost use Rattle.mu_num.specs.Sizes.{IsWithin, passes};
+ghost use Rattle.qss_machine.specs.Firing.{flag_at};
+ghost use Rattle.qss_machine.specs.Machines.{state_count, level_unit};
+ghost use Rattle.qss_machine.specs.Numbers.{int_at, first_past, tabulate};
+ghost use Rattle.qss_order2.specs.Laws.{bend_at};
+ghost use Rattle.qss_order2.specs.Rules.{IsAnswer, IsRuled2};
+ghost use Rattle.qss_order2.specs.Stores.{IsSized, HasRises, IsSettled};
+ghost use Rattle.qss_order2.specs.Worlds.{rise_at, bend_weight, past_limit, fine_levels, AreChanges};
+
+use crate::fixed_machine::FixedMachine;
+use crate::limits::{first_steep, past_levels};
+use crate::motion::Motion;
+use crate::slope_rule::SlopeRule;
+use crate::sums::{change_sum, rise_of};
+
+// How much a state rises in a tick at some levels.
+fn rise_at(f: &FixedMachine, row: usize, levels: &[i128]) -> i128
+    requires row { row < state_count f.now.machine }
+    requires levels { length levels.now ≡ state_count f.now.machine }
+    requires small { All (IsWithin 50) levels.now }
+    ensures { result ≡ rise_at f.now.machine row levels.now }
+{
+    rise_of(f.rows[row].as_slice(), f.drives[row], levels)
+}
+
+// How much all states rise in a tick at some levels.
+fn set_rises(f: &FixedMachine, levels: &[i128], rises: &mut [i128])
+    requires levels { length levels.now ≡ state_count f.now.machine }
+    requires rises { length rises.old ≡ state_count f.now.machine }
+    requires small { All (IsWithin 50) levels.now }
+    ensures { rises.new ≡ tabulate (state_count f.now.machine) (λ j. rise_at f.now.machine j levels.now) }
+{
+    for row in 0..rises.len() {
+        rises[row] = rise_at(f, row, levels);
+    }
+}
+
+// The change of a level: what the rule answers to the state's rise where it is asked, else the old one.
+fn change_of(f: &FixedMachine, rule: &SlopeRule, asked: bool, rise: i128, old: i128) -> i128
+    requires { IsWithin 95 rise }
+    ensures { MatchBool asked (IsAnswer rule.now.nearest rise (level_unit f.now.machine) result) (result ≡ old) }
+{
+    if asked {
+        rule.change(rise, f.unit)
+    } else {
+        old
+    }
+}
+
+// The rule's answers for the states that left.
+fn set_changes(
+    f: &FixedMachine,
+    rule: &SlopeRule,
+    rises: &[i128],
+    left: &[bool],
+    changes: &mut [i128],
+)
+    requires rises { length rises.now ≡ length changes.old }
+    requires left { length left.now ≡ length changes.old }
+    requires small { All (IsWithin 95) rises.now }
+    ensures { (j : ℕ) → j < length changes.old → MatchBool (flag_at left.now j) (IsAnswer rule.now.nearest (int_at rises.now j) (level_unit f.now.machine) (int_at changes.new j)) (int_at changes.new j ≡ int_at changes.old j) }
+{
+    for j in 0..changes.len() {
+        changes[j] = change_of(f, rule, left[j], rises[j], changes[j]);
+    }
+}
+
+// How much the rise of a state changes in a tick.
+fn bend_at(f: &FixedMachine, row: usize, changes: &[i128]) -> i128
+    requires row { row < state_count f.now.machine }
+    requires changes { length changes.now ≡ state_count f.now.machine }
+    requires within { passes 94 (bend_weight f.now.machine changes.now row) ≡ false }
+    ensures { result ≡ bend_at f.now.machine row changes.now }
+{
+    change_sum(f.rows[row].as_slice(), changes)
+}
+
+// That of all states.
+fn set_bends(f: &FixedMachine, changes: &[i128], bends: &mut [i128])
+    requires changes { length changes.now ≡ state_count f.now.machine }
+    requires bends { length bends.old ≡ state_count f.now.machine }
+    requires within { first_past 94 (tabulate (state_count f.now.machine) (bend_weight f.now.machine changes.now)) ≡ None }
+    ensures { bends.new ≡ tabulate (state_count f.now.machine) (λ j. bend_at f.now.machine j changes.now) }
+{
+    for row in 0..bends.len() {
+        bends[row] = bend_at(f, row, changes);
+    }
+}
+
+// That of all states, unless one is past its limit.
+fn bend(f: &FixedMachine, changes: &[i128], bends: &mut [i128]) -> Option<u32>
+    requires changes { length changes.now ≡ state_count f.now.machine }
+    requires bends { length bends.old ≡ state_count f.now.machine }
+    ensures over { result ≡ first_past 94 (tabulate (state_count f.now.machine) (bend_weight f.now.machine changes.now)) }
+    ensures bends { result ≡ None → bends.new ≡ tabulate (state_count f.now.machine) (λ j. bend_at f.now.machine j changes.now) }
+{
+    if let Some(var) = first_steep(f, changes) {
+        return Some(var);
+    }
+    set_bends(f, changes, bends);
+    None
+}
+
+/// Rises, changes and bends at new levels, or the least state that is past a limit there.
+pub(crate) fn settle(
+    f: &FixedMachine,
+    rule: &SlopeRule,
+    left: &[bool],
+    q: &mut Motion,
+) -> Option<u32>
+    requires sized { IsSized f.now.machine q.old }
+    requires left { length left.now ≡ state_count f.now.machine }
+    requires held { (j : ℕ) → j < state_count f.now.machine → IsWithin 95 (level_unit f.now.machine *ℤ int_at q.old.changes.items j) }
+    ensures kept { (q.new.states ≡ q.old.states) × (q.new.levels ≡ q.old.levels) }
+    ensures sized { IsSized f.now.machine q.new }
+    ensures settled { IsSettled (IsRuled2 rule.now.nearest) f.now.machine (flag_at left.now) q.old q.new result }
+{
+    if let Some(var) = past_levels(f, q.levels.as_slice()) {
+        return Some(var);
+    }
+    set_rises(f, q.levels.as_slice(), q.rises.as_mut_slice());
+    set_changes(f, rule, q.rises.as_slice(), left, q.changes.as_mut_slice());
+    bend(f, q.changes.as_slice(), q.bends.as_mut_slice())
+}
+
+/// The same at the start, where the rule is asked for all states before the limits are looked at.
+pub(crate) fn begin(
+    f: &FixedMachine,
+    rule: &SlopeRule,
+    left: &[bool],
+    q: &mut Motion,
+) -> Option<u32>
+    requires sized { IsSized f.now.machine q.old }
+    requires left { length left.now ≡ state_count f.now.machine }
+    requires start { q.old.levels.items ≡ fine_levels f.now.machine }
+    requires held { (j : ℕ) → j < state_count f.now.machine → IsWithin 95 (level_unit f.now.machine *ℤ int_at q.old.changes.items j) }
+    ensures kept { (q.new.states ≡ q.old.states) × (q.new.levels ≡ q.old.levels) }
+    ensures sized { IsSized f.now.machine q.new }
+    ensures changes { AreChanges (IsRuled2 rule.now.nearest) f.now.machine (flag_at left.now) q.old.levels.items q.old.changes.items q.new.changes.items }
+    ensures over { result ≡ past_limit f.now.machine q.old.levels.items q.new.changes.items }
+    ensures rises { result ≡ None → HasRises f.now.machine q.new }
+{
+    set_rises(f, q.levels.as_slice(), q.rises.as_mut_slice());
+    set_changes(f, rule, q.rises.as_slice(), left, q.changes.as_mut_slice());
+    if let Some(var) = past_levels(f, q.levels.as_slice()) {
+        return Some(var);
+    }
+    bend(f, q.changes.as_slice(), q.bends.as_mut_slice())
+}

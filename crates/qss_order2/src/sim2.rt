@@ -1,0 +1,61 @@
+//! Second-order simulators.
+
+ghost use Rattle.std.specs.Prelude.{◌≡◌};
+
+use crate::course2::Course2;
+use crate::outcome2::Outcome2;
+use crate::rows::Row2;
+use crate::slope_rule::SlopeRule;
+use qss_machine::Machine;
+use std::alloc::{AllocError, Global};
+
+/// A machine without clauses at a tick of its second-order run, with its rule. It looks only at ticks at which a state is
+/// requantized, at multiples of 65,536, and at the last one.
+#[derive(Drop)]
+pub struct Sim2 {
+    pub course: Course2,
+    pub rule: SlopeRule,
+}
+
+impl Sim2 {
+    ghost use Rattle.std.specs.Prelude.{◌≡◌, ◌++◌, true, None, Some, [], IfOk};
+    ghost use Rattle.qss_order2.specs.declared.outcome2.Outcome2.{Outcome2};
+    ghost use Rattle.qss_order2.specs.Events.{IsStarted, IsNext2, rows2_left};
+    ghost use Rattle.qss_order2.specs.Rules.{IsRuled2};
+    ghost use Rattle.qss_order2.specs.Worlds.{near_change};
+
+    /// A simulator at tick 0, with the start rows. It takes all the memory that it ever needs.
+    pub fn new(alloc: Global, m: Machine, rule: SlopeRule) -> Result<Sim2, AllocError>
+        requires { m.clauses ≡ [] }
+        ensures start { IfOk result (λ sim. IsStarted (IsRuled2 rule.nearest) m sim.course) }
+        ensures rule { IfOk result (λ sim. sim.rule ≡ rule) }
+    {
+        let course = Course2::new(alloc, m, &rule)?;
+        Ok(Sim2 { course, rule })
+    }
+
+    /// Goes on to the next tick with rows, to an overflow, or to the last tick. After the end of the run it gives the same
+    /// answer again and changes nothing. It takes no memory.
+    pub fn next_event(&mut self) -> Outcome2
+        ensures same { (self.new.course.machine ≡ self.old.course.machine) × (self.new.rule ≡ self.old.rule) }
+        ensures again { (end : Outcome2) → self.old.course.end ≡ Some end → (result ≡ end) × (self.new.course ≡ self.old.course) }
+        ensures next { self.old.course.end ≡ None → IsNext2 (IsRuled2 self.old.rule.nearest) self.old.course self.new.course result }
+        ensures rows { self.old.rule.nearest ≡ true → self.old.course.end ≡ None → rows2_left near_change self.old.course ≡ self.new.course.rows ++ rows2_left near_change self.new.course }
+    {
+        self.course.next_event(&self.rule)
+    }
+
+    /// The rows of the last event, or at tick 0 the start rows.
+    pub fn rows(&self) -> &[Row2]
+        ensures { result.now ≡ self.now.course.rows }
+    {
+        self.course.rows()
+    }
+
+    /// Lends the machine.
+    pub fn machine(&self) -> &Machine
+        ensures { result.now ≡ self.now.course.machine }
+    {
+        self.course.machine()
+    }
+}

@@ -1,0 +1,123 @@
+//! A store at tick 0.
+
+ghost use Rattle.std.specs.Prelude.{◌≡◌, ◌+◌, ◌≤◌, IfOk, true, pos, ◌*ℤ◌, ◌<ℤ◌, length, map, replicate, vec_capacity};
+ghost use Rattle.mu_num.specs.Rounding.{floor_of};
+ghost use Rattle.mu_num.specs.Sizes.{IsWithin};
+ghost use Rattle.qss_machine.specs.Machines.{state_count, discrete_count};
+ghost use Rattle.qss_order2.specs.Rules.{IsRuled2};
+ghost use Rattle.qss_order2.specs.Runs.{start_rows};
+ghost use Rattle.qss_order2.specs.Stores.{world_of, IsSized, FitsMachine, IsBlank, Stands};
+ghost use Rattle.qss_order2.specs.Worlds.{fine_states, fine_levels, IsStart2};
+
+use crate::fixed_machine::{FixedMachine, copies};
+use crate::motion::Motion;
+use crate::row_lists::{add_discretes, set_left_rows};
+use crate::rows::Kind2;
+use crate::settling::begin;
+use crate::slope_rule::SlopeRule;
+use crate::store::Store;
+use mu_num::floor_div;
+use qss_machine::Machine;
+use std::alloc::{AllocError, Global};
+
+// A state in units 64 times finer.
+fn finer(x: i128) -> i128
+    requires { IsWithin 88 x }
+    ensures { result ≡ pos 64 *ℤ x }
+{
+    64 * x
+}
+
+// The states at the start.
+fn start_states(alloc: Global, m: &Machine) -> Result<Vec<i128>, AllocError>
+    ensures { IfOk result (λ list. list.items ≡ fine_states m.now) }
+{
+    let states = m.states.as_slice();
+    let mut list: Vec<i128> = Vec::with_capacity(alloc, states.len())?;
+    for j in 0..states.len() {
+        list.push_reserved(finer(states[j].x0));
+    }
+    Ok(list)
+}
+
+// The greatest levels at most some states.
+fn levels_below(alloc: Global, f: &FixedMachine, states: &[i128]) -> Result<Vec<i128>, AllocError>
+    requires { states.now ≡ fine_states f.now.machine }
+    ensures { IfOk result (λ list. list.items ≡ fine_levels f.now.machine) }
+{
+    let mut list: Vec<i128> = Vec::with_capacity(alloc, states.len())?;
+    for j in 0..states.len() {
+        list.push_reserved(floor_div(states[j], f.unit));
+    }
+    Ok(list)
+}
+
+// States and levels of the start, at rest.
+fn resting_motion(alloc: Global, f: &FixedMachine) -> Result<Motion, AllocError>
+    ensures sized { IfOk result (λ q. IsSized f.now.machine q) }
+    ensures states { IfOk result (λ q. q.states.items ≡ fine_states f.now.machine) }
+    ensures levels { IfOk result (λ q. q.levels.items ≡ fine_levels f.now.machine) }
+    ensures changes { IfOk result (λ q. q.changes.items ≡ replicate (state_count f.now.machine) (pos 0)) }
+{
+    let states = start_states(alloc, &f.machine)?;
+    let levels = levels_below(alloc, f, states.as_slice())?;
+    let count = states.len();
+    Ok(Motion {
+        states,
+        levels,
+        changes: copies(alloc, 0, count)?,
+        rises: copies(alloc, 0, count)?,
+        bends: copies(alloc, 0, count)?,
+    })
+}
+
+// All the memory of a store, with the states and levels of the start.
+fn blank_store(alloc: Global, f: &FixedMachine) -> Result<Store, AllocError>
+    ensures { IfOk result (λ s. IsBlank f.now.machine s) }
+{
+    let motion = resting_motion(alloc, f)?;
+    let states = f.machine.states.as_slice().len();
+    let discretes = f.machine.discretes.as_slice().len();
+    Ok(Store {
+        motion,
+        dues: copies(alloc, None, states)?,
+        left: copies(alloc, true, states)?,
+        over: None,
+        rows: Vec::with_capacity(alloc, states + states + discretes + 1)?,
+    })
+}
+
+// The rule is asked for all states, and the rows of the start are listed.
+fn begin_store(f: &FixedMachine, rule: &SlopeRule, s: &mut Store)
+    requires { IsBlank f.now.machine s.old }
+    ensures stands { Stands f.now.machine 0 s.new }
+    ensures start { IsStart2 (IsRuled2 rule.now.nearest) f.now.machine (world_of s.new.motion) }
+    ensures rows { s.new.rows.items ≡ start_rows f.now.machine (world_of s.new.motion) }
+{
+    s.over = begin(f, rule, s.left.as_slice(), &mut s.motion);
+    set_left_rows(
+        Kind2::Start,
+        0,
+        s.motion.states.as_slice(),
+        s.motion.levels.as_slice(),
+        s.motion.changes.as_slice(),
+        s.left.as_slice(),
+        &mut s.rows,
+    );
+    add_discretes(f, Kind2::Start, 0, &mut s.rows);
+}
+
+/// A store at tick 0, with the rows of the start.
+pub(crate) fn start_store(
+    alloc: Global,
+    f: &FixedMachine,
+    rule: &SlopeRule,
+) -> Result<Store, AllocError>
+    ensures stands { IfOk result (λ s. Stands f.now.machine 0 s) }
+    ensures start { IfOk result (λ s. IsStart2 (IsRuled2 rule.now.nearest) f.now.machine (world_of s.motion)) }
+    ensures rows { IfOk result (λ s. s.rows.items ≡ start_rows f.now.machine (world_of s.motion)) }
+{
+    let mut store = blank_store(alloc, f)?;
+    begin_store(f, rule, &mut store);
+    Ok(store)
+}

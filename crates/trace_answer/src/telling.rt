@@ -1,0 +1,61 @@
+//! The line that tells how a call ended.
+
+ghost use Rattle.std.specs.Prelude.{◌≡◌, IfOk};
+ghost use Rattle.trace_answer.specs.Endings as Spec;
+
+use crate::ending::{Ending, TraceRefusal};
+use cert_lines::outside_line;
+use qss_trace::TraceErr;
+use std::alloc::{AllocError, Global};
+
+/// The line that tells why a trace is refused, with its line feed.
+pub fn refusal_line(alloc: Global, why: TraceRefusal) -> Result<Vec<u8>, AllocError>
+    ensures { IfOk result (λ line. line.items ≡ Spec.refusal_line why) }
+{
+    match why {
+        TraceRefusal::Outside(why) => outside_line(alloc, why),
+        TraceRefusal::TooLong => b"trace refused: top 1\n".to_vec(alloc),
+        TraceRefusal::Unread(why) => cause_line(alloc, why),
+        TraceRefusal::Broken {
+            place,
+            fact,
+            state,
+            left,
+            right,
+        } => {
+            let line = format!(in alloc;
+                "rejected: trace place {place} fact {fact} state {state} left {left} right {right}\n"
+            )?;
+            Ok(line.into_bytes())
+        }
+    }
+}
+
+// The line that tells why bytes are no trace.
+fn cause_line(alloc: Global, why: TraceErr) -> Result<Vec<u8>, AllocError>
+    ensures { IfOk result (λ line. line.items ≡ Spec.cause_line why) }
+{
+    let line = match why {
+        TraceErr::Keyword { line } => format!(in alloc; "trace refused: 1 {line}\n")?,
+        TraceErr::Shape { line, want, got } => {
+            format!(in alloc; "trace refused: 2 {line} {want} {got}\n")?
+        }
+        TraceErr::Number { line, field } => format!(in alloc; "trace refused: 3 {line} {field}\n")?,
+        TraceErr::Missing { line } => format!(in alloc; "trace refused: 4 {line}\n")?,
+        TraceErr::Form { got } => format!(in alloc; "trace refused: 5 {got}\n")?,
+        TraceErr::Memory => String::new(alloc),
+    };
+    Ok(line.into_bytes())
+}
+
+/// The line that tells how a call ended, with its line feed; nothing where all is written.
+pub fn ending_line(alloc: Global, ending: Ending) -> Result<Vec<u8>, AllocError>
+    ensures { IfOk result (λ line. line.items ≡ Spec.ending_line ending) }
+{
+    match ending {
+        Ending::Written => Ok(Vec::new(alloc)),
+        Ending::Refused(why) => refusal_line(alloc, why),
+        Ending::Fault => b"write fault\n".to_vec(alloc),
+        Ending::Memory => b"out of memory\n".to_vec(alloc),
+    }
+}
