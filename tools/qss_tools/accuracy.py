@@ -133,7 +133,8 @@ def worst_of(flat, numbers, samples, values):
     if best is None:
         return "none is without jumps | - | - | -"
     quanta, name, difference, size = best
-    share = "%.2g %%" % (100 * difference / size) if size else "-"
+    share = 100 * difference / size if size else 0.0
+    share = ("%.2g %%" if share < 100 else "%.0f %%") % share if size else "-"
     return "%s | %.2g | %.1f | %s" % (name, difference, quanta, share)
 
 

@@ -26,7 +26,7 @@ Finding.__doc__ = "A sentence about a place, a way out or None, and whether it s
 def findings(flat, trial):
     """All that is to be said, the graver first, each kind cut to a few."""
     found = []
-    for look in (misspelt, long_ticks, coarse_clocks, steep_slopes, rounded_coefficients, rounded_starts, rounded_steps,
+    for look in (misspelt, long_runs, long_ticks, coarse_clocks, steep_slopes, rounded_coefficients, rounded_starts, rounded_steps,
                  lost_sums, quanta, near_limits, true_at_the_start):
         some = list(look(flat, trial))
         found += some[:MOST_OF_A_KIND]
@@ -53,6 +53,14 @@ def misspelt(flat, trial):
             wanted = next(iter(difflib.get_close_matches(word, ("start", "QSS_Quantum"), 1, 0.7)), None)
             if wanted or word.lower() in ("start", "qss_quantum"):
                 yield Finding(item.at, "'%s' of %s is read over" % (word, item.where), "write '%s'" % (wanted or word.lower()), True)
+
+
+def long_runs(flat, trial):
+    """Stop times that have too many ticks."""
+    stop, most = flat.settings["StopTime"], 32 - flat.bits("QSS_TickBits")
+    if stop < 0 or flat.last_tick() >= 2 ** 32:
+        yield Finding(place_of_setting(flat, "StopTime"), "StopTime = %s is not from 0 to less than 2^%d = %d: the model is refused (machine 1)" % (
+            shown(stop), most, 2 ** most), "fewer QSS_TickBits, or a larger unit of time" if stop > 0 else None, True)
 
 
 def tick(flat):
@@ -202,7 +210,7 @@ def near_limits(flat, trial):
             told.add(row.part.at)
             yield Finding(row.part.at, "the coefficients of %s take %.1f of %d bits%s" % (
                 row.label, used, limit, ": the model is refused (machine 4)" if used > limit else ""),
-                "write QSS_CoefBits = %d or less" % max(0, math.floor(p - (used - limit) - 1)), used > limit)
+                "write QSS_CoefBits = %d or less" % max(0, math.floor(p - (used - limit))) if used > limit else None, used > limit)
     for number in range(flat.states):
         if trial.size[number] and not trial.grown and math.log2(trial.size[number]) + f > LEVEL_BITS - 3:
             yield Finding(flat.variables[number].declaration.at, "%s gets about %s large, and its levels end at %s" % (

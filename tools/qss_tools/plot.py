@@ -31,6 +31,7 @@ Status: 0 all was drawn, 1 all was drawn and the run overflowed, 2 a fault: noth
 
 WIDTH, HEIGHT, TEXT_WIDTH = 720, 110, 66
 MOST_PANELS = 12
+MANY_ELEMENTS, FEW_ELEMENTS = 8, 5  # of an array that is drawn without being asked for
 LETTER = 9  # pixels of a letter with its share of the unit
 MOST_CURVES = 40
 
@@ -90,7 +91,7 @@ class Drawing:
         for one in run.flat.variables[:run.flat.states + run.flat.discretes]:
             if one.declaration.name not in plain and not is_clock(run, one):
                 plain.append(one.declaration.name)
-        return plain[:MOST_PANELS]
+        return [some_of(run, name) for name in plain[:MOST_PANELS]]
 
     def check_output(self):
         """The picture's name and kind; that it can be drawn is known before a run begins."""
@@ -205,6 +206,15 @@ class Drawing:
         if len(label) * LETTER > self.height:
             label = ", ".join(dict.fromkeys(part.strip().split("[")[0] for part in label.split("+")))
         return "%s [%s]" % (label, unit) if unit else label
+
+
+def some_of(run, name):
+    """The pattern of a variable; of a large array some elements from its first to its last."""
+    size = run.flat.shapes[name][1]
+    if size is None or size <= MANY_ELEMENTS:
+        return name
+    places = sorted({1 + (size - 1) * part // (FEW_ELEMENTS - 1) for part in range(FEW_ELEMENTS)})
+    return "+".join("%s[%d]" % (name, place) for place in places)
 
 
 def is_clock(run, one):

@@ -15,19 +15,26 @@ Answer.__doc__ = "How a call ended: its status, the bytes that it wrote, and its
 
 def add_program_option(words):
     """Adds the option that names another program."""
-    words.add_argument("--program", metavar="PATH", help="the program to run (default: the launcher ./qss beside tools/)")
+    words.add_argument("--program", metavar="PATH", help="the program to run (default: the one that ./qss runs)")
 
 
 def find_program(path):
-    """The program of this path, or else the launcher, where the program is built."""
+    """The program of this path, or else the one that the launcher runs, where it is built: a tool starts no build."""
     if path is not None:
         if not os.access(path, os.X_OK) or os.path.isdir(path):
             raise Fault("%s: no program that can be run" % path)
         return os.path.abspath(path)
-    if not os.path.exists(BUILT):
-        raise Fault("the program is not built: './qss print examples/decay.mo' proves and builds it once, which takes long;"
-                    " or name a built one with --program")
-    return LAUNCHER
+    if os.access(BUILT, os.X_OK):
+        return BUILT
+    if os.access(LAUNCHER, os.X_OK) and not is_script(LAUNCHER):
+        return LAUNCHER
+    raise Fault("the program is not built: './qss print examples/decay.mo' proves and builds it once, which takes long;"
+                " or name a built one with --program")
+
+
+def is_script(path):
+    with open(path, "rb") as file:
+        return file.read(2) == b"#!"
 
 
 def start(program, arguments, **streams):

@@ -8,7 +8,7 @@ from fractions import Fraction
 from .fault import Fault, unreadable
 from .flat import Flat, Meaningless
 from .grammar import parse
-from .program import call, canonical_text, find_program, start
+from .program import add_program_option, call, canonical_text, find_program, start
 from .source import Source
 
 HEADER = "tick,event,name,level,state\n"
@@ -73,7 +73,7 @@ def add_run_options(words):
     words.add_argument("rows", nargs="?", help="a file with the rows of `qss run MODEL`, or '-' for standard input (without it the model is run)")
     words.add_argument("--rule", choices=("floor", "near", "inward"), help="the rule, where the model is run")
     words.add_argument("--relative", metavar="N", help="the share of quanta, where the model is run")
-    words.add_argument("--program", metavar="PATH", help="the program to run (default: the launcher ./qss beside tools/)")
+    add_program_option(words)
 
 
 def run_of(given):

@@ -39,10 +39,14 @@ class Picture:
         self.parts = []
         self.text(width / 2, 16, title, "middle", 13)
 
-    def text(self, x, y, text, anchor="start", size=11, colour="#222", turn=None):
-        turned = ' transform="rotate(%d %g %g)"' % (turn, x, y) if turn else ""
-        self.parts.append('<text x="%g" y="%g" text-anchor="%s" font-size="%d" fill="%s"%s>%s</text>' % (
-            x, y, anchor, size, colour, turned, escape(text)))
+    def text(self, x, y, text, anchor="start", size=11, colour="#222"):
+        self.parts.append('<text x="%g" y="%g" text-anchor="%s" font-size="%d" fill="%s">%s</text>' % (
+            x, y, anchor, size, colour, escape(text)))
+
+    def upright(self, x, y, text):
+        """A text from below upwards."""
+        self.parts.append('<text x="%g" y="%g" text-anchor="middle" font-size="12" fill="#222" transform="rotate(-90 %g %g)">%s</text>' % (
+            x, y, x, y, escape(text)))
 
     def line(self, x1, y1, x2, y2, colour="#ddd"):
         self.parts.append('<path d="M%g %gL%g %g" stroke="%s"/>' % (x1, y1, x2, y2, colour))
@@ -105,7 +109,7 @@ def panel(picture, top, width, height, label, curves):
     """A panel with its grid, its curves and their names."""
     bounds = [curve.bounds() for curve, _ in curves if curve.columns]
     scale = Scale((min(low for low, _ in bounds), max(high for _, high in bounds)) if bounds else (0, 1), height)
-    for value in nice_steps(scale.least, scale.greatest, max(2, height // 36)):
+    for value in nice_steps(scale.least, scale.greatest, max(3, height // 26)):
         y = top + height - scale.pixel(value)
         picture.line(LEFT, y, LEFT + width, y)
         picture.text(LEFT - 5, y + 4, number_text(value), "end")
@@ -114,7 +118,7 @@ def panel(picture, top, width, height, label, curves):
         points = [(x * UNITS, scale.down(value)) for x, value in curve.points()]
         picture.curve(LEFT, top, points, colour, dashed)
     picture.frame(LEFT, top, width, height)
-    picture.text(14, top + height / 2, label, "middle", 12, turn=-90)
+    picture.upright(14, top + height / 2, label)
     if len(curves) > 1:
         for place, (curve, dashed) in enumerate(curves[:MOST_LABELS]):
             picture.text(LEFT + width - 6, top + 13 + 12 * place, curve.label, "end", 10, COLOURS[place % len(COLOURS)])
@@ -148,7 +152,7 @@ def path_picture(paths, names, words):
         picture.curve(LEFT, TOP, thinned(path.points, across, upward), COLOURS[place % len(COLOURS)], width=0.8)
     picture.frame(LEFT, TOP, size, size)
     picture.text(LEFT + size / 2, TOP + size + 32, names[0], "middle", 12)
-    picture.text(14, TOP + size / 2, names[1], "middle", 12, turn=-90)
+    picture.upright(14, TOP + size / 2, names[1])
     return picture.whole()
 
 

@@ -97,6 +97,11 @@ class Findings(unittest.TestCase):
         self.assert_told("model m Real x; equation der(x) = 1; algorithm when 100000*x > 1 then reinit(x, 0); end when; end m;",
                          "refused (machine 4)")
 
+    def test_a_stop_time_that_has_too_many_ticks(self):
+        text = "model m Real x(start = 1); equation der(x) = -x; annotation(experiment(StopTime = %d, QSS_Quantum = 0.03125)); end m;"
+        self.assert_told(text % 5000000, "less than 2^22 = 4194304")
+        self.assertEqual(told(text % 4000), [])
+
     def test_conditions_that_hold_at_the_start(self):
         room = ("model m Real T(start = 25); discrete Real on(start = %d); equation der(T) = 20 - T - 8*on; algorithm when T > 20.5 then"
                 " on := 1; end when; annotation(experiment(QSS_CoefBits = 16, QSS_Quantum = 0.0625)); end m;")

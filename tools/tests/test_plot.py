@@ -5,7 +5,7 @@ import shutil
 import unittest
 from xml.etree import ElementTree
 
-from models import BALL, BALL_ROWS, GROWING, GROWING_ROWS, SWITCHED, SWITCHED_ROWS
+from models import BALL, BALL_ROWS, GROWING, GROWING_ROWS, HEADER, SWITCHED, SWITCHED_ROWS
 from support import STAND_IN, InFolder, run
 
 from qss_tools.curves import Curve, nice_steps
@@ -94,6 +94,14 @@ class Pictures(InFolder):
         finally:
             os.chdir(before)
         self.assertTrue(os.path.exists(os.path.join(self.folder, "ball.svg")))
+
+    def test_some_elements_of_a_large_array(self):
+        model = self.file("m.mo", "model m Real u[9]; equation for i in 1:9 loop der(u[i]) = 0; end for; annotation(experiment(StopTime = 1,"
+                          " QSS_TickBits = 0)); end m;\n")
+        rows = self.file("m.csv", HEADER + "".join("%d,%s,u[%d],0,0\n" % (tick, event, place) for tick, event in ((0, "start"), (1, "end"))
+                                                   for place in range(1, 10)))
+        texts = self.texts(self.picture(model, rows))
+        self.assertEqual([text for text in texts if text.startswith("u[")], ["u[1]", "u[3]", "u[5]", "u[7]", "u[9]"])
 
     def test_signs_in_a_terminal(self):
         text = self.plot(self.ball, self.rows, "--names", "y", "--text").split("\n")

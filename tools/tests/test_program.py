@@ -12,6 +12,13 @@ EXAMPLES = sorted(glob.glob(os.path.join(ROOT, "examples", "*.mo")))
 SMALL = ("ball", "boost", "buck", "cable", "decay", "thermostat")  # with settings for reading
 
 
+def sources_are_newer():
+    """Whether ./qss would build the program again."""
+    built = os.path.getmtime(BUILT)
+    sources = [path for part in ("src", "specs", "proofs") for path in glob.glob(os.path.join(ROOT, "crates", "*", part, "**"), recursive=True)]
+    return any(os.path.getmtime(path) > built for path in sources if "_tests" + os.sep not in path)
+
+
 @unittest.skipUnless(os.path.exists(BUILT), "the program is not built: its tests are left out")
 class WithTheProgram(InFolder):
     def test_refused_sources_have_these_lines(self):
@@ -48,6 +55,8 @@ class WithTheProgram(InFolder):
         self.assertTrue(out.startswith(decay + ".cert:15:3: inequality 11"), out)
 
     def test_the_tutorial_says_what_comes(self):
+        if sources_are_newer():
+            self.skipTest("a source is newer than the program, and ./qss would build it")
         status, _, err = run("run-tutorial", "--check")
         self.assertEqual((status, err), (0, ""))
 
