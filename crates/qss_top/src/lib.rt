@@ -5,6 +5,7 @@ mod certificate;
 mod command;
 mod generation;
 mod laws;
+mod machine;
 mod outcome;
 mod source;
 mod status;

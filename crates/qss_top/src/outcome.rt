@@ -49,7 +49,7 @@ pub(crate) fn report<E: Sink>(alloc: Global, outcome: &Outcome, err: &mut E) -> 
         Outcome::Done => Status::Ok,
         Outcome::Usage => tell(
             Status::Usage,
-            b"usage: qss VERB [WORD] [WORD] [--rule RULE] [--only NAME] [--relative N]\n",
+            b"usage: qss VERB [WORD] [WORD] [WORD] [WORD] [--rule RULE] [--only NAME] [--relative N]\n",
             err,
         ),
         Outcome::ReadFault => tell(Status::ReadFault, b"read fault\n", err),

@@ -9,7 +9,7 @@ use Rattle.qss_top.proofs.certificate.on_text.Goals as goal
 pub returns-in-Certify-clause-outcome : goal.returns-in-Certify-clause-outcome
 returns-in-Certify-clause-outcome g c answer h =
     subst (λ (w : Outcome). IsOutcome answer w (g.O.Sink.written c.args.out.now) (g.O.Sink.written c.certify.new.out) (g.O.Sink.faults c.args.out.now) (g.O.Sink.faults c.certify.new.out)) (sym c.outcome_of.ensures)
-    (certified_outcome (λ k. g.O.Sink.written k) (λ k. g.O.Sink.faults k) c.in-Certify.field-0 c.args.m.now c.args.text.now c.certify.result c.args.out.now c.certify.new.out c.certify.ensures.answered answer
+    (certified_outcome (λ k. g.O.Sink.written k) (λ k. g.O.Sink.faults k) c.args.m.now c.args.text.now c.certify.result c.args.out.now c.certify.new.out c.certify.ensures.answered answer
     (rw c.in-Certify.is at h))
 
 pub returns-in-Certify-clause-not_read : goal.returns-in-Certify-clause-not_read

@@ -1,7 +1,7 @@
 use Rattle.std.proofs.Common.{refl}
 use Rattle.qss_words.specs.Requests.{options_in}
 use Rattle.qss_top.proofs.OutcomeFacts.{cut_short, out_of_memory, run_cut, run_done, run_over, not_begun}
-use Rattle.qss_top.proofs.command.run_machine.Goals as goal
+use Rattle.qss_top.proofs.machine.run_machine.Goals as goal
 
 pub returns-in-Ended-clause-outcome : goal.returns-in-Ended-clause-outcome
 returns-in-Ended-clause-outcome g c =
