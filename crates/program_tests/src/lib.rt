@@ -4,6 +4,8 @@
 #[cfg(test)]
 mod certifying;
 #[cfg(test)]
+mod generating;
+#[cfg(test)]
 mod large;
 #[cfg(test)]
 mod models;
