@@ -20,7 +20,7 @@ use Rattle.cert_answer.specs.Answers.{written, certified}
 use Rattle.cert_answer.specs.Laws.{BoundsHold, UpgradesKeep}
 
 -- a certificate whose answer has a text is accepted, and the text is its bounds
-accepted_text : (m : Machine) (c : Certificate) (text : List ℕ) (v : Verdict) → IsVerdict (system_of m) (claim c) v → written text ≡ certified m c v
+pub accepted_text : (m : Machine) (c : Certificate) (text : List ℕ) (v : Verdict) → IsVerdict (system_of m) (claim c) v → written text ≡ certified m c v
     → IsVerdict (system_of m) (claim c) verdict.Accepted × (text ≡ bounds_text m c)
 accepted_text m c text verdict.Accepted h e = (h, cc)
 accepted_text m c text (verdict.Rejected a b l r) h e = absurd (cc)

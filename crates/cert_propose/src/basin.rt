@@ -166,7 +166,13 @@ fn grown(m: &AffineSystem, c: &Column, pm: &Matrix, b: &Bounds, start: &i128) ->
 }
 
 /// The basin, after 64 rounds.
-pub(crate) fn basin_of(m: &AffineSystem, start: &Column, c: &Column, pm: &Matrix, b: &Bounds) -> Option<Basin>
+pub(crate) fn basin_of(
+    m: &AffineSystem,
+    start: &Column,
+    c: &Column,
+    pm: &Matrix,
+    b: &Bounds,
+) -> Option<Basin>
     requires formed { IsFormed m.now }
     requires size { length pm.now ≡ m.now.n }
     requires bounds { AreBounds m.now.n b.now }

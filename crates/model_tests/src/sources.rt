@@ -208,7 +208,7 @@ const UNROLLED: [(&[u8], &[u8]); 10] = [
 ];
 
 // Flat models without an order.
-const ORDERED: [(&[u8], &[u8]); 7] = [
+const ORDERED: [(&[u8], &[u8]); 8] = [
     (
         b"model m Real x, a; equation der(x) = a; end m;",
         b"refused: causal 1 a\n",
@@ -216,6 +216,10 @@ const ORDERED: [(&[u8], &[u8]); 7] = [
     (
         b"model m Real u[2]; equation for i in 1:1 loop der(u[i]) = 1; end for; end m;",
         b"refused: causal 1 u[2]\n",
+    ),
+    (
+        b"model m Real u[2]; initial algorithm u[1] := 1; for i in 1:2 loop u[i] := i; end for; equation for i in 2:1 loop der(u[i]) = 0; end for; end m;",
+        b"refused: causal 1 u[1]\n",
     ),
     (
         b"model m Real x; equation der(x) = 1; der(x) = 2; end m;",

@@ -17,4 +17,5 @@ pub mod Shapes
 pub mod Skipped
 pub mod States
 pub mod SumMachine
+pub mod SymbolViews
 pub mod Symbols

@@ -4,3 +4,4 @@
 pub mod fault;
 pub mod laws;
 pub mod shape;
+pub mod symbol;

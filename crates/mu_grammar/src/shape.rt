@@ -1,11 +1,12 @@
 // What the parser tests of a token: a fixed word or mark, a bracket, a name.
 
-ghost use Rattle.std.specs.Prelude.{◌≡◌, List, ℕ, bytes_eq};
-ghost use Rattle.mu_grammar.specs.Symbols.{symbol_with};
+ghost use Rattle.std.specs.Prelude.{◌≡◌, bytes_eq};
+ghost use Rattle.mu_grammar.specs.SymbolViews.{symbol_view};
 ghost use Rattle.mu_grammar.specs.Shapes.{is_fixed, is_same};
 ghost use Rattle.mu_grammar.specs.Skipped.{is_named};
 
-use mu_lexer::token::{Kind, Mark, Word};
+use crate::symbol::Symbol;
+use mu_lexer::token::{Mark, Word};
 
 /// A word or mark that must come next.
 #[derive(Clone, Copy, Debug, PartialEq, Eq)]
@@ -41,20 +42,20 @@ pub enum Shape {
 
 impl Fixed {
     /// A token of this kind is the word or mark.
-    pub fn is(self, kind: Kind) -> bool
-        ensures { (text : List ℕ) (at : ℕ) → result ≡ is_fixed self (symbol_with kind text at) }
+    pub fn is(self, symbol: Symbol) -> bool
+        ensures { result ≡ is_fixed self (symbol_view symbol.entry) }
     {
-        match (self, kind) {
-            (Fixed::ModelWord, Kind::Word(Word::Model)) => true,
-            (Fixed::EndWord, Kind::Word(Word::End)) => true,
-            (Fixed::AlgorithmWord, Kind::Word(Word::Algorithm)) => true,
-            (Fixed::InWord, Kind::Word(Word::In)) => true,
-            (Fixed::ForWord, Kind::Word(Word::For)) => true,
-            (Fixed::WhenWord, Kind::Word(Word::When)) => true,
-            (Fixed::RealWord, Kind::Word(Word::RealType)) => true,
-            (Fixed::OpenBracket, Kind::Mark(Mark::OpenRound)) => true,
-            (Fixed::EqualSign, Kind::Mark(Mark::Equal)) => true,
-            (Fixed::Semicolon, Kind::Mark(Mark::Semicolon)) => true,
+        match (self, symbol) {
+            (Fixed::ModelWord, Symbol::Word(Word::Model, _)) => true,
+            (Fixed::EndWord, Symbol::Word(Word::End, _)) => true,
+            (Fixed::AlgorithmWord, Symbol::Word(Word::Algorithm, _)) => true,
+            (Fixed::InWord, Symbol::Word(Word::In, _)) => true,
+            (Fixed::ForWord, Symbol::Word(Word::For, _)) => true,
+            (Fixed::WhenWord, Symbol::Word(Word::When, _)) => true,
+            (Fixed::RealWord, Symbol::Word(Word::RealType, _)) => true,
+            (Fixed::OpenBracket, Symbol::Mark(Mark::OpenRound, _)) => true,
+            (Fixed::EqualSign, Symbol::Mark(Mark::Equal, _)) => true,
+            (Fixed::Semicolon, Symbol::Mark(Mark::Semicolon, _)) => true,
             _ => false,
         }
     }
@@ -75,11 +76,11 @@ impl Bracket {
 }
 
 /// The token is the identifier of this spelling.
-pub fn is_named(spelling: &[u8], kind: Kind, text: &[u8]) -> bool
-    ensures { (at : ℕ) → result ≡ is_named spelling.now (symbol_with kind text.now at) }
+pub fn is_named(spelling: &[u8], symbol: Symbol) -> bool
+    ensures { result ≡ is_named spelling.now (symbol_view symbol.entry) }
 {
-    match kind {
-        Kind::Ident => text == spelling,
+    match symbol {
+        Symbol::Name(text, _) => text == spelling,
         _ => false,
     }
 }

@@ -1,2 +1,5 @@
+pub mod ConditionViews
+pub mod ExpressionViews
 pub mod ItemViews
 pub mod ModelViews
+pub mod SectionViews

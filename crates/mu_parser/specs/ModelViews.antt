@@ -4,7 +4,7 @@ use Rattle.mu_parser.specs.declared.model.Next.{Next}
 use Rattle.mu_parser.specs.declared.model.Next.TheVariants as nexts
 use Rattle.mu_grammar.specs.Machines as machines
 use Rattle.mu_grammar.specs.States as states
-use Rattle.mu_section.specs.Views.{state_of}
+use Rattle.mu_parser.specs.SectionViews.{state_of}
 
 -- where the parser is
 abbrev pub next_of : Next → machines.Next states.State ModelTree

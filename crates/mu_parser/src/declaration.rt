@@ -18,89 +18,98 @@ ghost use Rattle.mu_grammar.specs.DeclarationMachine.{
   with_component,
 };
 ghost use Rattle.mu_grammar.specs.States.{begin};
-ghost use Rattle.mu_section.specs.Views.{component_of, draft_of, effect_of, state_of, waiting_of};
-ghost use Rattle.mu_grammar.specs.Symbols.{symbol_with};
+ghost use Rattle.mu_parser.specs.SectionViews.{component_of, draft_of, effect_of, state_of, waiting_of};
+ghost use Rattle.mu_grammar.specs.SymbolViews.{symbol_view};
 
-use mu_expression::machine::Position;
+use crate::expression::machine::Position;
+use crate::section::between::between;
+use crate::section::state::{Component, Draft, Effect, Place, State, Then, Waiting};
 use mu_grammar::shape::Fixed;
+use mu_grammar::symbol::Symbol;
 use mu_io::Name;
-use mu_lexer::token::{Kind, Mark, Word};
-use mu_section::between::between;
-use mu_section::state::{Component, Draft, Effect, Place, State, Then, Waiting};
+use mu_lexer::token::{Mark, Word};
 use mu_tree::tree::{Decl, Prefix};
 use std::alloc::{AllocError, Global};
 
 /// An import line, a declaration, or what follows them.
-pub fn head(alloc: Global, draft: Box<Draft>, kind: Kind) -> Effect
-    ensures { (text : List ℕ) (at : ℕ) → effect_of result ≡ head (draft_of draft.value) (symbol_with kind text at) }
+pub fn head(alloc: Global, draft: Box<Draft>, symbol: Symbol) -> Effect
+    ensures { effect_of result ≡ head (draft_of draft.value) (symbol_view symbol.entry) }
 {
-    match kind {
-        Kind::Word(Word::Import) => Effect::Advances(State::Importing(draft)),
-        Kind::Word(Word::Parameter) => Effect::Advances(State::Type(draft, Prefix::Parameter)),
-        Kind::Word(Word::Constant) => Effect::Advances(State::Type(draft, Prefix::Constant)),
-        Kind::Word(Word::Discrete) => {
+    match symbol {
+        Symbol::Word(Word::Import, _) => Effect::Advances(State::Importing(draft)),
+        Symbol::Word(Word::Parameter, _) => Effect::Advances(State::Type(draft, Prefix::Parameter)),
+        Symbol::Word(Word::Constant, _) => Effect::Advances(State::Type(draft, Prefix::Constant)),
+        Symbol::Word(Word::Discrete, _) => {
             Effect::Advances(State::Expects(Fixed::RealWord, Then::Component(draft)))
         }
-        Kind::Word(Word::RealType) => {
+        Symbol::Word(Word::RealType, _) => {
             Effect::Advances(State::Component(draft, Prefix::Plain, false))
         }
-        Kind::Word(Word::Equation) => between(alloc, draft, kind),
-        Kind::Word(Word::Algorithm) => between(alloc, draft, kind),
-        Kind::Word(Word::Initial) => between(alloc, draft, kind),
-        Kind::Word(Word::Annotation) => between(alloc, draft, kind),
-        Kind::Word(Word::End) => between(alloc, draft, kind),
+        Symbol::Word(Word::Equation, _) => between(alloc, draft, symbol),
+        Symbol::Word(Word::Algorithm, _) => between(alloc, draft, symbol),
+        Symbol::Word(Word::Initial, _) => between(alloc, draft, symbol),
+        Symbol::Word(Word::Annotation, _) => between(alloc, draft, symbol),
+        Symbol::Word(Word::End, _) => between(alloc, draft, symbol),
         _ => Effect::Refuses,
     }
 }
 
 /// Behind the model's name.
-pub fn follow_title(alloc: Global, draft: Box<Draft>, kind: Kind) -> Effect
-    ensures { (text : List ℕ) (at : ℕ) → effect_of result ≡ follow_title (draft_of draft.value) (symbol_with kind text at) }
+pub fn follow_title(alloc: Global, draft: Box<Draft>, symbol: Symbol) -> Effect
+    ensures { effect_of result ≡ follow_title (draft_of draft.value) (symbol_view symbol.entry) }
 {
-    match kind {
-        Kind::Str => Effect::Advances(State::Heads(draft)),
-        _ => head(alloc, draft, kind),
+    match symbol {
+        Symbol::Quoted(_) => Effect::Advances(State::Heads(draft)),
+        _ => head(alloc, draft, symbol),
     }
 }
 
 /// In an import line.
-pub fn import_token(draft: Box<Draft>, kind: Kind) -> Effect
-    ensures { (text : List ℕ) (at : ℕ) → effect_of result ≡ import_token (draft_of draft.value) (symbol_with kind text at) }
+pub fn import_token(draft: Box<Draft>, symbol: Symbol) -> Effect
+    ensures { effect_of result ≡ import_token (draft_of draft.value) (symbol_view symbol.entry) }
 {
-    match kind {
-        Kind::Mark(Mark::Semicolon) => Effect::Advances(State::Heads(draft)),
+    match symbol {
+        Symbol::Mark(Mark::Semicolon, _) => Effect::Advances(State::Heads(draft)),
         _ => Effect::Advances(State::Importing(draft)),
     }
 }
 
 /// Behind `parameter` or `constant`.
-pub fn type_token(draft: Box<Draft>, prefix: Prefix, kind: Kind) -> Effect
-    ensures { (text : List ℕ) (at : ℕ) → effect_of result ≡ type_token (draft_of draft.value) prefix (symbol_with kind text at) }
+pub fn type_token(draft: Box<Draft>, prefix: Prefix, symbol: Symbol) -> Effect
+    ensures { effect_of result ≡ type_token (draft_of draft.value) prefix (symbol_view symbol.entry) }
 {
-    match kind {
-        Kind::Word(Word::RealType) => Effect::Advances(State::Component(draft, prefix, false)),
-        Kind::Word(Word::IntegerType) => Effect::Advances(State::Component(draft, prefix, true)),
+    match symbol {
+        Symbol::Word(Word::RealType, _) => Effect::Advances(State::Component(draft, prefix, false)),
+        Symbol::Word(Word::IntegerType, _) => Effect::Advances(State::Component(
+            draft, prefix, true,
+        )),
         _ => Effect::Refuses,
     }
 }
 
 // A component of which the name is read.
-fn new_component(draft: Box<Draft>, prefix: Prefix, whole: bool, name: Name, at: u32) -> Component
-    ensures { component_of result ≡ new_component (draft_of draft.value) prefix whole name at }
+fn new_component(
+    alloc: Global,
+    draft: Box<Draft>,
+    prefix: Prefix,
+    whole: bool,
+    name: Name,
+    at: u32,
+) -> Result<Component, AllocError>
+    ensures { IfOk result (λ c. component_of c ≡ new_component (draft_of draft.value) prefix whole name at) }
 {
-    Component {
-        draft,
-        declared: Decl {
-            prefix,
-            whole,
-            name,
-            size: None,
-            start: None,
-            value: None,
-            quantum: None,
-            at,
-        },
-    }
+    let declared = Decl {
+        prefix,
+        whole,
+        name,
+        size: None,
+        start: None,
+        value: None,
+        quantum: None,
+        at,
+    };
+    let declared = Box::new(alloc, declared)?;
+    Ok(Component { draft, declared })
 }
 
 /// Where a component's name must come.
@@ -109,16 +118,14 @@ pub fn component_token(
     draft: Box<Draft>,
     prefix: Prefix,
     whole: bool,
-    kind: Kind,
-    text: &[u8],
-    at: u32,
+    symbol: Symbol,
 ) -> Result<Effect, AllocError>
-    ensures { IfOk result (λ e. effect_of e ≡ component_token (draft_of draft.value) prefix whole (symbol_with kind text.now at)) }
+    ensures { IfOk result (λ e. effect_of e ≡ component_token (draft_of draft.value) prefix whole (symbol_view symbol.entry)) }
 {
-    match kind {
-        Kind::Ident => {
+    match symbol {
+        Symbol::Name(text, at) => {
             let name = Name::new(alloc, text)?;
-            let component = new_component(draft, prefix, whole, name, at);
+            let component = new_component(alloc, draft, prefix, whole, name, at)?;
             Ok(Effect::Advances(State::BehindName(component)))
         }
         _ => Ok(Effect::Refuses),
@@ -130,22 +137,22 @@ fn with_component(component: Component) -> Result<Box<Draft>, AllocError>
     ensures { IfOk result (λ d. draft_of d.value ≡ with_component (component_of component)) }
 {
     let mut draft = component.draft;
-    draft.decls.push(component.declared)?;
+    draft.decls.push(Box::into_inner(component.declared))?;
     Ok(draft)
 }
 
 /// Behind a component's annotation.
-pub fn follow_component(component: Component, kind: Kind) -> Result<Effect, AllocError>
-    ensures { IfOk result (λ e. (text : List ℕ) (at : ℕ) → effect_of e ≡ follow_component (component_of component) (symbol_with kind text at)) }
+pub fn follow_component(component: Component, symbol: Symbol) -> Result<Effect, AllocError>
+    ensures { IfOk result (λ e. effect_of e ≡ follow_component (component_of component) (symbol_view symbol.entry)) }
 {
     let prefix = component.declared.prefix;
     let whole = component.declared.whole;
-    match kind {
-        Kind::Mark(Mark::Comma) => {
+    match symbol {
+        Symbol::Mark(Mark::Comma, _) => {
             let draft = with_component(component)?;
             Ok(Effect::Advances(State::Component(draft, prefix, whole)))
         }
-        Kind::Mark(Mark::Semicolon) => {
+        Symbol::Mark(Mark::Semicolon, _) => {
             let draft = with_component(component)?;
             Ok(Effect::Advances(State::Heads(draft)))
         }
@@ -154,28 +161,28 @@ pub fn follow_component(component: Component, kind: Kind) -> Result<Effect, Allo
 }
 
 /// Behind a component's string.
-pub fn follow_string(component: Component, kind: Kind) -> Result<Effect, AllocError>
-    ensures { IfOk result (λ e. (text : List ℕ) (at : ℕ) → effect_of e ≡ follow_string (component_of component) (symbol_with kind text at)) }
+pub fn follow_string(component: Component, symbol: Symbol) -> Result<Effect, AllocError>
+    ensures { IfOk result (λ e. effect_of e ≡ follow_string (component_of component) (symbol_view symbol.entry)) }
 {
-    match kind {
-        Kind::Word(Word::Annotation) => Ok(Effect::Descends(
+    match symbol {
+        Symbol::Word(Word::Annotation, _) => Ok(Effect::Descends(
             0,
             State::Expects(
                 Fixed::OpenBracket,
                 Then::Items(Place::OwnArguments(component)),
             ),
         )),
-        _ => follow_component(component, kind),
+        _ => follow_component(component, symbol),
     }
 }
 
 /// Behind a component's value.
-pub fn follow_value(component: Component, kind: Kind) -> Result<Effect, AllocError>
-    ensures { IfOk result (λ e. (text : List ℕ) (at : ℕ) → effect_of e ≡ follow_value (component_of component) (symbol_with kind text at)) }
+pub fn follow_value(component: Component, symbol: Symbol) -> Result<Effect, AllocError>
+    ensures { IfOk result (λ e. effect_of e ≡ follow_value (component_of component) (symbol_view symbol.entry)) }
 {
-    match kind {
-        Kind::Str => Ok(Effect::Advances(State::BehindString(component))),
-        _ => follow_string(component, kind),
+    match symbol {
+        Symbol::Quoted(_) => Ok(Effect::Advances(State::BehindString(component))),
+        _ => follow_string(component, symbol),
     }
 }
 
@@ -190,45 +197,56 @@ pub fn begin(alloc: Global, waiting: Waiting) -> State
 pub fn follow_modifications(
     alloc: Global,
     component: Component,
-    kind: Kind,
+    symbol: Symbol,
 ) -> Result<Effect, AllocError>
-    ensures { IfOk result (λ e. (text : List ℕ) (at : ℕ) → effect_of e ≡ follow_modifications (component_of component) (symbol_with kind text at)) }
+    ensures { IfOk result (λ e. effect_of e ≡ follow_modifications (component_of component) (symbol_view symbol.entry)) }
 {
-    let equal = Fixed::EqualSign.is(kind);
-    if equal {
-        return Ok(Effect::Advances(begin(alloc, Waiting::Value(component))));
+    match symbol {
+        Symbol::Mark(Mark::Equal, _) => {
+            Ok(Effect::Advances(begin(alloc, Waiting::Value(component))))
+        }
+        _ => follow_value(component, symbol),
     }
-    follow_value(component, kind)
 }
 
 /// Behind a component's size.
-pub fn follow_size(alloc: Global, component: Component, kind: Kind) -> Result<Effect, AllocError>
-    ensures { IfOk result (λ e. (text : List ℕ) (at : ℕ) → effect_of e ≡ follow_size (component_of component) (symbol_with kind text at)) }
+pub fn follow_size(
+    alloc: Global,
+    component: Component,
+    symbol: Symbol,
+) -> Result<Effect, AllocError>
+    ensures { IfOk result (λ e. effect_of e ≡ follow_size (component_of component) (symbol_view symbol.entry)) }
 {
-    let opens = Fixed::OpenBracket.is(kind);
-    if opens {
-        return Ok(Effect::Descends(0, State::Item(Place::Modifications(component))));
+    match symbol {
+        Symbol::Mark(Mark::OpenRound, _) => Ok(Effect::Descends(
+            0,
+            State::Item(Place::Modifications(component)),
+        )),
+        _ => follow_modifications(alloc, component, symbol),
     }
-    follow_modifications(alloc, component, kind)
 }
 
 /// Behind a component's name.
-pub fn follow_name(alloc: Global, component: Component, kind: Kind) -> Result<Effect, AllocError>
-    ensures { IfOk result (λ e. (text : List ℕ) (at : ℕ) → effect_of e ≡ follow_name (component_of component) (symbol_with kind text at)) }
+pub fn follow_name(
+    alloc: Global,
+    component: Component,
+    symbol: Symbol,
+) -> Result<Effect, AllocError>
+    ensures { IfOk result (λ e. effect_of e ≡ follow_name (component_of component) (symbol_view symbol.entry)) }
 {
-    let opens = opens_size(kind);
+    let opens = opens_size(symbol);
     if opens {
         return Ok(Effect::Descends(0, begin(alloc, Waiting::Size(component))));
     }
-    follow_size(alloc, component, kind)
+    follow_size(alloc, component, symbol)
 }
 
 // The token opens a size.
-fn opens_size(kind: Kind) -> bool
-    ensures { (text : List ℕ) (at : ℕ) → result ≡ is_open_square (symbol_with kind text at) }
+fn opens_size(symbol: Symbol) -> bool
+    ensures { result ≡ is_open_square (symbol_view symbol.entry) }
 {
-    match kind {
-        Kind::Mark(Mark::OpenSquare) => true,
+    match symbol {
+        Symbol::Mark(Mark::OpenSquare, _) => true,
         _ => false,
     }
 }

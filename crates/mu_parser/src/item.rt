@@ -22,12 +22,13 @@ ghost use Rattle.mu_grammar.specs.declared.shape.Shape.TheVariants as shapes;
 ghost use Rattle.mu_grammar.specs.Shapes.{shape_of};
 ghost use Rattle.mu_grammar.specs.States.{level, place_level, settings};
 ghost use Rattle.mu_parser.specs.ItemViews.{settings_of};
-ghost use Rattle.mu_section.specs.Views.{component_of, draft_of, effect_of, owner_of, place_of, settled_of, state_of};
-ghost use Rattle.mu_grammar.specs.Symbols.{symbol_with};
+ghost use Rattle.mu_parser.specs.SectionViews.{component_of, draft_of, effect_of, owner_of, place_of, settled_of, state_of};
+ghost use Rattle.mu_grammar.specs.SymbolViews.{symbol_view};
 
+use crate::section::state::{Component, Draft, Effect, Owner, Place, State, Then, Waiting};
 use mu_grammar::shape::{Bracket, Fixed, is_named};
-use mu_lexer::token::{Kind, Mark, Word};
-use mu_section::state::{Component, Draft, Effect, Owner, Place, State, Then, Waiting};
+use mu_grammar::symbol::Symbol;
+use mu_lexer::token::{Mark, Word};
 use mu_tree::tree::{SettingItem, SettingName};
 use std::alloc::{AllocError, Global};
 
@@ -56,12 +57,12 @@ fn closed(place: Place) -> State
 }
 
 /// Behind an item.
-pub fn follow_item(place: Place, kind: Kind) -> Effect
-    ensures { (text : List ℕ) (at : ℕ) → effect_of result ≡ follow_item (place_of place) (symbol_with kind text at) }
+pub fn follow_item(place: Place, symbol: Symbol) -> Effect
+    ensures { effect_of result ≡ follow_item (place_of place) (symbol_view symbol.entry) }
 {
-    match kind {
-        Kind::Mark(Mark::Comma) => Effect::Advances(State::Item(place)),
-        Kind::Mark(Mark::CloseRound) => Effect::Advances(closed(place)),
+    match symbol {
+        Symbol::Mark(Mark::Comma, _) => Effect::Advances(State::Item(place)),
+        Symbol::Mark(Mark::CloseRound, _) => Effect::Advances(closed(place)),
         _ => Effect::Refuses,
     }
 }
@@ -87,18 +88,18 @@ fn open_first(alloc: Global, place: Place, bracket: Bracket) -> Result<Effect, A
     Ok(Effect::Descends(level, State::Skipping(place, brackets)))
 }
 
-// An item that is read over begins with a token of this kind.
-fn begin_skipped(alloc: Global, place: Place, kind: Kind) -> Result<Effect, AllocError>
-    ensures { IfOk result (λ e. (text : List ℕ) (at : ℕ) → effect_of e ≡ begin_skipped (place_of place) (symbol_with kind text at)) }
+// An item that is read over begins with this token.
+fn begin_skipped(alloc: Global, place: Place, symbol: Symbol) -> Result<Effect, AllocError>
+    ensures { IfOk result (λ e. effect_of e ≡ begin_skipped (place_of place) (symbol_view symbol.entry)) }
 {
-    match kind {
-        Kind::Mark(Mark::OpenRound) => open_first(alloc, place, Bracket::Round),
-        Kind::Mark(Mark::OpenSquare) => open_first(alloc, place, Bracket::Square),
-        Kind::Mark(Mark::OpenCurly) => open_first(alloc, place, Bracket::Curly),
-        Kind::Mark(Mark::CloseRound) => Ok(Effect::Refuses),
-        Kind::Mark(Mark::CloseSquare) => Ok(Effect::Refuses),
-        Kind::Mark(Mark::CloseCurly) => Ok(Effect::Refuses),
-        Kind::Mark(Mark::Comma) => Ok(Effect::Refuses),
+    match symbol {
+        Symbol::Mark(Mark::OpenRound, _) => open_first(alloc, place, Bracket::Round),
+        Symbol::Mark(Mark::OpenSquare, _) => open_first(alloc, place, Bracket::Square),
+        Symbol::Mark(Mark::OpenCurly, _) => open_first(alloc, place, Bracket::Curly),
+        Symbol::Mark(Mark::CloseRound, _) => Ok(Effect::Refuses),
+        Symbol::Mark(Mark::CloseSquare, _) => Ok(Effect::Refuses),
+        Symbol::Mark(Mark::CloseCurly, _) => Ok(Effect::Refuses),
+        Symbol::Mark(Mark::Comma, _) => Ok(Effect::Refuses),
         _ => Ok(Effect::Advances(State::Skipping(place, Vec::new(alloc)))),
     }
 }
@@ -155,17 +156,21 @@ fn skip_comma(place: Place, brackets: Vec<Bracket>) -> Effect
 }
 
 /// In an item that is read over, which has opened these brackets.
-pub fn skip_token(place: Place, brackets: Vec<Bracket>, kind: Kind) -> Result<Effect, AllocError>
-    ensures { IfOk result (λ e. (text : List ℕ) (at : ℕ) → effect_of e ≡ skip_shape (place_of place) (reverse brackets.items) (shape_of (symbol_with kind text at))) }
+pub fn skip_token(
+    place: Place,
+    brackets: Vec<Bracket>,
+    symbol: Symbol,
+) -> Result<Effect, AllocError>
+    ensures { IfOk result (λ e. effect_of e ≡ skip_shape (place_of place) (reverse brackets.items) (shape_of (symbol_view symbol.entry))) }
 {
-    match kind {
-        Kind::Mark(Mark::OpenRound) => open_bracket(place, brackets, Bracket::Round),
-        Kind::Mark(Mark::OpenSquare) => open_bracket(place, brackets, Bracket::Square),
-        Kind::Mark(Mark::OpenCurly) => open_bracket(place, brackets, Bracket::Curly),
-        Kind::Mark(Mark::CloseRound) => Ok(close_bracket(place, brackets, Bracket::Round)),
-        Kind::Mark(Mark::CloseSquare) => Ok(close_bracket(place, brackets, Bracket::Square)),
-        Kind::Mark(Mark::CloseCurly) => Ok(close_bracket(place, brackets, Bracket::Curly)),
-        Kind::Mark(Mark::Comma) => Ok(skip_comma(place, brackets)),
+    match symbol {
+        Symbol::Mark(Mark::OpenRound, _) => open_bracket(place, brackets, Bracket::Round),
+        Symbol::Mark(Mark::OpenSquare, _) => open_bracket(place, brackets, Bracket::Square),
+        Symbol::Mark(Mark::OpenCurly, _) => open_bracket(place, brackets, Bracket::Curly),
+        Symbol::Mark(Mark::CloseRound, _) => Ok(close_bracket(place, brackets, Bracket::Round)),
+        Symbol::Mark(Mark::CloseSquare, _) => Ok(close_bracket(place, brackets, Bracket::Square)),
+        Symbol::Mark(Mark::CloseCurly, _) => Ok(close_bracket(place, brackets, Bracket::Curly)),
+        Symbol::Mark(Mark::Comma, _) => Ok(skip_comma(place, brackets)),
         _ => Ok(Effect::Advances(State::Skipping(place, brackets))),
     }
 }
@@ -174,32 +179,26 @@ pub fn skip_token(place: Place, brackets: Vec<Bracket>, kind: Kind) -> Result<Ef
 pub fn begin_bare_mod(
     alloc: Global,
     component: Component,
-    kind: Kind,
-    text: &[u8],
+    symbol: Symbol,
 ) -> Result<Effect, AllocError>
-    ensures { IfOk result (λ e. (at : ℕ) → effect_of e ≡ begin_bare_mod (component_of component) (symbol_with kind text.now at)) }
+    ensures { IfOk result (λ e. effect_of e ≡ begin_bare_mod (component_of component) (symbol_view symbol.entry)) }
 {
-    if is_named(b"start", kind, text) {
+    if is_named(b"start", symbol) {
         return Ok(Effect::Advances(State::Expects(
             Fixed::EqualSign,
             Then::Sum(Waiting::Start(component)),
         )));
     }
-    begin_skipped(alloc, Place::Modifications(component), kind)
+    begin_skipped(alloc, Place::Modifications(component), symbol)
 }
 
 // A modification begins.
-fn begin_mod(
-    alloc: Global,
-    component: Component,
-    kind: Kind,
-    text: &[u8],
-) -> Result<Effect, AllocError>
-    ensures { IfOk result (λ e. (at : ℕ) → effect_of e ≡ begin_mod (component_of component) (symbol_with kind text.now at)) }
+fn begin_mod(alloc: Global, component: Component, symbol: Symbol) -> Result<Effect, AllocError>
+    ensures { IfOk result (λ e. effect_of e ≡ begin_mod (component_of component) (symbol_view symbol.entry)) }
 {
-    match kind {
-        Kind::Word(Word::Each) => Ok(Effect::Advances(State::Each(component))),
-        _ => begin_bare_mod(alloc, component, kind, text),
+    match symbol {
+        Symbol::Word(Word::Each, _) => Ok(Effect::Advances(State::Each(component))),
+        _ => begin_bare_mod(alloc, component, symbol),
     }
 }
 
@@ -217,24 +216,19 @@ fn open_experiment(alloc: Global, owner: Owner) -> Effect
 }
 
 // An argument of a component's annotation begins.
-fn begin_own(
-    alloc: Global,
-    component: Component,
-    kind: Kind,
-    text: &[u8],
-) -> Result<Effect, AllocError>
-    ensures { IfOk result (λ e. (at : ℕ) → effect_of e ≡ begin_own (component_of component) (symbol_with kind text.now at)) }
+fn begin_own(alloc: Global, component: Component, symbol: Symbol) -> Result<Effect, AllocError>
+    ensures { IfOk result (λ e. effect_of e ≡ begin_own (component_of component) (symbol_view symbol.entry)) }
 {
-    if is_named(b"experiment", kind, text) {
+    if is_named(b"experiment", symbol) {
         return Ok(open_experiment(alloc, Owner::OfComponent(component)));
     }
-    if is_named(b"QSS_Quantum", kind, text) {
+    if is_named(b"QSS_Quantum", symbol) {
         return Ok(Effect::Advances(State::Expects(
             Fixed::EqualSign,
             Then::Sum(Waiting::Quantum(component)),
         )));
     }
-    begin_skipped(alloc, Place::OwnArguments(component), kind)
+    begin_skipped(alloc, Place::OwnArguments(component), symbol)
 }
 
 // An argument of the model's annotation begins.
@@ -243,15 +237,14 @@ fn begin_argument(
     draft: Box<Draft>,
     seen: bool,
     settings: Vec<SettingItem>,
-    kind: Kind,
-    text: &[u8],
+    symbol: Symbol,
 ) -> Result<Effect, AllocError>
-    ensures { IfOk result (λ e. (at : ℕ) → effect_of e ≡ begin_argument (draft_of draft.value) (settled_of seen settings.items) (symbol_with kind text.now at)) }
+    ensures { IfOk result (λ e. effect_of e ≡ begin_argument (draft_of draft.value) (settled_of seen settings.items) (symbol_view symbol.entry)) }
 {
-    if is_named(b"experiment", kind, text) && !seen {
+    if is_named(b"experiment", symbol) && !seen {
         return Ok(open_experiment(alloc, Owner::OfModel(draft)));
     }
-    begin_skipped(alloc, Place::Arguments(draft, seen, settings), kind)
+    begin_skipped(alloc, Place::Arguments(draft, seen, settings), symbol)
 }
 
 // The two texts are the same.
@@ -291,14 +284,12 @@ fn begin_setting(
     alloc: Global,
     owner: Owner,
     settings: Vec<SettingItem>,
-    kind: Kind,
-    text: &[u8],
-    at: u32,
+    symbol: Symbol,
 ) -> Result<Effect, AllocError>
-    ensures { IfOk result (λ e. effect_of e ≡ begin_setting (owner_of owner) (settings_of settings.items) (symbol_with kind text.now at)) }
+    ensures { IfOk result (λ e. effect_of e ≡ begin_setting (owner_of owner) (settings_of settings.items) (symbol_view symbol.entry)) }
 {
-    match kind {
-        Kind::Ident => match setting_of(text) {
+    match symbol {
+        Symbol::Name(text, at) => match setting_of(text) {
             Some(which) => Ok(Effect::Advances(State::Expects(
                 Fixed::EqualSign,
                 Then::Sum(Waiting::Setting(owner, settings, which, at)),
@@ -308,55 +299,41 @@ fn begin_setting(
                 Vec::new(alloc),
             ))),
         },
-        _ => begin_skipped(alloc, Place::Settings(owner, settings), kind),
+        _ => begin_skipped(alloc, Place::Settings(owner, settings), symbol),
     }
 }
 
 /// An item begins.
-pub fn begin_item(
-    alloc: Global,
-    place: Place,
-    kind: Kind,
-    text: &[u8],
-    at: u32,
-) -> Result<Effect, AllocError>
-    ensures { IfOk result (λ e. effect_of e ≡ begin_item (place_of place) (symbol_with kind text.now at)) }
+pub fn begin_item(alloc: Global, place: Place, symbol: Symbol) -> Result<Effect, AllocError>
+    ensures { IfOk result (λ e. effect_of e ≡ begin_item (place_of place) (symbol_view symbol.entry)) }
 {
     match place {
-        Place::Modifications(component) => begin_mod(alloc, component, kind, text),
-        Place::OwnArguments(component) => begin_own(alloc, component, kind, text),
+        Place::Modifications(component) => begin_mod(alloc, component, symbol),
+        Place::OwnArguments(component) => begin_own(alloc, component, symbol),
         Place::Arguments(draft, seen, settings) => {
-            begin_argument(alloc, draft, seen, settings, kind, text)
+            begin_argument(alloc, draft, seen, settings, symbol)
         }
-        Place::Settings(owner, settings) => {
-            begin_setting(alloc, owner, settings, kind, text, at)
-        }
+        Place::Settings(owner, settings) => { begin_setting(alloc, owner, settings, symbol) }
     }
 }
 
 // The token closes a list of items.
-fn closes_list(kind: Kind) -> bool
-    ensures { (text : List ℕ) (at : ℕ) → result ≡ is_close (symbol_with kind text at) }
+fn closes_list(symbol: Symbol) -> bool
+    ensures { result ≡ is_close (symbol_view symbol.entry) }
 {
-    match kind {
-        Kind::Mark(Mark::CloseRound) => true,
+    match symbol {
+        Symbol::Mark(Mark::CloseRound, _) => true,
         _ => false,
     }
 }
 
 /// An item begins, or none is there.
-pub fn begin_first_item(
-    alloc: Global,
-    place: Place,
-    kind: Kind,
-    text: &[u8],
-    at: u32,
-) -> Result<Effect, AllocError>
-    ensures { IfOk result (λ e. effect_of e ≡ begin_first_item (place_of place) (symbol_with kind text.now at)) }
+pub fn begin_first_item(alloc: Global, place: Place, symbol: Symbol) -> Result<Effect, AllocError>
+    ensures { IfOk result (λ e. effect_of e ≡ begin_first_item (place_of place) (symbol_view symbol.entry)) }
 {
-    let closes = closes_list(kind);
+    let closes = closes_list(symbol);
     if closes {
         return Ok(Effect::Advances(closed(place)));
     }
-    begin_item(alloc, place, kind, text, at)
+    begin_item(alloc, place, symbol)
 }

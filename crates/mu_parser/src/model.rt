@@ -15,22 +15,23 @@ ghost use Rattle.mu_grammar.specs.ModelMachine.{
 ghost use Rattle.mu_grammar.specs.Shapes.{is_fixed};
 ghost use Rattle.mu_parser.specs.ModelViews.{next_of};
 ghost use Rattle.mu_parser.specs.ItemViews.{settings_of};
-ghost use Rattle.mu_section.specs.Views.{draft_of, effect_of, state_of, then_of};
-ghost use Rattle.mu_grammar.specs.Symbols.{symbol_with};
+ghost use Rattle.mu_parser.specs.SectionViews.{draft_of, effect_of, state_of, then_of};
+ghost use Rattle.mu_grammar.specs.SymbolViews.{symbol_view};
 
 use crate::declaration::{
     begin, component_token, follow_component, follow_modifications, follow_name, follow_size,
     follow_string, follow_title, head, import_token, type_token,
 };
 use crate::item::{begin_bare_mod, begin_first_item, begin_item, follow_item, skip_token};
+use crate::section::body::{body_token, variable_token};
+use crate::section::clause::condition_token;
+use crate::section::state::{Draft, Effect, State, Then};
+use crate::section::target::{follow_target, follow_target_name, target_token};
 use crate::sum::sum_token;
 use mu_grammar::shape::Fixed;
+use mu_grammar::symbol::Symbol;
 use mu_io::Name;
-use mu_lexer::token::{Kind, Mark};
-use mu_section::body::{body_token, variable_token};
-use mu_section::clause::condition_token;
-use mu_section::state::{Draft, Effect, State, Then};
-use mu_section::target::{follow_target, follow_target_name, target_token};
+use mu_lexer::token::Mark;
 use mu_tree::tree::{Model, Prefix, SettingItem};
 use std::alloc::{AllocError, Global};
 
@@ -60,11 +61,11 @@ fn new_draft(alloc: Global, name: Name) -> Draft
 }
 
 // Where the model's name must come.
-fn title_token(alloc: Global, kind: Kind, text: &[u8]) -> Result<Effect, AllocError>
-    ensures { IfOk result (λ e. (at : ℕ) → effect_of e ≡ title_token (symbol_with kind text.now at)) }
+fn title_token(alloc: Global, symbol: Symbol) -> Result<Effect, AllocError>
+    ensures { IfOk result (λ e. effect_of e ≡ title_token (symbol_view symbol.entry)) }
 {
-    match kind {
-        Kind::Ident => {
+    match symbol {
+        Symbol::Name(text, _) => {
             let name = Name::new(alloc, text)?;
             let draft = Box::new(alloc, new_draft(alloc, name))?;
             Ok(Effect::Advances(State::BehindTitle(draft)))
@@ -78,14 +79,12 @@ fn end_name_token(
     alloc: Global,
     draft: Box<Draft>,
     settings: Vec<SettingItem>,
-    kind: Kind,
-    text: &[u8],
-    at: u32,
+    symbol: Symbol,
 ) -> Result<Effect, AllocError>
-    ensures { IfOk result (λ e. effect_of e ≡ end_name_token (draft_of draft.value) (settings_of settings.items) (symbol_with kind text.now at)) }
+    ensures { IfOk result (λ e. effect_of e ≡ end_name_token (draft_of draft.value) (settings_of settings.items) (symbol_view symbol.entry)) }
 {
-    match kind {
-        Kind::Ident => {
+    match symbol {
+        Symbol::Name(text, at) => {
             let end_name = Name::new(alloc, text)?;
             let draft = Box::into_inner(draft);
             Ok(Effect::Advances(State::Last(Model {
@@ -104,11 +103,11 @@ fn end_name_token(
 }
 
 // Where the model's last semicolon must come.
-fn last_token(whole: Model, kind: Kind) -> Effect
-    ensures { (text : List ℕ) (at : ℕ) → effect_of result ≡ last_token (model whole) (symbol_with kind text at) }
+fn last_token(whole: Model, symbol: Symbol) -> Effect
+    ensures { effect_of result ≡ last_token (model whole) (symbol_view symbol.entry) }
 {
-    match kind {
-        Kind::Mark(Mark::Semicolon) => Effect::Finishes(whole),
+    match symbol {
+        Symbol::Mark(Mark::Semicolon, _) => Effect::Finishes(whole),
         _ => Effect::Refuses,
     }
 }
@@ -133,10 +132,10 @@ fn resume(alloc: Global, then: Then) -> State
 }
 
 // A word or mark must come.
-fn fixed_token(alloc: Global, expected: Fixed, then: Then, kind: Kind) -> Effect
-    ensures { (text : List ℕ) (at : ℕ) → effect_of result ≡ meets (is_fixed expected (symbol_with kind text at)) (then_of then) }
+fn fixed_token(alloc: Global, expected: Fixed, then: Then, symbol: Symbol) -> Effect
+    ensures { effect_of result ≡ meets (is_fixed expected (symbol_view symbol.entry)) (then_of then) }
 {
-    if expected.is(kind) {
+    if expected.is(symbol) {
         Effect::Advances(resume(alloc, then))
     } else {
         Effect::Refuses
@@ -144,42 +143,42 @@ fn fixed_token(alloc: Global, expected: Fixed, then: Then, kind: Kind) -> Effect
 }
 
 // One token.
-fn turn(alloc: Global, state: State, kind: Kind, text: &[u8], at: u32) -> Result<Effect, AllocError>
-    ensures { IfOk result (λ e. effect_of e ≡ model_turn (state_of state) (symbol_with kind text.now at)) }
+fn turn(alloc: Global, state: State, symbol: Symbol) -> Result<Effect, AllocError>
+    ensures { IfOk result (λ e. effect_of e ≡ model_turn (state_of state) (symbol_view symbol.entry)) }
 {
     match state {
-        State::Expects(expected, then) => Ok(fixed_token(alloc, expected, then, kind)),
+        State::Expects(expected, then) => Ok(fixed_token(alloc, expected, then, symbol)),
         State::Sum(waiting, position, frames) => {
-            sum_token(alloc, waiting, position, frames, kind, text, at)
+            sum_token(alloc, waiting, position, frames, symbol)
         }
-        State::Condition(clause, stage) => condition_token(alloc, clause, stage, kind, text, at),
-        State::ModelName => title_token(alloc, kind, text),
-        State::BehindTitle(draft) => Ok(follow_title(alloc, draft, kind)),
-        State::Heads(draft) => Ok(head(alloc, draft, kind)),
-        State::Importing(draft) => Ok(import_token(draft, kind)),
-        State::Type(draft, prefix) => Ok(type_token(draft, prefix, kind)),
+        State::Condition(clause, stage) => condition_token(alloc, clause, stage, symbol),
+        State::ModelName => title_token(alloc, symbol),
+        State::BehindTitle(draft) => Ok(follow_title(alloc, draft, symbol)),
+        State::Heads(draft) => Ok(head(alloc, draft, symbol)),
+        State::Importing(draft) => Ok(import_token(draft, symbol)),
+        State::Type(draft, prefix) => Ok(type_token(draft, prefix, symbol)),
         State::Component(draft, prefix, whole) => {
-            component_token(alloc, draft, prefix, whole, kind, text, at)
+            component_token(alloc, draft, prefix, whole, symbol)
         }
-        State::BehindName(component) => follow_name(alloc, component, kind),
-        State::BehindSize(component) => follow_size(alloc, component, kind),
-        State::BehindModifications(component) => follow_modifications(alloc, component, kind),
-        State::BehindString(component) => follow_string(component, kind),
-        State::BehindAnnotation(component) => follow_component(component, kind),
-        State::FirstItem(place) => begin_first_item(alloc, place, kind, text, at),
-        State::Item(place) => begin_item(alloc, place, kind, text, at),
-        State::Each(component) => begin_bare_mod(alloc, component, kind, text),
-        State::BehindItem(place) => Ok(follow_item(place, kind)),
-        State::Skipping(place, brackets) => skip_token(place, brackets, kind),
-        State::Body(body) => body_token(alloc, body, kind, text, at),
-        State::Variable(body) => variable_token(alloc, body, kind, text, at),
-        State::Target(aim) => target_token(alloc, aim, kind, text, at),
+        State::BehindName(component) => follow_name(alloc, component, symbol),
+        State::BehindSize(component) => follow_size(alloc, component, symbol),
+        State::BehindModifications(component) => follow_modifications(alloc, component, symbol),
+        State::BehindString(component) => follow_string(component, symbol),
+        State::BehindAnnotation(component) => follow_component(component, symbol),
+        State::FirstItem(place) => begin_first_item(alloc, place, symbol),
+        State::Item(place) => begin_item(alloc, place, symbol),
+        State::Each(component) => begin_bare_mod(alloc, component, symbol),
+        State::BehindItem(place) => Ok(follow_item(place, symbol)),
+        State::Skipping(place, brackets) => skip_token(place, brackets, symbol),
+        State::Body(body) => body_token(alloc, body, symbol),
+        State::Variable(body) => variable_token(alloc, body, symbol),
+        State::Target(aim) => target_token(alloc, aim, symbol),
         State::BehindTargetName(name, place, aim) => {
-            Ok(follow_target_name(alloc, name, place, aim, kind))
+            Ok(follow_target_name(alloc, name, place, aim, symbol))
         }
-        State::BehindTarget(target, aim) => Ok(follow_target(alloc, target, aim, kind)),
-        State::EndName(draft, settings) => end_name_token(alloc, draft, settings, kind, text, at),
-        State::Last(whole) => Ok(last_token(whole, kind)),
+        State::BehindTarget(target, aim) => Ok(follow_target(alloc, target, aim, symbol)),
+        State::EndName(draft, settings) => end_name_token(alloc, draft, settings, symbol),
+        State::Last(whole) => Ok(last_token(whole, symbol)),
     }
 }
 
@@ -202,15 +201,9 @@ fn allow(effect: Effect) -> Next
 }
 
 /// One token, where at most 64 levels may be open. `Err` is want of memory.
-pub fn advance(
-    alloc: Global,
-    state: State,
-    kind: Kind,
-    text: &[u8],
-    at: u32,
-) -> Result<Next, AllocError>
-    ensures { IfOk result (λ n. next_of n ≡ step_on model_machine 64 (go (state_of state)) (symbol_with kind text.now at)) }
+pub fn advance(alloc: Global, state: State, symbol: Symbol) -> Result<Next, AllocError>
+    ensures { IfOk result (λ n. next_of n ≡ step_on model_machine 64 (go (state_of state)) (symbol_view symbol.entry)) }
 {
-    let effect = turn(alloc, state, kind, text, at)?;
+    let effect = turn(alloc, state, symbol)?;
     Ok(allow(effect))
 }

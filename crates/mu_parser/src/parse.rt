@@ -9,10 +9,11 @@ ghost use Rattle.mu_grammar.specs.Models.{SpellsModel};
 ghost use Rattle.mu_grammar.specs.Symbols.{symbols};
 
 use crate::model::{Next, advance};
+use crate::section::state::{State, Then};
 pub use mu_grammar::fault::ParseErr;
 use mu_grammar::shape::Fixed;
+use mu_grammar::symbol::Symbol;
 use mu_lexer::token::Token;
-use mu_section::state::{State, Then};
 use mu_tree::tree::Model;
 use std::alloc::Global;
 
@@ -32,7 +33,8 @@ pub fn parse(alloc: Global, source: &[u8], tokens: &[Token]) -> Result<Model, Pa
     let mut state = State::Expects(Fixed::ModelWord, Then::ModelName);
     for (i, token) in tokens.iter().enumerate() {
         let text = &source[token.start as usize..token.end as usize];
-        match advance(alloc, state, token.kind, text, token.start)? {
+        let symbol = Symbol::new(token.kind, text, token.start);
+        match advance(alloc, state, symbol)? {
             Next::Going(next) => state = next,
             Next::Done(whole) => return finished(whole, i + 1, tokens.len()),
             Next::Wrong => return Err(ParseErr::Syntax { token: i as u32 }),

@@ -14,19 +14,20 @@ ghost use Rattle.mu_grammar.specs.ModelMachine.{receive, sum_move};
 ghost use Rattle.mu_grammar.specs.States.{outside, side_level};
 ghost use Rattle.mu_grammar.specs.SumMachine.{depth_at, step};
 ghost use Rattle.mu_parser.specs.ItemViews.{settings_of};
-ghost use Rattle.mu_expression.specs.Views.{frames_of, position_of};
-ghost use Rattle.mu_section.specs.Views.{aim_of, component_of, effect_of, waiting_of};
-ghost use Rattle.mu_grammar.specs.Symbols.{symbol_with};
+ghost use Rattle.mu_parser.specs.ExpressionViews.{frames_of, position_of};
+ghost use Rattle.mu_parser.specs.SectionViews.{aim_of, component_of, effect_of, waiting_of};
+ghost use Rattle.mu_grammar.specs.SymbolViews.{symbol_view};
 
 use crate::declaration::follow_value;
+use crate::expression::machine::{Frame, Move, Position, depth_at, step};
 use crate::item::follow_item;
-use mu_expression::machine::{Frame, Move, Position, depth_at, step};
+use crate::section::body::{body_level, close_first, close_last};
+use crate::section::equation::equation_level;
+use crate::section::state::{Aim, Component, Effect, LoopRange, Place, State, Waiting};
+use crate::section::target::{aim_level, close_index, close_side};
+use mu_grammar::symbol::Symbol;
 use mu_io::Name;
-use mu_lexer::token::{Kind, Mark};
-use mu_section::body::{body_level, close_first, close_last};
-use mu_section::equation::equation_level;
-use mu_section::state::{Aim, Component, Effect, LoopRange, Place, State, Waiting};
-use mu_section::target::{aim_level, close_index, close_side};
+use mu_lexer::token::Mark;
 use mu_tree::expr::{Expr, Ref};
 use mu_tree::tree::{SettingItem, SettingName};
 use std::alloc::{AllocError, Global};
@@ -82,11 +83,11 @@ fn with_setting(
 }
 
 // Behind a size.
-fn close_size(component: Component, kind: Kind) -> Effect
-    ensures { (text : List ℕ) (at : ℕ) → effect_of result ≡ close_size (component_of component) (symbol_with kind text at) }
+fn close_size(component: Component, symbol: Symbol) -> Effect
+    ensures { effect_of result ≡ close_size (component_of component) (symbol_view symbol.entry) }
 {
-    match kind {
-        Kind::Mark(Mark::CloseSquare) => Effect::Advances(State::BehindSize(component)),
+    match symbol {
+        Symbol::Mark(Mark::CloseSquare, _) => Effect::Advances(State::BehindSize(component)),
         _ => Effect::Refuses,
     }
 }
@@ -119,33 +120,33 @@ fn receive(
     alloc: Global,
     waiting: Waiting,
     value: Expr,
-    kind: Kind,
-    text: &[u8],
-    at: u32,
+    symbol: Symbol,
 ) -> Result<Effect, AllocError>
-    ensures { IfOk result (λ e. effect_of e ≡ receive (waiting_of waiting) (expression value) (symbol_with kind text.now at)) }
+    ensures { IfOk result (λ e. effect_of e ≡ receive (waiting_of waiting) (expression value) (symbol_view symbol.entry)) }
 {
     match waiting {
-        Waiting::Size(component) => Ok(close_size(with_size(component, value), kind)),
+        Waiting::Size(component) => Ok(close_size(with_size(component, value), symbol)),
         Waiting::Start(component) => {
             let component = with_start(component, value);
-            Ok(follow_item(Place::Modifications(component), kind))
+            Ok(follow_item(Place::Modifications(component), symbol))
         }
-        Waiting::Value(component) => follow_value(with_value(component, value), kind),
+        Waiting::Value(component) => follow_value(with_value(component, value), symbol),
         Waiting::Quantum(component) => {
             let component = with_quantum(component, value);
-            Ok(follow_item(Place::OwnArguments(component), kind))
+            Ok(follow_item(Place::OwnArguments(component), symbol))
         }
         Waiting::Setting(owner, settings, which, place) => {
             let settings = with_setting(settings, which, value, place)?;
-            Ok(follow_item(Place::Settings(owner, settings), kind))
+            Ok(follow_item(Place::Settings(owner, settings), symbol))
         }
         Waiting::Index(name, place, aim) => {
             let target = element(alloc, name, value, place)?;
-            Ok(close_index(target, aim, kind))
+            Ok(close_index(target, aim, symbol))
         }
-        Waiting::Side(aim, target) => close_side(aim, target, value, kind, text, at),
-        Waiting::First(body, name, place) => Ok(close_first(alloc, body, name, place, value, kind)),
+        Waiting::Side(aim, target) => close_side(aim, target, value, symbol),
+        Waiting::First(body, name, place) => Ok(close_first(
+            alloc, body, name, place, value, symbol,
+        )),
         Waiting::Last(body, name, place, from) => {
             let range = LoopRange {
                 var: name,
@@ -153,7 +154,7 @@ fn receive(
                 from,
                 to: value,
             };
-            close_last(alloc, body, range, kind, text, at)
+            close_last(alloc, body, range, symbol)
         }
     }
 }
@@ -182,18 +183,16 @@ pub fn sum_token(
     waiting: Waiting,
     position: Position,
     frames: Vec<Frame>,
-    kind: Kind,
-    text: &[u8],
-    at: u32,
+    symbol: Symbol,
 ) -> Result<Effect, AllocError>
-    ensures { IfOk result (λ e. effect_of e ≡ sum_move (waiting_of waiting) (depth_at (outside (waiting_of waiting)) (position_of position) (frames_of frames.items)) (step (position_of position) (frames_of frames.items) (symbol_with kind text.now at)) (symbol_with kind text.now at)) }
+    ensures { IfOk result (λ e. effect_of e ≡ sum_move (waiting_of waiting) (depth_at (outside (waiting_of waiting)) (position_of position) (frames_of frames.items)) (step (position_of position) (frames_of frames.items) (symbol_view symbol.entry)) (symbol_view symbol.entry)) }
 {
     let level = level_in(&waiting, &position, &frames);
     let mut frames = frames;
-    match step(alloc, position, &mut frames, kind, text, at)? {
+    match step(alloc, position, &mut frames, symbol)? {
         Move::Moves(next) => Ok(Effect::Advances(State::Sum(waiting, next, frames))),
         Move::Opens(next) => Ok(Effect::Descends(level, State::Sum(waiting, next, frames))),
-        Move::Ends(value) => receive(alloc, waiting, value, kind, text, at),
+        Move::Ends(value) => receive(alloc, waiting, value, symbol),
         Move::Wrong => Ok(Effect::Refuses),
     }
 }

@@ -315,13 +315,10 @@ fn a_text_is_too_long(rt: HostRuntime) -> Result<(), Fail> {
 #[test]
 fn a_call_without_a_certificate(rt: HostRuntime) -> Result<(), Fail> {
     let alloc = rt.alloc();
-    let cases: [(&[&str], u8, &str); 6] = [
+    let cases: [(&[&str], u8, &str); 3] = [
         (&["certify", "M", "absent"], 3, "read fault\n"),
-        (&["certify", "M"], 2, USAGE),
         (&["certify", "M", "C", "C"], 2, USAGE),
-        (&["certify", "M", "C", "--rule", "floor"], 2, USAGE),
         (&["certify", "M", "C", "--relative", "2049"], 2, USAGE),
-        (&["upgrade", "M", "C", "--relative", "0"], 2, USAGE),
     ];
     for (words, code, line) in cases {
         let call = call_of(words, DECAY, "");
@@ -340,9 +337,18 @@ fn faults_of_the_shelf(rt: HostRuntime) -> Result<(), Fail> {
             shelf_fails: &[fault],
             ..call_of(&["certify", "M", "C"], DECAY, &plain)
         };
+        let silent = Call {
+            err_fails: &[0],
+            ..call
+        };
         assert_answered(&rt, alloc, &call, 3, "", "read fault\n")?;
+        assert_answered(&rt, alloc, &silent, 3, "", "")?;
     }
-    Ok(())
+    let call = Call {
+        shelf_fails: &[6],
+        ..call_of(&["certify", "M", "C"], DECAY, &plain)
+    };
+    assert_answered(&rt, alloc, &call, 0, "name,levels\nx,21\n", "")
 }
 
 #[test]
@@ -354,6 +360,11 @@ fn faults_of_out_and_err(rt: HostRuntime) -> Result<(), Fail> {
         ..call_of(&["certify", "M", "C"], DECAY, &plain)
     };
     assert_answered(&rt, alloc, &call, 4, "", "write fault\n")?;
+    let silent = Call {
+        err_fails: &[0],
+        ..call
+    };
+    assert_answered(&rt, alloc, &silent, 4, "", "")?;
     let less = changed(alloc, &plain, "C,432\n", "C,431\n")?;
     let call = Call {
         err_fails: &[0],

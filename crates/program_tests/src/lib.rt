@@ -6,6 +6,8 @@ mod certifying;
 #[cfg(test)]
 mod examples;
 #[cfg(test)]
+mod generating;
+#[cfg(test)]
 mod large;
 #[cfg(test)]
 mod models;

@@ -11,6 +11,14 @@ const FALSE_AFTER: &str =
 const TWO_CLAUSES: &str =
     "model m Real x; discrete Real c; equation der(x) = 1; algorithm when x >= 1 then reinit(x, 0); end when; when x >= 1 then c := pre(c) + 1; end when; annotation(experiment(StopTime = 1, QSS_CoefBits = 0, QSS_TickBits = 0, QSS_LevelBits = 0, QSS_Quantum = 1)); end m;";
 
+// The second clause assigns 9 * 10^12, which is more than 2^43.
+const ASSIGNED_TOO_MUCH: &str =
+    "model m Real x; discrete Real c; equation der(x) = 1; algorithm when x >= 1 then reinit(x, 0); end when; when x >= 1 then c := 9e12; end when; annotation(experiment(StopTime = 1, QSS_CoefBits = 0, QSS_TickBits = 0, QSS_LevelBits = 0, QSS_Quantum = 1)); end m;";
+
+// A loop without rounds.
+const NO_ROUNDS: &str =
+    "model m Real x; equation der(x) = 1; for i in 2:1 loop der(x) = 2; end for; annotation(experiment(StopTime = 1, QSS_CoefBits = 0, QSS_TickBits = 0, QSS_LevelBits = 0, QSS_Quantum = 1)); end m;";
+
 const FIRST_BRANCH: &str =
     "model m Real x; discrete Real c; equation der(x) = 1; algorithm when x >= 1 then c := 1; elsewhen x >= 1 then c := 2; end when; annotation(experiment(StopTime = 1, QSS_CoefBits = 0, QSS_TickBits = 0, QSS_LevelBits = 0, QSS_Quantum = 1)); end m;";
 
@@ -41,7 +49,7 @@ const HALVES: &str =
 const SHORT: &str =
     "model decay Real x(start = 64); equation der(x) = -1*x; annotation(experiment(StopTime = 0.1875, QSS_CoefBits = 8, QSS_TickBits = 4, QSS_LevelBits = 0, QSS_Quantum = 4)); end decay;";
 
-const BALL_ROWS: &str =
+pub(crate) const BALL_ROWS: &str =
     "0,start,y,4,256\n0,start,v,0,0\n1,level,v,-10,-640\n2,level,y,1,96\n2,level,v,-20,-1280\n3,when,1.1,,\n3,reinit,v,,480\n3,level,y,-4,-224\n3,level,v,7,480\n4,level,y,-2,-112\n4,level,v,-3,-160\n5,level,v,-13,-800\n5,end,y,-2,-160\n5,end,v,-13,-800\n";
 
 const BALL_SPEED_ROWS: &str =
@@ -51,7 +59,7 @@ const OVERFLOWING_ROWS: &str =
     "0,start,x,1,1\n1,level,x,1001,1001\n2,level,x,1002001,1002001\n3,level,x,1003003001,1003003001\n4,level,x,1004006004001,1004006004001\n5,overflow,x,,\n";
 
 // Sources, and the rows of their runs.
-const RUNS: [(&str, &str); 11] = [
+const RUNS: [(&str, &str); 12] = [
     (BALL, BALL_ROWS),
     (
         FALSE_AFTER,
@@ -71,6 +79,7 @@ const RUNS: [(&str, &str); 11] = [
     ),
     (ALGEBRAIC, "0,start,x,1,1\n1,level,x,-1,-1\n1,end,x,-1,-1\n"),
     (EXCHANGED, "0,start,x,1,1\n1,level,x,-1,-1\n1,end,x,-1,-1\n"),
+    (NO_ROUNDS, "0,start,x,0,0\n1,level,x,1,1\n1,end,x,1,1\n"),
     (LONG_REST, "0,start,x,0,0\n4294967295,end,x,0,0\n"),
     (
         ROUNDED,
@@ -116,6 +125,14 @@ fn models_print_their_rows(rt: HostRuntime) -> Result<(), Fail> {
         Status::Overflow,
         OVERFLOWING_ROWS,
         "overflow: x at tick 5\n",
+    )?;
+    assert_told(
+        &rt,
+        alloc,
+        &run_of(ASSIGNED_TOO_MUCH),
+        Status::Overflow,
+        "0,start,x,0,0\n0,start,c,0,\n1,overflow,c,,\n",
+        "overflow: c at tick 1\n",
     )
 }
 
@@ -152,7 +169,7 @@ fn rules_at_half_a_level(rt: HostRuntime) -> Result<(), Fail> {
 }
 
 // Sources that spell a model and mean no machine, and the lines of their refusals.
-const REFUSALS: [(&str, &str); 11] = [
+const REFUSALS: [(&str, &str); 12] = [
     (
         "model m Real x; Real x; equation der(x) = 1; end m;",
         "refused: names 2 21\n",
@@ -168,6 +185,10 @@ const REFUSALS: [(&str, &str); 11] = [
     (
         "model m Real x, a; equation der(x) = a; end m;",
         "refused: causal 1 a\n",
+    ),
+    (
+        "model m Real u[2]; initial algorithm u[1] := 1; for i in 1:2 loop u[i] := i; end for; equation for i in 2:1 loop der(u[i]) = 0; end for; end m;",
+        "refused: causal 1 u[1]\n",
     ),
     (
         "model m Real x(start = 1), a, b; equation der(x) = a; a = b; b = a; annotation(experiment(StopTime = 1, QSS_CoefBits = 0, QSS_TickBits = 0, QSS_LevelBits = 0, QSS_Quantum = 1)); end m;",

@@ -1,4 +1,5 @@
 // Whole runs of the top call, with texts that were worked out by hand.
+use crate::models::BALL_ROWS;
 use mu_io::{MemShelf, MemSink, Name};
 use qss_top::{Status, qss_main};
 use std::alloc::Global;
@@ -29,7 +30,7 @@ pub(crate) const DECAY_ROWS: &str =
     "0,start,x,64,262144\n1,level,x,60,245760\n3,level,x,52,215040\n5,level,x,46,188416\n7,level,x,40,164864\n9,level,x,35,144384\n11,level,x,30,126464\n14,level,x,25,103424\n16,end,x,25,90624\n";
 
 pub(crate) const USAGE: &str =
-    "usage: qss VERB [WORD] [WORD] [--rule RULE] [--only NAME] [--relative N]\n";
+    "usage: qss VERB [WORD] [WORD] [WORD] [WORD] [--rule RULE] [--only NAME] [--relative N]\n";
 
 // What a call of the top call is given, and the calls that are to fail.
 #[derive(Clone, Copy)]
@@ -104,7 +105,7 @@ fn what_is_refused(rt: HostRuntime) -> Result<(), Fail> {
     let alloc = rt.alloc();
     let blanks = vec![in alloc; b' '; (1 << 20) + 1]?;
     let long = String::from_utf8(blanks)?;
-    let cases: [(&[&str], &str, u8, &str); 13] = [
+    let cases: [(&[&str], &str, u8, &str); 8] = [
         (&["run", "M"], RESERVED, 5, "refused: parse 1 1\n"),
         (&["run", "M"], NO_QUANTUM, 5, "refused: machine 3 x\n"),
         (&["run", "M"], &long, 5, "refused: top 1\n"),
@@ -113,11 +114,6 @@ fn what_is_refused(rt: HostRuntime) -> Result<(), Fail> {
         (&["run", "absent"], DECAY, 3, "read fault\n"),
         (&["run", "--", "--only"], DECAY, 3, "read fault\n"),
         (&["print", "absent"], DECAY, 3, "read fault\n"),
-        (&["run"], DECAY, 2, USAGE),
-        (&["print"], DECAY, 2, USAGE),
-        (&["run", "M", "M"], DECAY, 2, USAGE),
-        (&["walk", "M"], DECAY, 2, USAGE),
-        (&[], DECAY, 2, USAGE),
     ];
     for (words, source, code, line) in cases {
         let setting = Setting {
@@ -132,35 +128,65 @@ fn what_is_refused(rt: HostRuntime) -> Result<(), Fail> {
     Ok(())
 }
 
+// No words; a verb that is none, or with too few or too many words; an option that is none, that has no value, that is
+// given twice or does not go with its verb; a value out of its bounds; and words that begin with a hyphen.
+const NO_COMMANDS: [&[&str]; 45] = [
+    &[],
+    &[""],
+    &["walk", "M"],
+    &["help"],
+    &["run"],
+    &["run", "M", "M"],
+    &["run", "M", "M", "M", "M", "M"],
+    &["print"],
+    &["print", "M", "M"],
+    &["certify", "M"],
+    &["certify", "M", "C", "A", "B"],
+    &["upgrade", "M"],
+    &["upgrade", "M", "C", "A"],
+    &["gen", "0"],
+    &["gen", "0", "1", "1"],
+    &["run", "M", "--other", "x"],
+    &["run", "M", "--rule"],
+    &["run", "M", "--only", "--rule"],
+    &["run", "M", "--only", "-5"],
+    &["run", "M", "--rule", "floor", "--rule", "floor"],
+    &["run", "M", "--only", "x", "--only=x"],
+    &["run", "M", "--relative", "0", "--relative", "0"],
+    &["print", "M", "--rule", "floor"],
+    &["print", "M", "--only", "x"],
+    &["print", "M", "--relative=0"],
+    &["certify", "M", "C", "--rule", "floor"],
+    &["upgrade", "M", "C", "--relative", "0"],
+    &["gen", "0", "1", "--rule", "floor"],
+    &["gen", "0", "1", "--relative", "0"],
+    &["run", "M", "--rule", "ceil"],
+    &["run", "M", "--rule="],
+    &["run", "M", "--relative", "2049"],
+    &["run", "M", "--relative", "00512"],
+    &["run", "M", "--relative", "+12"],
+    &["run", "M", "--relative", ""],
+    &["gen", "18446744073709551616", "1"],
+    &["gen", "000000000000000000000", "1"],
+    &["gen", "x", "1"],
+    &["gen", "0", "0"],
+    &["gen", "0", "4097"],
+    &["run", "M", "-x"],
+    &["-h"],
+    &["run", "M", "--help"],
+    &["--version"],
+    &["--", "run", "M", "--only", "x"],
+];
+
 #[test]
 fn words_that_are_no_command(rt: HostRuntime) -> Result<(), Fail> {
     let alloc = rt.alloc();
-    let cases: [&[&str]; 15] = [
-        &["print", "M", "--rule", "floor"],
-        &["print", "M", "--relative=0"],
-        &["run", "M", "--rule", "ceil"],
-        &["run", "M", "--rule="],
-        &["run", "M", "--rule"],
-        &["run", "M", "--rule", "floor", "--rule", "floor"],
-        &["run", "M", "--only", "--rule"],
-        &["run", "M", "--only", "x", "--only=x"],
-        &["run", "M", "--relative", "2049"],
-        &["run", "M", "--relative", "00512"],
-        &["run", "M", "--relative", "+12"],
-        &["run", "M", "--relative", ""],
-        &["run", "M", "-x"],
-        &["run", "M", "--other", "x"],
-        &["--", "run", "M", "--only", "x"],
-    ];
-    for words in cases {
+    for words in NO_COMMANDS {
         let setting = Setting {
             words,
             ..run_of(DECAY)
         };
-        let (got, out, err) = outcome(alloc, &setting)?;
-        assert_eq!(rt; got, Status::Usage);
-        assert_eq!(rt; out.bytes(), b"".as_slice());
-        assert_eq!(rt; err.bytes(), USAGE.as_bytes());
+        assert_nothing(&rt, alloc, &setting, Status::Usage, USAGE)?;
     }
     Ok(())
 }
@@ -217,34 +243,55 @@ fn runs_with_options(rt: HostRuntime) -> Result<(), Fail> {
     Ok(())
 }
 
-#[test]
-fn a_write_that_fails_ends_the_run(rt: HostRuntime) -> Result<(), Fail> {
-    let alloc = rt.alloc();
-    let text = format!(in alloc; "{}{}", HEADER, DECAY_ROWS)?;
+// With each write on out refused in turn, out has the lines before it; and where err is refused too, its line is missing.
+fn assert_cut(rt: &impl Abort, alloc: Global, source: &str, rows: &str) -> Result<(), Fail> {
+    let text = format!(in alloc; "{}{}", HEADER, rows)?;
     let mut written = 0;
     for (call, line) in text.lines().enumerate() {
-        let Ok(call) = u32::try_from(call) else {
-            break;
-        };
         let setting = Setting {
-            out_fails: &[call],
-            ..run_of(DECAY)
+            out_fails: &[u32::try_from(call).unwrap_or(u32::MAX)],
+            ..run_of(source)
         };
-        let (got, out, err) = outcome(alloc, &setting)?;
-        assert_eq!(rt; got, Status::WriteFault);
-        assert_eq!(rt; Some(out.bytes()), text.as_bytes().get(..written));
-        assert_eq!(rt; err.bytes(), b"write fault\n".as_slice());
+        let silent = Setting {
+            err_fails: &[0],
+            ..setting
+        };
+        let before = text.as_bytes().get(..written).unwrap_or(b"");
+        assert_cut_at(rt, alloc, &setting, before, b"write fault\n")?;
+        assert_cut_at(rt, alloc, &silent, before, b"")?;
         written = written.saturating_add(line.len()).saturating_add(1);
     }
     assert_eq!(rt; written, text.len());
+    Ok(())
+}
+
+// A write fails, and out and err hold this.
+fn assert_cut_at(
+    rt: &impl Abort,
+    alloc: Global,
+    setting: &Setting,
+    written: &[u8],
+    line: &[u8],
+) -> Result<(), Fail> {
+    let (got, out, err) = outcome(alloc, setting)?;
+    assert_eq!(rt; got, Status::WriteFault);
+    assert_eq!(rt; out.bytes(), written);
+    assert_eq!(rt; err.bytes(), line);
+    Ok(())
+}
+
+#[test]
+fn a_write_that_fails_ends_the_run(rt: HostRuntime) -> Result<(), Fail> {
+    let alloc = rt.alloc();
+    assert_cut(&rt, alloc, DECAY, DECAY_ROWS)?;
+    assert_cut(&rt, alloc, BALL, BALL_ROWS)?;
+    let text = format!(in alloc; "{}{}", HEADER, DECAY_ROWS)?;
     let setting = Setting {
         room: 40,
         ..run_of(DECAY)
     };
-    let (got, out, _) = outcome(alloc, &setting)?;
-    assert_eq!(rt; got, Status::WriteFault);
-    assert_eq!(rt; Some(out.bytes()), text.as_bytes().get(..40));
-    Ok(())
+    let before = text.as_bytes().get(..40).unwrap_or(b"");
+    assert_cut_at(&rt, alloc, &setting, before, b"write fault\n")
 }
 
 // A run or a print ends with this status and this line, and writes nothing on out.
@@ -262,22 +309,33 @@ fn assert_nothing(
     Ok(())
 }
 
+// The select and both reads of a model; a fourth call is not made.
 #[test]
 fn faults_of_the_shelf(rt: HostRuntime) -> Result<(), Fail> {
     let alloc = rt.alloc();
     for call in 0..3u32 {
         let run = Setting {
             shelf_fails: &[call],
-            ..run_of(DECAY)
+            ..run_of(BALL)
         };
-        assert_nothing(&rt, alloc, &run, Status::ReadFault, "read fault\n")?;
+        let silent = Setting {
+            err_fails: &[0],
+            ..run
+        };
         let print = Setting {
             words: &["print", "M"],
-            shelf_fails: &[call],
-            ..run_of(DECAY)
+            ..run
         };
+        assert_nothing(&rt, alloc, &run, Status::ReadFault, "read fault\n")?;
+        assert_nothing(&rt, alloc, &silent, Status::ReadFault, "")?;
         assert_nothing(&rt, alloc, &print, Status::ReadFault, "read fault\n")?;
     }
+    let run = Setting {
+        shelf_fails: &[3],
+        ..run_of(BALL)
+    };
+    let (got, _, _) = outcome(alloc, &run)?;
+    assert_eq!(rt; got, Status::Ok);
     Ok(())
 }
 
@@ -404,20 +462,26 @@ fn a_write_that_fails_ends_the_print(rt: HostRuntime) -> Result<(), Fail> {
     Ok(())
 }
 
-#[test]
-fn a_model_that_is_cut_is_none(rt: HostRuntime) -> Result<(), Fail> {
-    let alloc = rt.alloc();
-    for end in 0..BALL.len() {
-        let Some(source) = BALL.get(..end) else {
-            break;
-        };
+// Neither a run nor a print of a source writes on out.
+fn assert_no_model(rt: &impl Abort, alloc: Global, source: &str) -> Result<(), Fail> {
+    let both: [&[&str]; 2] = [&["print", "M"], &["run", "M"]];
+    for words in both {
         let setting = Setting {
-            words: &["print", "M"],
+            words,
             ..run_of(source)
         };
         let (got, out, _) = outcome(alloc, &setting)?;
         assert_eq!(rt; got, Status::ModelRefused);
         assert_eq!(rt; out.bytes(), b"".as_slice());
+    }
+    Ok(())
+}
+
+#[test]
+fn a_model_that_is_cut_is_none(rt: HostRuntime) -> Result<(), Fail> {
+    let alloc = rt.alloc();
+    for end in 0..BALL.len() {
+        assert_no_model(&rt, alloc, BALL.get(..end).unwrap_or(""))?;
     }
     Ok(())
 }

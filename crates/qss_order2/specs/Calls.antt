@@ -4,10 +4,10 @@ use Rattle.qss_machine.specs.declared.system.Machine.{Machine}
 use Rattle.qss_order2.specs.declared.outcome2.Outcome2.{Outcome2}
 use Rattle.qss_order2.specs.declared.outcome2.Outcome2.TheVariants.{Events, Done, Over}
 use Rattle.qss_order2.specs.declared.store.Store.{Store}
-use Rattle.qss_order2.specs.Worlds.{World2}
-use Rattle.qss_order2.specs.Runs.{last_world2}
-use Rattle.qss_order2.specs.Events.{Standing2, LeadsSilently2}
-use Rattle.qss_order2.specs.Stores.{world_of}
+use Rattle.qss_order2.specs.Worlds.{World2, world2_unless}
+use Rattle.qss_order2.specs.Runs.{last_world2, tick_rows2}
+use Rattle.qss_order2.specs.Events.{Standing2, LeadsSilently2, IsVisit2}
+use Rattle.qss_order2.specs.Stores.{world_of, IsMovedOn}
 
 -- a store at a tick, as it is seen
 abbrev pub standing_of : Machine → ℕ → Store → Option Outcome2 → Standing2
@@ -30,3 +30,14 @@ pub record AreSilent2 (Rule : ℤ → ℤ → ℤ → Type 0) (m : Machine) (fro
   pub leads : LeadsSilently2 Rule m from w0 silent
   pub as_many : from + length silent ≡ tick
   pub reached : last_world2 w0 silent ≡ w
+
+-- a store was moved on by so many ticks to the next look
+abbrev pub WasMovedOn : Machine → ℕ → Store → Store → ℕ → Type 0
+WasMovedOn m tick old new ticks =
+    (calm : ℕ) × (ticks ≡ calm + 1) × IsMovedOn m tick (world_of old.motion) calm new.left.items new.motion.states.items new.motion.levels.items
+
+-- a store went on to a tick by ticks without rows, and by one more, of which it has the rows
+abbrev pub HasLooked : (ℤ → ℤ → ℤ → Type 0) → Machine → ℕ → Store → ℕ → Store → Type 0
+HasLooked Rule m tick old next new =
+    (silent : List World2) × IsVisit2 Rule m tick (world_of old.motion) silent next (world2_unless new.over (world_of new.motion))
+    × (new.over ≡ None → new.rows.items ≡ tick_rows2 m next (last_world2 (world_of old.motion) silent) (world_of new.motion))

@@ -1,5 +1,5 @@
 -- What a second-order simulator keeps, and the world that it stands for.
-use Rattle.std.specs.Prelude.{◌≡◌, ℕ, ◌+◌, ◌<◌, ◌≤◌, ◌%◌, ◌⊎◌, Bool, true, false, ◌==◌, List, [], ◌∷◌, length, ℤ, pos, ◌-ℤ◌, ◌*ℤ◌, ◌<ℤ◌, ◌≤ℤ◌, unsigned_abs, Option, Some, None, slice_index_or, flat_map, replicate, vec_capacity, if◌then◌else◌}
+use Rattle.std.specs.Prelude.{◌≡◌, ℕ, ◌+◌, ◌<◌, ◌≤◌, ◌%◌, ◌⊎◌, Bool, true, false, ◌==◌, List, [], ◌∷◌, length, ℤ, pos, ◌-ℤ◌, ◌*ℤ◌, ◌<ℤ◌, ◌≤ℤ◌, unsigned_abs, Option, Some, None, MatchBool, slice_index_or, flat_map, replicate, vec_capacity, if◌then◌else◌}
 use Rattle.std.specs.List.{range_with_len}
 use Rattle.mu_num.specs.Curves.{FirstUpTo}
 use Rattle.mu_num.specs.Rounding.{floor_of}
@@ -13,6 +13,7 @@ use Rattle.qss_order2.specs.declared.store.Store.{Store}
 use Rattle.qss_order2.specs.declared.outcome2.Outcome2.{Outcome2}
 use Rattle.qss_order2.specs.declared.rows.Row2.{Row2}
 use Rattle.qss_order2.specs.declared.rows.Kind2.{Kind2}
+use Rattle.qss_order2.specs.Rules.{IsAnswer}
 use Rattle.qss_order2.specs.Runs.{level_row, slope_row}
 use Rattle.qss_order2.specs.Worlds.{World2, rise_at, reach_of, past_limit, AreChanges, fine_states, fine_levels, look_span, is_look, leaves, requantizes, next_states, next_levels}
 use Rattle.qss_order2.specs.Laws.{bend_at, world2_after, gap_after, IsCalm2}
@@ -34,6 +35,11 @@ pub record HasRises (m : Machine) (q : Motion) : Type 0 where
   pub rises : q.rises.items ≡ tabulate (state_count m) (λ j. rise_at m j q.levels.items)
   pub bends : q.bends.items ≡ tabulate (state_count m) (λ j. bend_at m j q.changes.items)
   pub held : (j : ℕ) → j < state_count m → IsWithin 95 (level_unit m *ℤ int_at q.changes.items j)
+
+-- the states that left have changes that answer their rises, the others their old ones
+abbrev pub AreAnswers : Bool → ℤ → List ℤ → List Bool → List ℤ → List ℤ → Type 0
+AreAnswers nearest unit rises left old new =
+    (j : ℕ) → j < length old → MatchBool (flag_at left j) (IsAnswer nearest (int_at rises j) unit (int_at new j)) (int_at new j ≡ int_at old j)
 
 -- from these levels and old changes, what follows: changes that the rule allows, and the least state past a limit; where there is none, the motion has them
 pub record IsSettled (Rule : ℤ → ℤ → ℤ → Type 0) (m : Machine) (asked : ℕ → Bool) (old new : Motion) (over : Option ℕ) : Type 0 where

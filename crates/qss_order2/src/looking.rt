@@ -1,11 +1,9 @@
 //! From one look to the next.
 
-ghost use Rattle.std.specs.Prelude.{◌≡◌, ℕ, ◌+◌, ◌<◌, ◌≤◌, List, None, vec_capacity};
-ghost use Rattle.qss_order2.specs.Events.{IsVisit2};
+ghost use Rattle.std.specs.Prelude.{◌≡◌, ◌<◌, ◌≤◌, None};
+ghost use Rattle.qss_order2.specs.Calls.{WasMovedOn, HasLooked};
 ghost use Rattle.qss_order2.specs.Rules.{IsRuled2};
-ghost use Rattle.qss_order2.specs.Runs.{last_world2, tick_rows2};
-ghost use Rattle.qss_order2.specs.Stores.{world_of, FitsMachine, Stands, IsMovedOn};
-ghost use Rattle.qss_order2.specs.Worlds.{World2, world2_unless};
+ghost use Rattle.qss_order2.specs.Stores.{FitsMachine, Stands};
 
 use crate::fixed_machine::FixedMachine;
 use crate::leaving::next_look;
@@ -21,7 +19,7 @@ fn go_on(f: &FixedMachine, tick: u64, s: &mut Store) -> u64
     requires stands { Stands f.now.machine tick s.old }
     requires within { s.old.over ≡ None }
     requires in_time { tick < f.now.machine.last }
-    ensures moved { (calm : ℕ) × (result ≡ calm + 1) × IsMovedOn f.now.machine tick (world_of s.old.motion) calm s.new.left.items s.new.motion.states.items s.new.motion.levels.items }
+    ensures moved { WasMovedOn f.now.machine tick s.old s.new result }
     ensures changes { s.new.motion.changes ≡ s.old.motion.changes }
     ensures fits { FitsMachine f.now.machine s.new }
 {
@@ -41,7 +39,7 @@ pub(crate) fn look(f: &FixedMachine, rule: &SlopeRule, tick: u64, s: &mut Store)
     requires stands { Stands f.now.machine tick s.old }
     requires within { s.old.over ≡ None }
     requires in_time { tick < f.now.machine.last }
-    ensures visited { (silent : List World2) × IsVisit2 (IsRuled2 rule.now.nearest) f.now.machine tick (world_of s.old.motion) silent result (world2_unless s.new.over (world_of s.new.motion)) × (s.new.over ≡ None → s.new.rows.items ≡ tick_rows2 f.now.machine result (last_world2 (world_of s.old.motion) silent) (world_of s.new.motion)) }
+    ensures visited { HasLooked (IsRuled2 rule.now.nearest) f.now.machine tick s.old result s.new }
     ensures later { tick < result }
     ensures in_time { result ≤ f.now.machine.last }
     ensures stands { s.new.over ≡ None → Stands f.now.machine result s.new }

@@ -7,7 +7,7 @@ ghost use Rattle.qss_machine.specs.Machines.{state_count, level_unit};
 ghost use Rattle.qss_machine.specs.Numbers.{int_at, first_past, tabulate};
 ghost use Rattle.qss_order2.specs.Laws.{bend_at};
 ghost use Rattle.qss_order2.specs.Rules.{IsAnswer, IsRuled2};
-ghost use Rattle.qss_order2.specs.Stores.{IsSized, HasRises, IsSettled};
+ghost use Rattle.qss_order2.specs.Stores.{IsSized, HasRises, AreAnswers, IsSettled};
 ghost use Rattle.qss_order2.specs.Worlds.{rise_at, bend_weight, past_limit, fine_levels, AreChanges};
 
 use crate::fixed_machine::FixedMachine;
@@ -61,7 +61,7 @@ fn set_changes(
     requires rises { length rises.now ≡ length changes.old }
     requires left { length left.now ≡ length changes.old }
     requires small { All (IsWithin 95) rises.now }
-    ensures { (j : ℕ) → j < length changes.old → MatchBool (flag_at left.now j) (IsAnswer rule.now.nearest (int_at rises.now j) (level_unit f.now.machine) (int_at changes.new j)) (int_at changes.new j ≡ int_at changes.old j) }
+    ensures { AreAnswers rule.now.nearest (level_unit f.now.machine) rises.now left.now changes.old changes.new }
 {
     for j in 0..changes.len() {
         changes[j] = change_of(f, rule, left[j], rises[j], changes[j]);

@@ -94,8 +94,14 @@ fn count_events<L: Ledger>(sim: &mut Sim, steps: &mut Steps<L>) -> Counted
         levels += u128::from(level_count(sim.rows()));
         match outcome {
             Outcome::Events { .. } => continue 'events,
-            Outcome::Done => return Counted { outcome: Outcome::Done, levels },
-            Outcome::Over { tick, var } => return Counted { outcome: Outcome::Over { tick, var }, levels },
+            Outcome::Done => return Counted {
+                outcome: Outcome::Done,
+                levels,
+            },
+            Outcome::Over { tick, var } => return Counted {
+                outcome: Outcome::Over { tick, var },
+                levels,
+            },
         }
     }
 }

@@ -23,3 +23,5 @@ mod matrices;
 mod quanta;
 #[cfg(test)]
 mod rows;
+#[cfg(test)]
+mod traces;

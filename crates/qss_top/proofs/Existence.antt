@@ -15,22 +15,26 @@ use Rattle.cert_answer.specs.Answers.{IsCertification, IsUpgrade}
 use Rattle.cert_answer.specs.declared.ending.CertificateRefusal.TheVariants as certs
 use Rattle.cert_answer.proofs.Sameness.{one_each}
 use Rattle.cert_answer.proofs.Scopes.{scope_of}
+use Rattle.trace_answer.proofs.Sameness.{one_each as one_trace}
 use Rattle.qss_generate.specs.Source.{source}
-use Rattle.qss_words.specs.Commands.{RunOptions, Command, run_model, print_model, certify_model, upgrade_model, generate_model, command_of, files_of}
-use Rattle.qss_top.specs.Answers.{Answer, Told, Reply, refusal, printed, printed_text, summed, usage, quiet, too_long, answered, absent, untold, IsSourceRefusal, IsTreeRefusal, IsSourceMachine, IsSourceTree, IsRunAnswer, IsPrintAnswer, IsGenerationAnswer, uncertifying, certificate_answer, IsCertificateAnswer, Says, ReadsThen, Finds, Reads, InScope, ByMachine, ReadsCertificate, ReadsBoth, LeadsTo, Defines}
+use Rattle.qss_words.specs.Commands.{RunOptions, Command, run_model, print_model, certify_model, upgrade_model, generate_model, check_model, command_of, files_of}
+use Rattle.qss_top.specs.Answers.{Answer, Told, Reply, refusal, printed, printed_text, summed, usage, quiet, too_long, answered, absent, untold, IsSourceRefusal, IsTreeRefusal, IsSourceMachine, IsSourceTree, IsMachineAnswer, IsRunAnswer, IsPrintAnswer, IsGenerationAnswer, uncertifying, certificate_answer, IsCertificateAnswer, IsCertifyAnswer, IsUpgradeAnswer, IsCheckAnswer, trace_answer, Says, ReadsThen, Finds, Reads, InScope, ByMachine, ReadsText, ReadsBoth, LeadsTo, Defines}
 use Rattle.qss_top.specs.Laws.{AnswersExist}
 use Rattle.qss_top.specs.TopCall.{Replies}
 use Rattle.qss_top.specs.declared.status.Status.TheVariants as ends
 use Rattle.qss_words.proofs.CommandShares.{HasShare, command_share}
 use Rattle.qss_top.proofs.Sources.{source_judged, tree_judged, long_for, long_refusal}
 
--- each source has an answer
-pub run_answer : (options : RunOptions) → options.share ≤ 2048 → (bytes : List ℕ) → (answer : Answer) × IsRunAnswer options bytes answer
-run_answer options few bytes = by (source_judged options.share few bytes)
+-- each source has an answer, where each machine has one
+pub machine_answer : (share : ℕ) → share ≤ 2048 → (Is : Machine → Answer → Type 0) → ((m : Machine) → (answer : Answer) × Is m answer) → (bytes : List ℕ) → (answer : Answer) × IsMachineAnswer share Is bytes answer
+machine_answer share few Is some bytes = by (source_judged share few bytes)
   where
-    by : ((a : Answer) × IsSourceRefusal bytes a) ⊎ ((m : Machine) × IsSourceMachine options.share bytes m) → (answer : Answer) × IsRunAnswer options bytes answer
+    by : ((a : Answer) × IsSourceRefusal bytes a) ⊎ ((m : Machine) × IsSourceMachine share bytes m) → (answer : Answer) × IsMachineAnswer share Is bytes answer
     by (inl refuses) = (refuses.0, inl refuses.1)
-    by (inr found) = (printed options found.0, inr (found.0, found.1, refl))
+    by (inr found) = let answer = some found.0 in (answer.0, inr (found.0, found.1, answer.1))
+
+pub run_answer : (options : RunOptions) → options.share ≤ 2048 → (bytes : List ℕ) → (answer : Answer) × IsRunAnswer options bytes answer
+run_answer options few bytes = machine_answer options.share few (λ m such. such ≡ printed options m) (λ m. (printed options m, refl)) bytes
 
 pub print_answer : (bytes : List ℕ) → (answer : Answer) × IsPrintAnswer bytes answer
 print_answer bytes = by (tree_judged bytes)
@@ -40,11 +44,21 @@ print_answer bytes = by (tree_judged bytes)
     by (inr found) = (printed_text found.0, inr (found.0, found.1, refl))
 
 pub generation_answer : (seed cells : ℕ) → (answer : Answer) × IsGenerationAnswer seed cells answer
-generation_answer seed cells = by (source_judged 0 (omega arith) (source seed cells))
-  where
-    by : ((a : Answer) × IsSourceRefusal (source seed cells) a) ⊎ ((m : Machine) × IsSourceMachine 0 (source seed cells) m) → (answer : Answer) × IsGenerationAnswer seed cells answer
-    by (inl refuses) = (refuses.0, inl refuses.1)
-    by (inr found) = (summed cells found.0, inr (found.0, found.1, refl))
+generation_answer seed cells = machine_answer 0 (omega arith) (λ m such. such ≡ summed cells m) (λ m. (summed cells m, refl)) (source seed cells)
+
+-- each certificate has an answer
+certificate_some : (Is : Certificates.Answer → Type 0) → (such : Certificates.Answer) × Is such → (answer : Answer) × IsCertificateAnswer Is answer
+certificate_some Is such = (certificate_answer such.0, (such.0, such.1, refl))
+
+pub some_certify : (m : Machine) (text : List ℕ) → (answer : Answer) × IsCertifyAnswer m text answer
+some_certify m text = certificate_some (IsCertification m text) (one_each.some_certification m text)
+
+pub some_upgrade : (m : Machine) (text : List ℕ) → (answer : Answer) × IsUpgradeAnswer m text answer
+some_upgrade m text = certificate_some (IsUpgrade m text) (one_each.some_upgrade m text)
+
+-- each trace has an answer
+pub some_check : (m : Machine) (text : List ℕ) → (answer : Answer) × IsCheckAnswer m text answer
+some_check m text = let such = one_trace.some_answer m text in (trace_answer such.0, (such.0, such.1, refl))
 
 read_told : (name : List ℕ) (Is : List ℕ → Answer → Type 0) → ((bytes : List ℕ) → (answer : Answer) × Is bytes answer) → (found : Option (List ℕ)) → (told : Told) × ReadsThen name (λ bytes. Says (Is bytes)) found told
 read_told name Is some None = (record { arrivals = name ∷ []; reply = absent }, refl)
@@ -89,19 +103,19 @@ scope_told m Leads some = by (scope_of m)
     by (inl out) = let told = says_told (uncertifying (certs.Outside out.0)) in (told.0, inl (out.0, out.1, told.1))
     by (inr inside) = let told = some inside in (told.0, inr (inside, told.1))
 
-both_told : (share : ℕ) → share ≤ 2048 → (model certificate : List ℕ) (Is : Machine → List ℕ → Certificates.Answer → Type 0) → ((m : Machine) (text : List ℕ) → (such : Certificates.Answer) × Is m text such) → (files : Option Files)
+both_told : (share : ℕ) → share ≤ 2048 → (model certificate : List ℕ) (Is : Machine → List ℕ → Answer → Type 0) → ((m : Machine) (text : List ℕ) → (such : Answer) × Is m text such) → (files : Option Files)
     → SomeTold (ReadsBoth share model certificate Is files)
 both_told share few model certificate Is some files =
     reads_told files model _ (λ bytes. machine_told share few bytes _ (λ m. scope_told m _ (λ scope. reads_told files certificate _ (λ text.
     let such = some m text in
-    let answer = certificate_answer such.0 in
-    (record { arrivals = []; reply = answered answer }, (answer, (such.0, such.1, refl), refl))))))
+    (record { arrivals = []; reply = answered such.0 }, (such.0, such.1, refl))))))
 
 command_told : (command : Command) → HasShare command → (files : Files) → (told : Told) × LeadsTo command (Some files) told
 command_told (run_model model options) few files = file_told model (IsRunAnswer options) (run_answer options few) files
 command_told (print_model model) few files = file_told model IsPrintAnswer print_answer files
-command_told (certify_model model certificate share) few files = both_told share few model certificate IsCertification one_each.some_certification (Some files)
-command_told (upgrade_model model certificate) few files = both_told 0 (omega arith) model certificate IsUpgrade one_each.some_upgrade (Some files)
+command_told (certify_model model certificate share) few files = both_told share few model certificate IsCertifyAnswer some_certify (Some files)
+command_told (upgrade_model model certificate) few files = both_told 0 (omega arith) model certificate IsUpgradeAnswer some_upgrade (Some files)
+command_told (check_model model trace) few files = both_told 0 (omega arith) model trace IsCheckAnswer some_check (Some files)
 command_told (generate_model seed cells) few files =
     let answer = generation_answer seed cells in
     (record { arrivals = []; reply = answered answer.0 }, (answer.0, answer.1, refl))
@@ -130,18 +144,18 @@ bytes_reply name Leads bytes later = (record { arrivals = name ∷ later.0.arriv
 pub reads_reply : (name : List ℕ) (Leads : List ℕ → Told → Type 0) → ((bytes : List ℕ) → MayReply (Leads bytes)) → MayReply (Reads None name Leads)
 reads_reply name Leads some = bytes_reply name Leads [] (some [])
 
-pub certificate_reply : (share : ℕ) → share ≤ 2048 → (bytes certificate : List ℕ) (Is : Machine → List ℕ → Certificates.Answer → Type 0) → ((m : Machine) (text : List ℕ) → (such : Certificates.Answer) × Is m text such)
-    → MayReply (ByMachine share bytes (λ m. ReadsCertificate certificate Is m None))
+pub certificate_reply : (share : ℕ) → share ≤ 2048 → (bytes certificate : List ℕ) (Is : Machine → List ℕ → Answer → Type 0) → ((m : Machine) (text : List ℕ) → (such : Answer) × Is m text such)
+    → MayReply (ByMachine share bytes (λ m. ReadsText certificate Is m None))
 certificate_reply share few bytes certificate Is some = by (source_judged share few bytes)
   where
-    read : (m : Machine) (text : List ℕ) → MayReply (Says (IsCertificateAnswer (Is m text)))
-    read m text = let such = some m text in says_reply (IsCertificateAnswer (Is m text)) (certificate_answer such.0, (such.0, such.1, refl))
+    read : (m : Machine) (text : List ℕ) → MayReply (Says (Is m text))
+    read m text = says_reply (Is m text) (some m text)
 
-    scope : (m : Machine) → ((why : Outside) × IsOutsideBy m why) ⊎ IsInScope m → MayReply (ReadsCertificate certificate Is m None)
+    scope : (m : Machine) → ((why : Outside) × IsOutsideBy m why) ⊎ IsInScope m → MayReply (ReadsText certificate Is m None)
     scope m (inl out) = let a = uncertifying (certs.Outside out.0) in (record { arrivals = []; reply = answered a }, a, inl (out.0, out.1, (a, refl, refl)), refl)
-    scope m (inr inside) = let p = reads_reply certificate (λ text. Says (IsCertificateAnswer (Is m text))) (read m) in (p.0, p.1, inr (inside, p.2), p.3)
+    scope m (inr inside) = let p = reads_reply certificate (λ text. Says (Is m text)) (read m) in (p.0, p.1, inr (inside, p.2), p.3)
 
-    by : ((a : Answer) × IsSourceRefusal bytes a) ⊎ ((m : Machine) × IsSourceMachine share bytes m) → MayReply (ByMachine share bytes (λ m. ReadsCertificate certificate Is m None))
+    by : ((a : Answer) × IsSourceRefusal bytes a) ⊎ ((m : Machine) × IsSourceMachine share bytes m) → MayReply (ByMachine share bytes (λ m. ReadsText certificate Is m None))
     by (inl fails) = (record { arrivals = []; reply = answered fails.0 }, fails.0, inl (fails.0, fails.1, refl), refl)
     by (inr found) = let p = scope found.0 (scope_of found.0) in (p.0, p.1, inr (found.0, found.1, p.2), p.3)
 
@@ -160,10 +174,13 @@ refuses_long (print_model model) bytes long =
     bytes_reply model (λ bytes. Says (IsPrintAnswer bytes)) bytes (says_reply (IsPrintAnswer bytes) (refusal ends.ModelRefused too_long, inl (long_for IsUnspelled bytes long)))
 refuses_long (certify_model model certificate share) bytes long =
     let p = says_reply (IsSourceRefusal bytes) (refusal ends.ModelRefused too_long, long_refusal bytes long) in
-    bytes_reply model (λ bytes. ByMachine share bytes (λ m. ReadsCertificate certificate IsCertification m None)) bytes (p.0, p.1, inl p.2, p.3)
+    bytes_reply model (λ bytes. ByMachine share bytes (λ m. ReadsText certificate IsCertifyAnswer m None)) bytes (p.0, p.1, inl p.2, p.3)
 refuses_long (upgrade_model model certificate) bytes long =
     let p = says_reply (IsSourceRefusal bytes) (refusal ends.ModelRefused too_long, long_refusal bytes long) in
-    bytes_reply model (λ bytes. ByMachine 0 bytes (λ m. ReadsCertificate certificate IsUpgrade m None)) bytes (p.0, p.1, inl p.2, p.3)
+    bytes_reply model (λ bytes. ByMachine 0 bytes (λ m. ReadsText certificate IsUpgradeAnswer m None)) bytes (p.0, p.1, inl p.2, p.3)
+refuses_long (check_model model trace) bytes long =
+    let p = says_reply (IsSourceRefusal bytes) (refusal ends.ModelRefused too_long, long_refusal bytes long) in
+    bytes_reply model (λ bytes. ByMachine 0 bytes (λ m. ReadsText trace IsCheckAnswer m None)) bytes (p.0, p.1, inl p.2, p.3)
 refuses_long (generate_model seed cells) bytes long = says_reply (IsGenerationAnswer seed cells) (generation_answer seed cells)
 
 -- what holds of each answer is so of each reply

@@ -6,6 +6,9 @@ pub mod OutcomeFacts
 pub mod Serving
 pub mod Tellings
 pub mod Generations
+pub mod Jobs
 pub mod TopFacts
 pub mod TwoFiles
 pub mod Certified
+pub mod Headline
+pub mod Completeness

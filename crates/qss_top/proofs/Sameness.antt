@@ -9,10 +9,12 @@ use Rattle.cert_answer.specs.Answers.{IsCertification, IsUpgrade}
 use Rattle.cert_answer.specs.declared.ending.CertificateRefusal.TheVariants as certs
 use Rattle.cert_answer.proofs.Sameness.{one_each}
 use Rattle.cert_answer.proofs.Scopes.{one_outside, not_outside}
+use Rattle.trace_answer.specs.Answers.{IsChecked}
+use Rattle.trace_answer.proofs.Sameness.{one_each as one_trace}
 use Rattle.qss_machine.specs.declared.system.Machine.{Machine}
 use Rattle.qss_generate.specs.Source.{source}
-use Rattle.qss_words.specs.Commands.{RunOptions, Command, run_model, print_model, certify_model, upgrade_model, generate_model, command_of}
-use Rattle.qss_top.specs.Answers.{Answer, Told, printed, printed_text, summed, IsSourceRefusal, IsTreeRefusal, IsSourceMachine, IsSourceTree, IsRunAnswer, IsPrintAnswer, IsSummedAnswer, IsGenerationAnswer, answered, uncertifying, certificate_answer, IsCertificateAnswer, Says, ReadsThen, Reads, InScope, ByMachine, ReadsBoth, LeadsTo, Defines}
+use Rattle.qss_words.specs.Commands.{RunOptions, Command, run_model, print_model, certify_model, upgrade_model, generate_model, check_model, command_of}
+use Rattle.qss_top.specs.Answers.{Answer, Told, printed, printed_text, summed, IsSourceRefusal, IsTreeRefusal, IsSourceMachine, IsSourceTree, IsMachineAnswer, IsRunAnswer, IsPrintAnswer, IsSummedAnswer, IsGenerationAnswer, answered, uncertifying, certificate_answer, IsCertificateAnswer, IsCertifyAnswer, IsUpgradeAnswer, IsCheckAnswer, trace_answer, Says, ReadsThen, Reads, InScope, ByMachine, ReadsBoth, LeadsTo, Defines}
 use Rattle.qss_top.specs.Laws.{AnswersAreUnique}
 use Rattle.qss_top.proofs.Sources.{one_source_refusal, one_tree_refusal, one_source_machine, one_source_tree, source_fine, tree_fine}
 
@@ -24,16 +26,22 @@ one_choice Refuses Gives to one same apart a b (inl p) (inr q) = absurd (apart a
 one_choice Refuses Gives to one same apart a b (inr p) (inl q) = absurd (apart b p.0 q p.1)
 one_choice Refuses Gives to one same apart a b (inr p) (inr q) = p.2 ∙ ap to (same p.0 q.0 p.1 q.1) ∙ sym q.2
 
+-- a source has one answer, where each machine has one
+pub one_machine_answer : (share : ℕ) (Is : Machine → Answer → Type 0) → ((m : Machine) (a b : Answer) → Is m a → Is m b → a ≡ b) → (bytes : List ℕ) (a b : Answer)
+    → IsMachineAnswer share Is bytes a → IsMachineAnswer share Is bytes b → a ≡ b
+one_machine_answer share Is one bytes a b (inl p) (inl q) = one_source_refusal bytes a b p q
+one_machine_answer share Is one bytes a b (inl p) (inr q) = absurd (source_fine share bytes a q.0 p q.1)
+one_machine_answer share Is one bytes a b (inr p) (inl q) = absurd (source_fine share bytes b p.0 q p.1)
+one_machine_answer share Is one bytes a b (inr p) (inr q) = one p.0 a b p.2 (subst (λ (m : Machine). Is m b) (one_source_machine share bytes q.0 p.0 q.1 p.1) q.2)
+
 pub one_run : (options : RunOptions) (bytes : List ℕ) (a b : Answer) → IsRunAnswer options bytes a → IsRunAnswer options bytes b → a ≡ b
-one_run options bytes a b p q =
-    one_choice (IsSourceRefusal bytes) (IsSourceMachine options.share bytes) (printed options) (one_source_refusal bytes) (one_source_machine options.share bytes) (source_fine options.share bytes) a b p q
+one_run options bytes a b p q = one_machine_answer options.share (λ m such. such ≡ printed options m) (λ m a b e f. e ∙ sym f) bytes a b p q
 
 pub one_print : (bytes : List ℕ) (a b : Answer) → IsPrintAnswer bytes a → IsPrintAnswer bytes b → a ≡ b
 one_print bytes a b p q = one_choice (IsTreeRefusal bytes) (IsSourceTree bytes) printed_text (one_tree_refusal bytes) (one_source_tree bytes) (tree_fine bytes) a b p q
 
 pub one_summed : (cells : ℕ) (bytes : List ℕ) (a b : Answer) → IsSummedAnswer cells bytes a → IsSummedAnswer cells bytes b → a ≡ b
-one_summed cells bytes a b p q =
-    one_choice (IsSourceRefusal bytes) (IsSourceMachine 0 bytes) (summed cells) (one_source_refusal bytes) (one_source_machine 0 bytes) (source_fine 0 bytes) a b p q
+one_summed cells bytes a b p q = one_machine_answer 0 (λ m such. such ≡ summed cells m) (λ m a b e f. e ∙ sym f) bytes a b p q
 
 one_says : (P : Answer → Type 0) → ((a b : Answer) → P a → P b → a ≡ b) → (s t : Told) → Says P s → Says P t → s ≡ t
 one_says P one s t p q = p.2 ∙ ap (λ (answer : Answer). record { arrivals = []; reply = answered answer }) (one p.0 q.0 p.1 q.1) ∙ sym q.2
@@ -77,19 +85,30 @@ one_scope_told m Leads one s t (inr p) (inr q) = one p.0 s t p.1 q.1
 pub one_certificate_answer : (Is : Certificates.Answer → Type 0) → ((a b : Certificates.Answer) → Is a → Is b → a ≡ b) → (a b : Answer) → IsCertificateAnswer Is a → IsCertificateAnswer Is b → a ≡ b
 one_certificate_answer Is one a b p q = p.2 ∙ ap certificate_answer (one p.0 q.0 p.1 q.1) ∙ sym q.2
 
-one_both : (share : ℕ) (model certificate : List ℕ) (Is : Machine → List ℕ → Certificates.Answer → Type 0) → ((m : Machine) (text : List ℕ) (a b : Certificates.Answer) → Is m text a → Is m text b → a ≡ b) → (files : Files)
+pub one_certify : (m : Machine) (text : List ℕ) (a b : Answer) → IsCertifyAnswer m text a → IsCertifyAnswer m text b → a ≡ b
+one_certify m text a b p q = one_certificate_answer (IsCertification m text) (one_each.one_certification m text) a b p q
+
+pub one_upgrade : (m : Machine) (text : List ℕ) (a b : Answer) → IsUpgradeAnswer m text a → IsUpgradeAnswer m text b → a ≡ b
+one_upgrade m text a b p q = one_certificate_answer (IsUpgrade m text) (one_each.one_upgrade m text) a b p q
+
+-- a trace has one answer
+pub one_check : (m : Machine) (text : List ℕ) (a b : Answer) → IsCheckAnswer m text a → IsCheckAnswer m text b → a ≡ b
+one_check m text a b p q = p.2 ∙ ap trace_answer (one_trace.one_answer m text p.0 q.0 p.1 q.1) ∙ sym q.2
+
+one_both : (share : ℕ) (model certificate : List ℕ) (Is : Machine → List ℕ → Answer → Type 0) → ((m : Machine) (text : List ℕ) (a b : Answer) → Is m text a → Is m text b → a ≡ b) → (files : Files)
     → IsOne (ReadsBoth share model certificate Is (Some files))
 one_both share model certificate Is one files s t p q =
     one_file model _ (λ bytes. one_machine_told share bytes _ (λ m. one_scope_told m _ (λ scope. one_file certificate _ (λ text.
-    one_says (IsCertificateAnswer (Is m text)) (one_certificate_answer (Is m text) (one m text))) files))) files s t p q
+    one_says (Is m text) (one m text)) files))) files s t p q
 
 one_command : (command : Command) (files : Files) (s t : Told) → LeadsTo command (Some files) s → LeadsTo command (Some files) t → s ≡ t
 one_command (run_model model options) files s t p q =
     one_file model (λ bytes. Says (IsRunAnswer options bytes)) (λ bytes. one_says (IsRunAnswer options bytes) (one_run options bytes)) files s t p q
 one_command (print_model model) files s t p q =
     one_file model (λ bytes. Says (IsPrintAnswer bytes)) (λ bytes. one_says (IsPrintAnswer bytes) (one_print bytes)) files s t p q
-one_command (certify_model model certificate share) files s t p q = one_both share model certificate IsCertification one_each.one_certification files s t p q
-one_command (upgrade_model model certificate) files s t p q = one_both 0 model certificate IsUpgrade one_each.one_upgrade files s t p q
+one_command (certify_model model certificate share) files s t p q = one_both share model certificate IsCertifyAnswer one_certify files s t p q
+one_command (upgrade_model model certificate) files s t p q = one_both 0 model certificate IsUpgradeAnswer one_upgrade files s t p q
+one_command (check_model model trace) files s t p q = one_both 0 model trace IsCheckAnswer one_check files s t p q
 one_command (generate_model seed cells) files s t p q = one_says (IsGenerationAnswer seed cells) (one_summed cells (source seed cells)) s t p q
 
 one_told : (command : Option Command) (files : Option Files) (s t : Told) → Defines command files s → Defines command files t → s ≡ t

@@ -40,19 +40,6 @@ module _ (Refuses : List ℕ → Refused → Type 0) (bytes : List ℕ) (why : (
   refused_outcome what (inl memory) is = subst (λ (w : Outcome). IsOutcome a w old old before before) (sym memory) (nothing_outcome a outcome.Memory old before refl)
   refused_outcome what (inr found) is = subst (λ (w : Outcome). IsOutcome a w old old before before) (sym found.2) (told found.0 found.1 (is found.0 found.1))
 
--- `run` on a source that is refused
-pub run_refused : (options : RunOptions) (bytes : List ℕ) (what : Outcome) (old : Option (List ℕ)) (before : ℕ) → length bytes ≤ 2 ^ 20 → IsRefusedFor (IsRefused bytes) what → (a : Answer) → IsRunAnswer options bytes a
-    → IsOutcome a what old old before before
-run_refused options bytes what old before short h a answers = refused_outcome IsRefused bytes (λ r refuses. refuses) short a old before what h (λ r refuses. refusal_of r refuses answers)
-  where
-    refusal_of : (r : Refused) → IsRefused bytes r → IsRunAnswer options bytes a → IsSourceRefusal bytes a
-    refusal_of r refuses (inl p) = p
-    refusal_of r refuses (inr p) = absurd (source_fine options.share bytes (refusal ends.ModelRefused (refused_line bytes)) p.0 (short_for IsRefused bytes short r refuses) p.1)
-
--- the answer to `run` on a source that means a machine is the print of its run
-pub run_is : (options : RunOptions) (bytes : List ℕ) (m : Machine) → IsSourceMachine options.share bytes m → (a : Answer) → IsRunAnswer options bytes a → printed options m ≡ a
-run_is options bytes m is a answers = one_run options bytes (printed options m) a (inr (m, is, refl)) answers
-
 -- `print` on a source that is refused
 pub print_refused : (bytes : List ℕ) (what : Outcome) (old : Option (List ℕ)) (before : ℕ) → length bytes ≤ 2 ^ 20 → IsRefusedFor (IsUnspelled bytes) what → (a : Answer) → IsPrintAnswer bytes a → IsOutcome a what old old before before
 print_refused bytes what old before short h a answers = refused_outcome IsUnspelled bytes (λ r refuses. inl refuses) short a old before what h (λ r refuses. refusal_of r refuses answers)

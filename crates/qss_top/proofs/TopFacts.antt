@@ -4,6 +4,8 @@ use Rattle.std.specs.declared.option.Option.{Option}
 use Rattle.std.specs.Prelude.{not}
 use Rattle.cert_answer.specs.declared.ending.CertificateRefusal.{CertificateRefusal}
 use Rattle.cert_answer.specs.declared.ending.CertificateRefusal.TheVariants as certs
+use Rattle.trace_answer.specs.declared.ending.TraceRefusal.{TraceRefusal}
+use Rattle.trace_answer.specs.declared.ending.TraceRefusal.TheVariants as traces
 use Rattle.qss_top.specs.Answers.{Reply, answered, absent, untold}
 use Rattle.qss_top.specs.Outcomes.{status_of, line_text, takes_memory, IsReported}
 use Rattle.qss_top.specs.Statuses.{is_defined, leaves_out}
@@ -37,11 +39,18 @@ refusal_leaves goes certs.TooLong = refl
 refusal_leaves goes (certs.Unread why) = refl
 refusal_leaves goes (certs.Rejected v) = refl
 
+trace_leaves : (goes : Bool) (why : TraceRefusal) → leaves_out goes (status_of (outcome.Untraced why)) ≡ true
+trace_leaves goes (traces.Outside why) = refl
+trace_leaves goes traces.TooLong = refl
+trace_leaves goes (traces.Unread why) = refl
+trace_leaves goes (traces.Broken place fact state left right) = refl
+
 -- a line that found no memory is one of a refusal or an overflow
 line_leaves : (goes : Bool) (what : Outcome) → takes_memory what ≡ true → not goes ≡ true → leaves_out goes (status_of what) ≡ true
 line_leaves goes (outcome.Refused r) takes e = refl
 line_leaves goes (outcome.Overflow name tick) takes e = e
 line_leaves goes (outcome.Uncertified why) takes e = refusal_leaves goes why
+line_leaves goes (outcome.Untraced why) takes e = trace_leaves goes why
 line_leaves goes outcome.Done takes e = absurd (cc takes)
 line_leaves goes outcome.Usage takes e = absurd (cc takes)
 line_leaves goes outcome.ReadFault takes e = absurd (cc takes)
@@ -71,6 +80,10 @@ read_is (outcome.Uncertified (certs.Outside why)) e = absurd (cc e)
 read_is (outcome.Uncertified certs.TooLong) e = absurd (cc e)
 read_is (outcome.Uncertified (certs.Unread why)) e = absurd (cc e)
 read_is (outcome.Uncertified (certs.Rejected v)) e = absurd (cc e)
+read_is (outcome.Untraced (traces.Outside why)) e = absurd (cc e)
+read_is (outcome.Untraced traces.TooLong) e = absurd (cc e)
+read_is (outcome.Untraced (traces.Unread why)) e = absurd (cc e)
+read_is (outcome.Untraced (traces.Broken place fact state left right)) e = absurd (cc e)
 
 write_is : (what : Outcome) → ends.WriteFault ≡ status_of what → what ≡ outcome.WriteFault
 write_is outcome.Done e = absurd (cc e)
@@ -85,6 +98,10 @@ write_is (outcome.Uncertified (certs.Outside why)) e = absurd (cc e)
 write_is (outcome.Uncertified certs.TooLong) e = absurd (cc e)
 write_is (outcome.Uncertified (certs.Unread why)) e = absurd (cc e)
 write_is (outcome.Uncertified (certs.Rejected v)) e = absurd (cc e)
+write_is (outcome.Untraced (traces.Outside why)) e = absurd (cc e)
+write_is (outcome.Untraced traces.TooLong) e = absurd (cc e)
+write_is (outcome.Untraced (traces.Unread why)) e = absurd (cc e)
+write_is (outcome.Untraced (traces.Broken place fact state left right)) e = absurd (cc e)
 
 memory_is : (what : Outcome) → ends.Memory ≡ status_of what → what ≡ outcome.Memory
 memory_is outcome.Done e = absurd (cc e)
@@ -99,6 +116,10 @@ memory_is (outcome.Uncertified (certs.Outside why)) e = absurd (cc e)
 memory_is (outcome.Uncertified certs.TooLong) e = absurd (cc e)
 memory_is (outcome.Uncertified (certs.Unread why)) e = absurd (cc e)
 memory_is (outcome.Uncertified (certs.Rejected v)) e = absurd (cc e)
+memory_is (outcome.Untraced (traces.Outside why)) e = absurd (cc e)
+memory_is (outcome.Untraced traces.TooLong) e = absurd (cc e)
+memory_is (outcome.Untraced (traces.Unread why)) e = absurd (cc e)
+memory_is (outcome.Untraced (traces.Broken place fact state left right)) e = absurd (cc e)
 
 done_is : (what : Outcome) → ends.Ok ≡ status_of what → what ≡ outcome.Done
 done_is outcome.Done e = refl
@@ -113,6 +134,10 @@ done_is (outcome.Uncertified (certs.Outside why)) e = absurd (cc e)
 done_is (outcome.Uncertified certs.TooLong) e = absurd (cc e)
 done_is (outcome.Uncertified (certs.Unread why)) e = absurd (cc e)
 done_is (outcome.Uncertified (certs.Rejected v)) e = absurd (cc e)
+done_is (outcome.Untraced (traces.Outside why)) e = absurd (cc e)
+done_is (outcome.Untraced traces.TooLong) e = absurd (cc e)
+done_is (outcome.Untraced (traces.Unread why)) e = absurd (cc e)
+done_is (outcome.Untraced (traces.Broken place fact state left right)) e = absurd (cc e)
 
 usage_is : (what : Outcome) → ends.Usage ≡ status_of what → what ≡ outcome.Usage
 usage_is outcome.Done e = absurd (cc e)
@@ -127,6 +152,10 @@ usage_is (outcome.Uncertified (certs.Outside why)) e = absurd (cc e)
 usage_is (outcome.Uncertified certs.TooLong) e = absurd (cc e)
 usage_is (outcome.Uncertified (certs.Unread why)) e = absurd (cc e)
 usage_is (outcome.Uncertified (certs.Rejected v)) e = absurd (cc e)
+usage_is (outcome.Untraced (traces.Outside why)) e = absurd (cc e)
+usage_is (outcome.Untraced traces.TooLong) e = absurd (cc e)
+usage_is (outcome.Untraced (traces.Unread why)) e = absurd (cc e)
+usage_is (outcome.Untraced (traces.Broken place fact state left right)) e = absurd (cc e)
 
 pub read_of : (status : Status) (what : Outcome) → IsStatus status what → status ≡ ends.ReadFault → what ≡ outcome.ReadFault
 read_of status what h e = read_is what (sym e ∙ same_status status what h (λ m. absurd (cc (e, m))))
@@ -196,6 +225,7 @@ module _ {K : Type 0} (written : K → Option (List ℕ)) (reply : Reply) (goes 
   line_cut (outcome.Refused r) takes h left = kept (left refl)
   line_cut (outcome.Overflow name tick) takes h left = over_cut reply h
   line_cut (outcome.Uncertified why) takes h left = kept (left (refusal_leaves goes why))
+  line_cut (outcome.Untraced why) takes h left = kept (left (trace_leaves goes why))
   line_cut outcome.Done takes h left = absurd (cc takes)
   line_cut outcome.Usage takes h left = absurd (cc takes)
   line_cut outcome.ReadFault takes h left = absurd (cc takes)

@@ -22,11 +22,18 @@ use Rattle.cert_answer.specs.declared.ending.Ending.TheVariants as ending
 use Rattle.cert_answer.proofs.Bounds.{bounds}
 use Rattle.cert_answer.proofs.Sameness.{one_each}
 use Rattle.cert_answer.proofs.Scopes.{one_outside, not_outside}
+use Rattle.trace_answer.specs.Answers as Traces
+use Rattle.trace_answer.specs.Endings as TraceEndings
+use Rattle.trace_answer.specs.declared.ending.Ending.{Ending as TraceEnding}
+use Rattle.trace_answer.specs.declared.ending.Ending.TheVariants as traced
+use Rattle.trace_answer.specs.declared.ending.TraceRefusal.TheVariants as traces
+use Rattle.trace_answer.proofs.Accepting.{accepted}
+use Rattle.trace_answer.proofs.Sameness.{one_each as one_trace}
 use Rattle.qss_machine.specs.declared.system.Machine.{Machine}
 use Rattle.qss_compile.specs.Meanings.{IsRefused}
 use Rattle.qss_compile.specs.declared.fault.Refused.{Refused}
-use Rattle.qss_top.specs.Answers.{Answer, Line, Tells, refused, Told, Reply, answered, absent, untold, refusal, too_long, IsSourceRefusal, IsSourceMachine, uncertified, uncertifying, certificate_answer, status_of_refusal, IsCertificateAnswer, Says, Reads, InScope, ByMachine, ReadsCertificate, LeadsTo}
-use Rattle.qss_top.specs.Certificates.{IsDone, outcome_by, share_in}
+use Rattle.qss_top.specs.Answers.{Answer, Line, Tells, refused, Told, Reply, answered, absent, untold, refusal, too_long, IsSourceRefusal, IsSourceMachine, uncertified, uncertifying, certificate_answer, status_of_refusal, IsCertificateAnswer, IsCertifyAnswer, IsUpgradeAnswer, quiet, untraced, status_of_trace, trace_answer, IsCheckAnswer, Says, Reads, InScope, ByMachine, ReadsText, LeadsTo}
+use Rattle.qss_top.specs.Certificates.{IsDone, limit_in, long_in, outcome_by, outcome_traced, share_in}
 use Rattle.qss_words.specs.Commands.{files_of}
 use Rattle.qss_top.specs.Outcomes.{IsOutcome, IsRefusedFor, Meets, Serves, status_of, line_text as outcome_text}
 use Rattle.qss_top.specs.Statuses.{leaves_out}
@@ -34,14 +41,14 @@ use Rattle.qss_top.specs.TopCall.{IsReplied}
 use Rattle.qss_words.specs.Requests.{command_on}
 use Rattle.qss_words.specs.declared.request.Deed.{Deed}
 use Rattle.qss_words.specs.declared.request.Deed.TheVariants as deeds
-use Rattle.qss_words.specs.declared.request.Share.{Share}
 use Rattle.qss_top.specs.declared.outcome.Outcome.{Outcome}
 use Rattle.qss_top.specs.declared.outcome.Outcome.TheVariants as outcome
 use Rattle.qss_top.specs.declared.status.Status.{Status}
 use Rattle.qss_top.specs.declared.status.Status.TheVariants as ends
-use Rattle.qss_top.proofs.Existence.{MayReply, says_reply, certificate_reply, bytes_of, longer}
+use Rattle.qss_top.proofs.Existence.{MayReply, says_reply, certificate_reply, some_certify, some_upgrade, some_check, bytes_of, longer}
 use Rattle.qss_top.proofs.OutcomeFacts.{no_prefix, nothing_outcome, append_none, row_none}
 use Rattle.qss_top.proofs.Sources.{one_source_refusal, one_source_machine, source_fine, short_for, long_refusal}
+use Rattle.qss_top.proofs.Sameness.{one_certify, one_upgrade, one_check}
 use Rattle.qss_top.proofs.Serving.{unwritten, uncut, says_served, read_served, fault_served, memory_served, long_served}
 
 -- a refusal, where nothing was written
@@ -167,24 +174,28 @@ bounds_none : (m : Machine) (c : Certificate) → bounds_text m c ≡ [] → ⊥
 bounds_none m c e = let header = (append_none bounds_header (bound_lines m.states c.e) e).0 in cc
 
 -- the text of an answer is not empty
-pub text_some : (deed : Deed) (m : Machine) (bytes text : List ℕ) → IsDone deed m bytes (Certificates.written text) → text ≡ [] → ⊥
-text_some (deeds.Certify share) m bytes text is none = let law = bounds m bytes text is in bounds_none m law.0 (sym law.2 ∙ none)
-text_some deeds.Upgrade m bytes text (inl (why, h, e)) none = absurd (cc)
-text_some deeds.Upgrade m bytes text (inr (c, read, e)) none =
+bounds_some : (m : Machine) (bytes text : List ℕ) → Certificates.IsCertification m bytes (Certificates.written text) → text ≡ [] → ⊥
+bounds_some m bytes text is none = let law = bounds m bytes text is in bounds_none m law.0 (sym law.2 ∙ none)
+
+upgrade_some : (m : Machine) (bytes text : List ℕ) → Certificates.IsUpgrade m bytes (Certificates.written text) → text ≡ [] → ⊥
+upgrade_some m bytes text (inl (why, h, e)) none = absurd (cc)
+upgrade_some m bytes text (inr (c, read, e)) none =
     let same : text ≡ lines_text (lines (pos 3) c) = cc in
     lines_none (lines (pos 3) c) _ _ refl (sym same ∙ none)
 
+summary_some : (m : Machine) (bytes text : List ℕ) → Traces.IsChecked m bytes (Traces.written text) → text ≡ [] → ⊥
+summary_some m bytes text is none = let run = (accepted m bytes text).0 is in cc (sym run.3 ∙ none)
+
 -- there is one answer
-pub one_done : (deed : Deed) (m : Machine) (bytes : List ℕ) (a b : Certificates.Answer) → IsDone deed m bytes a → IsDone deed m bytes b → a ≡ b
-one_done (deeds.Certify share) m bytes a b p q = one_each.one_certification m bytes a b p q
-one_done deeds.Upgrade m bytes a b p q = one_each.one_upgrade m bytes a b p q
+one_done : (deed : Deed) (m : Machine) (bytes : List ℕ) (a b : Answer) → IsDone deed m bytes a → IsDone deed m bytes b → a ≡ b
+one_done (deeds.Certify share) m bytes a b p q = one_certify m bytes a b p q
+one_done deeds.Upgrade m bytes a b p q = one_upgrade m bytes a b p q
+one_done deeds.Check m bytes a b p q = one_check m bytes a b p q
 
-some_done : (deed : Deed) (m : Machine) (bytes : List ℕ) → (a : Certificates.Answer) × IsDone deed m bytes a
-some_done (deeds.Certify share) m bytes = one_each.some_certification m bytes
-some_done deeds.Upgrade m bytes = one_each.some_upgrade m bytes
-
-pub some_told : (deed : Deed) (m : Machine) (bytes : List ℕ) → (a : Answer) × IsCertificateAnswer (IsDone deed m bytes) a
-some_told deed m bytes = let such = some_done deed m bytes in (certificate_answer such.0, (such.0, such.1, refl))
+some_done : (deed : Deed) (m : Machine) (bytes : List ℕ) → (a : Answer) × IsDone deed m bytes a
+some_done (deeds.Certify share) m bytes = some_certify m bytes
+some_done deeds.Upgrade m bytes = some_upgrade m bytes
+some_done deeds.Check m bytes = some_check m bytes
 
 whole_prefix : (old new : Option (List ℕ)) (xs : List ℕ) → Appends old new xs → AppendsPrefix old new xs
 whole_prefix old new xs written = record { front = xs; rest = []; parts = append-nil xs; appended = written }
@@ -199,46 +210,87 @@ module _ {K : Type 0} (known : K → Option (List ℕ)) (faults : K → ℕ) whe
   kept : (answer : Answer) (what : Outcome) (old new : K) → new ≡ old → Became answer what old old → Became answer what old new
   kept answer what old new same h = subst (λ (k : K). Became answer what old k) (sym same) h
 
+  -- a text was written whole
+  wrote : (text : List ℕ) (old new : K) → Appends (known old) (known new) text → faults new ≡ faults old → Became (record { status = ends.Ok; out = text; line = quiet }) outcome.Done old new
+  wrote text old new whole calm = record { defined = λ e. (refl, refl, whole); prefix = whole_prefix (known old) (known new) text whole; short = λ e. absurd (cc e); quiet = λ e. calm }
+
+  -- a refusal is told
+  told_so : (status : Status) (line : Line) (what : Outcome) (old new : K) → new ≡ old → status_of what ≡ status → Tells line (outcome_text what) → Became (refusal status line) what old new
+  told_so status line what old new same is said = kept (refusal status line) what old new same (refused_now status line what (known old) (faults old) is said)
+
+  -- a write failed in a text that is not empty
+  failed : (text : List ℕ) (old new : K) → (text ≡ [] → ⊥) → AppendsPrefix (known old) (known new) text → Became (record { status = ends.Ok; out = text; line = quiet }) outcome.WriteFault old new
+  failed text old new some prefix = record { defined = λ e. absurd (cc e); prefix = prefix; short = λ e. absurd (cc e); quiet = λ e. absurd (some e) }
+
+  -- memory was wanting
+  wanting : (a : Answer) (old new : K) → new ≡ old → Became a outcome.Memory old new
+  wanting a old new same = kept a outcome.Memory old new same (nothing_outcome a outcome.Memory (known old) (faults old) refl)
+
   became : (end : Ending) (a : Certificates.Answer) (old new : K) → MayEnd a end → ((text : List ℕ) → a ≡ Certificates.written text → text ≡ [] → ⊥)
       → (end ≡ ending.Written → Appends (known old) (known new) (text_of_answer a)) → (end ≡ ending.Fault → AppendsPrefix (known old) (known new) (text_of_answer a))
       → (leaves_sink end ≡ true → new ≡ old) → (end ≢ ending.Fault → faults new ≡ faults old) → Became (certificate_answer a) (outcome_by end) old new
-  became ending.Written (Certificates.written text) old new told some whole prefix untouched calm = record {
-    defined = λ e. (refl, refl, whole refl);
-    prefix = whole_prefix (known old) (known new) text (whole refl);
-    short = λ e. absurd (cc e);
-    quiet = λ e. calm (λ d. cc d);
-  }
+  became ending.Written (Certificates.written text) old new told some whole prefix untouched calm = wrote text old new (whole refl) (calm (λ d. cc d))
   became ending.Written (Certificates.refused why) old new told some whole prefix untouched calm = absurd (cc told)
   became (ending.Refused why) a old new told some whole prefix untouched calm =
-      kept (certificate_answer a) (outcome.Uncertified why) old new (untouched refl)
-      (subst (λ (x : Certificates.Answer). Became (certificate_answer x) (outcome.Uncertified why) old old) (sym told)
-      (refused_now (status_of_refusal why) (uncertified why) (outcome.Uncertified why) (known old) (faults old) refl refl))
-  became ending.Fault (Certificates.written text) old new told some whole prefix untouched calm = record {
-    defined = λ e. absurd (cc e);
-    prefix = prefix refl;
-    short = λ e. absurd (cc e);
-    quiet = λ e. absurd (some text refl e);
-  }
+      subst (λ (x : Certificates.Answer). Became (certificate_answer x) (outcome.Uncertified why) old new) (sym told)
+      (told_so (status_of_refusal why) (uncertified why) (outcome.Uncertified why) old new (untouched refl) refl refl)
+  became ending.Fault (Certificates.written text) old new told some whole prefix untouched calm = failed text old new (some text refl) (prefix refl)
   became ending.Fault (Certificates.refused why) old new told some whole prefix untouched calm = absurd (cc told)
-  became ending.Memory a old new told some whole prefix untouched calm =
-      kept (certificate_answer a) outcome.Memory old new (untouched refl)
-      (nothing_outcome (certificate_answer a) outcome.Memory (known old) (faults old) refl)
+  became ending.Memory a old new told some whole prefix untouched calm = wanting (certificate_answer a) old new (untouched refl)
 
-  -- what became of a certificate
-  pub done_outcome : (deed : Deed) (m : Machine) (bytes : List ℕ) (end : Ending) (old new : K) → Ends known faults (IsDone deed m bytes) end old new
-      → (answer : Answer) → IsCertificateAnswer (IsDone deed m bytes) answer → Became answer (outcome_by end) old new
-  done_outcome deed m bytes end old new h answer (such, is, e) =
-      let same = one_done deed m bytes h.answer such h.is is in
+  -- what became of a certificate, where its text has one answer, and no empty one
+  done_outcome : (Is : Certificates.Answer → Type 0) → ((a b : Certificates.Answer) → Is a → Is b → a ≡ b) → ((text : List ℕ) → Is (Certificates.written text) → text ≡ [] → ⊥)
+      → (end : Ending) (old new : K) → Ends known faults Is end old new → (answer : Answer) → IsCertificateAnswer Is answer → Became answer (outcome_by end) old new
+  done_outcome Is one some end old new h answer (such, is, e) =
+      let same = one h.answer such h.is is in
       subst (λ (a : Answer). Became a (outcome_by end) old new) (ap certificate_answer same ∙ sym e)
-      (became end h.answer old new h.told (λ text at. text_some deed m bytes text (subst (IsDone deed m bytes) at h.is)) h.whole h.prefix h.untouched h.calm)
+      (became end h.answer old new h.told (λ text at. some text (subst Is at h.is)) h.whole h.prefix h.untouched h.calm)
 
-  pub certified_outcome : (share : Share) (m : Machine) (bytes : List ℕ) (end : Ending) (old new : K) → Ends known faults (Certificates.IsCertification m bytes) end old new
-      → (answer : Answer) → IsCertificateAnswer (IsDone (deeds.Certify share) m bytes) answer → Became answer (outcome_by end) old new
-  certified_outcome share m bytes end old new h answer is = done_outcome (deeds.Certify share) m bytes end old new h answer is
+  pub certified_outcome : (m : Machine) (bytes : List ℕ) (end : Ending) (old new : K) → Ends known faults (Certificates.IsCertification m bytes) end old new
+      → (answer : Answer) → IsCertifyAnswer m bytes answer → Became answer (outcome_by end) old new
+  certified_outcome m bytes end old new h answer is = done_outcome (Certificates.IsCertification m bytes) (one_each.one_certification m bytes) (bounds_some m bytes) end old new h answer is
 
   pub upgraded_outcome : (m : Machine) (bytes : List ℕ) (end : Ending) (old new : K) → Ends known faults (Certificates.IsUpgrade m bytes) end old new
-      → (answer : Answer) → IsCertificateAnswer (IsDone deeds.Upgrade m bytes) answer → Became answer (outcome_by end) old new
-  upgraded_outcome m bytes end old new h answer is = done_outcome deeds.Upgrade m bytes end old new h answer is
+      → (answer : Answer) → IsUpgradeAnswer m bytes answer → Became answer (outcome_by end) old new
+  upgraded_outcome m bytes end old new h answer is = done_outcome (Certificates.IsUpgrade m bytes) (one_each.one_upgrade m bytes) (upgrade_some m bytes) end old new h answer is
+
+  -- the same of a trace
+  checked : (end : TraceEnding) (a : Traces.Answer) (old new : K) → TraceEndings.MayEnd a end → ((text : List ℕ) → a ≡ Traces.written text → text ≡ [] → ⊥)
+      → (end ≡ traced.Written → Appends (known old) (known new) (TraceEndings.text_of a)) → (end ≡ traced.Fault → AppendsPrefix (known old) (known new) (TraceEndings.text_of a))
+      → (TraceEndings.leaves_out end ≡ true → new ≡ old) → (end ≢ traced.Fault → faults new ≡ faults old) → Became (trace_answer a) (outcome_traced end) old new
+  checked traced.Written (Traces.written text) old new told some whole prefix untouched calm = wrote text old new (whole refl) (calm (λ d. cc d))
+  checked traced.Written (Traces.refused why) old new told some whole prefix untouched calm = absurd (cc told)
+  checked (traced.Refused why) a old new told some whole prefix untouched calm =
+      subst (λ (x : Traces.Answer). Became (trace_answer x) (outcome.Untraced why) old new) (sym told)
+      (told_so (status_of_trace why) (untraced why) (outcome.Untraced why) old new (untouched refl) refl refl)
+  checked traced.Fault (Traces.written text) old new told some whole prefix untouched calm = failed text old new (some text refl) (prefix refl)
+  checked traced.Fault (Traces.refused why) old new told some whole prefix untouched calm = absurd (cc told)
+  checked traced.Memory a old new told some whole prefix untouched calm = wanting (trace_answer a) old new (untouched refl)
+
+  pub checked_outcome : (m : Machine) (bytes : List ℕ) (end : TraceEnding) (old new : K) → TraceEndings.Ends known faults (Traces.IsChecked m bytes) end old new
+      → (answer : Answer) → IsCheckAnswer m bytes answer → Became answer (outcome_traced end) old new
+  checked_outcome m bytes end old new h answer (such, is, e) =
+      let same = one_trace.one_answer m bytes h.answer such h.is is in
+      subst (λ (a : Answer). Became a (outcome_traced end) old new) (ap trace_answer same ∙ sym e)
+      (checked end h.answer old new h.told (λ text at. summary_some m bytes text (subst (Traces.IsChecked m bytes) at h.is)) h.whole h.prefix h.untouched h.calm)
+
+pub traced_left : (end : TraceEnding) → leaves_out false (status_of (outcome_traced end)) ≡ true → TraceEndings.leaves_out end ≡ true
+traced_left traced.Written e = e
+traced_left (traced.Refused why) e = refl
+traced_left traced.Fault e = e
+traced_left traced.Memory e = refl
+
+pub traced_fault : (end : TraceEnding) → outcome_traced end ≡ outcome.WriteFault → end ≡ traced.Fault
+traced_fault traced.Written e = absurd (cc e)
+traced_fault (traced.Refused why) e = absurd (cc e)
+traced_fault traced.Fault e = refl
+traced_fault traced.Memory e = absurd (cc e)
+
+pub traced_read : (end : TraceEnding) → (outcome_traced end ≢ outcome.ReadFault) × (outcome_traced end ≢ outcome.Usage)
+traced_read traced.Written = (λ e. cc e, λ e. cc e)
+traced_read (traced.Refused why) = (λ e. cc e, λ e. cc e)
+traced_read traced.Fault = (λ e. cc e, λ e. cc e)
+traced_read traced.Memory = (λ e. cc e, λ e. cc e)
 
 pub done_left : (end : Ending) → leaves_out false (status_of (outcome_by end)) ≡ true → leaves_sink end ≡ true
 done_left ending.Written e = e
@@ -271,38 +323,46 @@ counted_later name before now counts other = by (bytes_eq other name) refl
 -- the certificate in a file of this name
 module _ (deed : Deed) (m : Machine) (certificate : List ℕ) (files : Option Files) where
   abbrev Leads : List ℕ → Option Files → Told → Type 0
-  Leads text fs = Says (IsCertificateAnswer (IsDone deed m text))
+  Leads text fs = Says (IsDone deed m text)
 
   abbrev TextFile : (what : Outcome) (old new : Option (List ℕ)) (out_before out_now : ℕ) (before now : List ℕ → ℕ) → Type 0
   TextFile = Serves files (certificate ∷ []) (λ fs. Reads fs certificate (λ text. Leads text fs))
 
   text_reply : (text : List ℕ) → MayReply (Leads text None)
-  text_reply text = says_reply (IsCertificateAnswer (IsDone deed m text)) (some_told deed m text)
+  text_reply text = says_reply (IsDone deed m text) (some_done deed m text)
 
   pub text_served : (bytes : List ℕ) (what : Outcome) (old new : Option (List ℕ)) (out_before out_now : ℕ) (before now : List ℕ → ℕ)
       → OnlyCounts certificate before now → now certificate ≡ before certificate → IfSome files (λ fs. file_of fs certificate ≡ Some bytes) → what ≢ outcome.ReadFault
-      → ((a : Answer) → IsCertificateAnswer (IsDone deed m bytes) a → IsOutcome a what old new out_before out_now) → TextFile what old new out_before out_now before now
+      → ((a : Answer) → IsDone deed m bytes a → IsOutcome a what old new out_before out_now) → TextFile what old new out_before out_now before now
   text_served bytes what old new out_before out_now before now counts calm told not_read is =
       read_served certificate [] Leads files bytes what old new out_before out_now before now now counts calm told
-      (says_served files (IsCertificateAnswer (IsDone deed m bytes)) what old new out_before out_now now is (some_told deed m bytes) not_read)
+      (says_served files (IsDone deed m bytes) what old new out_before out_now now is (some_done deed m bytes) not_read)
 
   -- bytes past the limit have this answer
-  long_done : (d : Deed) (bytes : List ℕ) → IsInScope m → 2 ^ 18 < length bytes → IsDone d m bytes (Certificates.refused certs.TooLong)
-  long_done (deeds.Certify share) bytes scope long = inl (certs.TooLong, (scope, long), refl)
-  long_done deeds.Upgrade bytes scope long = inl (certs.TooLong, (scope, long), refl)
+  abbrev long_answer : Deed → Answer
+  long_answer (deeds.Certify share) = uncertifying certs.TooLong
+  long_answer deeds.Upgrade = uncertifying certs.TooLong
+  long_answer deeds.Check = refusal ends.CertRefused (untraced traces.TooLong)
 
-  long_answer : (bytes : List ℕ) → IsInScope m → 2 ^ 18 < length bytes → (a : Answer) → IsCertificateAnswer (IsDone deed m bytes) a → a ≡ uncertifying certs.TooLong
-  long_answer bytes scope long a is = is.2 ∙ ap certificate_answer (one_done deed m bytes is.0 (Certificates.refused certs.TooLong) is.1 (long_done deed bytes scope long))
+  long_done : (d : Deed) (bytes : List ℕ) → IsInScope m → limit_in d < length bytes → IsDone d m bytes (long_answer d)
+  long_done (deeds.Certify share) bytes scope long = (Certificates.refused certs.TooLong, inl (certs.TooLong, (scope, long), refl), refl)
+  long_done deeds.Upgrade bytes scope long = (Certificates.refused certs.TooLong, inl (certs.TooLong, (scope, long), refl), refl)
+  long_done deeds.Check bytes scope long = (Traces.refused traces.TooLong, inl (traces.TooLong, (scope, long), refl), refl)
+
+  long_outcome : (d : Deed) (old : Option (List ℕ)) (before : ℕ) → IsOutcome (long_answer d) (long_in d) old old before before × (long_in d ≢ outcome.ReadFault)
+  long_outcome (deeds.Certify share) old before = (refused_now ends.CertRefused (uncertified certs.TooLong) (outcome.Uncertified certs.TooLong) old before refl refl, λ e. cc e)
+  long_outcome deeds.Upgrade old before = (refused_now ends.CertRefused (uncertified certs.TooLong) (outcome.Uncertified certs.TooLong) old before refl refl, λ e. cc e)
+  long_outcome deeds.Check old before = (refused_now ends.CertRefused (untraced traces.TooLong) (outcome.Untraced traces.TooLong) old before refl refl, λ e. cc e)
 
   pub long_text_served : (old : Option (List ℕ)) (out_before : ℕ) (before now : List ℕ → ℕ) → IsInScope m → OnlyCounts certificate before now → now certificate ≡ before certificate
-      → IfSome files (λ fs. IsSomeAnd (file_of fs certificate) (λ bytes. 2 ^ 18 < length bytes)) → TextFile (outcome.Uncertified certs.TooLong) old old out_before out_before before now
+      → IfSome files (λ fs. IsSomeAnd (file_of fs certificate) (λ bytes. limit_in deed < length bytes)) → TextFile (long_in deed) old old out_before out_before before now
   long_text_served old out_before before now scope counts calm told =
-      let a = uncertifying certs.TooLong in
-      let long = bytes_of (2 ^ 18 + 1) in
-      long_served certificate [] Leads files (2 ^ 18) a (outcome.Uncertified certs.TooLong) old out_before before now counts calm told
-      (λ bytes h fs t leads. leads.2 ∙ ap (λ (b : Answer). record { arrivals = []; reply = answered b }) (long_answer bytes scope h leads.0 leads.1))
-      (λ bytes h. (a, (Certificates.refused certs.TooLong, long_done deed bytes scope h, refl), refl)) (long.0, longer (2 ^ 18) long.0 long.1)
-      (refused_now ends.CertRefused (uncertified certs.TooLong) (outcome.Uncertified certs.TooLong) old out_before refl refl) (λ e. cc e)
+      let a = long_answer deed in
+      let long = bytes_of (limit_in deed + 1) in
+      let is = long_outcome deed old out_before in
+      long_served certificate [] Leads files (limit_in deed) a (long_in deed) old out_before before now counts calm told
+      (λ bytes h fs t leads. leads.2 ∙ ap (λ (b : Answer). record { arrivals = []; reply = answered b }) (one_done deed m bytes leads.0 a leads.1 (long_done deed bytes scope h)))
+      (λ bytes h. (a, long_done deed bytes scope h, refl)) (long.0, longer (limit_in deed) long.0 long.1) is.0 is.1
 
   pub text_fault_served : (old : Option (List ℕ)) (out_before : ℕ) (before now : List ℕ → ℕ) → OnlyCounts certificate before now → Rose (before certificate) (now certificate)
       → TextFile outcome.ReadFault old old out_before out_before before now
@@ -315,23 +375,25 @@ module _ (deed : Deed) (m : Machine) (certificate : List ℕ) (files : Option Fi
 few_in : (deed : Deed) → share_in deed ≤ 2048
 few_in (deeds.Certify share) = share.within
 few_in deeds.Upgrade = omega arith
+few_in deeds.Check = omega arith
 
-pub source_reply : (deed : Deed) (certificate bytes : List ℕ) → MayReply (ByMachine (share_in deed) bytes (λ m. ReadsCertificate certificate (IsDone deed) m None))
+pub source_reply : (deed : Deed) (certificate bytes : List ℕ) → MayReply (ByMachine (share_in deed) bytes (λ m. ReadsText certificate (IsDone deed) m None))
 source_reply deed certificate bytes = certificate_reply (share_in deed) (few_in deed) bytes certificate (IsDone deed) (some_done deed)
 
 -- the model and the certificate in files of these names
 module _ (deed : Deed) (model certificate : List ℕ) (files : Option Files) where
   abbrev Behind : List ℕ → Option Files → Told → Type 0
-  Behind bytes fs = ByMachine (share_in deed) bytes (λ m. ReadsCertificate certificate (IsDone deed) m fs)
+  Behind bytes fs = ByMachine (share_in deed) bytes (λ m. ReadsText certificate (IsDone deed) m fs)
 
   abbrev Both : (what : Outcome) (old new : Option (List ℕ)) (out_before out_now : ℕ) (before now : List ℕ → ℕ) → Type 0
   Both = Serves files (files_of (command_on deed model certificate)) (LeadsTo (command_on deed model certificate))
 
   both_served : (d : Deed) (what : Outcome) (old new : Option (List ℕ)) (out_before out_now : ℕ) (before now : List ℕ → ℕ)
-      → Serves files (model ∷ certificate ∷ []) (λ fs. Reads fs model (λ bytes. ByMachine (share_in d) bytes (λ m. ReadsCertificate certificate (IsDone d) m fs))) what old new out_before out_now before now
+      → Serves files (model ∷ certificate ∷ []) (λ fs. Reads fs model (λ bytes. ByMachine (share_in d) bytes (λ m. ReadsText certificate (IsDone d) m fs))) what old new out_before out_now before now
       → Serves files (files_of (command_on d model certificate)) (LeadsTo (command_on d model certificate)) what old new out_before out_now before now
   both_served (deeds.Certify share) what old new out_before out_now before now h = h
   both_served deeds.Upgrade what old new out_before out_now before now h = h
+  both_served deeds.Check what old new out_before out_now before now h = h
 
   pub models_served : (bytes : List ℕ) (what : Outcome) (old new : Option (List ℕ)) (out_before out_now : ℕ) (before mid now : List ℕ → ℕ)
       → OnlyCounts model before mid → mid model ≡ before model → IfSome files (λ fs. file_of fs model ≡ Some bytes)

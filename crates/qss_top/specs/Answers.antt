@@ -22,7 +22,12 @@ use Rattle.cert_answer.specs.Answers.{IsCertification, IsUpgrade}
 use Rattle.cert_answer.specs.declared.ending.CertificateRefusal.TheVariants as certs
 use Rattle.cert_answer.specs.Endings.{refusal_line}
 use Rattle.cert_answer.specs.declared.ending.CertificateRefusal.{CertificateRefusal}
-use Rattle.qss_words.specs.Commands.{RunOptions, Command, run_model, print_model, certify_model, upgrade_model, generate_model, command_of, files_of}
+use Rattle.trace_answer.specs.Answers as Traces
+use Rattle.trace_answer.specs.Answers.{IsChecked}
+use Rattle.trace_answer.specs.Endings as TraceEndings
+use Rattle.trace_answer.specs.declared.ending.TraceRefusal.{TraceRefusal}
+use Rattle.trace_answer.specs.declared.ending.TraceRefusal.TheVariants as traces
+use Rattle.qss_words.specs.Commands.{RunOptions, Command, run_model, print_model, certify_model, upgrade_model, generate_model, check_model, command_of, files_of}
 use Rattle.qss_top.specs.Shares.{IsShared}
 use Rattle.qss_top.specs.declared.status.Status.{Status}
 use Rattle.qss_top.specs.declared.status.Status.TheVariants as ends
@@ -34,11 +39,12 @@ pub data Line : Type 0 where
   too_long : Line
   refused : (bytes : List ℕ) → Line
   uncertified : CertificateRefusal → Line
+  untraced : TraceRefusal → Line
   over : (name : List ℕ) → (tick : ℕ) → Line
 
 -- the line on how words are a command
 abbrev pub usage_line : List ℕ
-usage_line = codes "usage: qss VERB [WORD] [WORD] [--rule RULE] [--only NAME] [--relative N]\n"
+usage_line = codes "usage: qss VERB [WORD] [WORD] [WORD] [WORD] [--rule RULE] [--only NAME] [--relative N]\n"
 
 -- the line on a source of more than 2^20 bytes
 abbrev pub too_long_line : List ℕ
@@ -61,6 +67,7 @@ Tells usage text = text ≡ usage_line
 Tells too_long text = text ≡ too_long_line
 Tells (refused bytes) text = TellsRefusal bytes text
 Tells (uncertified why) text = text ≡ refusal_line why
+Tells (untraced why) text = text ≡ TraceEndings.refusal_line why
 Tells (over name tick) text = text ≡ overflow_line name tick
 
 -- an answer: how the program ends, what out gains, and what the line on err says
@@ -124,9 +131,13 @@ pub record IsSourceTree (bytes : List ℕ) (tree : ModelTree) : Type 0 where
   pub short : length bytes ≤ 2 ^ 20
   pub spelled : SpellsTree bytes tree
 
+-- the answer to a source: it is refused, or such an answer is given to its machine, with quanta of at least this share of their levels
+abbrev pub IsMachineAnswer : (share : ℕ) → (Machine → Answer → Type 0) → List ℕ → Answer → Type 0
+IsMachineAnswer share IsSuch bytes answer = IsSourceRefusal bytes answer ⊎ ((m : Machine) × IsSourceMachine share bytes m × IsSuch m answer)
+
 -- the answer to `run` on a source: it is refused, or the run of its machine is printed
 abbrev pub IsRunAnswer : RunOptions → List ℕ → Answer → Type 0
-IsRunAnswer options bytes answer = IsSourceRefusal bytes answer ⊎ ((m : Machine) × IsSourceMachine options.share bytes m × (answer ≡ printed options m))
+IsRunAnswer options bytes answer = IsMachineAnswer options.share (λ m such. such ≡ printed options m) bytes answer
 
 -- the answer to `print` on a source: it is refused, or its model is printed
 abbrev pub IsPrintAnswer : List ℕ → Answer → Type 0
@@ -153,7 +164,7 @@ summed cells m = answer_by (run_under Floor m)
 
 -- the answer that sums up a source: it is refused, or the run of its machine is summed up
 abbrev pub IsSummedAnswer : (cells : ℕ) → List ℕ → Answer → Type 0
-IsSummedAnswer cells bytes answer = IsSourceRefusal bytes answer ⊎ ((m : Machine) × IsSourceMachine 0 bytes m × (answer ≡ summed cells m))
+IsSummedAnswer cells bytes answer = IsMachineAnswer 0 (λ m such. such ≡ summed cells m) bytes answer
 
 -- the answer to `gen`
 abbrev pub IsGenerationAnswer : (seed cells : ℕ) → Answer → Type 0
@@ -177,6 +188,29 @@ certificate_answer (Certificates.written text) = record { status = ends.Ok; out 
 
 abbrev pub IsCertificateAnswer : (Certificates.Answer → Type 0) → Answer → Type 0
 IsCertificateAnswer IsSuch answer = (such : Certificates.Answer) × IsSuch such × (answer ≡ certificate_answer such)
+
+-- the answer to `certify` for a machine and the bytes of a certificate, and that to `upgrade`
+abbrev pub IsCertifyAnswer : Machine → List ℕ → Answer → Type 0
+IsCertifyAnswer m text answer = IsCertificateAnswer (IsCertification m text) answer
+
+abbrev pub IsUpgradeAnswer : Machine → List ℕ → Answer → Type 0
+IsUpgradeAnswer m text answer = IsCertificateAnswer (IsUpgrade m text) answer
+
+-- how the program ends that refuses a trace
+abbrev pub status_of_trace : TraceRefusal → Status
+status_of_trace (traces.Outside why) = ends.Rejected
+status_of_trace traces.TooLong = ends.CertRefused
+status_of_trace (traces.Unread why) = ends.CertRefused
+status_of_trace (traces.Broken place fact state left right) = ends.Rejected
+
+-- the answer of the program by that to a machine and the bytes of a trace
+abbrev pub trace_answer : Traces.Answer → Answer
+trace_answer (Traces.refused why) = refusal (status_of_trace why) (untraced why)
+trace_answer (Traces.written text) = record { status = ends.Ok; out = text; line = quiet }
+
+-- the answer to `check` for a machine and the bytes of a trace
+abbrev pub IsCheckAnswer : Machine → List ℕ → Answer → Type 0
+IsCheckAnswer m text answer = (such : Traces.Answer) × IsChecked m text such × (answer ≡ trace_answer such)
 
 -- what is replied: an answer; none, since a file is not on the shelf; or an answer to this command that cannot be named, since the shelf does not tell its files
 pub data Reply : Type 0 where
@@ -216,20 +250,21 @@ InScope m Leads told =
 abbrev pub ByMachine : ℕ → List ℕ → (Machine → Told → Type 0) → Told → Type 0
 ByMachine share bytes Leads told = Says (IsSourceRefusal bytes) told ⊎ ((m : Machine) × IsSourceMachine share bytes m × Leads m told)
 
--- a certificate of a machine is read, where there can be one
-abbrev pub ReadsCertificate : List ℕ → (Machine → List ℕ → Certificates.Answer → Type 0) → Machine → Option Files → Told → Type 0
-ReadsCertificate certificate IsSuch m files told = InScope m (Reads files certificate (λ text. Says (IsCertificateAnswer (IsSuch m text)))) told
+-- a text on a machine, such as a certificate, is read where certificates can speak of the machine, and is answered so
+abbrev pub ReadsText : (name : List ℕ) → (Machine → List ℕ → Answer → Type 0) → Machine → Option Files → Told → Type 0
+ReadsText name IsSuch m files told = InScope m (Reads files name (λ text. Says (IsSuch m text))) told
 
--- a model and then a certificate of its machine are read
-abbrev pub ReadsBoth : ℕ → List ℕ → List ℕ → (Machine → List ℕ → Certificates.Answer → Type 0) → Option Files → Told → Type 0
-ReadsBoth share model certificate IsSuch files told = Reads files model (λ bytes. ByMachine share bytes (λ m. ReadsCertificate certificate IsSuch m files)) told
+-- a model and then a text on its machine are read
+abbrev pub ReadsBoth : ℕ → (model name : List ℕ) → (Machine → List ℕ → Answer → Type 0) → Option Files → Told → Type 0
+ReadsBoth share model name IsSuch files told = Reads files model (λ bytes. ByMachine share bytes (λ m. ReadsText name IsSuch m files)) told
 
 -- a command leads to what is told, or may lead to it where no files are told
 abbrev pub LeadsTo : Command → Option Files → Told → Type 0
 LeadsTo (run_model model options) files told = Reads files model (λ bytes. Says (IsRunAnswer options bytes)) told
 LeadsTo (print_model model) files told = Reads files model (λ bytes. Says (IsPrintAnswer bytes)) told
-LeadsTo (certify_model model certificate share) files told = ReadsBoth share model certificate IsCertification files told
-LeadsTo (upgrade_model model certificate) files told = ReadsBoth 0 model certificate IsUpgrade files told
+LeadsTo (certify_model model certificate share) files told = ReadsBoth share model certificate IsCertifyAnswer files told
+LeadsTo (upgrade_model model certificate) files told = ReadsBoth 0 model certificate IsUpgradeAnswer files told
+LeadsTo (check_model model trace) files told = ReadsBoth 0 model trace IsCheckAnswer files told
 LeadsTo (generate_model seed cells) files told = Says (IsGenerationAnswer seed cells) told
 
 -- for some bytes that the command reads, the answer to it is such a one

@@ -1,11 +1,15 @@
--- What is done with a model and a certificate, as the code goes through it.
-use Rattle.std.specs.Prelude.{ℕ, List}
+-- What is done with a model and a text on it, such as a certificate, as the code goes through it.
+use Rattle.std.specs.Prelude.{ℕ, ◌^◌, List}
 use Rattle.qss_machine.specs.declared.system.Machine.{Machine}
-use Rattle.cert_answer.specs.Answers as Certificates
 use Rattle.cert_answer.specs.declared.ending.Ending.{Ending}
 use Rattle.cert_answer.specs.declared.ending.Ending.TheVariants as ending
+use Rattle.cert_answer.specs.declared.ending.CertificateRefusal.TheVariants as certs
+use Rattle.trace_answer.specs.declared.ending.Ending.{Ending as TraceEnding}
+use Rattle.trace_answer.specs.declared.ending.Ending.TheVariants as traced
+use Rattle.trace_answer.specs.declared.ending.TraceRefusal.TheVariants as traces
 use Rattle.qss_words.specs.declared.request.Deed.{Deed}
 use Rattle.qss_words.specs.declared.request.Deed.TheVariants as deeds
+use Rattle.qss_top.specs.Answers.{Answer, IsCertifyAnswer, IsUpgradeAnswer, IsCheckAnswer}
 use Rattle.qss_top.specs.declared.outcome.Outcome.{Outcome}
 use Rattle.qss_top.specs.declared.outcome.Outcome.TheVariants as outcome
 
@@ -13,11 +17,25 @@ use Rattle.qss_top.specs.declared.outcome.Outcome.TheVariants as outcome
 abbrev pub share_in : Deed → ℕ
 share_in (deeds.Certify share) = share.share
 share_in deeds.Upgrade = 0
+share_in deeds.Check = 0
 
--- the answer to a machine and the bytes of a certificate
-abbrev pub IsDone : Deed → Machine → List ℕ → Certificates.Answer → Type 0
-IsDone (deeds.Certify share) = Certificates.IsCertification
-IsDone deeds.Upgrade = Certificates.IsUpgrade
+-- the answer to a machine and the bytes of a text on it
+abbrev pub IsDone : Deed → Machine → List ℕ → Answer → Type 0
+IsDone (deeds.Certify share) = IsCertifyAnswer
+IsDone deeds.Upgrade = IsUpgradeAnswer
+IsDone deeds.Check = IsCheckAnswer
+
+-- the longest text that is read, in bytes
+abbrev pub limit_in : Deed → ℕ
+limit_in (deeds.Certify share) = 2 ^ 18
+limit_in deeds.Upgrade = 2 ^ 18
+limit_in deeds.Check = 2 ^ 24
+
+-- what became of a command whose text is longer
+abbrev pub long_in : Deed → Outcome
+long_in (deeds.Certify share) = outcome.Uncertified certs.TooLong
+long_in deeds.Upgrade = outcome.Uncertified certs.TooLong
+long_in deeds.Check = outcome.Untraced traces.TooLong
 
 -- what became of a command whose answer to a certificate ended so
 abbrev pub outcome_by : Ending → Outcome
@@ -25,3 +43,10 @@ outcome_by ending.Written = outcome.Done
 outcome_by (ending.Refused why) = outcome.Uncertified why
 outcome_by ending.Fault = outcome.WriteFault
 outcome_by ending.Memory = outcome.Memory
+
+-- what became of a command whose answer to a trace ended so
+abbrev pub outcome_traced : TraceEnding → Outcome
+outcome_traced traced.Written = outcome.Done
+outcome_traced (traced.Refused why) = outcome.Untraced why
+outcome_traced traced.Fault = outcome.WriteFault
+outcome_traced traced.Memory = outcome.Memory

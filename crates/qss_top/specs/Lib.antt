@@ -7,3 +7,4 @@ pub mod TopCall
 pub mod Laws
 pub mod Outcomes
 pub mod CertifiedRuns
+pub mod Headline

@@ -1,14 +1,32 @@
 -- What is done with a model, and what is answered.
-use Rattle.std.specs.Prelude.{Bool, true, false, ℕ, List}
+use Rattle.std.specs.Prelude.{◌≡◌, Bool, true, false, ℕ, List}
+use Rattle.qss_machine.specs.declared.system.Machine.{Machine}
 use Rattle.qss_words.specs.Requests.{options_in}
 use Rattle.qss_words.specs.declared.request.Task.{Task}
 use Rattle.qss_words.specs.declared.request.Task.TheVariants as task
-use Rattle.qss_top.specs.Answers.{Answer, IsRunAnswer, IsPrintAnswer}
+use Rattle.qss_top.specs.Answers.{Answer, printed, summed, IsRunAnswer, IsPrintAnswer}
+use Rattle.qss_top.specs.declared.machine.Job.{Job}
+use Rattle.qss_top.specs.declared.machine.Job.TheVariants as jobs
+
+-- whether what is done with a machine writes as it goes
+abbrev pub job_goes : Job → Bool
+job_goes (jobs.Run options) = true
+job_goes _ = false
+
+-- the share of the levels that quanta then have
+abbrev pub job_share : Job → ℕ
+job_share (jobs.Run options) = options.share
+job_share _ = 0
+
+-- the answer to a machine
+abbrev pub IsJobAnswer : Job → Machine → Answer → Type 0
+IsJobAnswer (jobs.Run options) m answer = answer ≡ printed (options_in options) m
+IsJobAnswer (jobs.Sum cells) m answer = answer ≡ summed cells m
 
 -- whether what is done with a model writes as it goes
 abbrev pub task_goes : Task → Bool
 task_goes (task.Run options) = true
-task_goes task.Print = false
+task_goes _ = false
 
 -- the answer to the bytes of a model
 abbrev pub IsTaskAnswer : Task → List ℕ → Answer → Type 0

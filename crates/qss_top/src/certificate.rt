@@ -2,8 +2,8 @@
 ghost use Rattle.std.specs.Prelude.{length, ◌≡◌, ◌≢◌, ◌≤◌, ◌^◌, [], ◌∷◌, true, false, ℕ, List};
 ghost use Rattle.mu_io.specs.Sinks.{EndsByFault};
 ghost use Rattle.cert_check.specs.Scope.{IsInScope};
-ghost use Rattle.qss_top.specs.Answers.{Answer, IsCertificateAnswer, ByMachine, ReadsCertificate, Reads, Says, LeadsTo};
-ghost use Rattle.qss_top.specs.Certificates.{IsDone, outcome_by, share_in};
+ghost use Rattle.qss_top.specs.Answers.{Answer, ByMachine, ReadsText, Reads, Says, LeadsTo};
+ghost use Rattle.qss_top.specs.Certificates.{IsDone, limit_in, long_in, outcome_by, outcome_traced, share_in};
 ghost use Rattle.qss_words.specs.Commands.{files_of};
 ghost use Rattle.qss_top.specs.Outcomes.{IsOutcome, Serves, status_of};
 ghost use Rattle.qss_top.specs.Statuses.{leaves_out};
@@ -18,9 +18,13 @@ use mu_io::{ReadErr, Shelf, Sink, read_all};
 use qss_machine::Machine;
 use qss_words::{Deed, Share};
 use std::alloc::Global;
+use trace_answer::{Ending as TraceEnding, TraceRefusal, check_trace_text};
 
 // The longest certificate that is read, in bytes.
 const CERTIFICATE_LIMIT: usize = 1 << 18;
+
+// The longest trace that is read, in bytes.
+const TRACE_LIMIT: usize = 1 << 24;
 
 /// Does this with the model and the certificate in two files.
 pub(crate) fn on_certificate<S: Shelf, O: Sink>(
@@ -58,7 +62,7 @@ fn on_model<S: Shelf, O: Sink>(
     out: &mut O,
 ) -> Outcome
     requires { length bytes.now ≤ 2 ^ 20 }
-    ensures serves { Serves (S.files shelf.old) (certificate.now ∷ []) (λ files. ByMachine (share_in deed) bytes.now (λ m. ReadsCertificate certificate.now (IsDone deed) m files)) result (O.written out.old) (O.written out.new) (O.faults out.old) (O.faults out.new) (S.faults shelf.old) (S.faults shelf.new) }
+    ensures serves { Serves (S.files shelf.old) (certificate.now ∷ []) (λ files. ByMachine (share_in deed) bytes.now (λ m. ReadsText certificate.now (IsDone deed) m files)) result (O.written out.old) (O.written out.new) (O.faults out.old) (O.faults out.new) (S.faults shelf.old) (S.faults shelf.new) }
     ensures not_usage { result ≢ Outcome.Usage }
     ensures untouched { leaves_out false (status_of result) ≡ true → out.new ≡ out.old }
     ensures calm { result ≢ Outcome.WriteFault → O.faults out.new ≡ O.faults out.old }
@@ -80,7 +84,7 @@ fn share_of(deed: Deed) -> Share
 {
     match deed {
         Deed::Certify(share) => share,
-        Deed::Upgrade => Share { share: 0 },
+        Deed::Upgrade | Deed::Check => Share { share: 0 },
     }
 }
 
@@ -93,7 +97,7 @@ fn in_scope<S: Shelf, O: Sink>(
     shelf: &mut S,
     out: &mut O,
 ) -> Outcome
-    ensures serves { Serves (S.files shelf.old) (certificate.now ∷ []) (ReadsCertificate certificate.now (IsDone deed) m.now) result (O.written out.old) (O.written out.new) (O.faults out.old) (O.faults out.new) (S.faults shelf.old) (S.faults shelf.new) }
+    ensures serves { Serves (S.files shelf.old) (certificate.now ∷ []) (ReadsText certificate.now (IsDone deed) m.now) result (O.written out.old) (O.written out.new) (O.faults out.old) (O.faults out.new) (S.faults shelf.old) (S.faults shelf.new) }
     ensures not_usage { result ≢ Outcome.Usage }
     ensures untouched { leaves_out false (status_of result) ≡ true → out.new ≡ out.old }
     ensures calm { result ≢ Outcome.WriteFault → O.faults out.new ≡ O.faults out.old }
@@ -118,7 +122,7 @@ fn on_text_file<S: Shelf, O: Sink>(
     out: &mut O,
 ) -> Outcome
     requires { IsInScope m.now }
-    ensures serves { Serves (S.files shelf.old) (certificate.now ∷ []) (λ files. Reads files certificate.now (λ text. Says (IsCertificateAnswer (IsDone deed m.now text)))) result (O.written out.old) (O.written out.new) (O.faults out.old) (O.faults out.new) (S.faults shelf.old) (S.faults shelf.new) }
+    ensures serves { Serves (S.files shelf.old) (certificate.now ∷ []) (λ files. Reads files certificate.now (λ text. Says (IsDone deed m.now text))) result (O.written out.old) (O.written out.new) (O.faults out.old) (O.faults out.new) (S.faults shelf.old) (S.faults shelf.new) }
     ensures not_usage { result ≢ Outcome.Usage }
     ensures untouched { leaves_out false (status_of result) ≡ true → out.new ≡ out.old }
     ensures calm { result ≢ Outcome.WriteFault → O.faults out.new ≡ O.faults out.old }
@@ -127,17 +131,40 @@ fn on_text_file<S: Shelf, O: Sink>(
     ensures later { (name : List ℕ) → S.faults shelf.old name ≤ S.faults shelf.new name }
     ensures unharmed { result ≢ Outcome.ReadFault → (name : List ℕ) → S.faults shelf.new name ≡ S.faults shelf.old name }
 {
-    match read_all(alloc, shelf, certificate, CERTIFICATE_LIMIT) {
+    match read_all(alloc, shelf, certificate, limit_of(deed)) {
         Ok(text) => on_text(alloc, deed, m, &text, out),
-        Err(ReadErr::TooLong) => Outcome::Uncertified(CertificateRefusal::TooLong),
+        Err(ReadErr::TooLong) => too_long(deed),
         Err(ReadErr::Fault) => Outcome::ReadFault,
         Err(ReadErr::Memory) => Outcome::Memory,
     }
 }
 
+// The longest text that is read, in bytes.
+fn limit_of(deed: Deed) -> usize
+    ensures { result ≡ limit_in deed }
+{
+    match deed {
+        Deed::Certify(_) | Deed::Upgrade => CERTIFICATE_LIMIT,
+        Deed::Check => TRACE_LIMIT,
+    }
+}
+
+// What becomes of a command whose text is longer.
+fn too_long(deed: Deed) -> Outcome
+    ensures what { result ≡ long_in deed }
+    ensures not_usage { result ≢ Outcome.Usage }
+    ensures not_read { result ≢ Outcome.ReadFault }
+    ensures not_write { result ≢ Outcome.WriteFault }
+{
+    match deed {
+        Deed::Certify(_) | Deed::Upgrade => Outcome::Uncertified(CertificateRefusal::TooLong),
+        Deed::Check => Outcome::Untraced(TraceRefusal::TooLong),
+    }
+}
+
 // Does this with the bytes of a certificate.
 fn on_text<O: Sink>(alloc: Global, deed: Deed, m: &Machine, text: &[u8], out: &mut O) -> Outcome
-    ensures outcome { (answer : Answer) → IsCertificateAnswer (IsDone deed m.now text.now) answer → IsOutcome answer result (O.written out.old) (O.written out.new) (O.faults out.old) (O.faults out.new) }
+    ensures outcome { (answer : Answer) → IsDone deed m.now text.now answer → IsOutcome answer result (O.written out.old) (O.written out.new) (O.faults out.old) (O.faults out.new) }
     ensures not_read { result ≢ Outcome.ReadFault }
     ensures not_usage { result ≢ Outcome.Usage }
     ensures untouched { leaves_out false (status_of result) ≡ true → out.new ≡ out.old }
@@ -147,6 +174,7 @@ fn on_text<O: Sink>(alloc: Global, deed: Deed, m: &Machine, text: &[u8], out: &m
     match deed {
         Deed::Certify(_) => outcome_of(certify(alloc, m, text, out)),
         Deed::Upgrade => outcome_of(upgrade(alloc, m, text, out)),
+        Deed::Check => traced_outcome(check_trace_text(alloc, m, text, out)),
     }
 }
 
@@ -159,5 +187,17 @@ fn outcome_of(ending: Ending) -> Outcome
         Ending::Refused(why) => Outcome::Uncertified(why),
         Ending::Fault => Outcome::WriteFault,
         Ending::Memory => Outcome::Memory,
+    }
+}
+
+// What became of a command whose answer to a trace ended so.
+fn traced_outcome(ending: TraceEnding) -> Outcome
+    ensures { result ≡ outcome_traced ending }
+{
+    match ending {
+        TraceEnding::Written => Outcome::Done,
+        TraceEnding::Refused(why) => Outcome::Untraced(why),
+        TraceEnding::Fault => Outcome::WriteFault,
+        TraceEnding::Memory => Outcome::Memory,
     }
 }

@@ -1,26 +1,25 @@
 // The commands: what the words ask for, and what is done for it.
-ghost use Rattle.std.specs.Prelude.{length, ◌≡◌, ◌≢◌, ◌≤◌, ◌⊎◌, ◌^◌, true, false, map, option_map, None, Some, ℕ, List, IfOk};
+ghost use Rattle.std.specs.Prelude.{length, ◌≡◌, ◌≢◌, ◌≤◌, ◌⊎◌, ◌^◌, true, false, map, None, Some, ℕ, List};
 ghost use Rattle.mu_io.specs.Faults.{OnlyCounts};
 ghost use Rattle.mu_io.specs.Sinks.{EndsByFault};
 ghost use Rattle.mu_tree.specs.ModelTree.{model};
-ghost use Rattle.qss_top.specs.Answers.{Answer, Told, IsRunAnswer, IsPrintAnswer, printed, printed_text, LeadsTo, LeadsFrom, IsTold};
+ghost use Rattle.qss_top.specs.Answers.{Answer, Told, IsPrintAnswer, printed_text, LeadsTo, LeadsFrom, IsTold};
 ghost use Rattle.qss_words.specs.Commands.{command_of, files_of, writes_as_it_goes};
 ghost use Rattle.qss_top.specs.Outcomes.{IsOutcome, Meets, Serves, status_of};
 ghost use Rattle.qss_top.specs.Statuses.{leaves_out};
-ghost use Rattle.qss_words.specs.Requests.{command_in, command_with, options_in};
+ghost use Rattle.qss_words.specs.Requests.{command_in, command_with};
 ghost use Rattle.qss_top.specs.Tasks.{task_goes, IsTaskAnswer};
 
 use crate::certificate::on_certificate;
 use crate::generation::on_generation;
+use crate::machine::{Job, by_machine};
 use crate::outcome::Outcome;
-use crate::source::{machine_of, model_of};
-use mu_io::{Name, ReadErr, Shelf, Sink, WriteErr, read_all, write_all};
+use crate::source::model_of;
+use mu_io::{ReadErr, Shelf, Sink, WriteErr, read_all, write_all};
 use mu_tree::canonical::write_model;
 use mu_tree::tree::Model;
-use qss_machine::Machine;
-use qss_play::{Played, play};
-use qss_words::{Options, Request, Task, read_words};
-use std::alloc::{AllocError, Global};
+use qss_words::{Request, Task, read_words};
+use std::alloc::Global;
 
 // The longest model that is read, in bytes.
 pub(crate) const MODEL_LIMIT: usize = 1 << 20;
@@ -112,7 +111,7 @@ fn on_source<O: Sink>(alloc: Global, task: Task, bytes: &[u8], out: &mut O) -> O
     ensures last { result ≡ Outcome.WriteFault → EndsByFault O.written O.faults out.old out.new }
 {
     match task {
-        Task::Run(options) => run_source(alloc, options, bytes, out),
+        Task::Run(options) => by_machine(alloc, Job::Run(options), bytes, out),
         Task::Print => print_source(alloc, bytes, out),
     }
 }
@@ -145,53 +144,6 @@ fn print_model<O: Sink>(alloc: Global, tree: &Model, out: &mut O) -> Outcome
         Ok(text) => match write_all(out, &text) {
             Ok(()) => Outcome::Done,
             Err(WriteErr::Fault) => Outcome::WriteFault,
-        },
-        Err(_) => Outcome::Memory,
-    }
-}
-
-// Runs the machine that a source means.
-fn run_source<O: Sink>(alloc: Global, options: Options, bytes: &[u8], out: &mut O) -> Outcome
-    requires { length bytes.now ≤ 2 ^ 20 }
-    ensures outcome { (answer : Answer) → IsRunAnswer (options_in options.entry) bytes.now answer → IsOutcome answer result (O.written out.old) (O.written out.new) (O.faults out.old) (O.faults out.new) }
-    ensures not_usage { result ≢ Outcome.Usage }
-    ensures not_read { result ≢ Outcome.ReadFault }
-    ensures untouched { leaves_out true (status_of result) ≡ true → out.new ≡ out.old }
-    ensures calm { result ≢ Outcome.WriteFault → O.faults out.new ≡ O.faults out.old }
-    ensures last { result ≡ Outcome.WriteFault → EndsByFault O.written O.faults out.old out.new }
-{
-    match machine_of(alloc, options.share, bytes) {
-        Ok(m) => run_machine(alloc, options, m, out),
-        Err(what) => what,
-    }
-}
-
-// A name, where there is one.
-fn name_of(alloc: Global, name: Option<&str>) -> Result<Option<Name>, AllocError>
-    ensures { IfOk result (λ copy. copy ≡ option_map (λ text. text.now) name.entry) }
-{
-    match name {
-        Some(text) => {
-            let name = Name::new(alloc, text.as_bytes())?;
-            Ok(Some(name))
-        }
-        None => Ok(None),
-    }
-}
-
-// Runs a machine. The header and each row are written as they come, each by a write of its own.
-fn run_machine<O: Sink>(alloc: Global, options: Options, m: Machine, out: &mut O) -> Outcome
-    ensures outcome { IsOutcome (printed (options_in options.entry) m) result (O.written out.old) (O.written out.new) (O.faults out.old) (O.faults out.new) }
-    ensures runs { leaves_out true (status_of result) ≡ false }
-    ensures calm { result ≢ Outcome.WriteFault → O.faults out.new ≡ O.faults out.old }
-    ensures last { result ≡ Outcome.WriteFault → EndsByFault O.written O.faults out.old out.new }
-{
-    match name_of(alloc, options.only) {
-        Ok(only) => match play(alloc, m, options.rule, only, out) {
-            Played::Ended => Outcome::Done,
-            Played::Overflowed { name, tick } => Outcome::Overflow { name, tick },
-            Played::Fault => Outcome::WriteFault,
-            Played::Memory => Outcome::Memory,
         },
         Err(_) => Outcome::Memory,
     }

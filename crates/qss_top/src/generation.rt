@@ -1,12 +1,12 @@
 // The run of a generated model, summed up.
-ghost use Rattle.std.specs.Prelude.{length, ◌≡◌, ◌≢◌, ◌≤◌, ◌^◌, true, false, IfOk};
+ghost use Rattle.std.specs.Prelude.{◌≡◌, ◌≢◌, true, false, IfOk};
 ghost use Rattle.mu_io.specs.Sinks.{EndsByFault};
-ghost use Rattle.qss_top.specs.Answers.{Answer, IsGenerationAnswer, IsSummedAnswer, summary_of, summed};
+ghost use Rattle.qss_top.specs.Answers.{Answer, IsGenerationAnswer, summary_of, summed};
 ghost use Rattle.qss_top.specs.Outcomes.{IsOutcome, status_of};
 ghost use Rattle.qss_top.specs.Statuses.{leaves_out};
 
+use crate::machine::{Job, by_machine};
 use crate::outcome::Outcome;
-use crate::source::machine_of;
 use mu_io::{Sink, WriteErr, write_all};
 use qss_generate::generate;
 use qss_machine::Machine;
@@ -15,11 +15,7 @@ use qss_words::Generation;
 use std::alloc::{AllocError, Global};
 
 /// Sums up the run of a generated model.
-pub(crate) fn on_generation<O: Sink>(
-    alloc: Global,
-    generation: Generation,
-    out: &mut O,
-) -> Outcome
+pub(crate) fn on_generation<O: Sink>(alloc: Global, generation: Generation, out: &mut O) -> Outcome
     ensures outcome { (answer : Answer) → IsGenerationAnswer generation.seed generation.cells answer → IsOutcome answer result (O.written out.old) (O.written out.new) (O.faults out.old) (O.faults out.new) }
     ensures not_usage { result ≢ Outcome.Usage }
     ensures not_read { result ≢ Outcome.ReadFault }
@@ -28,29 +24,13 @@ pub(crate) fn on_generation<O: Sink>(
     ensures last { result ≡ Outcome.WriteFault → EndsByFault O.written O.faults out.old out.new }
 {
     match generate(alloc, generation.seed, generation.cells) {
-        Ok(source) => sum_source(alloc, generation.cells, &source, out),
+        Ok(source) => by_machine(alloc, Job::Sum(generation.cells), &source, out),
         Err(_) => Outcome::Memory,
     }
 }
 
-// Sums up the run of the machine that a source means.
-fn sum_source<O: Sink>(alloc: Global, cells: u32, source: &[u8], out: &mut O) -> Outcome
-    requires { length source.now ≤ 2 ^ 20 }
-    ensures outcome { (answer : Answer) → IsSummedAnswer cells source.now answer → IsOutcome answer result (O.written out.old) (O.written out.new) (O.faults out.old) (O.faults out.new) }
-    ensures not_usage { result ≢ Outcome.Usage }
-    ensures not_read { result ≢ Outcome.ReadFault }
-    ensures untouched { leaves_out false (status_of result) ≡ true → out.new ≡ out.old }
-    ensures calm { result ≢ Outcome.WriteFault → O.faults out.new ≡ O.faults out.old }
-    ensures last { result ≡ Outcome.WriteFault → EndsByFault O.written O.faults out.old out.new }
-{
-    match machine_of(alloc, 0, source) {
-        Ok(m) => sum_machine(alloc, cells, m, out),
-        Err(what) => what,
-    }
-}
-
-// Sums up the run of a machine.
-fn sum_machine<O: Sink>(alloc: Global, cells: u32, m: Machine, out: &mut O) -> Outcome
+/// Sums up the run of a machine.
+pub(crate) fn sum_machine<O: Sink>(alloc: Global, cells: u32, m: Machine, out: &mut O) -> Outcome
     ensures outcome { IsOutcome (summed cells m) result (O.written out.old) (O.written out.new) (O.faults out.old) (O.faults out.new) }
     ensures not_usage { result ≢ Outcome.Usage }
     ensures not_read { result ≢ Outcome.ReadFault }

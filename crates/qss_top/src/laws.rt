@@ -1,5 +1,6 @@
 // Laws on what is told.
 ghost use Rattle.qss_top.specs.CertifiedRuns.{CertifiedRunsStayNear};
+ghost use Rattle.qss_top.specs.Headline.{RunPrintsTheRun, CertifyAcceptsExactly};
 ghost use Rattle.qss_top.specs.Laws.{AnswersAreUnique, AnswersExist};
 
 /// Law: words and files define at most one answer, with the files at which it arrives.
@@ -10,6 +11,17 @@ pub fn answers_are_unique()
 /// Law: words and files define an answer, or that none can be had.
 pub fn answers_exist()
     ensures { AnswersExist }
+{}
+
+/// Law: `run` answers with the header and the rows of the run of the machine that the file's bytes mean.
+pub fn run_prints_the_run()
+    ensures { RunPrintsTheRun }
+{}
+
+/// Law: `certify` answers with status 0 and the bounds exactly where the inequalities hold of the certificate, and all their
+/// sums are in range.
+pub fn certify_accepts_exactly()
+    ensures { CertifyAcceptsExactly }
 {}
 
 /// Law: where a certificate is accepted, any two legitimate runs of the machine that the model means, from the certificate's

@@ -5,11 +5,15 @@ mod certificate;
 mod command;
 mod generation;
 mod laws;
+mod machine;
 mod outcome;
 mod source;
 mod status;
 mod top;
 
-pub use laws::{answers_are_unique, answers_exist, certified_runs_stay_near};
+pub use laws::{
+    answers_are_unique, answers_exist, certified_runs_stay_near, certify_accepts_exactly,
+    run_prints_the_run,
+};
 pub use status::Status;
 pub use top::qss_main;

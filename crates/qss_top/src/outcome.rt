@@ -1,6 +1,6 @@
 // What became of a command, and the line that tells it.
 ghost use Rattle.std.specs.Prelude.{true, ◌≡◌, ◌⊎◌, ◌≤◌, ℕ, List, codes, IfOk};
-ghost use Rattle.qss_top.specs.Answers.{overflow_line, status_of_refusal};
+ghost use Rattle.qss_top.specs.Answers.{overflow_line, status_of_refusal, status_of_trace};
 ghost use Rattle.qss_top.specs.Outcomes as Spec;
 ghost use Rattle.qss_top.specs.TopCall.{WritesLine};
 
@@ -9,6 +9,7 @@ use cert_answer::{CertificateRefusal, refusal_line as certificate_line};
 use mu_io::{Name, Sink, write_all};
 use qss_compile::{ModelErr, Refused, refusal_line};
 use std::alloc::{AllocError, Global};
+use trace_answer::{TraceRefusal, refusal_line as trace_line};
 
 /// What became of a command.
 #[derive(Drop)]
@@ -21,6 +22,7 @@ pub enum Outcome {
     Refused(Refused),
     Overflow { name: Name, tick: u64 },
     Uncertified(CertificateRefusal),
+    Untraced(TraceRefusal),
     Memory,
 }
 
@@ -49,7 +51,7 @@ pub(crate) fn report<E: Sink>(alloc: Global, outcome: &Outcome, err: &mut E) -> 
         Outcome::Done => Status::Ok,
         Outcome::Usage => tell(
             Status::Usage,
-            b"usage: qss VERB [WORD] [WORD] [--rule RULE] [--only NAME] [--relative N]\n",
+            b"usage: qss VERB [WORD] [WORD] [WORD] [WORD] [--rule RULE] [--only NAME] [--relative N]\n",
             err,
         ),
         Outcome::ReadFault => tell(Status::ReadFault, b"read fault\n", err),
@@ -67,6 +69,10 @@ pub(crate) fn report<E: Sink>(alloc: Global, outcome: &Outcome, err: &mut E) -> 
             Ok(line) => tell(refusal_status(*why), &line, err),
             Err(_) => tell(Status::Memory, b"out of memory\n", err),
         },
+        Outcome::Untraced(why) => match trace_line(alloc, *why) {
+            Ok(line) => tell(trace_status(*why), &line, err),
+            Err(_) => tell(Status::Memory, b"out of memory\n", err),
+        },
         Outcome::Memory => tell(Status::Memory, b"out of memory\n", err),
     }
 }
@@ -78,6 +84,16 @@ fn refusal_status(why: CertificateRefusal) -> Status
     match why {
         CertificateRefusal::Outside(_) | CertificateRefusal::Rejected(_) => Status::Rejected,
         CertificateRefusal::TooLong | CertificateRefusal::Unread(_) => Status::CertRefused,
+    }
+}
+
+// How the program ends that refuses a trace.
+fn trace_status(why: TraceRefusal) -> Status
+    ensures { result ≡ status_of_trace why }
+{
+    match why {
+        TraceRefusal::Outside(_) | TraceRefusal::Broken { .. } => Status::Rejected,
+        TraceRefusal::TooLong | TraceRefusal::Unread(_) => Status::CertRefused,
     }
 }
 

@@ -1,9 +1,11 @@
 // The top call.
+ghost use Rattle.std.specs.Io.KnownBytes.{Appends};
 ghost use Rattle.std.specs.Prelude.{◌≡◌, ◌≢◌, ◌≤◌, ◌⊎◌, [], true, List, ℕ, map, Some, None, Contains};
 ghost use Rattle.mu_io.specs.Faults.{Rose};
 ghost use Rattle.mu_io.specs.Sinks.{AppendsPrefix, EndsByFault};
-ghost use Rattle.qss_top.specs.Answers.{Told, IsTold};
-ghost use Rattle.qss_words.specs.Commands.{command_of, writes_as_it_goes};
+ghost use Rattle.qss_top.specs.Answers.{Answer, Told, IsTold, answered};
+ghost use Rattle.qss_top.specs.CertifiedRuns.{AreCertified};
+ghost use Rattle.qss_words.specs.Commands.{certify_model, command_of, writes_as_it_goes};
 ghost use Rattle.qss_top.specs.Statuses.{leaves_out};
 ghost use Rattle.qss_top.specs.TopCall.{IsReplied, Replies, IsCutShort, text_of, SomeRose, ReportsStatus};
 
@@ -31,6 +33,14 @@ pub fn qss_main<S: Shelf, O: Sink, E: Sink>(
     // Where memory is wanting, out has whole lines of the answer's text, with more to come, and only
     // of a run; or all of a run that overflows.
     ensures short { (told : Told) → IsTold (map (λ word. word.now) words.now) (S.files shelf.old) told → result ≡ Status.Memory → Replies (IsCutShort (O.written out.old) (O.written out.new)) told.reply }
+
+    // Where no count of faults rises of a file at which the answer arrives, nor of out, and no memory is
+    // wanting, the status is the answer's, and out gains its whole text.
+    ensures complete { (told : Told) (answer : Answer) → IsTold (map (λ word. word.now) words.now) (S.files shelf.old) told → told.reply ≡ answered answer → ¬ SomeRose told.arrivals (S.faults shelf.old) (S.faults shelf.new) → ¬ Rose (O.faults out.old) (O.faults out.new) → result ≢ Status.Memory → (result ≡ answer.status) × Appends (O.written out.old) (O.written out.new) answer.out }
+
+    // Where a certificate is accepted, any two legitimate runs of the machine that the model means, from the
+    // certificate's starts, lie within the bounds that out gains.
+    ensures certified { (model certificate : List ℕ) (share : ℕ) → command_of (map (λ word. word.now) words.now) ≡ Some (certify_model model certificate share) → result ≡ Status.Ok → (text : List ℕ) × (Appends (O.written out.old) (O.written out.new) text × AreCertified model certificate share (S.files shelf.old) text) }
 
     // Words that are no command are told as such, where memory for them is found, and nothing else is.
     ensures usage { result ≡ Status.Usage → command_of (map (λ word. word.now) words.now) ≡ None }

@@ -14,6 +14,7 @@ pub enum Verb {
     Certify,
     Upgrade,
     Generate,
+    Check,
 }
 
 /// The verb of this name.
@@ -30,6 +31,8 @@ pub(crate) fn verb_named(name: &str) -> Option<Verb>
         Some(Verb::Upgrade)
     } else if name == "gen" {
         Some(Verb::Generate)
+    } else if name == "check" {
+        Some(Verb::Check)
     } else {
         None
     }

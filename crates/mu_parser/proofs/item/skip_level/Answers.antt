@@ -1,6 +1,6 @@
 use Rattle.std.proofs.Common.{◌+◌, ◌∙◌, ap, sym}
 use Rattle.mu_grammar.specs.States.{place_level}
-use Rattle.mu_section.specs.Views.{place_of}
+use Rattle.mu_parser.specs.SectionViews.{place_of}
 use Rattle.mu_grammar.proofs.Levels.{levels_reversed}
 use Rattle.mu_parser.proofs.item.skip_level.Goals as goal
 

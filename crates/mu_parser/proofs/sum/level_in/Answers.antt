@@ -1,8 +1,8 @@
 use Rattle.std.proofs.Common.{◌+◌, ◌∙◌, ap, sym}
 use Rattle.mu_grammar.specs.States.{outside}
 use Rattle.mu_grammar.specs.SumMachine.{depth_at}
-use Rattle.mu_expression.specs.Views.{position_of, frames_of}
-use Rattle.mu_section.specs.Views.{waiting_of}
+use Rattle.mu_parser.specs.ExpressionViews.{position_of, frames_of}
+use Rattle.mu_parser.specs.SectionViews.{waiting_of}
 use Rattle.mu_grammar.proofs.Levels.{depth_at_add}
 use Rattle.mu_parser.proofs.sum.level_in.Goals as goal
 

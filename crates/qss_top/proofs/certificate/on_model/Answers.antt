@@ -1,5 +1,5 @@
 use Rattle.qss_compile.specs.Meanings.{IsRefused}
-use Rattle.qss_top.specs.Answers.{ReadsCertificate}
+use Rattle.qss_top.specs.Answers.{ReadsText}
 use Rattle.qss_top.specs.Certificates.{IsDone, share_in}
 use Rattle.qss_top.proofs.Refusals.{not_usage, not_write}
 use Rattle.qss_top.proofs.TwoFiles.{machine_served, no_machine_served, source_reply}
@@ -7,13 +7,13 @@ use Rattle.qss_top.proofs.certificate.on_model.Goals as goal
 
 pub returns-in-Ok-clause-serves : goal.returns-in-Ok-clause-serves
 returns-in-Ok-clause-serves g c =
-    machine_served (g.S.Shelf.files c.args.shelf.now) _ (share_in c.args.deed) c.args.bytes.now (λ m fs. ReadsCertificate c.args.certificate.now (IsDone c.args.deed) m fs) c.in-Ok.m c.in_scope.result
+    machine_served (g.S.Shelf.files c.args.shelf.now) _ (share_in c.args.deed) c.args.bytes.now (λ m fs. ReadsText c.args.certificate.now (IsDone c.args.deed) m fs) c.in-Ok.m c.in_scope.result
     (g.O.Sink.written c.args.out.now) (g.O.Sink.written c.in_scope.new.out) (g.O.Sink.faults c.args.out.now) (g.O.Sink.faults c.in_scope.new.out)
     (g.S.Shelf.faults c.args.shelf.now) (g.S.Shelf.faults c.in_scope.new.shelf) (rw c.share_of-share.ensures at c.in-Ok.ensures.machine) c.in_scope.ensures.serves
 
 pub returns-in-Err-clause-serves : goal.returns-in-Err-clause-serves
 returns-in-Err-clause-serves g c =
-    no_machine_served (g.S.Shelf.files c.args.shelf.now) _ (share_in c.args.deed) c.args.bytes.now (λ m fs. ReadsCertificate c.args.certificate.now (IsDone c.args.deed) m fs) c.in-Err.what
+    no_machine_served (g.S.Shelf.files c.args.shelf.now) _ (share_in c.args.deed) c.args.bytes.now (λ m fs. ReadsText c.args.certificate.now (IsDone c.args.deed) m fs) c.in-Err.what
     (g.O.Sink.written c.args.out.now) (g.O.Sink.faults c.args.out.now) (g.S.Shelf.faults c.args.shelf.now) c.requires c.in-Err.ensures.refused
     (source_reply c.args.deed c.args.certificate.now c.args.bytes.now)
 

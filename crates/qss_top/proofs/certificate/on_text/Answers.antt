@@ -1,15 +1,15 @@
 use Rattle.std.proofs.Common.{false, sym, ap, ◌∙◌, subst}
-use Rattle.qss_top.specs.Certificates.{outcome_by}
+use Rattle.qss_top.specs.Certificates.{outcome_by, outcome_traced}
 use Rattle.qss_top.specs.Outcomes.{IsOutcome, status_of}
 use Rattle.qss_top.specs.Statuses.{leaves_out}
 use Rattle.qss_top.specs.declared.outcome.Outcome.{Outcome}
-use Rattle.qss_top.proofs.TwoFiles.{certified_outcome, upgraded_outcome, done_left, done_fault, done_read}
+use Rattle.qss_top.proofs.TwoFiles.{certified_outcome, upgraded_outcome, checked_outcome, done_left, done_fault, done_read, traced_left, traced_fault, traced_read}
 use Rattle.qss_top.proofs.certificate.on_text.Goals as goal
 
 pub returns-in-Certify-clause-outcome : goal.returns-in-Certify-clause-outcome
 returns-in-Certify-clause-outcome g c answer h =
     subst (λ (w : Outcome). IsOutcome answer w (g.O.Sink.written c.args.out.now) (g.O.Sink.written c.certify.new.out) (g.O.Sink.faults c.args.out.now) (g.O.Sink.faults c.certify.new.out)) (sym c.outcome_of.ensures)
-    (certified_outcome (λ k. g.O.Sink.written k) (λ k. g.O.Sink.faults k) c.in-Certify.field-0 c.args.m.now c.args.text.now c.certify.result c.args.out.now c.certify.new.out c.certify.ensures.answered answer
+    (certified_outcome (λ k. g.O.Sink.written k) (λ k. g.O.Sink.faults k) c.args.m.now c.args.text.now c.certify.result c.args.out.now c.certify.new.out c.certify.ensures.answered answer
     (rw c.in-Certify.is at h))
 
 pub returns-in-Certify-clause-not_read : goal.returns-in-Certify-clause-not_read
@@ -48,3 +48,25 @@ returns-in-Upgrade-clause-calm g c other = c.upgrade.ensures.calm (λ e. other (
 
 pub returns-in-Upgrade-clause-last : goal.returns-in-Upgrade-clause-last
 returns-in-Upgrade-clause-last g c e = c.upgrade.ensures.last (done_fault c.upgrade.result (sym c.outcome_of-in-Upgrade.ensures ∙ e))
+
+pub returns-in-Check-clause-outcome : goal.returns-in-Check-clause-outcome
+returns-in-Check-clause-outcome g c answer h =
+    subst (λ (w : Outcome). IsOutcome answer w (g.O.Sink.written c.args.out.now) (g.O.Sink.written c.check_trace_text.new.out) (g.O.Sink.faults c.args.out.now) (g.O.Sink.faults c.check_trace_text.new.out)) (sym c.traced_outcome.ensures)
+    (checked_outcome (λ k. g.O.Sink.written k) (λ k. g.O.Sink.faults k) c.args.m.now c.args.text.now c.check_trace_text.result c.args.out.now c.check_trace_text.new.out c.check_trace_text.ensures.answered answer
+    (rw c.in-Check.is at h))
+
+pub returns-in-Check-clause-not_read : goal.returns-in-Check-clause-not_read
+returns-in-Check-clause-not_read g c e = (traced_read c.check_trace_text.result).0 (sym c.traced_outcome.ensures ∙ e)
+
+pub returns-in-Check-clause-not_usage : goal.returns-in-Check-clause-not_usage
+returns-in-Check-clause-not_usage g c e = (traced_read c.check_trace_text.result).1 (sym c.traced_outcome.ensures ∙ e)
+
+pub returns-in-Check-clause-untouched : goal.returns-in-Check-clause-untouched
+returns-in-Check-clause-untouched g c e =
+    c.check_trace_text.ensures.answered.untouched (traced_left c.check_trace_text.result (sym (ap (λ (w : Outcome). leaves_out false (status_of w)) c.traced_outcome.ensures) ∙ e))
+
+pub returns-in-Check-clause-calm : goal.returns-in-Check-clause-calm
+returns-in-Check-clause-calm g c other = c.check_trace_text.ensures.answered.calm (λ e. other (c.traced_outcome.ensures ∙ ap outcome_traced e))
+
+pub returns-in-Check-clause-last : goal.returns-in-Check-clause-last
+returns-in-Check-clause-last g c e = c.check_trace_text.ensures.answered.last (traced_fault c.check_trace_text.result (sym c.traced_outcome.ensures ∙ e))

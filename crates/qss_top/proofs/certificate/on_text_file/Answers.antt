@@ -17,9 +17,10 @@ returns-in-Ok-clause-unharmed g c e name =
 
 pub returns-in-Err-TooLong-clause-serves : goal.returns-in-Err-TooLong-clause-serves
 returns-in-Err-TooLong-clause-serves g c =
-    long_text_served c.args.deed c.args.m.now c.args.certificate.now (g.S.Shelf.files c.args.shelf.now) (g.O.Sink.written c.args.out.now) (g.O.Sink.faults c.args.out.now)
-    (g.S.Shelf.faults c.args.shelf.now) (g.S.Shelf.faults c.read_all.new.shelf) c.requires c.in-Err-TooLong.ensures.counts (c.in-Err-TooLong.ensures.calm (λ e. cc (e, c.in-Err-TooLong.field-0-is)))
-    (c.in-Err-TooLong.ensures.too_long (cc (c.in-Err-TooLong.field-0-is)))
+    let long = rw c.limit_of.ensures at (c.in-Err-TooLong.ensures.too_long (cc (c.in-Err-TooLong.field-0-is))) in
+    rw c.too_long.ensures.what
+    (long_text_served c.args.deed c.args.m.now c.args.certificate.now (g.S.Shelf.files c.args.shelf.now) (g.O.Sink.written c.args.out.now) (g.O.Sink.faults c.args.out.now)
+    (g.S.Shelf.faults c.args.shelf.now) (g.S.Shelf.faults c.read_all.new.shelf) c.requires c.in-Err-TooLong.ensures.counts (c.in-Err-TooLong.ensures.calm (λ e. cc (e, c.in-Err-TooLong.field-0-is))) long)
 
 pub returns-in-Err-TooLong-clause-later : goal.returns-in-Err-TooLong-clause-later
 returns-in-Err-TooLong-clause-later g c name =

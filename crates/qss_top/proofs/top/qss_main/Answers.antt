@@ -1,6 +1,12 @@
+use Rattle.std.proofs.Common.{subst}
 use Rattle.std.specs.Prelude.{map}
 use Rattle.qss_words.specs.Commands.{command_of, writes_as_it_goes}
 use Rattle.qss_top.proofs.TopFacts.{replied, defined_of, leaves_of, read_of, write_of, done_of, usage_of, status_by, no_write, no_read, short_of, line_is, usage_or_memory}
+use Rattle.qss_top.proofs.Completeness.{whole_answer, rose_by, certified_end}
+use Rattle.qss_top.specs.Answers.{Told, IsTold}
+use Rattle.qss_top.specs.TopCall.{IsReplied}
+use Rattle.qss_top.specs.declared.status.Status.{Status}
+use Rattle.qss_top.specs.declared.status.Status.TheVariants as ends
 use Rattle.qss_top.proofs.top.qss_main.Goals as goal
 
 pub returns-clause-replied : goal.returns-clause-replied
@@ -55,3 +61,16 @@ returns-clause-line g c told h =
 
 pub returns-clause-silent : goal.returns-clause-silent
 returns-clause-silent g c e = c.report.ensures.silent (done_of c.report.result c.answer-outcome.result c.report.ensures.status e)
+
+pub returns-clause-complete : goal.returns-clause-complete
+returns-clause-complete g c told answer h is no_read_fault no_write_fault memory =
+    whole_answer c.report.result told.reply answer (g.O.Sink.written c.args.out.now) (g.O.Sink.written c.answer-outcome.new.out) (returns-clause-replied g c told h) is
+    (λ e. no_read_fault (returns-clause-read_fault g c told h e))
+    (λ e. no_write_fault (rose_by (λ k. g.O.Sink.written k) (λ k. g.O.Sink.faults k) c.args.out.now c.answer-outcome.new.out (returns-clause-last g c e))) memory
+
+pub returns-clause-certified : goal.returns-clause-certified
+returns-clause-certified g c model certificate share is ok =
+    let words = map (λ word. word.now) c.args.words.now in
+    certified_end words (g.S.Shelf.files c.args.shelf.now) model certificate share (g.O.Sink.written c.args.out.now) (g.O.Sink.written c.answer-outcome.new.out) is
+    (λ told h. let P : Status → Type 0 = λ status. IsReplied told.reply status (g.O.Sink.written c.args.out.now) (g.O.Sink.written c.answer-outcome.new.out) in
+    subst P ok (returns-clause-replied g c told h))

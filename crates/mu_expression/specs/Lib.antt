@@ -1,2 +1,0 @@
-pub mod ConditionViews
-pub mod Views

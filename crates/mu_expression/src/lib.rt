@@ -1,5 +1,0 @@
-//! Reads sums and conditions token by token.
-#![tactic(auto)]
-
-pub mod condition;
-pub mod machine;

@@ -1,0 +1,10 @@
+use Rattle.std.proofs.Common.{◌≡◌}
+use Rattle.propose_answer.specs.Answers.{Answer, answered}
+use Rattle.propose_answer.specs.declared.ending.ProposalRefusal.TheVariants.{Rejected}
+use Rattle.propose_answer.proofs.Finished.{refusal_told, rejected_by}
+use Rattle.propose_answer.proofs.proposing.tell.Goals as goal
+
+pub returns-in_default : goal.returns-in_default
+returns-in_default g c =
+    refusal_told (λ k. g.O.Sink.written k) (λ k. g.O.Sink.faults k) (λ (a : Answer). a ≡ answered c.args.c.now c.args.verdict) (Rejected c.args.verdict)
+    (rejected_by c.args.c.now c.args.verdict c.in_default.not-Accepted) c.args.out.now

@@ -1,0 +1,14 @@
+use Rattle.std.proofs.Common.{sym, subst}
+use Rattle.qss_top.specs.Answers.{Answer}
+use Rattle.qss_top.specs.Outcomes.{IsOutcome}
+use Rattle.qss_top.proofs.machine.on_machine.Goals as goal
+
+pub returns-in-Run-clause-outcome : goal.returns-in-Run-clause-outcome
+returns-in-Run-clause-outcome g c answer h =
+    subst (λ (a : Answer). IsOutcome a c.run_machine.result (g.O.Sink.written c.args.out.now) (g.O.Sink.written c.run_machine.new.out) (g.O.Sink.faults c.args.out.now) (g.O.Sink.faults c.run_machine.new.out))
+    (sym (rw c.in-Run.is at h)) c.run_machine.ensures.outcome
+
+pub returns-in-Sum-clause-outcome : goal.returns-in-Sum-clause-outcome
+returns-in-Sum-clause-outcome g c answer h =
+    subst (λ (a : Answer). IsOutcome a c.sum_machine.result (g.O.Sink.written c.args.out.now) (g.O.Sink.written c.sum_machine.new.out) (g.O.Sink.faults c.args.out.now) (g.O.Sink.faults c.sum_machine.new.out))
+    (sym (rw c.in-Sum.is at h)) c.sum_machine.ensures.outcome

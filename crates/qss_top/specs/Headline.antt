@@ -1,0 +1,31 @@
+-- The headline: what `run` prints, when `certify` accepts, and what that means for the runs of a model.
+use Rattle.std.specs.Prelude.{◌≡◌, ℕ, List, [], ◌∷◌, Some, ◌↔◌}
+use Rattle.mu_io.specs.Files.{Files, file_of}
+use Rattle.qss_machine.specs.declared.system.Machine.{Machine}
+use Rattle.cert_check.specs.Certificate.{Holds}
+use Rattle.cert_check.specs.Inequality.{AreSumsInRange}
+use Rattle.cert_check.specs.Reading.{claim}
+use Rattle.cert_check.specs.Systems.{system_of}
+use Rattle.cert_check.specs.declared.certificate.Certificate.{Certificate}
+use Rattle.cert_answer.specs.Answers.{IsRead}
+use Rattle.cert_lines.specs.Bounds.{bounds_text}
+use Rattle.qss_words.specs.Commands.{RunOptions, run_model, certify_model, command_of}
+use Rattle.qss_top.specs.Answers.{Told, IsTold, IsSourceMachine, answered, printed, quiet}
+use Rattle.qss_top.specs.declared.status.Status.TheVariants as ends
+
+-- `run` answers with the header and the rows of the run of the machine that the file's bytes mean, with status 0, or 6 where that run overflows
+abbrev pub RunPrintsTheRun : Type 0
+RunPrintsTheRun =
+    (words : List (List ℕ)) (files : Files) (told : Told) → IsTold words (Some files) told →
+    (model : List ℕ) (options : RunOptions) → command_of words ≡ Some (run_model model options) →
+    (source : List ℕ) → file_of files model ≡ Some source → (m : Machine) → IsSourceMachine options.share source m →
+    told ≡ record { arrivals = model ∷ []; reply = answered (printed options m) }
+
+-- `certify` answers with status 0 and the bounds exactly where the thirteen inequalities hold of the certificate that the bytes spell, and all their sums are in range
+abbrev pub CertifyAcceptsExactly : Type 0
+CertifyAcceptsExactly =
+    (words : List (List ℕ)) (files : Files) (told : Told) → IsTold words (Some files) told →
+    (model certificate : List ℕ) (share : ℕ) → command_of words ≡ Some (certify_model model certificate share) →
+    (source : List ℕ) → file_of files model ≡ Some source → (m : Machine) → IsSourceMachine share source m →
+    (text : List ℕ) → file_of files certificate ≡ Some text → (c : Certificate) → IsRead m text c →
+    (told.reply ≡ answered (record { status = ends.Ok; out = bounds_text m c; line = quiet })) ↔ (Holds (system_of m) (claim c) × AreSumsInRange (system_of m) (claim c))

@@ -1,0 +1,99 @@
+// What is done with the machine that a source means.
+ghost use Rattle.std.specs.Prelude.{length, ◌≡◌, ◌≢◌, ◌≤◌, ◌^◌, true, false, option_map, IfOk};
+ghost use Rattle.mu_io.specs.Sinks.{EndsByFault};
+ghost use Rattle.qss_top.specs.Answers.{Answer, IsMachineAnswer, printed};
+ghost use Rattle.qss_top.specs.Outcomes.{IsOutcome, status_of};
+ghost use Rattle.qss_top.specs.Statuses.{leaves_out};
+ghost use Rattle.qss_top.specs.Tasks.{job_goes, job_share, IsJobAnswer};
+ghost use Rattle.qss_words.specs.Requests.{options_in};
+
+use crate::generation::sum_machine;
+use crate::outcome::Outcome;
+use crate::source::machine_of;
+use mu_io::{Name, Sink};
+use qss_machine::Machine;
+use qss_play::{Played, play};
+use qss_words::{Options, Share};
+use std::alloc::{AllocError, Global};
+
+/// What is done with a machine: its run is written, or the run of so many cells is summed up.
+#[derive(Clone, Copy, Debug)]
+pub enum Job<'a> {
+    Run(Options<'a>),
+    Sum(u32),
+}
+
+/// Does this with the machine that a source means.
+pub(crate) fn by_machine<O: Sink>(alloc: Global, job: Job, bytes: &[u8], out: &mut O) -> Outcome
+    requires { length bytes.now ≤ 2 ^ 20 }
+    ensures outcome { (answer : Answer) → IsMachineAnswer (job_share job.entry) (IsJobAnswer job.entry) bytes.now answer → IsOutcome answer result (O.written out.old) (O.written out.new) (O.faults out.old) (O.faults out.new) }
+    ensures not_usage { result ≢ Outcome.Usage }
+    ensures not_read { result ≢ Outcome.ReadFault }
+    ensures untouched { leaves_out (job_goes job.entry) (status_of result) ≡ true → out.new ≡ out.old }
+    ensures calm { result ≢ Outcome.WriteFault → O.faults out.new ≡ O.faults out.old }
+    ensures last { result ≡ Outcome.WriteFault → EndsByFault O.written O.faults out.old out.new }
+{
+    let share = share_of(job);
+    match machine_of(alloc, share.share, bytes) {
+        Ok(m) => on_machine(alloc, job, m, out),
+        Err(what) => what,
+    }
+}
+
+// The share of the levels that quanta then have.
+fn share_of(job: Job) -> Share
+    ensures { result.share ≡ job_share job.entry }
+{
+    match job {
+        Job::Run(options) => Share {
+            share: options.share,
+        },
+        _ => Share { share: 0 },
+    }
+}
+
+// Does this with a machine.
+fn on_machine<O: Sink>(alloc: Global, job: Job, m: Machine, out: &mut O) -> Outcome
+    ensures outcome { (answer : Answer) → IsJobAnswer job.entry m answer → IsOutcome answer result (O.written out.old) (O.written out.new) (O.faults out.old) (O.faults out.new) }
+    ensures not_usage { result ≢ Outcome.Usage }
+    ensures not_read { result ≢ Outcome.ReadFault }
+    ensures untouched { leaves_out (job_goes job.entry) (status_of result) ≡ true → out.new ≡ out.old }
+    ensures calm { result ≢ Outcome.WriteFault → O.faults out.new ≡ O.faults out.old }
+    ensures last { result ≡ Outcome.WriteFault → EndsByFault O.written O.faults out.old out.new }
+{
+    match job {
+        Job::Run(options) => run_machine(alloc, options, m, out),
+        Job::Sum(cells) => sum_machine(alloc, cells, m, out),
+    }
+}
+
+// A name, where there is one.
+fn name_of(alloc: Global, name: Option<&str>) -> Result<Option<Name>, AllocError>
+    ensures { IfOk result (λ copy. copy ≡ option_map (λ text. text.now) name.entry) }
+{
+    match name {
+        Some(text) => {
+            let name = Name::new(alloc, text.as_bytes())?;
+            Ok(Some(name))
+        }
+        None => Ok(None),
+    }
+}
+
+// Runs a machine. The header and each row are written as they come, each by a write of its own.
+fn run_machine<O: Sink>(alloc: Global, options: Options, m: Machine, out: &mut O) -> Outcome
+    ensures outcome { IsOutcome (printed (options_in options.entry) m) result (O.written out.old) (O.written out.new) (O.faults out.old) (O.faults out.new) }
+    ensures runs { leaves_out true (status_of result) ≡ false }
+    ensures calm { result ≢ Outcome.WriteFault → O.faults out.new ≡ O.faults out.old }
+    ensures last { result ≡ Outcome.WriteFault → EndsByFault O.written O.faults out.old out.new }
+{
+    match name_of(alloc, options.only) {
+        Ok(only) => match play(alloc, m, options.rule, only, out) {
+            Played::Ended => Outcome::Done,
+            Played::Overflowed { name, tick } => Outcome::Overflow { name, tick },
+            Played::Fault => Outcome::WriteFault,
+            Played::Memory => Outcome::Memory,
+        },
+        Err(_) => Outcome::Memory,
+    }
+}
