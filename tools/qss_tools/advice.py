@@ -7,7 +7,8 @@ from fractions import Fraction
 from .flat import STATE
 from .limits import COEFFICIENT_BITS, FORM_BITS, LEVEL_BITS, key_name, log2, place_of_setting, shown
 from .source import SETTINGS
-from .trial import time_like
+from .sticking import branch_rows, holds, sticking
+from .trial import is_step, time_like
 
 MOST_OF_A_KIND = 6  # findings of one kind that are told
 THOUSANDTH = Fraction(1, 1000)
@@ -27,7 +28,7 @@ def findings(flat, trial):
     """All that is to be said, the graver first, each kind cut to a few."""
     found = []
     for look in (misspelt, long_runs, long_ticks, coarse_clocks, steep_slopes, rounded_coefficients, rounded_starts, rounded_steps,
-                 lost_sums, quanta, near_limits, true_at_the_start):
+                 lost_sums, stuck_limits, quanta, near_limits, true_at_the_start):
         some = list(look(flat, trial))
         found += some[:MOST_OF_A_KIND]
         if len(some) > MOST_OF_A_KIND:
@@ -160,10 +161,7 @@ def quanta(flat, trial):
 
 def steps(flat):
     """The statements that set a discrete variable to itself plus a constant."""
-    for row in flat.rows():
-        if row.kind == "set" and row.form.constant and any(
-                key[0] in ("x", "pre") and key[1] == row.variable and value == 1 for key, value in row.form.parts.items()):
-            yield row
+    return [row for row in flat.rows() if row.kind == "set" and row.form.constant and is_step(row)]
 
 
 def rounded_steps(flat, trial):
@@ -197,6 +195,17 @@ def lost_sums(flat, trial):
                 "keep the sum in a state: 'Real %s; der(%s) = 0;' and 'reinit(%s, %s + ..)'" % ((name,) * 4), False)
 
 
+def stuck_limits(flat, trial):
+    """Limits that, as they are kept, do not end their condition."""
+    f = flat.bits("QSS_LevelBits")
+    for condition, statement in sticking(flat, f):
+        value = statement.form.constant
+        kept = Fraction(round(value * 2 ** f), 2 ** f)
+        yield Finding(statement.part.at, "%s is set to %s and kept as %.12g, so %s stays true: the branch never fires again" % (
+            flat.variables[statement.variable].name, shown(value), float(kept), condition.label),
+            "take a limit that is a multiple of 2^-%d, or other QSS_LevelBits" % f, True)
+
+
 def near_limits(flat, trial):
     """Coefficients and values that are within a factor of 16 of a limit, or past it."""
     p, f = flat.bits("QSS_CoefBits"), flat.bits("QSS_LevelBits")
@@ -223,28 +232,15 @@ def near_limits(flat, trial):
 def true_at_the_start(flat, trial):
     """Conditions that hold at the start, and so do not fire before they were false."""
     told = set()
-    for row, changes in branches(flat):
+    for row, statements in branch_rows(flat):
+        changes = any(one.form.parts or one.form.constant != flat.starts[one.variable] for one in statements)
         if row.part.at in told or not changes:
             continue
         value = row.form.constant
         for key, weight in row.form.parts.items():
             if key[0] != "time":
                 value += weight * flat.starts[key[1]]
-        if {"<": value < 0, "<=": value <= 0, ">": value > 0, ">=": value >= 0}[row.part.relation]:
+        if holds(row.part.relation, value):
             told.add(row.part.at)
             yield Finding(row.part.at, "this condition is true at the start, so its branch does not fire before it was false once",
                           "let the start values be those that the branch would set", False)
-
-
-def branches(flat):
-    """Each condition, with whether its branch would change anything at the start."""
-    rows = flat.rows()[flat.states:]
-    for place, row in enumerate(rows):
-        if row.kind != "condition":
-            continue
-        changes = False
-        for statement in rows[place + 1:]:
-            if statement.kind == "condition":
-                break
-            changes = changes or statement.form.parts or statement.form.constant != flat.starts[statement.variable]
-        yield row, changes

@@ -57,10 +57,10 @@ def explain(source, line, certificate):
     at = place_in(certificate, keyword, index)
     if out_of_range:
         return Story(at, "inequality %d, place %d: a sum passes 2^126 here" % (number, place),
-                     "scale P, p, mu, h1, h2 down", of_certificate=True)
+                     "scale P, p, mu, h1, h2 down", beside=True)
     left, right = (int(field) for field in rejected.groups()[2:])
     sides = "the sides are %d and %d" % (left, right)
-    return Story(at, "inequality %d, place %d: %s" % (number, place, sentence), sides, way, of_certificate=True)
+    return Story(at, "inequality %d, place %d: %s" % (number, place, sentence), sides, way, beside=True)
 
 
 def no_scope(source, what, count):
@@ -130,7 +130,7 @@ def keyword_of(states, record):
 def unreadable(states, cause, certificate):
     """A text that is no certificate."""
     if cause.group(1) is None:
-        return Story(1 << 18 if certificate is not None else None, "the certificate is longer than 2^18 bytes", of_certificate=True)
+        return Story(1 << 18 if certificate is not None else None, "the certificate is longer than 2^18 bytes", beside=True)
     kind, fields = cause.group(1), [int(field) for field in cause.group(2).split()]
     due = keyword_of(states, fields[0])
     at = None if certificate is None else record_place(certificate, fields[0])
@@ -146,7 +146,7 @@ def unreadable(states, cause, certificate):
         sentence = "the certificate ends before record %d ('%s')" % (fields[0], due)
     else:
         sentence = "form %d is none of 1, 2, 3" % fields[0]
-    return Story(at, sentence, "docs/CERTIFICATES.md has the records in their order", of_certificate=True)
+    return Story(at, sentence, "docs/CERTIFICATES.md has the records in their order", beside=True)
 
 
 def record_place(certificate, record, field=1):

@@ -4,7 +4,7 @@ import os
 import re
 import sys
 
-from . import certificates, hints, limits
+from . import certificates, hints, limits, trace_story
 from .fault import FINE, WARNED, Fault, Words, read_bytes
 from .flat import ALGEBRAIC, DISCRETE, STATE, Flat, Meaningless, collect_states
 from .grammar import SyntaxFault, parse
@@ -23,22 +23,24 @@ OUT_OF_RANGE = {
 SHORTEN = "shorten constants to 9 digits (pi is 3.14159265), and write 1e-3 for 1/1000"
 
 
-def explain(source, line, certificate=None):
-    """The story of a line that the program wrote on standard error."""
+def explain(source, line, beside=None):
+    """The story of a line that the program wrote on standard error; beside the source may stand a certificate or a trace."""
     try:
-        return told(source, line, certificate)
+        return told(source, line, beside)
     except (IndexError, ValueError, KeyError, SyntaxFault, Meaningless) as error:
         raise Fault("the line '%s' is not of this source: %s" % (line, source.name)) from error
 
 
-def told(source, line, certificate):
+def told(source, line, beside):
     refused, overflow = LINE.match(line), OVERFLOW.match(line)
     if refused and refused.group(1) in PHASES:
         return PHASES[refused.group(1)](source, refused.group(2), refused.group(3).split())
     if overflow:
         return limits.overflow(source, overflow.group(1), int(overflow.group(2)))
+    if line.startswith(("rejected: trace", "trace refused:")):
+        return trace_story.explain(source, line, beside)
     if line.startswith(("rejected:", "certificate refused:")):
-        return certificates.explain(source, line, certificate)
+        return certificates.explain(source, line, beside)
     return plain(source, line)
 
 
@@ -51,8 +53,7 @@ def plain(source, line):
     if line == "out of memory":
         return Story(None, "there was not enough memory; the rows up to here are right")
     if line.startswith("usage:"):
-        return Story(None, "the words are no command", "the commands are: run MODEL [--rule floor|near|inward] [--only NAME]"
-                     " [--relative N], print MODEL, certify MODEL CERTIFICATE, upgrade MODEL CERTIFICATE")
+        return Story(None, "the words are no command", "README.md has the commands and their options")
     raise Fault("this is no line of the program: %s" % line)
 
 
@@ -277,6 +278,7 @@ ABOUT = """The line that the program writes on standard error, with its place in
   ./qss run MODEL 2>&1 >rows.csv | tools/qss-explain MODEL   explains the line of a run whose rows are kept
   tools/qss-explain MODEL --line 'refused: parse 1 45'       explains this line
   tools/qss-explain MODEL --certificate CERTIFICATE          checks a certificate and explains the verdict
+  tools/qss-explain MODEL --trace TRACE                      checks a trace and explains the verdict
 
 Status: 0 nothing was wrong, 1 a line was explained, 2 a fault of this tool."""
 
@@ -286,6 +288,7 @@ def tool(arguments):
     words.add_argument("model")
     words.add_argument("--line", help="the line to explain")
     words.add_argument("--certificate", metavar="FILE", help="the certificate of which the line speaks")
+    words.add_argument("--trace", metavar="FILE", help="the trace of which the line speaks")
     add_program_option(words)
     given = words.parse_args(arguments)
     line = given.line
@@ -298,18 +301,20 @@ def tool(arguments):
         print("%s: %s" % (given.model, why_unreadable(given.model)))
         return WARNED
     source = Source(given.model, read_bytes(given.model))
-    certificate = None if given.certificate is None else Source(given.certificate, read_bytes(given.certificate))
-    print(explain(source, line, certificate).text(source, certificate))
+    name = given.certificate or given.trace
+    beside = None if name is None else Source(name, read_bytes(name))
+    print(explain(source, line, beside).text(source, beside))
     return WARNED
 
 
 def line_of_run(given):
-    """The line of a run of the model, or of a check of its certificate."""
+    """The line of a run of the model, or of a check of its certificate or its trace."""
     program = find_program(given.program)
-    if given.certificate is None:
+    verb, name = ("certify", given.certificate) if given.certificate else ("check", given.trace)
+    if name is None:
         return call(program, ["run", given.model, "--only", "-"], keep=False).line
-    answer = call(program, ["certify", given.model, given.certificate])
+    answer = call(program, [verb, given.model, name])
     if answer.status == 0:
-        print("%s: accepted; any two runs lie within these bounds" % given.certificate)
+        print("%s: accepted" % name)
         sys.stdout.write(answer.out.decode())
     return answer.line

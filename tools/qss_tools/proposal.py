@@ -5,7 +5,8 @@ from fractions import Fraction
 
 from .flat import STATE
 from .limits import log2
-from .trial import time_like
+from .sticking import sticking
+from .trial import is_step, time_like
 
 # Units of time that are tried: how many of them are one of the model's own.
 SHORTER = (1, 1000, 1000000, 1000000000)
@@ -19,6 +20,7 @@ QUANTA_A_RANGE = 1000
 LEAST_UNITS = 10  # bits of the least coefficient: half a thousandth
 GOOD_UNITS = 17
 MOST_TICK_BITS, MOST_COEF_BITS, MOST_LEVEL_BITS = 20, 32, 24
+GOOD_LEVEL_BITS = 20
 COMFORT_TICK_BITS = 18  # of a longer unit of time
 
 Proposal = namedtuple("Proposal", "unit coef_bits tick_bits level_bits quantum own stop fits")
@@ -111,13 +113,17 @@ def level_bits(flat, trial, unit, most, quanta):
     for number, start in enumerate(flat.starts[flat.states:flat.states + flat.discretes], flat.states):
         values.append(start * unit if number in clocks else start)
     for row in flat.rows():
-        if row.kind == "set" and row.form.constant:
+        if row.kind == "set" and row.form.constant and (not row.form.parts or is_step(row)):
             values.append(row.form.constant * unit if row.variable in clocks else row.form.constant)
     longest = max([abs(value) for value in values] + [flat.settings["StopTime"] * unit if clocks else 0, 1])
     most = min(most, math.floor(42 - log2(longest)))
     needed = max(math.ceil(-log2(min(quanta))), 0) + 2
-    for bits in range(max(12, min(needed, most)), most + 1):
-        if all(abs(round(value * 2 ** bits) / Fraction(2 ** bits) - value) <= abs(value) / 10000 for value in values if value):
-            if bits >= needed:
-                return max(bits, min(20, most)), True
+    for bits in list(range(GOOD_LEVEL_BITS, most + 1)) + list(range(min(most, GOOD_LEVEL_BITS - 1), needed - 1, -1)):
+        if bits >= needed and all(well_kept(value, bits) for value in values) and not any(sticking(flat, bits)):
+            return bits, True
     return max(0, min(most, MOST_LEVEL_BITS)), False
+
+
+def well_kept(value, bits):
+    """A discrete value is rounded by less than a ten thousandth."""
+    return abs(round(value * 2 ** bits) / Fraction(2 ** bits) - value) <= abs(value) / 10000

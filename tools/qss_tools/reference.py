@@ -16,6 +16,7 @@ BISECTIONS = 44
 MOST_TURNS = 50  # of handlers that make each other due
 STEPS = 400  # at least so many looks at conditions in a run
 RELATIVE, ABSOLUTE = 1e-9, 1e-12
+NEAR = 1e-9  # parts of a step that are no difference
 LEAST_LAPSE = 1e-13  # of a run: an event takes at least so long, so that time goes on
 
 
@@ -184,8 +185,11 @@ class Reference:
     def first_change(self, step):
         """How long it takes until a condition changes, within a step, or None."""
         flow, found = self.flow(), None
+        if self.is_overdue():
+            return 0.0
         ahead = self.conditions.changes(self.discretes) - self.time
-        ahead = ahead[(ahead > 0.0) & (ahead <= step)]
+        # A change just behind the step is taken with it, so that no rounding passes over it.
+        ahead = ahead[(ahead > 0.0) & (ahead <= step * (1.0 + NEAR))]
         if ahead.size:
             found = float(ahead.min())
         low, high = 0.0, step if found is None else found
@@ -200,6 +204,11 @@ class Reference:
             else:
                 low = middle
         return high
+
+    def is_overdue(self):
+        """Whether a condition of time is not as it was."""
+        conditions = self.conditions
+        return bool(((conditions.hold(self.time, self.states, self.discretes) != self.held) & conditions.of_time).any())
 
     def differ(self, states, time):
         """Whether a condition of states is not as it was."""
@@ -231,7 +240,7 @@ class Reference:
         conditions = self.conditions
         found = conditions.hold(self.time, self.states, self.discretes)
         if conditions.of_time.any():
-            near = numpy.abs(conditions.changes(self.discretes) - self.time) <= 1e-12 * max(1.0, abs(self.time))
+            near = numpy.abs(conditions.changes(self.discretes) - self.time) <= NEAR * max(self.step, 1e-3 * abs(self.time))
             after = (conditions.sign * conditions.time > 0.0)[conditions.of_time]
             found[conditions.of_time] = numpy.where(near, after, found[conditions.of_time])
         return found

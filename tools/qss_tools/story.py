@@ -2,18 +2,18 @@
 
 
 class Story:
-    """A sentence about a byte of a source (None where no byte is meant), and lines with ways out."""
+    """A sentence about a byte of a source, or of the file beside it (None where no byte is meant), and lines with ways out."""
 
-    def __init__(self, at, sentence, *ways, width=None, of_certificate=False):
+    def __init__(self, at, sentence, *ways, width=None, beside=False):
         self.at = at
         self.sentence = sentence
         self.ways = [way for way in ways if way]
         self.width = width
-        self.of_certificate = of_certificate
+        self.beside = beside
 
-    def text(self, source, certificate=None):
+    def text(self, source, other=None):
         """The story as lines: the place and the sentence, the source's line with a caret, the ways out."""
-        file = certificate if self.of_certificate and certificate is not None else source
+        file = other if self.beside and other is not None else source
         if self.at is None:
             lines = ["%s: %s" % (file.name, self.sentence)]
         else:

@@ -91,6 +91,14 @@ class Findings(unittest.TestCase):
         self.assert_told("model m Real x; discrete Real d; equation der(x) = 1; algorithm when x > 0.5 then d := d + 0.0002*x; end when;"
                          " end m;", "d is a sum of small steps: what is added below 2^-17 is lost, so x below 0.038147 adds nothing")
 
+    def test_a_limit_that_sticks(self):
+        text = ("model m Real x; discrete Real d; equation der(x) = d; algorithm when time > 0.5 then d := 1; end when;"
+                " when d > 0.96 then d := 0.96; end when; annotation(experiment(QSS_LevelBits = %d, QSS_Quantum = 0.015625)); end m;")
+        self.assert_told(text % 20, "d is set to 0.96 and kept as 0.960000038147, so the condition of branch 2.1 stays true")
+        self.assertEqual(told(text % 18), [])
+        flat = flat_of(text % 20)
+        self.assertNotIn(propose(flat, Trial(flat)).level_bits, (20, 21, 22, 23))
+
     def test_what_is_near_a_limit(self):
         self.assert_told("model m Real x(start = 1); equation der(x) = -1000000*x; annotation(experiment(QSS_CoefBits = 24)); end m;",
                          "take 43.9 of 44 bits")

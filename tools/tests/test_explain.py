@@ -116,6 +116,24 @@ class Certificates(unittest.TestCase):
                          ["form", "P", "P", "p", "G1", "h2", "G2", "G2", "E", "start1", "start2", "Q", None])
 
 
+TRACE = "trace,1\nscale,1\nrefine,2\nQ,4\nat,262144,64\nat,253952,62\nat,246000,60\n"
+
+
+class Traces(unittest.TestCase):
+    def test_a_rejection_points_at_its_number(self):
+        story = told(DECAY, "rejected: trace place 2 fact 2 state 1 left -15904 right -15872", TRACE)
+        self.assertTrue(story.startswith("m.cert:7:4: place 2, x: the rise from the place before is not what its levels give\n    at,246000,60\n       ^"), story)
+        self.assertIn("the refinement times the rise is -15904, its levels give -15872", story)
+
+    def test_a_text_that_is_none_points_at_its_field(self):
+        story = told(DECAY, "trace refused: 3 5 2", TRACE.replace("at,262144", "at,x"))
+        self.assertTrue(story.startswith("m.cert:5:4: record 5 ('at'), field 2: no number"), story)
+        self.assertIn("record 2 begins with another keyword; 'scale' is due", told(DECAY, "trace refused: 1 2", TRACE))
+        self.assertIn("record 4 ('Q') has another number of fields than are due: 3 for 2", told(DECAY, "trace refused: 2 4 2 3", TRACE))
+        self.assertIn("the trace ends before record 5 ('at')", told(DECAY, "trace refused: 4 5", TRACE))
+        self.assertIn("form 2 is not 1", told(DECAY, "trace refused: 5 2", TRACE))
+
+
 class Tool(InFolder):
     def test_the_way_of_a_fault(self):
         model = self.file("m.mo", "model m Real x; equation der(x) = y; end m;\n")

@@ -1,0 +1,35 @@
+"""Branches that set a limit which, as it is kept, is still past the limit: their condition stays true, and they never fire again."""
+from fractions import Fraction
+
+
+def branch_rows(flat):
+    """Each condition with the statements of its branch."""
+    found = []
+    for row in flat.rows()[flat.states:]:
+        if row.kind == "condition":
+            found.append((row, []))
+        else:
+            found[-1][1].append(row)
+    return found
+
+
+def holds(relation, value):
+    """Whether a condition's form of this value holds."""
+    return {"<": value < 0, "<=": value <= 0, ">": value > 0, ">=": value >= 0}[relation]
+
+
+def sticking(flat, bits):
+    """The conditions that their branch makes false, but for the rounding of discrete values to 2^-bits; with the statement."""
+    for condition, statements in branch_rows(flat):
+        constants = {row.variable: row for row in statements if row.kind == "set" and not row.form.parts}
+        parts = condition.form.parts
+        if not parts or any(key[0] != "x" or key[1] not in constants for key in parts):
+            continue
+        exact = kept = condition.form.constant
+        for key, weight in parts.items():
+            value = constants[key[1]].form.constant
+            exact += weight * value
+            kept += weight * Fraction(round(value * 2 ** bits), 2 ** bits)
+        relation = condition.part.relation
+        if holds(relation, kept) and not holds(relation, exact):
+            yield condition, constants[next(iter(parts))[1]]
