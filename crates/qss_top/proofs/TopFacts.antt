@@ -51,6 +51,7 @@ line_leaves goes (outcome.Refused r) takes e = refl
 line_leaves goes (outcome.Overflow name tick) takes e = e
 line_leaves goes (outcome.Uncertified why) takes e = refusal_leaves goes why
 line_leaves goes (outcome.Untraced why) takes e = trace_leaves goes why
+line_leaves goes (outcome.Unproposed why) takes e = refl
 line_leaves goes outcome.Done takes e = absurd (cc takes)
 line_leaves goes outcome.Usage takes e = absurd (cc takes)
 line_leaves goes outcome.ReadFault takes e = absurd (cc takes)
@@ -84,6 +85,7 @@ read_is (outcome.Untraced (traces.Outside why)) e = absurd (cc e)
 read_is (outcome.Untraced traces.TooLong) e = absurd (cc e)
 read_is (outcome.Untraced (traces.Unread why)) e = absurd (cc e)
 read_is (outcome.Untraced (traces.Broken place fact state left right)) e = absurd (cc e)
+read_is (outcome.Unproposed why) e = absurd (cc e)
 
 write_is : (what : Outcome) → ends.WriteFault ≡ status_of what → what ≡ outcome.WriteFault
 write_is outcome.Done e = absurd (cc e)
@@ -102,6 +104,7 @@ write_is (outcome.Untraced (traces.Outside why)) e = absurd (cc e)
 write_is (outcome.Untraced traces.TooLong) e = absurd (cc e)
 write_is (outcome.Untraced (traces.Unread why)) e = absurd (cc e)
 write_is (outcome.Untraced (traces.Broken place fact state left right)) e = absurd (cc e)
+write_is (outcome.Unproposed why) e = absurd (cc e)
 
 memory_is : (what : Outcome) → ends.Memory ≡ status_of what → what ≡ outcome.Memory
 memory_is outcome.Done e = absurd (cc e)
@@ -120,6 +123,7 @@ memory_is (outcome.Untraced (traces.Outside why)) e = absurd (cc e)
 memory_is (outcome.Untraced traces.TooLong) e = absurd (cc e)
 memory_is (outcome.Untraced (traces.Unread why)) e = absurd (cc e)
 memory_is (outcome.Untraced (traces.Broken place fact state left right)) e = absurd (cc e)
+memory_is (outcome.Unproposed why) e = absurd (cc e)
 
 done_is : (what : Outcome) → ends.Ok ≡ status_of what → what ≡ outcome.Done
 done_is outcome.Done e = refl
@@ -138,6 +142,7 @@ done_is (outcome.Untraced (traces.Outside why)) e = absurd (cc e)
 done_is (outcome.Untraced traces.TooLong) e = absurd (cc e)
 done_is (outcome.Untraced (traces.Unread why)) e = absurd (cc e)
 done_is (outcome.Untraced (traces.Broken place fact state left right)) e = absurd (cc e)
+done_is (outcome.Unproposed why) e = absurd (cc e)
 
 usage_is : (what : Outcome) → ends.Usage ≡ status_of what → what ≡ outcome.Usage
 usage_is outcome.Done e = absurd (cc e)
@@ -156,6 +161,7 @@ usage_is (outcome.Untraced (traces.Outside why)) e = absurd (cc e)
 usage_is (outcome.Untraced traces.TooLong) e = absurd (cc e)
 usage_is (outcome.Untraced (traces.Unread why)) e = absurd (cc e)
 usage_is (outcome.Untraced (traces.Broken place fact state left right)) e = absurd (cc e)
+usage_is (outcome.Unproposed why) e = absurd (cc e)
 
 pub read_of : (status : Status) (what : Outcome) → IsStatus status what → status ≡ ends.ReadFault → what ≡ outcome.ReadFault
 read_of status what h e = read_is what (sym e ∙ same_status status what h (λ m. absurd (cc (e, m))))
@@ -226,6 +232,7 @@ module _ {K : Type 0} (written : K → Option (List ℕ)) (reply : Reply) (goes 
   line_cut (outcome.Overflow name tick) takes h left = over_cut reply h
   line_cut (outcome.Uncertified why) takes h left = kept (left (refusal_leaves goes why))
   line_cut (outcome.Untraced why) takes h left = kept (left (trace_leaves goes why))
+  line_cut (outcome.Unproposed why) takes h left = kept (left refl)
   line_cut outcome.Done takes h left = absurd (cc takes)
   line_cut outcome.Usage takes h left = absurd (cc takes)
   line_cut outcome.ReadFault takes h left = absurd (cc takes)

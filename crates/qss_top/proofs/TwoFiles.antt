@@ -29,11 +29,17 @@ use Rattle.trace_answer.specs.declared.ending.Ending.TheVariants as traced
 use Rattle.trace_answer.specs.declared.ending.TraceRefusal.TheVariants as traces
 use Rattle.trace_answer.proofs.Accepting.{accepted}
 use Rattle.trace_answer.proofs.Sameness.{one_each as one_trace}
+use Rattle.propose_answer.specs.Answers as Proposals
+use Rattle.propose_answer.specs.Endings as ProposalEndings
+use Rattle.propose_answer.specs.declared.ending.ProposalEnding.{ProposalEnding}
+use Rattle.propose_answer.specs.declared.ending.ProposalEnding.TheVariants as proposed
+use Rattle.propose_answer.proofs.Kept.{kept_texts}
+use Rattle.propose_answer.proofs.Sameness.{one_proposed}
 use Rattle.qss_machine.specs.declared.system.Machine.{Machine}
 use Rattle.qss_compile.specs.Meanings.{IsRefused}
 use Rattle.qss_compile.specs.declared.fault.Refused.{Refused}
-use Rattle.qss_top.specs.Answers.{Answer, Line, Tells, refused, Told, Reply, answered, absent, untold, refusal, too_long, IsSourceRefusal, IsSourceMachine, uncertified, uncertifying, certificate_answer, status_of_refusal, IsCertificateAnswer, IsCertifyAnswer, IsUpgradeAnswer, quiet, untraced, status_of_trace, trace_answer, IsCheckAnswer, Says, Reads, InScope, ByMachine, ReadsText, LeadsTo}
-use Rattle.qss_top.specs.Certificates.{IsDone, limit_in, long_in, outcome_by, outcome_traced, share_in}
+use Rattle.qss_top.specs.Answers.{Answer, Line, Tells, refused, Told, Reply, answered, absent, untold, refusal, too_long, IsSourceRefusal, IsSourceMachine, uncertified, uncertifying, certificate_answer, status_of_refusal, IsCertificateAnswer, IsCertifyAnswer, IsUpgradeAnswer, quiet, untraced, status_of_trace, trace_answer, IsCheckAnswer, unproposed, proposal_answer, IsProposeAnswer, Says, Reads, InScope, ByMachine, ReadsText, LeadsTo}
+use Rattle.qss_top.specs.Certificates.{IsDone, limit_in, long_in, outcome_by, outcome_traced, outcome_proposed, share_in}
 use Rattle.qss_words.specs.Commands.{files_of}
 use Rattle.qss_top.specs.Outcomes.{IsOutcome, IsRefusedFor, Meets, Serves, status_of, line_text as outcome_text}
 use Rattle.qss_top.specs.Statuses.{leaves_out}
@@ -186,6 +192,11 @@ upgrade_some m bytes text (inr (c, read, e)) none =
 summary_some : (m : Machine) (bytes text : List ℕ) → Traces.IsChecked m bytes (Traces.written text) → text ≡ [] → ⊥
 summary_some m bytes text is none = let run = (accepted m bytes text).0 is in cc (sym run.3 ∙ none)
 
+proposal_some : (m : Machine) (text : List ℕ) → Proposals.IsProposed m (Proposals.written text) → text ≡ [] → ⊥
+proposal_some m text is none =
+    let law = kept_texts m text is in
+    lines_none (lines (pos 3) law.0) _ _ refl (sym law.1.text_is ∙ none)
+
 -- there is one answer
 one_done : (deed : Deed) (m : Machine) (bytes : List ℕ) (a b : Answer) → IsDone deed m bytes a → IsDone deed m bytes b → a ≡ b
 one_done (deeds.Certify share) m bytes a b p q = one_certify m bytes a b p q
@@ -274,6 +285,26 @@ module _ {K : Type 0} (known : K → Option (List ℕ)) (faults : K → ℕ) whe
       subst (λ (a : Answer). Became a (outcome_traced end) old new) (ap trace_answer same ∙ sym e)
       (checked end h.answer old new h.told (λ text at. summary_some m bytes text (subst (Traces.IsChecked m bytes) at h.is)) h.whole h.prefix h.untouched h.calm)
 
+  -- the same of a proposal
+  proposing : (end : ProposalEnding) (a : Proposals.Answer) (old new : K) → ProposalEndings.MayEnd a end → ((text : List ℕ) → a ≡ Proposals.written text → text ≡ [] → ⊥)
+      → (end ≡ proposed.Written → Appends (known old) (known new) (ProposalEndings.text_of a)) → (end ≡ proposed.Fault → AppendsPrefix (known old) (known new) (ProposalEndings.text_of a))
+      → (ProposalEndings.leaves_out end ≡ true → new ≡ old) → (end ≢ proposed.Fault → faults new ≡ faults old) → Became (proposal_answer a) (outcome_proposed end) old new
+  proposing proposed.Written (Proposals.written text) old new told some whole prefix untouched calm = wrote text old new (whole refl) (calm (λ d. cc d))
+  proposing proposed.Written (Proposals.refused why) old new told some whole prefix untouched calm = absurd (cc told)
+  proposing (proposed.Refused why) a old new told some whole prefix untouched calm =
+      subst (λ (x : Proposals.Answer). Became (proposal_answer x) (outcome.Unproposed why) old new) (sym told)
+      (told_so ends.Rejected (unproposed why) (outcome.Unproposed why) old new (untouched refl) refl refl)
+  proposing proposed.Fault (Proposals.written text) old new told some whole prefix untouched calm = failed text old new (some text refl) (prefix refl)
+  proposing proposed.Fault (Proposals.refused why) old new told some whole prefix untouched calm = absurd (cc told)
+  proposing proposed.Memory a old new told some whole prefix untouched calm = wanting (proposal_answer a) old new (untouched refl)
+
+  pub proposed_outcome : (m : Machine) (end : ProposalEnding) (old new : K) → ProposalEndings.Ends known faults (Proposals.IsProposed m) end old new
+      → (answer : Answer) → IsProposeAnswer m answer → Became answer (outcome_proposed end) old new
+  proposed_outcome m end old new h answer (such, is, e) =
+      let same = one_proposed.one m h.answer such h.is is in
+      subst (λ (a : Answer). Became a (outcome_proposed end) old new) (ap proposal_answer same ∙ sym e)
+      (proposing end h.answer old new h.told (λ text at. proposal_some m text (subst (Proposals.IsProposed m) at h.is)) h.whole h.prefix h.untouched h.calm)
+
 pub traced_left : (end : TraceEnding) → leaves_out false (status_of (outcome_traced end)) ≡ true → TraceEndings.leaves_out end ≡ true
 traced_left traced.Written e = e
 traced_left (traced.Refused why) e = refl
@@ -291,6 +322,24 @@ traced_read traced.Written = (λ e. cc e, λ e. cc e)
 traced_read (traced.Refused why) = (λ e. cc e, λ e. cc e)
 traced_read traced.Fault = (λ e. cc e, λ e. cc e)
 traced_read traced.Memory = (λ e. cc e, λ e. cc e)
+
+pub proposed_left : (end : ProposalEnding) → leaves_out false (status_of (outcome_proposed end)) ≡ true → ProposalEndings.leaves_out end ≡ true
+proposed_left proposed.Written e = e
+proposed_left (proposed.Refused why) e = refl
+proposed_left proposed.Fault e = e
+proposed_left proposed.Memory e = refl
+
+pub proposed_fault : (end : ProposalEnding) → outcome_proposed end ≡ outcome.WriteFault → end ≡ proposed.Fault
+proposed_fault proposed.Written e = absurd (cc e)
+proposed_fault (proposed.Refused why) e = absurd (cc e)
+proposed_fault proposed.Fault e = refl
+proposed_fault proposed.Memory e = absurd (cc e)
+
+pub proposed_read : (end : ProposalEnding) → (outcome_proposed end ≢ outcome.ReadFault) × (outcome_proposed end ≢ outcome.Usage)
+proposed_read proposed.Written = (λ e. cc e, λ e. cc e)
+proposed_read (proposed.Refused why) = (λ e. cc e, λ e. cc e)
+proposed_read proposed.Fault = (λ e. cc e, λ e. cc e)
+proposed_read proposed.Memory = (λ e. cc e, λ e. cc e)
 
 pub done_left : (end : Ending) → leaves_out false (status_of (outcome_by end)) ≡ true → leaves_sink end ≡ true
 done_left ending.Written e = e

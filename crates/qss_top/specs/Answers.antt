@@ -27,7 +27,11 @@ use Rattle.trace_answer.specs.Answers.{IsChecked}
 use Rattle.trace_answer.specs.Endings as TraceEndings
 use Rattle.trace_answer.specs.declared.ending.TraceRefusal.{TraceRefusal}
 use Rattle.trace_answer.specs.declared.ending.TraceRefusal.TheVariants as traces
-use Rattle.qss_words.specs.Commands.{RunOptions, Command, run_model, print_model, certify_model, upgrade_model, generate_model, check_model, command_of, files_of}
+use Rattle.propose_answer.specs.Answers as Proposals
+use Rattle.propose_answer.specs.Answers.{IsProposed}
+use Rattle.propose_answer.specs.Endings as ProposalEndings
+use Rattle.propose_answer.specs.declared.ending.ProposalRefusal.{ProposalRefusal}
+use Rattle.qss_words.specs.Commands.{RunOptions, Command, run_model, print_model, certify_model, upgrade_model, generate_model, check_model, propose_model, command_of, files_of}
 use Rattle.qss_top.specs.Shares.{IsShared}
 use Rattle.qss_top.specs.declared.status.Status.{Status}
 use Rattle.qss_top.specs.declared.status.Status.TheVariants as ends
@@ -40,6 +44,7 @@ pub data Line : Type 0 where
   refused : (bytes : List ℕ) → Line
   uncertified : CertificateRefusal → Line
   untraced : TraceRefusal → Line
+  unproposed : ProposalRefusal → Line
   over : (name : List ℕ) → (tick : ℕ) → Line
 
 -- the line on how words are a command
@@ -68,6 +73,7 @@ Tells too_long text = text ≡ too_long_line
 Tells (refused bytes) text = TellsRefusal bytes text
 Tells (uncertified why) text = text ≡ refusal_line why
 Tells (untraced why) text = text ≡ TraceEndings.refusal_line why
+Tells (unproposed why) text = text ≡ ProposalEndings.refusal_line why
 Tells (over name tick) text = text ≡ overflow_line name tick
 
 -- an answer: how the program ends, what out gains, and what the line on err says
@@ -212,6 +218,15 @@ trace_answer (Traces.written text) = record { status = ends.Ok; out = text; line
 abbrev pub IsCheckAnswer : Machine → List ℕ → Answer → Type 0
 IsCheckAnswer m text answer = (such : Traces.Answer) × IsChecked m text such × (answer ≡ trace_answer such)
 
+-- the answer of the program by that to a machine for which a certificate is proposed
+abbrev pub proposal_answer : Proposals.Answer → Answer
+proposal_answer (Proposals.refused why) = refusal ends.Rejected (unproposed why)
+proposal_answer (Proposals.written text) = record { status = ends.Ok; out = text; line = quiet }
+
+-- the answer to `propose` for a machine
+abbrev pub IsProposeAnswer : Machine → Answer → Type 0
+IsProposeAnswer m answer = (such : Proposals.Answer) × IsProposed m such × (answer ≡ proposal_answer such)
+
 -- what is replied: an answer; none, since a file is not on the shelf; or an answer to this command that cannot be named, since the shelf does not tell its files
 pub data Reply : Type 0 where
   answered : Answer → Reply
@@ -265,6 +280,7 @@ LeadsTo (print_model model) files told = Reads files model (λ bytes. Says (IsPr
 LeadsTo (certify_model model certificate share) files told = ReadsBoth share model certificate IsCertifyAnswer files told
 LeadsTo (upgrade_model model certificate) files told = ReadsBoth 0 model certificate IsUpgradeAnswer files told
 LeadsTo (check_model model trace) files told = ReadsBoth 0 model trace IsCheckAnswer files told
+LeadsTo (propose_model model) files told = Reads files model (λ bytes. Says (IsMachineAnswer 0 IsProposeAnswer bytes)) told
 LeadsTo (generate_model seed cells) files told = Says (IsGenerationAnswer seed cells) told
 
 -- for some bytes that the command reads, the answer to it is such a one

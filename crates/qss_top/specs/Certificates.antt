@@ -7,6 +7,8 @@ use Rattle.cert_answer.specs.declared.ending.CertificateRefusal.TheVariants as c
 use Rattle.trace_answer.specs.declared.ending.Ending.{Ending as TraceEnding}
 use Rattle.trace_answer.specs.declared.ending.Ending.TheVariants as traced
 use Rattle.trace_answer.specs.declared.ending.TraceRefusal.TheVariants as traces
+use Rattle.propose_answer.specs.declared.ending.ProposalEnding.{ProposalEnding}
+use Rattle.propose_answer.specs.declared.ending.ProposalEnding.TheVariants as proposed
 use Rattle.qss_words.specs.declared.request.Deed.{Deed}
 use Rattle.qss_words.specs.declared.request.Deed.TheVariants as deeds
 use Rattle.qss_top.specs.Answers.{Answer, IsCertifyAnswer, IsUpgradeAnswer, IsCheckAnswer}
@@ -50,3 +52,10 @@ outcome_traced traced.Written = outcome.Done
 outcome_traced (traced.Refused why) = outcome.Untraced why
 outcome_traced traced.Fault = outcome.WriteFault
 outcome_traced traced.Memory = outcome.Memory
+
+-- what became of a command whose proposal of a certificate ended so
+abbrev pub outcome_proposed : ProposalEnding → Outcome
+outcome_proposed proposed.Written = outcome.Done
+outcome_proposed (proposed.Refused why) = outcome.Unproposed why
+outcome_proposed proposed.Fault = outcome.WriteFault
+outcome_proposed proposed.Memory = outcome.Memory

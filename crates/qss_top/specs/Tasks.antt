@@ -4,7 +4,7 @@ use Rattle.qss_machine.specs.declared.system.Machine.{Machine}
 use Rattle.qss_words.specs.Requests.{options_in}
 use Rattle.qss_words.specs.declared.request.Task.{Task}
 use Rattle.qss_words.specs.declared.request.Task.TheVariants as task
-use Rattle.qss_top.specs.Answers.{Answer, printed, summed, IsRunAnswer, IsPrintAnswer}
+use Rattle.qss_top.specs.Answers.{Answer, printed, summed, IsMachineAnswer, IsRunAnswer, IsPrintAnswer, IsProposeAnswer}
 use Rattle.qss_top.specs.declared.machine.Job.{Job}
 use Rattle.qss_top.specs.declared.machine.Job.TheVariants as jobs
 
@@ -22,6 +22,7 @@ job_share _ = 0
 abbrev pub IsJobAnswer : Job → Machine → Answer → Type 0
 IsJobAnswer (jobs.Run options) m answer = answer ≡ printed (options_in options) m
 IsJobAnswer (jobs.Sum cells) m answer = answer ≡ summed cells m
+IsJobAnswer jobs.Propose m answer = IsProposeAnswer m answer
 
 -- whether what is done with a model writes as it goes
 abbrev pub task_goes : Task → Bool
@@ -32,3 +33,4 @@ task_goes _ = false
 abbrev pub IsTaskAnswer : Task → List ℕ → Answer → Type 0
 IsTaskAnswer (task.Run options) bytes answer = IsRunAnswer (options_in options) bytes answer
 IsTaskAnswer task.Print bytes answer = IsPrintAnswer bytes answer
+IsTaskAnswer task.Propose bytes answer = IsMachineAnswer 0 IsProposeAnswer bytes answer

@@ -1,7 +1,8 @@
 // What is done with the machine that a source means.
 ghost use Rattle.std.specs.Prelude.{length, ◌≡◌, ◌≢◌, ◌≤◌, ◌^◌, true, false, option_map, IfOk};
 ghost use Rattle.mu_io.specs.Sinks.{EndsByFault};
-ghost use Rattle.qss_top.specs.Answers.{Answer, IsMachineAnswer, printed};
+ghost use Rattle.qss_top.specs.Answers.{Answer, IsMachineAnswer, IsProposeAnswer, printed};
+ghost use Rattle.qss_top.specs.Certificates.{outcome_proposed};
 ghost use Rattle.qss_top.specs.Outcomes.{IsOutcome, status_of};
 ghost use Rattle.qss_top.specs.Statuses.{leaves_out};
 ghost use Rattle.qss_top.specs.Tasks.{job_goes, job_share, IsJobAnswer};
@@ -11,16 +12,18 @@ use crate::generation::sum_machine;
 use crate::outcome::Outcome;
 use crate::source::machine_of;
 use mu_io::{Name, Sink};
+use propose_answer::{ProposalEnding, propose_text};
 use qss_machine::Machine;
 use qss_play::{Played, play};
 use qss_words::{Options, Share};
 use std::alloc::{AllocError, Global};
 
-/// What is done with a machine: its run is written, or the run of so many cells is summed up.
+/// What is done with a machine: its run is written, the run of so many cells is summed up, or a certificate is proposed.
 #[derive(Clone, Copy, Debug)]
 pub enum Job<'a> {
     Run(Options<'a>),
     Sum(u32),
+    Propose,
 }
 
 /// Does this with the machine that a source means.
@@ -64,6 +67,7 @@ fn on_machine<O: Sink>(alloc: Global, job: Job, m: Machine, out: &mut O) -> Outc
     match job {
         Job::Run(options) => run_machine(alloc, options, m, out),
         Job::Sum(cells) => sum_machine(alloc, cells, m, out),
+        Job::Propose => propose_machine(alloc, &m, out),
     }
 }
 
@@ -95,5 +99,29 @@ fn run_machine<O: Sink>(alloc: Global, options: Options, m: Machine, out: &mut O
             Played::Memory => Outcome::Memory,
         },
         Err(_) => Outcome::Memory,
+    }
+}
+
+// Proposes a certificate of a machine.
+fn propose_machine<O: Sink>(alloc: Global, m: &Machine, out: &mut O) -> Outcome
+    ensures outcome { (answer : Answer) → IsProposeAnswer m.now answer → IsOutcome answer result (O.written out.old) (O.written out.new) (O.faults out.old) (O.faults out.new) }
+    ensures not_usage { result ≢ Outcome.Usage }
+    ensures not_read { result ≢ Outcome.ReadFault }
+    ensures untouched { leaves_out false (status_of result) ≡ true → out.new ≡ out.old }
+    ensures calm { result ≢ Outcome.WriteFault → O.faults out.new ≡ O.faults out.old }
+    ensures last { result ≡ Outcome.WriteFault → EndsByFault O.written O.faults out.old out.new }
+{
+    proposed_outcome(propose_text(alloc, m, out))
+}
+
+// What became of a command whose proposal of a certificate ended so.
+fn proposed_outcome(ending: ProposalEnding) -> Outcome
+    ensures { result ≡ outcome_proposed ending }
+{
+    match ending {
+        ProposalEnding::Written => Outcome::Done,
+        ProposalEnding::Refused(why) => Outcome::Unproposed(why),
+        ProposalEnding::Fault => Outcome::WriteFault,
+        ProposalEnding::Memory => Outcome::Memory,
     }
 }

@@ -7,6 +7,7 @@ ghost use Rattle.qss_top.specs.TopCall.{WritesLine};
 use crate::Status;
 use cert_answer::{CertificateRefusal, refusal_line as certificate_line};
 use mu_io::{Name, Sink, write_all};
+use propose_answer::{ProposalRefusal, refusal_line as proposal_line};
 use qss_compile::{ModelErr, Refused, refusal_line};
 use std::alloc::{AllocError, Global};
 use trace_answer::{TraceRefusal, refusal_line as trace_line};
@@ -23,6 +24,7 @@ pub enum Outcome {
     Overflow { name: Name, tick: u64 },
     Uncertified(CertificateRefusal),
     Untraced(TraceRefusal),
+    Unproposed(ProposalRefusal),
     Memory,
 }
 
@@ -71,6 +73,10 @@ pub(crate) fn report<E: Sink>(alloc: Global, outcome: &Outcome, err: &mut E) -> 
         },
         Outcome::Untraced(why) => match trace_line(alloc, *why) {
             Ok(line) => tell(trace_status(*why), &line, err),
+            Err(_) => tell(Status::Memory, b"out of memory\n", err),
+        },
+        Outcome::Unproposed(why) => match proposal_line(alloc, *why) {
+            Ok(line) => tell(Status::Rejected, &line, err),
             Err(_) => tell(Status::Memory, b"out of memory\n", err),
         },
         Outcome::Memory => tell(Status::Memory, b"out of memory\n", err),

@@ -15,6 +15,7 @@ pub enum Verb {
     Upgrade,
     Generate,
     Check,
+    Propose,
 }
 
 /// The verb of this name.
@@ -33,6 +34,8 @@ pub(crate) fn verb_named(name: &str) -> Option<Verb>
         Some(Verb::Generate)
     } else if name == "check" {
         Some(Verb::Check)
+    } else if name == "propose" {
+        Some(Verb::Propose)
     } else {
         None
     }

@@ -12,3 +12,6 @@ pub returns-in-Sum-clause-outcome : goal.returns-in-Sum-clause-outcome
 returns-in-Sum-clause-outcome g c answer h =
     subst (λ (a : Answer). IsOutcome a c.sum_machine.result (g.O.Sink.written c.args.out.now) (g.O.Sink.written c.sum_machine.new.out) (g.O.Sink.faults c.args.out.now) (g.O.Sink.faults c.sum_machine.new.out))
     (sym (rw c.in-Sum.is at h)) c.sum_machine.ensures.outcome
+
+pub returns-in-Propose-clause-outcome : goal.returns-in-Propose-clause-outcome
+returns-in-Propose-clause-outcome g c answer h = c.propose_machine.ensures.outcome answer (rw c.in-Propose.is at h)
