@@ -17,6 +17,7 @@ UNIT_NAMES = {1000: "ms", 1000000: "us", 1000000000: "ns", Fraction(1, 60): "min
 TICKS_A_TIME_CONSTANT = 64
 TICKS_A_CLOCK = 1024
 QUANTA_A_RANGE = 1000
+LEAST_SIZE = 1e-6  # of a state that moves at all
 LEAST_UNITS = 10  # bits of the least coefficient: half a thousandth
 GOOD_UNITS = 17
 MOST_TICK_BITS, MOST_COEF_BITS, MOST_LEVEL_BITS = 20, 32, 24
@@ -36,18 +37,21 @@ def power_below(value):
 def wanted_quanta(flat, trial):
     """The quantum of the model, and by name those of declarations that need an own one."""
     written = any(setting.name == "QSS_Quantum" for setting in flat.model.settings)
-    wanted = {}
-    for number in range(flat.states):
-        one = flat.variables[number]
-        if one.quantum_at is not None or written or trial.grown or not trial.size[number]:
-            size = one.quantum if one.quantum > 0 else Fraction(1, 1024)
+    sizes, wanted = {}, {}
+    for number, one in enumerate(flat.variables[:flat.states]):
+        name = one.declaration.name
+        sizes[name] = max(sizes.get(name, 0.0), trial.size[number])
+    for one in flat.variables[:flat.states]:
+        name = one.declaration.name
+        if one.quantum_at is not None or written or trial.grown or sizes[name] < LEAST_SIZE:
+            wanted[name] = one.quantum if one.quantum > 0 else Fraction(1, 1024)
         else:
-            size = power_below(trial.size[number] / QUANTA_A_RANGE)
-        wanted[one.declaration.name] = max(size, wanted.get(one.declaration.name, Fraction(0)))
-    free = [size for name, size in wanted.items()]
-    model = flat.settings["QSS_Quantum"] if written and flat.settings["QSS_Quantum"] > 0 else min(free, default=Fraction(1, 1024))
-    own = {name: size for name, size in wanted.items() if size >= 4 * model or size < model}
-    return model, own
+            wanted[name] = power_below(sizes[name] / QUANTA_A_RANGE)
+    if written and flat.settings["QSS_Quantum"] > 0:
+        model = flat.settings["QSS_Quantum"]
+    else:
+        model = min(wanted.values(), default=Fraction(1, 1024))
+    return model, {name: size for name, size in wanted.items() if size >= 4 * model or size < model}
 
 
 def propose(flat, trial):

@@ -1,6 +1,7 @@
 """Advice on settings, and models in another unit of time."""
 import os
 import unittest
+from fractions import Fraction
 
 from support import STAND_IN, InFolder, run
 
@@ -90,6 +91,12 @@ class Findings(unittest.TestCase):
                          " annotation(experiment(QSS_LevelBits = 2)); end m;", "the quantum of x, 0.3, is kept as 0.25")
         self.assert_told("model m Real x; discrete Real d; equation der(x) = 1; algorithm when x > 0.5 then d := d + 0.0002*x; end when;"
                          " end m;", "d is a sum of small steps: what is added below 2^-17 is lost, so x below 0.038147 adds nothing")
+
+    def test_states_that_hardly_move(self):
+        """The end of a chain does not move in the rough run; the quantum is that of its beginning."""
+        flat = flat_of("model m Real u[400]; equation der(u[1]) = 10*(1 - u[1]); for i in 2:400 loop der(u[i]) = 10*(u[i - 1] - u[i]);"
+                       " end for; end m;")
+        self.assertEqual(propose(flat, Trial(flat)).quantum, Fraction(1, 1024))
 
     def test_a_limit_that_sticks(self):
         text = ("model m Real x; discrete Real d; equation der(x) = d; algorithm when time > 0.5 then d := 1; end when;"
