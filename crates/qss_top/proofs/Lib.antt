@@ -12,3 +12,4 @@ pub mod TwoFiles
 pub mod Certified
 pub mod Headline
 pub mod Completeness
+pub mod Proposed
