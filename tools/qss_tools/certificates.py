@@ -10,6 +10,7 @@ from .walks import leaves
 CAUSE = re.compile(r"^certificate refused: (?:top 1|(\d)((?: -?\d+)*))$")
 OUTSIDE = re.compile(r"^rejected: (clauses|states) (\d+)$")
 REJECTED = re.compile(r"^rejected: inequality (\d+) place (\d+) left (-?\d+) right (-?\d+)$")
+CANDIDATE = re.compile(r"^rejected: no candidate (\d)$")
 RANGE = re.compile(r"^rejected: range inequality (\d+) place (\d+)$")
 
 # Each inequality: what it says, the record to look at, and what helps.
@@ -38,9 +39,23 @@ SIGNED = (("p", EACH), ("mu", EACH), ("lambda", ONE), ("h1", ONE), ("h2", ONE), 
           ("sigmaR", EACH), ("C", ONE), ("sigmaC", EACH), ("E", EACH))
 
 
+# Why `propose` has no candidate, by the step at which a sum passes 2^126.
+STEPS = {
+    2: "the model grows and is driven: it has no resting point that is approached",
+    3: "the model grows: some combination of its states is not damped",
+    4: "the model is hardly damped: its form is very large",
+    5: "the damping of some state is too weak for the coupling or the quanta, or the rates differ too much: the basin grows from round to round",
+    6: "the damping of some state is a little too weak for the coupling or the quanta, or the rates differ too much",
+}
+
+
 def explain(source, line, certificate):
     """The story of a certificate's refusal or rejection."""
-    outside, cause = OUTSIDE.match(line), CAUSE.match(line)
+    outside, cause, candidate = OUTSIDE.match(line), CAUSE.match(line), CANDIDATE.match(line)
+    if candidate:
+        return Story(None, "no certificate is proposed: %s" % STEPS[int(candidate.group(1))],
+                     "smaller quanta, shorter ticks, or units in which states and rates are alike may help; one can be made by hand or by another"
+                     " program (docs/CERTIFICATES.md)")
     if outside:
         return no_scope(source, outside.group(1), int(outside.group(2)))
     flat = Flat(parse(source))
