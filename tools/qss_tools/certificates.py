@@ -18,7 +18,8 @@ INEQUALITIES = {
     2: ("P is not symmetric", "P", "write P[i][j] = P[j][i]"),
     3: ("h1 (P - diag p) - G1' G1 has no dominant diagonal in this row: that V is at least the sum of p y^2 is not shown", "G1",
         "smaller p, or G1 from a Cholesky factor of h1 (P - diag p)"),
-    4: ("h2 (N - diag mu - lambda P) - G2' G2 has no dominant diagonal in this row, where N is -(a'P + Pa): that V falls as claimed is not shown", "G2",
+    4: ("h2 (N - diag mu - lambda P) - G2' G2 has no dominant diagonal in this row, where N is -(a'P + Pa):"
+        " that V falls as claimed is not shown", "G2",
         "smaller mu or lambda, or G2 from a Cholesky factor of the matrix times h2"),
     5: ("a start lies outside the basin, or the two starts lie too far apart", "R", "larger R (place 3: larger C)"),
     6: ("p Z^2 is below R: a state may lie farther from the centre than Z says", "Z", "larger Z, or smaller R"),
@@ -101,7 +102,8 @@ def meaning(names, number, place):
         first, second = pair(states, place)
         return keyword, None, "P is not the same at %s, %s and at %s, %s" % (names[first], names[second], names[second], names[first]), way
     if number == 5:
-        which = ("the first start lies outside the basin: V of it is above K^2 R", "the second start lies outside the basin: V of it is above K^2 R",
+        which = ("the first start lies outside the basin: V of it is above K^2 R",
+                 "the second start lies outside the basin: V of it is above K^2 R",
                  "the starts lie too far apart: V of their difference is above K^2 C")[place - 1]
         return ("C" if place == 3 else "R"), 0, which, "larger C" if place == 3 else "larger R"
     if number in (9, 11):
