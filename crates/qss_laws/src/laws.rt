@@ -1,0 +1,20 @@
+//! Laws, each the contract of a function that does nothing.
+
+ghost use Rattle.qss_laws.specs.Listings.{ListingsAreRight};
+ghost use Rattle.qss_laws.specs.Courses.{EventsLeadFreely};
+ghost use Rattle.qss_laws.specs.Printed.{PrintedRunsAreFree};
+
+/// The flat model of a source is the listing of its tree by recursion, without the counts that limits need.
+pub fn listings_are_right()
+    ensures { ListingsAreRight }
+{}
+
+/// What a simulator goes through, under a quantizer with a name or without one, are free steps from its start.
+pub fn events_lead_freely()
+    ensures { EventsLeadFreely }
+{}
+
+/// The run that is printed stays near its levels, and is legitimate where the machine has no clauses.
+pub fn printed_runs_are_free()
+    ensures { PrintedRunsAreFree }
+{}
