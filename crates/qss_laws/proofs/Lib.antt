@@ -1,3 +1,5 @@
 pub mod Listings
 pub mod Courses
 pub mod Printed
+pub mod Names
+pub mod Lines

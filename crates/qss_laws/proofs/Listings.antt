@@ -12,7 +12,7 @@ use Rattle.qss_machine.specs.declared.system.Machine.{Machine}
 use Rattle.qss_compile.specs.Meanings.{TreeMeans}
 use Rattle.qss_laws.specs.Listings.{IsListingOf, MeansByListing, ListingsAreRight}
 
-is_listing : (tree : ModelTree) (flat : FlatModelTree) → UnrollsTo tree flat → IsListingOf tree flat
+pub is_listing : (tree : ModelTree) (flat : FlatModelTree) → UnrollsTo tree flat → IsListingOf tree flat
 is_listing tree flat e =
     let P : Result FlatModelTree UnrollErr → Type 0 = λ r. IfOk r (λ f. listed tree (scope_of tree).known ≡ Ok f) in
     subst P e (listed_right tree (scope_of tree).known)

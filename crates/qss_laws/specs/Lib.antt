@@ -1,3 +1,4 @@
 pub mod Listings
 pub mod Courses
 pub mod Printed
+pub mod Lines

@@ -2,6 +2,7 @@
 
 ghost use Rattle.qss_laws.specs.Listings.{ListingsAreRight};
 ghost use Rattle.qss_laws.specs.Courses.{EventsLeadFreely};
+ghost use Rattle.qss_laws.specs.Lines.{LinesAreFields};
 ghost use Rattle.qss_laws.specs.Printed.{PrintedRunsAreFree};
 
 /// The flat model of a source is the listing of its tree by recursion, without the counts that limits need.
@@ -17,4 +18,9 @@ pub fn events_lead_freely()
 /// The run that is printed stays near its levels, and is legitimate where the machine has no clauses.
 pub fn printed_runs_are_free()
     ensures { PrintedRunsAreFree }
+{}
+
+/// In the rows of a source's machine no field needs quotes: each line is its fields joined by commas, and a line feed.
+pub fn lines_are_fields()
+    ensures { LinesAreFields }
 {}
