@@ -3,3 +3,4 @@ pub mod Courses
 pub mod Printed
 pub mod Names
 pub mod Lines
+pub mod Certificates

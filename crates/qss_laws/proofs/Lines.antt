@@ -71,7 +71,7 @@ plain_decimal : (n : ℕ) → IsPlain (decimal n)
 unfolding digits
 plain_decimal n = plain_onto 64 n [] refl
 
-plain_signed : (z : ℤ) → IsPlain (signed_decimal z)
+pub plain_signed : (z : ℤ) → IsPlain (signed_decimal z)
 plain_signed (pos n) = plain_decimal n
 plain_signed (negsuc n) = plain_decimal (suc n)
 

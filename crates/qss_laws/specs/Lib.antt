@@ -2,3 +2,4 @@ pub mod Listings
 pub mod Courses
 pub mod Printed
 pub mod Lines
+pub mod Certificates

@@ -1,5 +1,6 @@
 //! Laws, each the contract of a function that does nothing.
 
+ghost use Rattle.qss_laws.specs.Certificates.{WrittenCertificatesAreShort};
 ghost use Rattle.qss_laws.specs.Listings.{ListingsAreRight};
 ghost use Rattle.qss_laws.specs.Courses.{EventsLeadFreely};
 ghost use Rattle.qss_laws.specs.Lines.{LinesAreFields};
@@ -23,4 +24,9 @@ pub fn printed_runs_are_free()
 /// In the rows of a source's machine no field needs quotes: each line is its fields joined by commas, and a line feed.
 pub fn lines_are_fields()
     ensures { LinesAreFields }
+{}
+
+/// The text that is written of a certificate is short enough to be read, and is read as this certificate.
+pub fn written_certificates_are_short()
+    ensures { WrittenCertificatesAreShort }
 {}

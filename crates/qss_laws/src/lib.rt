@@ -3,4 +3,7 @@
 
 mod laws;
 
-pub use laws::{events_lead_freely, lines_are_fields, listings_are_right, printed_runs_are_free};
+pub use laws::{
+    events_lead_freely, lines_are_fields, listings_are_right, printed_runs_are_free,
+    written_certificates_are_short,
+};
