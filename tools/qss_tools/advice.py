@@ -15,6 +15,7 @@ THOUSANDTH = Fraction(1, 1000)
 TICKS_A_TIME_CONSTANT = 16
 TICKS_A_CLOCK = 256
 MANY_ROWS = 3000000
+SMALL = Fraction(1, 16)  # a factor that makes small steps of what it multiplies
 
 # Modifications and settings of Modelica that are read over and are no mistake.
 HARMLESS = ("unit", "displayUnit", "min", "max", "nominal", "fixed", "stateSelect", "quantity", "Interval", "NumberOfIntervals",
@@ -45,11 +46,13 @@ def misspelt(flat, trial):
             continue
         meant = known.get(word.lower()) or next(iter(difflib.get_close_matches(word, SETTINGS, 1, 0.75)), None)
         if word == "Tolerance":
-            yield Finding(item.at, "Tolerance has no effect here", "the error is set by QSS_Quantum (about 1 to 6 quanta where a model is damped)", False)
+            yield Finding(item.at, "Tolerance has no effect here",
+                          "the error is set by QSS_Quantum (about 1 to 6 quanta where a model is damped)", False)
         elif item.where == "experiment" and (meant or word.startswith("QSS")):
             yield Finding(item.at, "'%s' is no setting and is read over" % word, "write %s" % (meant or "one of " + ", ".join(SETTINGS)), True)
         elif item.where == "annotation" and meant:
-            yield Finding(item.at, "'%s' stands outside experiment(..) and is read over" % word, "write annotation(experiment(%s = ..))" % meant, True)
+            yield Finding(item.at, "'%s' stands outside experiment(..) and is read over" % word,
+                          "write annotation(experiment(%s = ..))" % meant, True)
         elif item.where not in ("experiment", "annotation"):
             wanted = next(iter(difflib.get_close_matches(word, ("start", "QSS_Quantum"), 1, 0.7)), None)
             if wanted or word.lower() in ("start", "qss_quantum"):
@@ -87,7 +90,8 @@ def coarse_clocks(flat, trial):
         step = abs(row.form.constant)
         if row.variable in clocks and step < TICKS_A_CLOCK * length and (step / length).denominator != 1:
             yield Finding(row.part.at, "%s is a clock that steps by %s, which is %s ticks: its branch fires up to a tick late" % (
-                flat.variables[row.variable].name, shown(step), shown(step / length)), "take shorter ticks: at least %d to a step" % TICKS_A_CLOCK, True)
+                flat.variables[row.variable].name, shown(step), shown(step / length)),
+                "take shorter ticks: at least %d to a step" % TICKS_A_CLOCK, True)
 
 
 def steep_slopes(flat, trial):
@@ -118,7 +122,8 @@ def rounded_coefficients(flat, trial):
             kept = off(value, Fraction(1, 2 ** p))
             if kept is not None and row.part.at not in told:
                 told.add(row.part.at)
-                yield Finding(row.part.at, "in %s the coefficient %s of %s is kept as %s" % (row.label, shown(value), key_name(flat, key), shown(kept)),
+                yield Finding(row.part.at, "in %s the coefficient %s of %s is kept as %s" % (
+                    row.label, shown(value), key_name(flat, key), shown(kept)),
                               "QSS_CoefBits = %d or more would do" % math.ceil(9 - log2(abs(value))), True)
         kept = off(row.form.constant, Fraction(1, 2 ** (f + p))) if row.form.constant else None
         if kept is not None and row.part.at not in told:
@@ -185,9 +190,9 @@ def lost_sums(flat, trial):
     for row in flat.rows():
         if row.kind != "set":
             continue
-        small = [(key, abs(value)) for key, value in row.form.parts.items() if key[0] == "x" and key[1] != row.variable and abs(value) < Fraction(1, 16)]
-        own = any(key[0] in ("x", "pre") and key[1] == row.variable and value == 1 for key, value in row.form.parts.items())
-        if own and small:
+        small = [(key, abs(value)) for key, value in row.form.parts.items()
+                 if key[0] == "x" and key[1] != row.variable and abs(value) < SMALL]
+        if small and is_step(row):
             key, value = min(small, key=lambda item: item[1])
             name = flat.variables[row.variable].name
             yield Finding(row.part.at, "%s is a sum of small steps: what is added below 2^-%d is lost, so %s below %s adds nothing" % (

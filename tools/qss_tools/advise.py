@@ -110,7 +110,8 @@ def report(source, refused, found, proposal, trial):
 def tell_proposal(source, proposal, trial):
     if proposal.unit != 1:
         name = UNIT_NAMES[proposal.unit if proposal.unit < 1 else int(proposal.unit)]
-        print("in the model's own unit of time no settings fit: write it in 1/%s of that unit (%s where it is s);" % (decimal_text(proposal.unit), name))
+        print("in the model's own unit of time no settings fit: write it in 1/%s of that unit (%s where it is s);" % (
+            decimal_text(proposal.unit), name))
         print("'tools/qss-advise %s --rewrite FILE' writes it so. With these settings:" % source.name)
     elif not proposal.fits:
         print("no settings fit well; the nearest are:")

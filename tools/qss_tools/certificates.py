@@ -10,6 +10,7 @@ from .walks import leaves
 CAUSE = re.compile(r"^certificate refused: (?:top 1|(\d)((?: -?\d+)*))$")
 OUTSIDE = re.compile(r"^rejected: (clauses|states) (\d+)$")
 REJECTED = re.compile(r"^rejected: inequality (\d+) place (\d+) left (-?\d+) right (-?\d+)$")
+CANDIDATE = re.compile(r"^rejected: no candidate (\d)$")
 RANGE = re.compile(r"^rejected: range inequality (\d+) place (\d+)$")
 
 # Each inequality: what it says, the record to look at, and what helps.
@@ -17,7 +18,8 @@ INEQUALITIES = {
     2: ("P is not symmetric", "P", "write P[i][j] = P[j][i]"),
     3: ("h1 (P - diag p) - G1' G1 has no dominant diagonal in this row: that V is at least the sum of p y^2 is not shown", "G1",
         "smaller p, or G1 from a Cholesky factor of h1 (P - diag p)"),
-    4: ("h2 (N - diag mu - lambda P) - G2' G2 has no dominant diagonal in this row, where N is -(a'P + Pa): that V falls as claimed is not shown", "G2",
+    4: ("h2 (N - diag mu - lambda P) - G2' G2 has no dominant diagonal in this row, where N is -(a'P + Pa):"
+        " that V falls as claimed is not shown", "G2",
         "smaller mu or lambda, or G2 from a Cholesky factor of the matrix times h2"),
     5: ("a start lies outside the basin, or the two starts lie too far apart", "R", "larger R (place 3: larger C)"),
     6: ("p Z^2 is below R: a state may lie farther from the centre than Z says", "Z", "larger Z, or smaller R"),
@@ -38,9 +40,23 @@ SIGNED = (("p", EACH), ("mu", EACH), ("lambda", ONE), ("h1", ONE), ("h2", ONE), 
           ("sigmaR", EACH), ("C", ONE), ("sigmaC", EACH), ("E", EACH))
 
 
+# Why `propose` has no candidate, by the step at which a sum passes 2^126.
+STEPS = {
+    2: "the model grows and is driven: it has no resting point that is approached",
+    3: "the model grows: some combination of its states is not damped",
+    4: "the model is hardly damped: its form is very large",
+    5: "the damping of some state is too weak for the coupling or the quanta, or the rates differ too much: the basin grows from round to round",
+    6: "the damping of some state is a little too weak for the coupling or the quanta, or the rates differ too much",
+}
+
+
 def explain(source, line, certificate):
     """The story of a certificate's refusal or rejection."""
-    outside, cause = OUTSIDE.match(line), CAUSE.match(line)
+    outside, cause, candidate = OUTSIDE.match(line), CAUSE.match(line), CANDIDATE.match(line)
+    if candidate:
+        return Story(None, "no certificate is proposed: %s" % STEPS[int(candidate.group(1))],
+                     "smaller quanta, shorter ticks, or units in which states and rates are alike may help; one can be made by hand or by another"
+                     " program (docs/CERTIFICATES.md)")
     if outside:
         return no_scope(source, outside.group(1), int(outside.group(2)))
     flat = Flat(parse(source))
@@ -86,7 +102,8 @@ def meaning(names, number, place):
         first, second = pair(states, place)
         return keyword, None, "P is not the same at %s, %s and at %s, %s" % (names[first], names[second], names[second], names[first]), way
     if number == 5:
-        which = ("the first start lies outside the basin: V of it is above K^2 R", "the second start lies outside the basin: V of it is above K^2 R",
+        which = ("the first start lies outside the basin: V of it is above K^2 R",
+                 "the second start lies outside the basin: V of it is above K^2 R",
                  "the starts lie too far apart: V of their difference is above K^2 C")[place - 1]
         return ("C" if place == 3 else "R"), 0, which, "larger C" if place == 3 else "larger R"
     if number in (9, 11):

@@ -183,7 +183,8 @@ def misused(model, name, at):
 
 
 MISUSES = {
-    "constant": lambda name, role: ("'%s' is no constant: sizes, start values, quanta, settings, indices and bounds use numbers and parameters" % name, None),
+    "constant": lambda name, role: (
+        "'%s' is no constant: sizes, start values, quanta, settings, indices and bounds use numbers and parameters" % name, None),
     "declared": lambda name, role: (
         ("a parameter is no array", "use an expression of the index, or a discrete array that 'initial algorithm' sets") if role == "parameter" else
         ("the variable '%s' has no binding '='" % name, "write 'Real %s; equation %s = ..;', or '(start = ..)' for its start" % (name, name))),
@@ -194,7 +195,8 @@ MISUSES = {
     "der": lambda name, role: ("'%s' is no state" % name, "declare it as 'Real %s' without 'discrete' or 'parameter'" % name),
     "left": lambda name, role: (
         "'%s' is %s and has no plain equation" % (name, a(role)),
-        "a state has 'der(%s) = ..' alone" % name if role == STATE else "a discrete variable is set in a clause by ':='" if role == DISCRETE else None),
+        "a state has 'der(%s) = ..' alone" % name if role == STATE else
+        "a discrete variable is set in a clause by ':='" if role == DISCRETE else None),
     "set": lambda name, role: (
         "':=' sets a discrete variable, and '%s' is %s" % (name, a(role)),
         "write 'reinit(%s, ..)'" % name if role == STATE else "declare it as 'discrete Real %s'" % name),

@@ -76,7 +76,8 @@ def too_many_coefficients(model):
     for row in flat.rows():
         total += len(row.form.parts)
         if total > MOST_COEFFICIENTS:
-            return Story(row.part.at, "with %s there are more than 65536 coefficients in all" % row.label, "give sums that come often a state or fewer parts")
+            return Story(row.part.at, "with %s there are more than 65536 coefficients in all" % row.label,
+                         "give sums that come often a state or fewer parts")
     last = flat.rows()[-1]
     return Story(last.part.at, "there are more than 65536 coefficients in all, those of algebraic variables included")
 
@@ -132,7 +133,8 @@ def start(flat, one):
         return Story(one.declaration.at, "the start of %s is %s, past 2^43 levels, which are %s" % (one.name, shown(value), shown(most)),
                      "take a larger unit for %s, or at most QSS_LevelBits = %d" % (one.name, math.floor(LEVEL_BITS - log2(abs(value))))
                      if abs(value) < 2 ** LEVEL_BITS else "take a larger unit for %s" % one.name)
-    return Story(one.declaration.at, "at the start the equation of %s has terms that are too large: 2^44 for a coefficient, 2^88 for their sum" % one.name,
+    return Story(one.declaration.at,
+                 "at the start the equation of %s has terms that are too large: 2^44 for a coefficient, 2^88 for their sum" % one.name,
                  "write fewer QSS_CoefBits, or take another unit of time")
 
 
@@ -147,7 +149,8 @@ def quantum(flat, one):
     if one.quantum <= 0:
         return Story(at, "the quantum of %s is not above 0" % one.name, "write how far a state may move before its level follows")
     return Story(at, sentence + ": at least 1",
-                 "write QSS_LevelBits = %d or more (at most 24), or a quantum of at least %s" % (math.ceil(-log2(one.quantum)), shown(Fraction(1, 2 ** f))))
+                 "write QSS_LevelBits = %d or more (at most 24), or a quantum of at least %s" % (
+                     math.ceil(-log2(one.quantum)), shown(Fraction(1, 2 ** f))))
 
 
 def coefficient(flat, row):
@@ -201,8 +204,10 @@ def overflow(source, name, tick):
     shortest = shortest_time(flat)
     if shortest is not None and shortest * 2 ** k < 2:
         return Story(one.declaration.at, sentence,
-                     "the likely cause: a tick is 2^-%d = %s, and the shortest time constant is about %s, so each tick overshoots" % (k, shown(Fraction(1, 2 ** k)), shown(shortest)),
+                     "the likely cause: a tick is 2^-%d = %s, and the shortest time constant is about %s, so each tick overshoots" % (
+                         k, shown(Fraction(1, 2 ** k)), shown(shortest)),
                      "tools/qss-advise %s proposes settings or a unit of time" % source.name)
     return Story(one.declaration.at, sentence,
-                 "the likely cause: the model itself grows (a sign, a gain, a switch that stays on); ticks are short enough, %s of the shortest time constant" %
+                 "the likely cause: the model itself grows (a sign, a gain, a switch that stays on);"
+                 " ticks are short enough, %s of the shortest time constant" %
                  ("1/%d" % round(shortest * 2 ** k) if shortest else "there is none"))

@@ -266,9 +266,10 @@ def by_matplotlib(drawing, series, times):
         if 1 < len(lines) <= 8:
             axis.legend(fontsize=7, loc="upper right")
     if drawing.marks:
-        for place, (label, columns) in enumerate(drawing.marks.places.items()):
+        for place, columns in enumerate(drawing.marks.places.values()):
             for column in columns:
-                axes[-1, 0].axvline(times[0] + (times[1] - times[0]) * column / drawing.width, ymax=0.06, lw=0.6, color=COLOURS[place % len(COLOURS)])
+                time = times[0] + (times[1] - times[0]) * column / drawing.width
+                axes[-1, 0].axvline(time, ymax=0.06, lw=0.6, color=COLOURS[place % len(COLOURS)])
     axes[0, 0].set_title(drawing.title)
     axes[-1, 0].set_xlabel(drawing.axis)
     axes[-1, 0].set_xlim(*times)
@@ -280,7 +281,8 @@ def by_matplotlib(drawing, series, times):
 def by_gnuplot(drawing, series, times):
     """A script with its data; what gnuplot writes goes to the file when it is whole."""
     terminal = "pngcairo size %d,%d" % (900, 60 + len(series) * (drawing.height + 40)) if drawing.kind == "png" else "pdfcairo"
-    script = ["set terminal %s" % terminal, "set grid", "set xrange [%g:%g]" % times, "set multiplot layout %d,1 title '%s'" % (len(series), drawing.title.replace("'", ""))]
+    script = ["set terminal %s" % terminal, "set grid", "set xrange [%g:%g]" % times,
+              "set multiplot layout %d,1 title '%s'" % (len(series), drawing.title.replace("'", ""))]
     for label, lines in series:
         plots = []
         for place, (name, dashed, times_of, values) in enumerate(lines):

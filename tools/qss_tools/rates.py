@@ -26,7 +26,10 @@ def modes(flat):
 
 
 def float_rows(flat):
-    """The states' equations in floating point, made once: of each the entries (state or None, discrete variable or None, value), and the constant."""
+    """The states' equations in floating point, made once.
+
+    Of each its entries (state or None, discrete variable or None, value), and its constant.
+    """
     if flat.float_rows is None:
         flat.float_rows = []
         for row in flat.rows()[:flat.states]:

@@ -54,7 +54,8 @@ class Picture:
     def curve(self, x, y, points, colour, dashed=False, width=1.2):
         """A curve of points in units, from the corner (x, y)."""
         if points:
-            self.parts.append('<path transform="translate(%g %g) scale(%g)" d="%s" fill="none" stroke="%s" stroke-width="%g" stroke-linejoin="round"%s/>' % (
+            self.parts.append('<path transform="translate(%g %g) scale(%g)" d="%s" fill="none" stroke="%s" stroke-width="%g"'
+                              ' stroke-linejoin="round"%s/>' % (
                 x, y, 1 / UNITS, path_of(points), colour, width * UNITS, ' stroke-dasharray="16 12"' if dashed else ""))
 
     def frame(self, x, y, width, height):

@@ -111,6 +111,12 @@ class Certificates(unittest.TestCase):
         self.assertIn("no certificate", told("model m Real x; equation der(x) = 1; algorithm when x > 1 then end when; end m;",
                                              "rejected: clauses 1"))
 
+    def test_why_no_certificate_is_proposed(self):
+        for step in range(2, 7):
+            self.assertIn("no certificate is proposed: the ", told(DECAY, "rejected: no candidate %d" % step))
+        with self.assertRaises(Fault):
+            told(DECAY, "rejected: no candidate 7")
+
     def test_records_in_their_order(self):
         self.assertEqual([keyword_of(2, record) for record in (1, 2, 3, 4, 8, 10, 11, 12, 20, 21, 22, 23, 24)],
                          ["form", "P", "P", "p", "G1", "h2", "G2", "G2", "E", "start1", "start2", "Q", None])

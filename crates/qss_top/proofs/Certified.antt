@@ -15,7 +15,7 @@ use Rattle.qss_top.specs.CertifiedRuns.{AreCertified, CertifiedRunsStayNear}
 use Rattle.qss_top.specs.declared.status.Status.TheVariants as ends
 
 -- a source that is refused is told so
-source_status : (bytes : List ℕ) (a : Answer) → IsSourceRefusal bytes a → a.status ≡ ends.ModelRefused
+pub source_status : (bytes : List ℕ) (a : Answer) → IsSourceRefusal bytes a → a.status ≡ ends.ModelRefused
 source_status bytes a h = by (nat_lt (2 ^ 20) (length bytes)) h
   where
     by : (b : Bool) → MatchBool b (a ≡ refusal ends.ModelRefused too_long) ((r : Refused) × IsRefused bytes r × (a ≡ refusal ends.ModelRefused (refused bytes))) → a.status ≡ ends.ModelRefused
@@ -29,13 +29,13 @@ refusal_status (certs.Unread why) e = cc
 refusal_status (certs.Rejected verdict) e = cc
 
 -- what is said is replied
-said : (a : Answer) (told : Told) (answer : Answer) → told ≡ record { arrivals = []; reply = answered a } → told.reply ≡ answered answer → answer ≡ a
+pub said : (a : Answer) (told : Told) (answer : Answer) → told ≡ record { arrivals = []; reply = answered a } → told.reply ≡ answered answer → answer ≡ a
 said a told answer is replied =
     let same : answered answer ≡ answered a = sym replied ∙ ap (λ (t : Told). t.reply) is in
     cc
 
 -- behind a file that is read
-replied_behind : (name : List ℕ) (told later : Told) (answer : Answer) → told ≡ record { arrivals = name ∷ later.arrivals; reply = later.reply } → told.reply ≡ answered answer → later.reply ≡ answered answer
+pub replied_behind : (name : List ℕ) (told later : Told) (answer : Answer) → told ≡ record { arrivals = name ∷ later.arrivals; reply = later.reply } → told.reply ≡ answered answer → later.reply ≡ answered answer
 replied_behind name told later answer is replied = sym (ap (λ (t : Told). t.reply) is) ∙ replied
 
 module _ (model certificate : List ℕ) (share : ℕ) (files : Option Files) (answer : Answer) (ok : answer.status ≡ ends.Ok) where

@@ -44,10 +44,10 @@ rose_by written faults old new h = subst (λ n. Rose n (faults new)) h.calm h.ro
 abbrev pub IsKnown : Reply → Type 0
 IsKnown reply = ((answer : Answer) × (reply ≡ answered answer)) ⊎ (reply ≡ absent)
 
-says_known : (Is : Answer → Type 0) (told : Told) → Says Is told → IsKnown told.reply
+pub says_known : (Is : Answer → Type 0) (told : Told) → Says Is told → IsKnown told.reply
 says_known Is told h = inl (h.0, ap (λ (t : Told). t.reply) h.2)
 
-reads_known : (files : Files) (name : List ℕ) (Leads : List ℕ → Told → Type 0) → ((bytes : List ℕ) (later : Told) → Leads bytes later → IsKnown later.reply) → (told : Told) → Reads (Some files) name Leads told → IsKnown told.reply
+pub reads_known : (files : Files) (name : List ℕ) (Leads : List ℕ → Told → Type 0) → ((bytes : List ℕ) (later : Told) → Leads bytes later → IsKnown later.reply) → (told : Told) → Reads (Some files) name Leads told → IsKnown told.reply
 reads_known files name Leads known told h = by h.0 h.2
   where
     by : (found : Option (List ℕ)) → ReadsThen name Leads found told → IsKnown told.reply

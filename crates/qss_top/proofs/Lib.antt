@@ -13,3 +13,4 @@ pub mod TwoFiles
 pub mod Certified
 pub mod Headline
 pub mod Completeness
+pub mod Proposed

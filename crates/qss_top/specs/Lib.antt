@@ -8,3 +8,4 @@ pub mod Laws
 pub mod Outcomes
 pub mod CertifiedRuns
 pub mod Headline
+pub mod ProposedRuns

@@ -2,6 +2,7 @@
 ghost use Rattle.qss_top.specs.CertifiedRuns.{CertifiedRunsStayNear};
 ghost use Rattle.qss_top.specs.Headline.{RunPrintsTheRun, CertifyAcceptsExactly};
 ghost use Rattle.qss_top.specs.Laws.{AnswersAreUnique, AnswersExist};
+ghost use Rattle.qss_top.specs.ProposedRuns.{ProposedRunsStayNear};
 
 /// Law: words and files define at most one answer, with the files at which it arrives.
 pub fn answers_are_unique()
@@ -28,4 +29,10 @@ pub fn certify_accepts_exactly()
 /// starts, lie within the bounds that are printed, and the machine's own runs are among these.
 pub fn certified_runs_stay_near()
     ensures { CertifiedRunsStayNear }
+{}
+
+/// Law: where a certificate is proposed, its text reads back, any two legitimate runs from the machine's start lie within its
+/// bounds, and the machine's own runs are among these.
+pub fn proposed_runs_stay_near()
+    ensures { ProposedRunsStayNear }
 {}

@@ -14,7 +14,7 @@ mod top;
 
 pub use laws::{
     answers_are_unique, answers_exist, certified_runs_stay_near, certify_accepts_exactly,
-    run_prints_the_run,
+    proposed_runs_stay_near, run_prints_the_run,
 };
 pub use status::Status;
 pub use top::qss_main;

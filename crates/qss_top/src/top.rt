@@ -5,7 +5,8 @@ ghost use Rattle.mu_io.specs.Faults.{Rose};
 ghost use Rattle.mu_io.specs.Sinks.{AppendsPrefix, EndsByFault};
 ghost use Rattle.qss_top.specs.Answers.{Answer, Told, IsTold, answered};
 ghost use Rattle.qss_top.specs.CertifiedRuns.{AreCertified};
-ghost use Rattle.qss_words.specs.Commands.{certify_model, command_of, writes_as_it_goes};
+ghost use Rattle.qss_words.specs.Commands.{certify_model, propose_model, command_of, writes_as_it_goes};
+ghost use Rattle.qss_top.specs.ProposedRuns.{AreProposed};
 ghost use Rattle.qss_top.specs.Statuses.{leaves_out};
 ghost use Rattle.qss_top.specs.TopCall.{IsReplied, Replies, IsCutShort, text_of, SomeRose, ReportsStatus};
 
@@ -41,6 +42,10 @@ pub fn qss_main<S: Shelf, O: Sink, E: Sink>(
     // Where a certificate is accepted, any two legitimate runs of the machine that the model means, from the
     // certificate's starts, lie within the bounds that out gains.
     ensures certified { (model certificate : List ℕ) (share : ℕ) → command_of (map (λ word. word.now) words.now) ≡ Some (certify_model model certificate share) → result ≡ Status.Ok → (text : List ℕ) × (Appends (O.written out.old) (O.written out.new) text × AreCertified model certificate share (S.files shelf.old) text) }
+
+    // Where a certificate is proposed, out gains its text, which reads back, and any two legitimate runs from
+    // the machine's start lie within its bounds.
+    ensures proposed { (model : List ℕ) → command_of (map (λ word. word.now) words.now) ≡ Some (propose_model model) → result ≡ Status.Ok → (text : List ℕ) × (Appends (O.written out.old) (O.written out.new) text × AreProposed model (S.files shelf.old) text) }
 
     // Words that are no command are told as such, where memory for them is found, and nothing else is.
     ensures usage { result ≡ Status.Usage → command_of (map (λ word. word.now) words.now) ≡ None }

@@ -3,6 +3,7 @@ use Rattle.std.specs.Prelude.{map}
 use Rattle.qss_words.specs.Commands.{command_of, writes_as_it_goes}
 use Rattle.qss_top.proofs.TopFacts.{replied, defined_of, leaves_of, read_of, write_of, done_of, usage_of, status_by, no_write, no_read, short_of, line_is, usage_or_memory}
 use Rattle.qss_top.proofs.Completeness.{whole_answer, rose_by, certified_end}
+use Rattle.qss_top.proofs.Proposed.{proposed_end}
 use Rattle.qss_top.specs.Answers.{Told, IsTold}
 use Rattle.qss_top.specs.TopCall.{IsReplied}
 use Rattle.qss_top.specs.declared.status.Status.{Status}
@@ -72,5 +73,12 @@ pub returns-clause-certified : goal.returns-clause-certified
 returns-clause-certified g c model certificate share is ok =
     let words = map (λ word. word.now) c.args.words.now in
     certified_end words (g.S.Shelf.files c.args.shelf.now) model certificate share (g.O.Sink.written c.args.out.now) (g.O.Sink.written c.answer-outcome.new.out) is
+    (λ told h. let P : Status → Type 0 = λ status. IsReplied told.reply status (g.O.Sink.written c.args.out.now) (g.O.Sink.written c.answer-outcome.new.out) in
+    subst P ok (returns-clause-replied g c told h))
+
+pub returns-clause-proposed : goal.returns-clause-proposed
+returns-clause-proposed g c model is ok =
+    let words = map (λ word. word.now) c.args.words.now in
+    proposed_end words (g.S.Shelf.files c.args.shelf.now) model (g.O.Sink.written c.args.out.now) (g.O.Sink.written c.answer-outcome.new.out) is
     (λ told h. let P : Status → Type 0 = λ status. IsReplied told.reply status (g.O.Sink.written c.args.out.now) (g.O.Sink.written c.answer-outcome.new.out) in
     subst P ok (returns-clause-replied g c told h))

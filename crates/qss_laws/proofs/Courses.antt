@@ -1,0 +1,157 @@
+-- What a simulator goes through: free steps, whichever quantizer it has.
+use Rattle.std.proofs.Common.{◌≡◌, ℕ, ◌+◌, List, [], ◌∷◌, ◌++◌, length, inl, inr, refl, sym, ap, ◌∙◌, subst, arith}
+use Rattle.std.specs.Prelude.{Bool, true, false, ℤ, Option, Some, None, Result, Ok, Err, MatchBool}
+use Rattle.qss_machine.specs.declared.system.Machine.{Machine}
+use Rattle.qss_machine.specs.Machines.{level_unit}
+use Rattle.qss_machine.specs.Numbers.{int_at}
+use Rattle.qss_machine.specs.Runs.{LeadsFreely, last_world}
+use Rattle.qss_machine.specs.Ticks.{World, Step, StepBy, IsFreeLevel, start_world, is_near, handling_at}
+use Rattle.qss_machine.proofs.Admitted.{runs_are_legitimate}
+use Rattle.qss_machine.proofs.Fired.{branches_fire_when_due}
+use Rattle.qss_machine.proofs.Near.{runs_stay_near}
+use Rattle.qss_play.specs.Ahead.{first}
+use Rattle.qss_quant.specs.declared.rule.Rule.{Rule}
+use Rattle.qss_run.specs.Events.{LeadsSilently, IsNext}
+use Rattle.qss_run.specs.Rules.{IsRuled}
+use Rattle.qss_run.specs.Standings.{Standing}
+use Rattle.qss_run.specs.declared.outcome.Outcome.{Outcome}
+use Rattle.qss_run.specs.declared.outcome.Outcome.TheVariants.{Events, Done, Over}
+use Rattle.qss_laws.specs.Courses.{IsReached, IsPassed, GoesThrough, last_standing, IsCalm, IsSound, EventsLeadFreely}
+
+-- ---- steps
+
+module _ (name : Option Rule) (m : Machine) where
+  level_freely : (j : ℕ) (state old new : ℤ) (near : Bool) → is_near m j state old ≡ near →
+      MatchBool near (new ≡ old) (IsRuled name (level_unit m) state old new) → IsFreeLevel m j state old new
+  level_freely j state old new true e same = inl (e, same)
+  level_freely j state old new false e ruled = inr ruled.close
+
+  step_freely : (tick : ℕ) (w : World) (result : Result World ℕ) → Step (IsRuled name) m tick w result → StepBy (IsFreeLevel m) m tick w result
+  step_freely tick w result s = (
+    s.0,
+    (λ calm. record {
+      one_each = (s.1 calm).one_each;
+      each = λ j h. level_freely j (int_at (handling_at m tick w).states j) (int_at w.levels j) (int_at s.0 j)
+          (is_near m j (int_at (handling_at m tick w).states j) (int_at w.levels j)) refl ((s.1 calm).each j h);
+    }),
+    s.2,
+  )
+
+  silently : (tick : ℕ) (w : World) (worlds : List World) → LeadsSilently (IsRuled name) m tick w worlds → LeadsFreely m tick w worlds
+  silently tick w [] leads = tt
+  silently tick w (next ∷ worlds) leads = (step_freely (tick + 1) w (Ok next) leads.0, silently (tick + 1) next worlds leads.2)
+
+-- ---- ways
+
+last_of_both : (w : World) (xs ys : List World) → last_world w (xs ++ ys) ≡ last_world (last_world w xs) ys
+last_of_both w [] ys = refl
+last_of_both w (x ∷ xs) ys = last_of_both x xs ys
+
+length_of_both : (xs ys : List World) → length (xs ++ ys) ≡ length xs + length ys
+length_of_both [] ys = omega arith
+length_of_both (x ∷ xs) ys = omega (arith, length_of_both xs ys)
+
+leads_on : (m : Machine) (tick : ℕ) (w : World) (xs ys : List World) → LeadsFreely m tick w xs → LeadsFreely m (tick + length xs) (last_world w xs) ys →
+    LeadsFreely m tick w (xs ++ ys)
+leads_on m tick w [] ys leads more = subst (λ (k : ℕ). LeadsFreely m k w ys) (omega arith) more
+leads_on m tick w (x ∷ xs) ys leads more =
+    (leads.0, leads_on m (tick + 1) x xs ys leads.1 (subst (λ (k : ℕ). LeadsFreely m k (last_world x xs) ys) (omega arith) more))
+
+way_on : (m : Machine) (tick : ℕ) (w : World) (last : ℕ) (world : World) (end : ℕ) (there : World) →
+    IsReached m tick w last world → IsReached m last world end there → IsReached m tick w end there
+way_on m tick w last world end there (xs, a) (ys, b) =
+    let from : ℕ → World → Type 0 = λ k v. LeadsFreely m k v ys in
+    let next : LeadsFreely m (tick + length xs) (last_world w xs) ys =
+    subst (λ (k : ℕ). from k (last_world w xs)) a.as_many (subst (from last) (sym a.reached) b.leads) in (
+      xs ++ ys,
+      record {
+        leads = leads_on m tick w xs ys a.leads next;
+        as_many = omega (arith, a.as_many, b.as_many, length_of_both xs ys);
+        reached = last_of_both w xs ys ∙ ap (λ v. last_world v ys) a.reached ∙ b.reached;
+      },
+    )
+
+way_none : (m : Machine) (tick : ℕ) (w : World) → IsReached m tick w tick w
+way_none m tick w = ([], record { leads = tt; as_many = omega arith; reached = refl })
+
+-- ---- events
+
+event_leads : (name : Option Rule) (old new : Standing) (tick : ℕ) → IsNext (IsRuled name) old new (Events tick) →
+    IsReached old.machine old.tick old.world new.tick new.world
+event_leads name old new tick (silent, e, _) =
+    let m = old.machine in
+    let here : tick ≡ old.tick + length silent + 1 = e.is_next in
+    let one : StepBy (IsFreeLevel m) m (old.tick + length silent + 1) (last_world old.world silent) (Ok new.world) =
+    subst (λ (k : ℕ). StepBy (IsFreeLevel m) m k (last_world old.world silent) (Ok new.world)) here (step_freely name m tick (last_world old.world silent) (Ok new.world) e.is_step) in (
+      silent ++ new.world ∷ [],
+      record {
+        leads = leads_on m old.tick old.world silent (new.world ∷ []) (silently name m old.tick old.world silent e.leads) (one, tt);
+        as_many = omega (arith, here, e.here, length_of_both silent (new.world ∷ []));
+        reached = last_of_both old.world silent (new.world ∷ []);
+      },
+    )
+
+done_leads : (name : Option Rule) (old new : Standing) → IsNext (IsRuled name) old new Done →
+    IsReached old.machine old.tick old.world new.tick new.world
+done_leads name old new (silent, e, _) = (
+  silent,
+  record {
+    leads = silently name old.machine old.tick old.world silent e.leads;
+    as_many = e.here ∙ sym e.at_last;
+    reached = sym e.world;
+  },
+)
+
+over_leads : (name : Option Rule) (old new : Standing) (tick var : ℕ) → IsNext (IsRuled name) old new (Over tick var) →
+    IsPassed old.machine old.tick old.world tick var
+over_leads name old new tick var (silent, e, _) =
+    let m = old.machine in
+    (silent, silently name m old.tick old.world silent e.leads, e.is_next, step_freely name m tick (last_world old.world silent) (Err var) e.is_step)
+
+-- ---- any number of calls
+
+ended_stays : (name : Option Rule) (s : Standing) (more : List Standing) (end : Outcome) → s.end ≡ Some end → GoesThrough name s more → last_standing s more ≡ s
+ended_stays name s [] end e goes = refl
+ended_stays name s (next ∷ more) end e goes = let never : Some end ≡ None = sym e ∙ goes.0 in absurd (cc)
+
+-- a call that goes on leads to a world, or ends by an overflow
+next_leads : (name : Option Rule) (old new : Standing) (outcome : Outcome) → IsNext (IsRuled name) old new outcome → IsCalm new →
+    IsReached old.machine old.tick old.world new.tick new.world
+next_leads name old new (Events tick) is calm = event_leads name old new tick is
+next_leads name old new Done is calm = done_leads name old new is
+next_leads name old new (Over tick var) is calm = absurd (calm tick var is.2)
+
+-- a simulator that overflowed goes no further, so that calls up to a calm one were calm
+calm_before : (name : Option Rule) (s : Standing) (more : List Standing) → GoesThrough name s more → IsCalm (last_standing s more) → IsCalm s
+calm_before name s more goes calm tick var e =
+    calm tick var (subst (λ (x : Standing). x.end ≡ Some (Over tick var)) (sym (ended_stays name s more (Over tick var) e goes)) e)
+
+calls_lead : (name : Option Rule) (s : Standing) (more : List Standing) → GoesThrough name s more → IsCalm (last_standing s more) →
+    IsReached s.machine s.tick s.world (last_standing s more).tick (last_standing s more).world
+calls_lead name s [] goes calm = way_none s.machine s.tick s.world
+calls_lead name s (next ∷ more) (going, (outcome, is), same, goes) calm =
+    let end = last_standing next more in
+    let rest : IsReached s.machine next.tick next.world end.tick end.world =
+    subst (λ (m : Machine). IsReached m next.tick next.world end.tick end.world) same (calls_lead name next more goes calm) in
+    way_on s.machine s.tick s.world next.tick next.world end.tick end.world
+    (next_leads name s next outcome is (calm_before name next more goes calm)) rest
+
+-- ---- from the start
+
+pub sound : (m : Machine) (worlds : List World) → LeadsFreely m 0 (start_world m) worlds → IsSound m worlds
+sound m worlds leads = record {
+  near = runs_stay_near m worlds leads;
+  truths = branches_fire_when_due.have_truths m worlds leads;
+  legitimate = λ none own. runs_are_legitimate.own m worlds none own leads;
+}
+
+pub events_lead_freely : EventsLeadFreely
+events_lead_freely = record {
+  event = event_leads;
+  done = done_leads;
+  over = over_leads;
+  calls = calls_lead;
+  courses = λ name m more goes calm.
+      let way = calls_lead name (first m) more goes calm in
+      (way.0, way.1, sound m way.0 way.1.leads);
+}

@@ -1,0 +1,6 @@
+pub mod Listings
+pub mod Courses
+pub mod Printed
+pub mod Names
+pub mod Lines
+pub mod Certificates

@@ -1,0 +1,5 @@
+pub mod Listings
+pub mod Courses
+pub mod Printed
+pub mod Lines
+pub mod Certificates

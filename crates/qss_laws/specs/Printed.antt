@@ -1,0 +1,27 @@
+-- The run that is printed.
+use Rattle.std.specs.Prelude.{◌≡◌, ℕ, List, [], ℤ, take}
+use Rattle.mu_num.specs.Levels.{Free}
+use Rattle.qss_machine.specs.declared.system.Machine.{Machine}
+use Rattle.qss_machine.specs.Laws.{StaysNear, AreQuantaUpTo, states_from, levels_from}
+use Rattle.qss_machine.specs.Legitimate.{IsLegitimate}
+use Rattle.qss_machine.specs.Machines.{quanta, start_states}
+use Rattle.qss_machine.specs.Runs.{IsRun, LeadsFreely, last_world}
+use Rattle.qss_machine.specs.Ticks.{start_world}
+use Rattle.qss_play.specs.Plays.{run_under}
+use Rattle.qss_quant.specs.declared.rule.Rule.{Rule}
+
+-- the run of a machine by a rule with a name is a run under the free rule, and what holds of these holds of it
+pub record PrintedRunsAreFree : Type 0 where
+  pub is_run : (rule : Rule) (m : Machine) → IsRun Free m (run_under rule m)
+  pub leads : (rule : Rule) (m : Machine) → LeadsFreely m 0 (start_world m) (run_under rule m).worlds
+  -- at each of its ticks the states are near their levels, through the tick after it
+  pub near : (rule : Rule) (m : Machine) (ticks : ℕ) → StaysNear m (last_world (start_world m) (take ticks (run_under rule m).worlds))
+  -- without clauses it is legitimate, with the machine's own quanta where none is relative to its level
+  pub legitimate : (rule : Rule) (m : Machine) → m.clauses ≡ [] → m.relative ≡ 0 →
+      IsLegitimate m (start_states m) (quanta m) 1 1
+      (states_from (start_world m) (run_under rule m).worlds) (levels_from (start_world m) (run_under rule m).worlds)
+  -- and else with bounds that its quanta keep
+  pub bounded : (rule : Rule) (m : Machine) (bounds : List ℤ) → m.clauses ≡ [] →
+      AreQuantaUpTo m bounds (levels_from (start_world m) (run_under rule m).worlds) →
+      IsLegitimate m (start_states m) bounds 1 1
+      (states_from (start_world m) (run_under rule m).worlds) (levels_from (start_world m) (run_under rule m).worlds)

@@ -1,0 +1,32 @@
+//! Laws, each the contract of a function that does nothing.
+
+ghost use Rattle.qss_laws.specs.Certificates.{WrittenCertificatesAreShort};
+ghost use Rattle.qss_laws.specs.Listings.{ListingsAreRight};
+ghost use Rattle.qss_laws.specs.Courses.{EventsLeadFreely};
+ghost use Rattle.qss_laws.specs.Lines.{LinesAreFields};
+ghost use Rattle.qss_laws.specs.Printed.{PrintedRunsAreFree};
+
+/// The flat model of a source is the listing of its tree by recursion, without the counts that limits need.
+pub fn listings_are_right()
+    ensures { ListingsAreRight }
+{}
+
+/// What a simulator goes through, under a quantizer with a name or without one, are free steps from its start.
+pub fn events_lead_freely()
+    ensures { EventsLeadFreely }
+{}
+
+/// The run that is printed stays near its levels, and is legitimate where the machine has no clauses.
+pub fn printed_runs_are_free()
+    ensures { PrintedRunsAreFree }
+{}
+
+/// In the rows of a source's machine no field needs quotes: each line is its fields joined by commas, and a line feed.
+pub fn lines_are_fields()
+    ensures { LinesAreFields }
+{}
+
+/// The text that is written of a certificate is short enough to be read, and is read as this certificate.
+pub fn written_certificates_are_short()
+    ensures { WrittenCertificatesAreShort }
+{}

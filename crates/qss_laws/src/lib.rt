@@ -1,0 +1,9 @@
+//! Laws that lead from what one crate says to what another does: a source's listing, a simulator's course, the rows printed.
+#![tactic(auto)]
+
+mod laws;
+
+pub use laws::{
+    events_lead_freely, lines_are_fields, listings_are_right, printed_runs_are_free,
+    written_certificates_are_short,
+};
