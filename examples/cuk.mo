@@ -1,4 +1,4 @@
-// A Cuk converter as in the QSS papers, 24 V, duty 0.25, 10 kHz: four states that all switch.
+// A Cuk converter as in the literature on quantized states, 24 V, duty 0.25, 10 kHz: four states that all switch.
 // Units: us, V, A, uH, uF, Ohm.
 // Look at the output u2, and at u1, which carries the energy.
 // Plot: tools/qss-plot examples/cuk.mo --names i1,u1,i2,u2 --unit us

@@ -100,12 +100,44 @@ fn runs_print_their_rows(rt: HostRuntime) -> Result<(), Fail> {
     Ok(())
 }
 
+const SECOND_ROWS: &str =
+    "0,start,x,4096,16777216\n0,slope,x,-256,\n7,level,x,2640,10813440\n7,slope,x,-165,\n15,level,x,1608,6589440\n15,slope,x,-100,\n16,end,x,1508,6177792\n";
+
+const SECOND_GROWING_ROWS: &str =
+    "0,start,x,64,64\n0,slope,x,-64000,\n2,level,x,63872064,63872064\n2,slope,x,-63872064000,\n4,level,x,63744383744064,63744383744064\n4,slope,x,-63744383744064000,\n6,overflow,x,,\n";
+
+#[test]
+fn second_order_runs(rt: HostRuntime) -> Result<(), Fail> {
+    let alloc = rt.alloc();
+    let cases = [
+        (DECAY, Status::Ok, SECOND_ROWS, ""),
+        (
+            GROWING,
+            Status::Overflow,
+            SECOND_GROWING_ROWS,
+            "overflow: x at tick 6\n",
+        ),
+    ];
+    for (source, status, rows, line) in cases {
+        let setting = Setting {
+            words: &["run2", "M"],
+            ..run_of(source)
+        };
+        let (got, out, err) = outcome(alloc, &setting)?;
+        assert_eq!(rt; got, status);
+        let text = format!(in alloc; "{}{}", HEADER, rows)?;
+        assert_eq!(rt; out.bytes(), text.as_bytes());
+        assert_eq!(rt; err.bytes(), line.as_bytes());
+    }
+    Ok(())
+}
+
 #[test]
 fn what_is_refused(rt: HostRuntime) -> Result<(), Fail> {
     let alloc = rt.alloc();
     let blanks = vec![in alloc; b' '; (1 << 20) + 1]?;
     let long = String::from_utf8(blanks)?;
-    let cases: [(&[&str], &str, u8, &str); 8] = [
+    let cases: [(&[&str], &str, u8, &str); 10] = [
         (&["run", "M"], RESERVED, 5, "refused: parse 1 1\n"),
         (&["run", "M"], NO_QUANTUM, 5, "refused: machine 3 x\n"),
         (&["run", "M"], &long, 5, "refused: top 1\n"),
@@ -114,6 +146,8 @@ fn what_is_refused(rt: HostRuntime) -> Result<(), Fail> {
         (&["run", "absent"], DECAY, 3, "read fault\n"),
         (&["run", "--", "--only"], DECAY, 3, "read fault\n"),
         (&["print", "absent"], DECAY, 3, "read fault\n"),
+        (&["run2", "M"], BALL, 1, "rejected: clauses 1\n"),
+        (&["run2", "M"], NO_QUANTUM, 5, "refused: machine 3 x\n"),
     ];
     for (words, source, code, line) in cases {
         let setting = Setting {
@@ -130,7 +164,7 @@ fn what_is_refused(rt: HostRuntime) -> Result<(), Fail> {
 
 // No words; a verb that is none, or with too few or too many words; an option that is none, that has no value, that is
 // given twice or does not go with its verb; a value out of its bounds; and words that begin with a hyphen.
-const NO_COMMANDS: [&[&str]; 45] = [
+const NO_COMMANDS: [&[&str]; 48] = [
     &[],
     &[""],
     &["walk", "M"],
@@ -176,6 +210,9 @@ const NO_COMMANDS: [&[&str]; 45] = [
     &["run", "M", "--help"],
     &["--version"],
     &["--", "run", "M", "--only", "x"],
+    &["run2"],
+    &["run2", "M", "M"],
+    &["run2", "M", "--rule", "near"],
 ];
 
 #[test]

@@ -23,7 +23,7 @@ named_change m asked levels old new are = record { one_each = are.one_each; each
 pub named_step : (m : Machine) (tick : ℕ) (w : World2) (result : Result World2 ℕ) → Step2 (IsRuled2 true) m tick w result → result ≡ step2 near_change m tick w
 named_step m tick w result s = step2_only near_change m tick w result (s.0, named_change m (leaves m w) (next_levels m w) w.changes s.0 s.1, s.2)
 
-named_start : (m : Machine) (w : World2) → IsStart2 (IsRuled2 true) m w → w ≡ start2 near_change m
+pub named_start : (m : Machine) (w : World2) → IsStart2 (IsRuled2 true) m w → w ≡ start2 near_change m
 named_start m w s = start2_only near_change m w (record { states = s.states; levels = s.levels; changes = named_change m (λ j. true) w.levels [] w.changes s.changes })
 
 -- the rows after a world, at most so many ticks of them

@@ -11,3 +11,4 @@ mod written;
 pub use played::Played;
 pub use playing::play;
 pub use tallying::{Tallied, tally};
+pub use written::{Stop, write_bytes};

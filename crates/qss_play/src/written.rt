@@ -17,8 +17,8 @@ pub enum Stop {
     Memory,
 }
 
-/// Writes all of the bytes.
-pub(crate) fn write_bytes<O: Sink>(bytes: &[u8], out: &mut O) -> Result<(), Stop>
+/// Writes all of the bytes, or a prefix of them where the sink fails.
+pub fn write_bytes<O: Sink>(bytes: &[u8], out: &mut O) -> Result<(), Stop>
     ensures written { IsWriting O.written O.faults (result_err result) out.old out.new bytes.now }
     ensures no_memory { result_err result ≢ Some Stop.Memory }
 {

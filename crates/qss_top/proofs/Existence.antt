@@ -18,8 +18,8 @@ use Rattle.cert_answer.proofs.Scopes.{scope_of}
 use Rattle.trace_answer.proofs.Sameness.{one_each as one_trace}
 use Rattle.propose_answer.proofs.Sameness.{one_proposed}
 use Rattle.qss_generate.specs.Source.{source}
-use Rattle.qss_words.specs.Commands.{RunOptions, Command, run_model, print_model, certify_model, upgrade_model, generate_model, check_model, propose_model, command_of, files_of}
-use Rattle.qss_top.specs.Answers.{Answer, Told, Reply, refusal, printed, printed_text, summed, usage, quiet, too_long, answered, absent, untold, IsSourceRefusal, IsTreeRefusal, IsSourceMachine, IsSourceTree, IsMachineAnswer, IsRunAnswer, IsPrintAnswer, IsGenerationAnswer, uncertifying, certificate_answer, IsCertificateAnswer, IsCertifyAnswer, IsUpgradeAnswer, IsCheckAnswer, trace_answer, IsProposeAnswer, proposal_answer, Says, ReadsThen, Finds, Reads, InScope, ByMachine, ReadsText, ReadsBoth, LeadsTo, Defines}
+use Rattle.qss_words.specs.Commands.{RunOptions, Command, run_model, print_model, certify_model, upgrade_model, generate_model, check_model, propose_model, second_model, command_of, files_of}
+use Rattle.qss_top.specs.Answers.{Answer, Told, Reply, refusal, printed, printed_text, summed, usage, quiet, too_long, answered, absent, untold, IsSourceRefusal, IsTreeRefusal, IsSourceMachine, IsSourceTree, IsMachineAnswer, IsRunAnswer, IsPrintAnswer, IsGenerationAnswer, uncertifying, certificate_answer, IsCertificateAnswer, IsCertifyAnswer, IsUpgradeAnswer, IsCheckAnswer, trace_answer, IsProposeAnswer, proposal_answer, second_for, IsSecondAnswer, Says, ReadsThen, Finds, Reads, InScope, ByMachine, ReadsText, ReadsBoth, LeadsTo, Defines}
 use Rattle.qss_top.specs.Laws.{AnswersExist}
 use Rattle.qss_top.specs.TopCall.{Replies}
 use Rattle.qss_top.specs.declared.status.Status.TheVariants as ends
@@ -67,6 +67,10 @@ some_propose m = let such = one_proposed.some m in (proposal_answer such.0, (suc
 
 pub propose_answer : (bytes : List ℕ) → (answer : Answer) × IsMachineAnswer 0 IsProposeAnswer bytes answer
 propose_answer bytes = machine_answer 0 (omega arith) IsProposeAnswer some_propose bytes
+
+-- each machine has a second-order run, or clauses
+pub second_answer : (bytes : List ℕ) → (answer : Answer) × IsMachineAnswer 0 IsSecondAnswer bytes answer
+second_answer bytes = machine_answer 0 (omega arith) IsSecondAnswer (λ m. (second_for m (length m.clauses), refl)) bytes
 
 read_told : (name : List ℕ) (Is : List ℕ → Answer → Type 0) → ((bytes : List ℕ) → (answer : Answer) × Is bytes answer) → (found : Option (List ℕ)) → (told : Told) × ReadsThen name (λ bytes. Says (Is bytes)) found told
 read_told name Is some None = (record { arrivals = name ∷ []; reply = absent }, refl)
@@ -125,6 +129,7 @@ command_told (certify_model model certificate share) few files = both_told share
 command_told (upgrade_model model certificate) few files = both_told 0 (omega arith) model certificate IsUpgradeAnswer some_upgrade (Some files)
 command_told (check_model model trace) few files = both_told 0 (omega arith) model trace IsCheckAnswer some_check (Some files)
 command_told (propose_model model) few files = file_told model (IsMachineAnswer 0 IsProposeAnswer) propose_answer files
+command_told (second_model model) few files = file_told model (IsMachineAnswer 0 IsSecondAnswer) second_answer files
 command_told (generate_model seed cells) few files =
     let answer = generation_answer seed cells in
     (record { arrivals = []; reply = answered answer.0 }, (answer.0, answer.1, refl))
@@ -193,6 +198,9 @@ refuses_long (check_model model trace) bytes long =
 refuses_long (propose_model model) bytes long =
     bytes_reply model (λ bytes. Says (IsMachineAnswer 0 IsProposeAnswer bytes)) bytes
     (says_reply (IsMachineAnswer 0 IsProposeAnswer bytes) (refusal ends.ModelRefused too_long, inl (long_for IsRefused bytes long)))
+refuses_long (second_model model) bytes long =
+    bytes_reply model (λ bytes. Says (IsMachineAnswer 0 IsSecondAnswer bytes)) bytes
+    (says_reply (IsMachineAnswer 0 IsSecondAnswer bytes) (refusal ends.ModelRefused too_long, inl (long_for IsRefused bytes long)))
 refuses_long (generate_model seed cells) bytes long = says_reply (IsGenerationAnswer seed cells) (generation_answer seed cells)
 
 -- what holds of each answer is so of each reply

@@ -3,6 +3,7 @@ pub mod Refusals
 pub mod Sameness
 pub mod Existence
 pub mod OutcomeFacts
+pub mod SecondFacts
 pub mod Serving
 pub mod Tellings
 pub mod Generations

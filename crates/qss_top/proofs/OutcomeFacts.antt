@@ -46,10 +46,10 @@ row_none fields e =
     cc
 
 -- the bytes end a line
-abbrev EndsLine : List ℕ → Type 0
+abbrev pub EndsLine : List ℕ → Type 0
 EndsLine bytes = (front : List ℕ) × (bytes ≡ front ++ codes "\n")
 
-line_ends : (head body blank : List ℕ) → EndsLine (head ++ (body ++ (blank ++ codes "\n")))
+pub line_ends : (head body blank : List ℕ) → EndsLine (head ++ (body ++ (blank ++ codes "\n")))
 line_ends head body blank =
     (head ++ (body ++ blank), sym (append_assoc head (body ++ blank) (codes "\n") ∙ ap (λ (l : List ℕ). head ++ l) (append_assoc body blank (codes "\n"))))
 

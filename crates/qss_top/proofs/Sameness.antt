@@ -9,13 +9,12 @@ use Rattle.cert_answer.specs.Answers.{IsCertification, IsUpgrade}
 use Rattle.cert_answer.specs.declared.ending.CertificateRefusal.TheVariants as certs
 use Rattle.cert_answer.proofs.Sameness.{one_each}
 use Rattle.cert_answer.proofs.Scopes.{one_outside, not_outside}
-use Rattle.trace_answer.specs.Answers.{IsChecked}
 use Rattle.trace_answer.proofs.Sameness.{one_each as one_trace}
 use Rattle.propose_answer.proofs.Sameness.{one_proposed}
 use Rattle.qss_machine.specs.declared.system.Machine.{Machine}
 use Rattle.qss_generate.specs.Source.{source}
-use Rattle.qss_words.specs.Commands.{RunOptions, Command, run_model, print_model, certify_model, upgrade_model, generate_model, check_model, propose_model, command_of}
-use Rattle.qss_top.specs.Answers.{Answer, Told, printed, printed_text, summed, IsSourceRefusal, IsTreeRefusal, IsSourceMachine, IsSourceTree, IsMachineAnswer, IsRunAnswer, IsPrintAnswer, IsSummedAnswer, IsGenerationAnswer, answered, uncertifying, certificate_answer, IsCertificateAnswer, IsCertifyAnswer, IsUpgradeAnswer, IsCheckAnswer, trace_answer, IsProposeAnswer, proposal_answer, Says, ReadsThen, Reads, InScope, ByMachine, ReadsBoth, LeadsTo, Defines}
+use Rattle.qss_words.specs.Commands.{RunOptions, Command, run_model, print_model, certify_model, upgrade_model, generate_model, check_model, propose_model, second_model, command_of}
+use Rattle.qss_top.specs.Answers.{Answer, Told, printed, printed_text, summed, IsSourceRefusal, IsTreeRefusal, IsSourceTree, IsMachineAnswer, IsRunAnswer, IsPrintAnswer, IsSummedAnswer, IsGenerationAnswer, answered, uncertifying, certificate_answer, IsCertificateAnswer, IsCertifyAnswer, IsUpgradeAnswer, IsCheckAnswer, trace_answer, IsProposeAnswer, proposal_answer, IsSecondAnswer, Says, ReadsThen, Reads, InScope, ByMachine, ReadsBoth, LeadsTo, Defines}
 use Rattle.qss_top.specs.Laws.{AnswersAreUnique}
 use Rattle.qss_top.proofs.Sources.{one_source_refusal, one_tree_refusal, one_source_machine, one_source_tree, source_fine, tree_fine}
 
@@ -103,6 +102,10 @@ one_propose m a b p q = p.2 ∙ ap proposal_answer (one_proposed.one m p.0 q.0 p
 pub one_proposing : (bytes : List ℕ) (a b : Answer) → IsMachineAnswer 0 IsProposeAnswer bytes a → IsMachineAnswer 0 IsProposeAnswer bytes b → a ≡ b
 one_proposing bytes a b p q = one_machine_answer 0 IsProposeAnswer one_propose bytes a b p q
 
+-- a machine has one answer to `run2`
+pub one_second : (bytes : List ℕ) (a b : Answer) → IsMachineAnswer 0 IsSecondAnswer bytes a → IsMachineAnswer 0 IsSecondAnswer bytes b → a ≡ b
+one_second bytes a b p q = one_machine_answer 0 IsSecondAnswer (λ m a b e f. e ∙ sym f) bytes a b p q
+
 one_both : (share : ℕ) (model certificate : List ℕ) (Is : Machine → List ℕ → Answer → Type 0) → ((m : Machine) (text : List ℕ) (a b : Answer) → Is m text a → Is m text b → a ≡ b) → (files : Files)
     → IsOne (ReadsBoth share model certificate Is (Some files))
 one_both share model certificate Is one files s t p q =
@@ -119,6 +122,8 @@ one_command (upgrade_model model certificate) files s t p q = one_both 0 model c
 one_command (check_model model trace) files s t p q = one_both 0 model trace IsCheckAnswer one_check files s t p q
 one_command (propose_model model) files s t p q =
     one_file model (λ bytes. Says (IsMachineAnswer 0 IsProposeAnswer bytes)) (λ bytes. one_says (IsMachineAnswer 0 IsProposeAnswer bytes) (one_proposing bytes)) files s t p q
+one_command (second_model model) files s t p q =
+    one_file model (λ bytes. Says (IsMachineAnswer 0 IsSecondAnswer bytes)) (λ bytes. one_says (IsMachineAnswer 0 IsSecondAnswer bytes) (one_second bytes)) files s t p q
 one_command (generate_model seed cells) files s t p q = one_says (IsGenerationAnswer seed cells) (one_summed cells (source seed cells)) s t p q
 
 one_told : (command : Option Command) (files : Option Files) (s t : Told) → Defines command files s → Defines command files t → s ≡ t

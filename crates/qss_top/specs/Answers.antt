@@ -1,5 +1,5 @@
 -- What the words, with the files they name, define as the answer.
-use Rattle.std.specs.Prelude.{◌≡◌, ◌⊎◌, ℕ, ℤ, ◌+◌, ◌^◌, ◌≤◌, List, [], ◌∷◌, ◌++◌, length, nat_lt, codes, decimal, Option, Some, None, IsSome, MatchBool}
+use Rattle.std.specs.Prelude.{◌≡◌, ◌⊎◌, ℕ, zero, suc, ℤ, ◌+◌, ◌^◌, ◌≤◌, List, [], ◌∷◌, ◌++◌, length, nat_lt, codes, decimal, Option, Some, None, IsSome, MatchBool}
 use Rattle.std.specs.Fmt.{signed_decimal}
 use Rattle.mu_io.specs.Files.{Files, file_of}
 use Rattle.mu_tree.specs.Canonical.{canonical_text}
@@ -17,6 +17,7 @@ use Rattle.qss_play.specs.Tallies.{level_count, end_sum}
 use Rattle.qss_quant.specs.declared.rule.Rule.TheVariants.{Floor}
 use Rattle.cert_check.specs.Scope.{IsInScope, IsOutsideBy}
 use Rattle.cert_check.specs.declared.outside.Outside.{Outside}
+use Rattle.cert_check.specs.declared.outside.Outside.TheVariants.{HasClauses}
 use Rattle.cert_answer.specs.Answers as Certificates
 use Rattle.cert_answer.specs.Answers.{IsCertification, IsUpgrade}
 use Rattle.cert_answer.specs.declared.ending.CertificateRefusal.TheVariants as certs
@@ -31,7 +32,9 @@ use Rattle.propose_answer.specs.Answers as Proposals
 use Rattle.propose_answer.specs.Answers.{IsProposed}
 use Rattle.propose_answer.specs.Endings as ProposalEndings
 use Rattle.propose_answer.specs.declared.ending.ProposalRefusal.{ProposalRefusal}
-use Rattle.qss_words.specs.Commands.{RunOptions, Command, run_model, print_model, certify_model, upgrade_model, generate_model, check_model, propose_model, command_of, files_of}
+use Rattle.qss_order2.specs.Runs.{Past, Run2}
+use Rattle.qss_play2.specs.Plays.{near_run, text2_of}
+use Rattle.qss_words.specs.Commands.{RunOptions, Command, run_model, print_model, certify_model, upgrade_model, generate_model, check_model, propose_model, second_model, command_of, files_of}
 use Rattle.qss_top.specs.Shares.{IsShared}
 use Rattle.qss_top.specs.declared.status.Status.{Status}
 use Rattle.qss_top.specs.declared.status.Status.TheVariants as ends
@@ -227,6 +230,37 @@ proposal_answer (Proposals.written text) = record { status = ends.Ok; out = text
 abbrev pub IsProposeAnswer : Machine → Answer → Type 0
 IsProposeAnswer m answer = (such : Proposals.Answer) × IsProposed m such × (answer ≡ proposal_answer such)
 
+-- how the program ends on a second-order run, and what the line then says
+abbrev pub status_of_run2 : Run2 → Status
+status_of_run2 run = status_by run.overflow
+  where
+    status_by : Option Past → Status
+    status_by None = ends.Ok
+    status_by (Some past) = ends.Overflow
+
+abbrev pub line_of_run2 : Machine → Run2 → Line
+line_of_run2 m run = line_by run.overflow
+  where
+    line_by : Option Past → Line
+    line_by None = quiet
+    line_by (Some past) = over (name_of m past.var) past.tick
+
+-- the answer that prints the second-order run of a machine: the header, and the line of each row
+abbrev pub printed2 : Machine → Answer
+printed2 m = answer_by (near_run m)
+  where
+    answer_by : Run2 → Answer
+    answer_by run = record { status = status_of_run2 run; out = text2_of m run; line = line_of_run2 m run }
+
+-- the answer to `run2` for a machine with so many clauses: with some it is refused, and without any its second-order run is printed
+abbrev pub second_for : Machine → (clauses : ℕ) → Answer
+second_for m zero = printed2 m
+second_for m (suc more) = uncertifying (certs.Outside (HasClauses (suc more)))
+
+-- the answer to `run2` for a machine
+abbrev pub IsSecondAnswer : Machine → Answer → Type 0
+IsSecondAnswer m answer = answer ≡ second_for m (length m.clauses)
+
 -- what is replied: an answer; none, since a file is not on the shelf; or an answer to this command that cannot be named, since the shelf does not tell its files
 pub data Reply : Type 0 where
   answered : Answer → Reply
@@ -281,6 +315,7 @@ LeadsTo (certify_model model certificate share) files told = ReadsBoth share mod
 LeadsTo (upgrade_model model certificate) files told = ReadsBoth 0 model certificate IsUpgradeAnswer files told
 LeadsTo (check_model model trace) files told = ReadsBoth 0 model trace IsCheckAnswer files told
 LeadsTo (propose_model model) files told = Reads files model (λ bytes. Says (IsMachineAnswer 0 IsProposeAnswer bytes)) told
+LeadsTo (second_model model) files told = Reads files model (λ bytes. Says (IsMachineAnswer 0 IsSecondAnswer bytes)) told
 LeadsTo (generate_model seed cells) files told = Says (IsGenerationAnswer seed cells) told
 
 -- for some bytes that the command reads, the answer to it is such a one

@@ -4,13 +4,14 @@ use Rattle.qss_machine.specs.declared.system.Machine.{Machine}
 use Rattle.qss_words.specs.Requests.{options_in}
 use Rattle.qss_words.specs.declared.request.Task.{Task}
 use Rattle.qss_words.specs.declared.request.Task.TheVariants as task
-use Rattle.qss_top.specs.Answers.{Answer, printed, summed, IsMachineAnswer, IsRunAnswer, IsPrintAnswer, IsProposeAnswer}
+use Rattle.qss_top.specs.Answers.{Answer, printed, summed, IsMachineAnswer, IsRunAnswer, IsPrintAnswer, IsProposeAnswer, IsSecondAnswer}
 use Rattle.qss_top.specs.declared.machine.Job.{Job}
 use Rattle.qss_top.specs.declared.machine.Job.TheVariants as jobs
 
 -- whether what is done with a machine writes as it goes
 abbrev pub job_goes : Job → Bool
 job_goes (jobs.Run options) = true
+job_goes jobs.Second = true
 job_goes _ = false
 
 -- the share of the levels that quanta then have
@@ -23,10 +24,12 @@ abbrev pub IsJobAnswer : Job → Machine → Answer → Type 0
 IsJobAnswer (jobs.Run options) m answer = answer ≡ printed (options_in options) m
 IsJobAnswer (jobs.Sum cells) m answer = answer ≡ summed cells m
 IsJobAnswer jobs.Propose m answer = IsProposeAnswer m answer
+IsJobAnswer jobs.Second m answer = IsSecondAnswer m answer
 
 -- whether what is done with a model writes as it goes
 abbrev pub task_goes : Task → Bool
 task_goes (task.Run options) = true
+task_goes task.Second = true
 task_goes _ = false
 
 -- the answer to the bytes of a model
@@ -34,3 +37,4 @@ abbrev pub IsTaskAnswer : Task → List ℕ → Answer → Type 0
 IsTaskAnswer (task.Run options) bytes answer = IsRunAnswer (options_in options) bytes answer
 IsTaskAnswer task.Print bytes answer = IsPrintAnswer bytes answer
 IsTaskAnswer task.Propose bytes answer = IsMachineAnswer 0 IsProposeAnswer bytes answer
+IsTaskAnswer task.Second bytes answer = IsMachineAnswer 0 IsSecondAnswer bytes answer

@@ -114,6 +114,7 @@ fn on_source<O: Sink>(alloc: Global, task: Task, bytes: &[u8], out: &mut O) -> O
         Task::Run(options) => by_machine(alloc, Job::Run(options), bytes, out),
         Task::Print => print_source(alloc, bytes, out),
         Task::Propose => by_machine(alloc, Job::Propose, bytes, out),
+        Task::Second => by_machine(alloc, Job::Second, bytes, out),
     }
 }
 

@@ -7,6 +7,7 @@ mod generation;
 mod laws;
 mod machine;
 mod outcome;
+mod second;
 mod source;
 mod status;
 mod top;

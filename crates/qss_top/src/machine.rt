@@ -10,6 +10,7 @@ ghost use Rattle.qss_words.specs.Requests.{options_in};
 
 use crate::generation::sum_machine;
 use crate::outcome::Outcome;
+use crate::second::second_machine;
 use crate::source::machine_of;
 use mu_io::{Name, Sink};
 use propose_answer::{ProposalEnding, propose_text};
@@ -18,12 +19,14 @@ use qss_play::{Played, play};
 use qss_words::{Options, Share};
 use std::alloc::{AllocError, Global};
 
-/// What is done with a machine: its run is written, the run of so many cells is summed up, or a certificate is proposed.
+/// What is done with a machine: its run is written, the run of so many cells is summed up, a certificate is proposed, or its
+/// second-order run is written.
 #[derive(Clone, Copy, Debug)]
 pub enum Job<'a> {
     Run(Options<'a>),
     Sum(u32),
     Propose,
+    Second,
 }
 
 /// Does this with the machine that a source means.
@@ -68,6 +71,7 @@ fn on_machine<O: Sink>(alloc: Global, job: Job, m: Machine, out: &mut O) -> Outc
         Job::Run(options) => run_machine(alloc, options, m, out),
         Job::Sum(cells) => sum_machine(alloc, cells, m, out),
         Job::Propose => propose_machine(alloc, &m, out),
+        Job::Second => second_machine(alloc, m, out),
     }
 }
 

@@ -16,6 +16,7 @@ pub enum Verb {
     Generate,
     Check,
     Propose,
+    Second,
 }
 
 /// The verb of this name.
@@ -36,6 +37,8 @@ pub(crate) fn verb_named(name: &str) -> Option<Verb>
         Some(Verb::Check)
     } else if name == "propose" {
         Some(Verb::Propose)
+    } else if name == "run2" {
+        Some(Verb::Second)
     } else {
         None
     }

@@ -15,3 +15,8 @@ returns-in-Sum-clause-outcome g c answer h =
 
 pub returns-in-Propose-clause-outcome : goal.returns-in-Propose-clause-outcome
 returns-in-Propose-clause-outcome g c answer h = c.propose_machine.ensures.outcome answer (rw c.in-Propose.is at h)
+
+pub returns-in-Second-clause-outcome : goal.returns-in-Second-clause-outcome
+returns-in-Second-clause-outcome g c answer h =
+    subst (λ (a : Answer). IsOutcome a c.second_machine.result (g.O.Sink.written c.args.out.now) (g.O.Sink.written c.second_machine.new.out) (g.O.Sink.faults c.args.out.now) (g.O.Sink.faults c.second_machine.new.out))
+    (sym (rw c.in-Second.is at h)) c.second_machine.ensures.outcome

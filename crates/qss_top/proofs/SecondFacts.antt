@@ -1,0 +1,68 @@
+-- The outcomes of writing the second-order run of a machine.
+use Rattle.std.proofs.Common.{◌≡◌, ℕ, List, [], ◌∷◌, ◌++◌, refl, sym, ap, ◌∙◌, subst, append_assoc, append-nil, inl, inr}
+use Rattle.std.specs.declared.option.Option.{Option}
+use Rattle.std.specs.Prelude.{codes}
+use Rattle.std.proofs.KnownBytes.{Appends-nil}
+use Rattle.std.specs.Io.KnownBytes.{Appends}
+use Rattle.csv.specs.Writing.{default_writer, row_body}
+use Rattle.mu_io.specs.Sinks.{AppendsPrefix}
+use Rattle.qss_machine.specs.declared.system.Machine.{Machine}
+use Rattle.qss_order2.specs.declared.rows.Row2.{Row2}
+use Rattle.qss_order2.specs.Lines.{fields2_of, line2_of, lines2_of}
+use Rattle.qss_play.specs.declared.played.Played.TheVariants as played
+use Rattle.qss_play2.specs.Plays.{near_run, text2_of, EndsSo2, IsShort2}
+use Rattle.qss_play2.proofs.Writing.{lines2-append}
+use Rattle.qss_rows.specs.Lines.{header}
+use Rattle.qss_top.specs.Answers.{printed2}
+use Rattle.qss_top.specs.Outcomes.{IsOutcome}
+use Rattle.qss_top.specs.TopCall.{IsCutShort}
+use Rattle.qss_top.specs.declared.outcome.Outcome.TheVariants as outcome
+use Rattle.qss_top.proofs.OutcomeFacts.{append_none, row_none, EndsLine, line_ends}
+
+-- ---- lines
+
+lines2_end : (m : Machine) (head : List ℕ) → EndsLine head → (rows : List Row2) → EndsLine (head ++ lines2_of m rows)
+lines2_end m head ended [] = subst EndsLine (sym (append-nil head)) ended
+lines2_end m head ended (row ∷ rows) =
+    subst EndsLine (append_assoc head (line2_of m row) (lines2_of m rows)) (lines2_end m (head ++ line2_of m row) (line_ends head (row_body default_writer (fields2_of m row)) _) rows)
+
+-- a row has a line
+row_some : (m : Machine) (row : Row2) (rows : List Row2) → lines2_of m (row ∷ rows) ≡ [] → ⊥
+row_some m row rows e = row_none (fields2_of m row) (append_none (line2_of m row) (lines2_of m rows) e).0
+
+-- a run that stopped for want of memory is cut short
+pub second_cut : {K : Type 0} (written : K → Option (List ℕ)) (m : Machine) (old new : K) → IsShort2 written m (near_run m) old new → IsCutShort (written old) (written new) (printed2 m)
+second_cut written m old new (inl same) = inl (subst (λ k. Appends (written old) (written k) []) (sym same) (Appends-nil (written old)))
+second_cut written m old new (inr (inl s)) = inr (inl (record {
+  lines = header ++ lines2_of m s.front;
+  rest = lines2_of m (s.row ∷ s.rest);
+  parts = append_assoc header (lines2_of m s.front) (lines2_of m (s.row ∷ s.rest))
+      ∙ ap (λ (l : List ℕ). header ++ l) (sym (lines2-append m s.front (s.row ∷ s.rest)) ∙ ap (lines2_of m) s.parts);
+  ended = lines2_end m header (codes "tick,event,name,level,state", refl) s.front;
+  more = row_some m s.row s.rest;
+  appended = s.appended;
+}))
+second_cut written m old new (inr (inr (over, all))) = inr (inr (rw (over.1) refl, all))
+
+-- ---- outcomes
+
+module _ (m : Machine) (old now : Option (List ℕ)) (before later : ℕ) (written : AppendsPrefix old now (text2_of m (near_run m))) where
+  -- out gained a part of the text, and then a write failed or memory was wanting
+  pub second_fault : IsOutcome (printed2 m) outcome.WriteFault old now before later
+  second_fault = record { defined = λ e. absurd (cc e); prefix = written; short = λ e. absurd (cc e); quiet = λ e. absurd (cc e) }
+
+  pub second_memory : IsCutShort old now (printed2 m) → IsOutcome (printed2 m) outcome.Memory old now before later
+  second_memory cut = record { defined = λ e. absurd (cc e); prefix = written; short = λ e. cut; quiet = λ e. absurd (cc e) }
+
+  -- out gained the whole text
+  module _ (whole : Appends old now (text2_of m (near_run m))) where
+    pub second_done : EndsSo2 m (near_run m) played.Ended → IsOutcome (printed2 m) outcome.Done old now before later
+    second_done end = record { defined = λ e. (rw end refl, rw end refl, whole); prefix = written; short = λ e. absurd (cc e); quiet = λ e. absurd (cc e) }
+
+    pub second_over : (name : List ℕ) (tick : ℕ) → EndsSo2 m (near_run m) (played.Overflowed name tick) → IsOutcome (printed2 m) (outcome.Overflow name tick) old now before later
+    second_over name tick end = record {
+      defined = λ e. (rw (end.1) refl, rw (end.1, end.2) refl, whole);
+      prefix = written;
+      short = λ e. absurd (cc e);
+      quiet = λ e. absurd (cc e);
+    }
