@@ -161,7 +161,7 @@ def quanta(flat, trial):
                 "give it a smaller quantum: Real %s annotation(QSS_Quantum = ..)" % one.name, False)
     expected = trial.rows([float(variable.quantum) for variable in flat.variables[:flat.states]])
     if expected > MANY_ROWS and not trial.grown:
-        yield Finding(None, "about %s rows are to be expected" % shown(expected), "a larger quantum gives fewer", False)
+        yield Finding(None, "about %s rows are to be expected" % shown(expected), "a larger quantum or a shorter StopTime gives fewer", False)
 
 
 def steps(flat):

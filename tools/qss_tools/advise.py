@@ -4,7 +4,7 @@ import os
 import tempfile
 
 from . import limits
-from .advice import findings
+from .advice import MANY_ROWS, findings
 from .explain import LINE
 from .fault import FINE, WARNED, Fault, Words, read_bytes
 from .flat import Flat, Meaningless
@@ -124,4 +124,12 @@ def tell_proposal(source, proposal, trial):
     quanta = [float(proposal.own.get(one.declaration.name, proposal.quantum)) for one in flat.variables[:flat.states]]
     expected = trial.rows(quanta)
     if expected and not trial.grown:
-        print("with them about %s rows of levels are to be expected" % limits.shown(float("%.2g" % expected)))
+        print("with them about %s rows of levels are to be expected" % "{:,}".format(int(float("%.2g" % expected))))
+    if expected > MANY_ROWS and not trial.grown:
+        print("that is much: a million come up to StopTime = %s%s" % (
+            limits.shown(float("%.1g" % (float(proposal.stop) * 1e6 / expected))),
+            "" if stop_is_written(flat.model) else " (StopTime is not written, and so 1)"))
+
+
+def stop_is_written(model):
+    return any(setting.name == "StopTime" for setting in model.settings)

@@ -133,8 +133,10 @@ class Drawing:
         watch, started, last = Watch(columns), False, 0
         with lines_of(given, run) as (lines, name):
             rows = Rows(run, lines, name)
-            tick, changed = 0, set()
+            tick, changed, end = 0, set(), self.ticks(run)[1]
             for at, event, variable, level, state in rows:
+                if given.rows is None and tick > end:
+                    break  # the rest of a run of our own is not drawn
                 if event != "start" and not started:
                     started = True
                     watch.check_started(name)

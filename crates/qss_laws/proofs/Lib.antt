@@ -4,3 +4,4 @@ pub mod Printed
 pub mod Names
 pub mod Lines
 pub mod Certificates
+pub mod Sources

@@ -11,6 +11,7 @@ use Rattle.qss_machine.proofs.Admitted.{runs_are_legitimate}
 use Rattle.qss_machine.proofs.Near.{runs_stay_near}
 use Rattle.qss_machine.proofs.OneRun.{runs_are_unique}
 use Rattle.qss_machine.proofs.Rules.{rules_are_free}
+use Rattle.qss_play.proofs.KnownRows.{run_known}
 use Rattle.qss_play.specs.Plays.{run_under}
 use Rattle.qss_quant.specs.Rules.{level_by}
 use Rattle.qss_quant.specs.declared.rule.Rule.{Rule}
@@ -41,4 +42,5 @@ printed_runs_are_free = record {
   near = λ rule m ticks. runs_stay_near m (take ticks (run_under rule m).worlds) (leads_part m 0 (start_world m) ticks (run_under rule m).worlds (run_leads rule m));
   legitimate = λ rule m none own. runs_are_legitimate.own m (run_under rule m).worlds none own (run_leads rule m);
   bounded = λ rule m bounds none up_to. runs_are_legitimate.bounded m bounds (run_under rule m).worlds none (run_leads rule m) up_to;
+  variables = λ rule m. run_known (level_by rule) m;
 }

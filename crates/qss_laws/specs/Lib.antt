@@ -3,3 +3,4 @@ pub mod Courses
 pub mod Printed
 pub mod Lines
 pub mod Certificates
+pub mod Sources

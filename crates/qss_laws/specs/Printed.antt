@@ -1,14 +1,15 @@
 -- The run that is printed.
-use Rattle.std.specs.Prelude.{◌≡◌, ℕ, List, [], ℤ, take}
+use Rattle.std.specs.Prelude.{◌≡◌, ℕ, List, [], ℤ, take, All}
 use Rattle.mu_num.specs.Levels.{Free}
 use Rattle.qss_machine.specs.declared.system.Machine.{Machine}
 use Rattle.qss_machine.specs.Laws.{StaysNear, AreQuantaUpTo, states_from, levels_from}
 use Rattle.qss_machine.specs.Legitimate.{IsLegitimate}
 use Rattle.qss_machine.specs.Machines.{quanta, start_states}
-use Rattle.qss_machine.specs.Runs.{IsRun, LeadsFreely, last_world}
+use Rattle.qss_machine.specs.Runs.{IsRun, LeadsFreely, last_world, run_rows}
 use Rattle.qss_machine.specs.Ticks.{start_world}
 use Rattle.qss_play.specs.Plays.{run_under}
 use Rattle.qss_quant.specs.declared.rule.Rule.{Rule}
+use Rattle.qss_rows.specs.Lines.{HasVariable}
 
 -- the run of a machine by a rule with a name is a run under the free rule, and what holds of these holds of it
 pub record PrintedRunsAreFree : Type 0 where
@@ -25,3 +26,5 @@ pub record PrintedRunsAreFree : Type 0 where
       AreQuantaUpTo m bounds (levels_from (start_world m) (run_under rule m).worlds) →
       IsLegitimate m (start_states m) bounds 1 1
       (states_from (start_world m) (run_under rule m).worlds) (levels_from (start_world m) (run_under rule m).worlds)
+  -- each of its rows that prints a name is of a variable of the machine
+  pub variables : (rule : Rule) (m : Machine) → All (HasVariable m) (run_rows m (run_under rule m))

@@ -5,6 +5,7 @@ ghost use Rattle.qss_laws.specs.Listings.{ListingsAreRight};
 ghost use Rattle.qss_laws.specs.Courses.{EventsLeadFreely};
 ghost use Rattle.qss_laws.specs.Lines.{LinesAreFields};
 ghost use Rattle.qss_laws.specs.Printed.{PrintedRunsAreFree};
+ghost use Rattle.qss_laws.specs.Sources.{SourcesAreWellFormed};
 
 /// The flat model of a source is the listing of its tree by recursion, without the counts that limits need.
 pub fn listings_are_right()
@@ -29,4 +30,9 @@ pub fn lines_are_fields()
 /// The text that is written of a certificate is short enough to be read, and is read as this certificate.
 pub fn written_certificates_are_short()
     ensures { WrittenCertificatesAreShort }
+{}
+
+/// What a source spells is well formed, as each phase asks for it, and its canonical text spells the same again.
+pub fn sources_are_well_formed()
+    ensures { SourcesAreWellFormed }
 {}

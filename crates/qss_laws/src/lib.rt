@@ -5,5 +5,5 @@ mod laws;
 
 pub use laws::{
     events_lead_freely, lines_are_fields, listings_are_right, printed_runs_are_free,
-    written_certificates_are_short,
+    sources_are_well_formed, written_certificates_are_short,
 };

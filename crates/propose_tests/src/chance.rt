@@ -1,0 +1,28 @@
+// Numbers that a seed gives, one after another.
+
+/// A generator of numbers: each is a linear function of the one before, in 64 bits, of which the upper ones are taken.
+#[derive(Drop)]
+pub(crate) struct Chance {
+    number: u64,
+}
+
+impl Chance {
+    pub(crate) fn new(seed: u64) -> Chance {
+        Chance { number: seed }
+    }
+
+    /// A number below a bound, or 0 where that is 0.
+    pub(crate) fn below(&mut self, bound: u32) -> u32 {
+        self.number = self
+            .number
+            .wrapping_mul(6_364_136_223_846_793_005)
+            .wrapping_add(1_442_695_040_888_963_407);
+        let upper = (self.number >> 33) as u32;
+        upper.checked_rem(bound).unwrap_or(0)
+    }
+
+    /// A number from `low` on, of so many.
+    pub(crate) fn from(&mut self, low: i64, count: u32) -> i64 {
+        low.saturating_add(i64::from(self.below(count)))
+    }
+}
