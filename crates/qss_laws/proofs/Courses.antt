@@ -136,6 +136,34 @@ calls_lead name s (next ∷ more) (going, (outcome, is), same, goes) calm =
     way_on s.machine s.tick s.world next.tick next.world end.tick end.world
     (next_leads name s next outcome is (calm_before name next more goes calm)) rest
 
+-- ---- up to an overflow
+
+passed_on : (m : Machine) (tick : ℕ) (w : World) (last : ℕ) (world : World) (end var : ℕ) → IsReached m tick w last world → IsPassed m last world end var → IsPassed m tick w end var
+passed_on m tick w last world end var way (ys, leads, as_many, is_step) =
+    let on = way_on m tick w last world (last + length ys) (last_world world ys) way (ys, record { leads = leads; as_many = refl; reached = refl }) in
+    (on.0, on.1.leads, omega (arith, as_many, on.1.as_many), subst (λ (v : World). StepBy (IsFreeLevel m) m end v (Err var)) (sym on.1.reached) is_step)
+
+-- a call that ends the run by another outcome ends it for good
+over_is : (name : Option Rule) (next : Standing) (more : List Standing) (end : Outcome) (tick var : ℕ) → next.end ≡ Some end → GoesThrough name next more →
+    (last_standing next more).end ≡ Some (Over tick var) → end ≡ Over tick var
+over_is name next more end tick var ended goes e =
+    let same : Some end ≡ Some (Over tick var) = sym ended ∙ subst (λ (s : Standing). s.end ≡ Some (Over tick var)) (ended_stays name next more end ended goes) e in cc
+
+calls_pass : (name : Option Rule) (s : Standing) (more : List Standing) (tick var : ℕ) → s.end ≡ None → GoesThrough name s more →
+    (last_standing s more).end ≡ Some (Over tick var) → IsPassed s.machine s.tick s.world tick var
+calls_pass name s [] tick var none goes e = absurd (cc (none, e))
+calls_pass name s (next ∷ more) tick var none (going, (outcome, is), same, goes) e = by outcome is
+    (λ ended. let rest = calls_pass name next more tick var ended goes e in subst (λ (m : Machine). IsPassed m next.tick next.world tick var) same rest)
+  where
+    by : (outcome : Outcome) → IsNext (IsRuled name) s next outcome → (next.end ≡ None → IsPassed s.machine next.tick next.world tick var) → IsPassed s.machine s.tick s.world tick var
+    by (Events t) is rest = passed_on s.machine s.tick s.world next.tick next.world tick var (event_leads name s next t is) (rest is.2)
+    by Done is rest = let never = over_is name next more Done tick var is.2 goes e in absurd (cc)
+    by (Over t v) is rest =
+        let one = over_is name next more (Over t v) tick var is.2 goes e in
+        let at : t ≡ tick = cc in
+        let what : v ≡ var = cc in
+        subst (λ (k : ℕ). IsPassed s.machine s.tick s.world k var) at (subst (λ (k : ℕ). IsPassed s.machine s.tick s.world t k) what (over_leads name s next t v is))
+
 -- ---- from the start
 
 pub sound : (m : Machine) (worlds : List World) → LeadsFreely m 0 (start_world m) worlds → IsSound m worlds
@@ -154,4 +182,5 @@ events_lead_freely = record {
   courses = λ name m more goes calm.
       let way = calls_lead name (first m) more goes calm in
       (way.0, way.1, sound m way.0 way.1.leads);
+  overflows = λ name m more tick var goes e. calls_pass name (first m) more tick var refl goes e;
 }

@@ -5,3 +5,5 @@ pub mod Names
 pub mod Lines
 pub mod Certificates
 pub mod Sources
+pub mod Values
+pub mod Kept

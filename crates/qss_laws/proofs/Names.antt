@@ -118,7 +118,7 @@ started_named vars (s ∷ ss) named = started_named (with_start vars s.target s.
 
 -- ---- the flat model
 
-whatever : {A B : Type 0} (Q : B → Type 0) (r : Result A UnrollErr) (next : A → Result B UnrollErr) → ((a : A) → IfOk (next a) Q) → IfOk (then_do r next) Q
+pub whatever : {A B : Type 0} (Q : B → Type 0) (r : Result A UnrollErr) (next : A → Result B UnrollErr) → ((a : A) → IfOk (next a) Q) → IfOk (then_do r next) Q
 whatever {A} {B} Q r next step = each_then (λ _. Unit {0}) Q r next (any_answer r) (λ a _. step a)
 
 listed_named : (m : ModelTree) (ks : List Known) → AllByRecursion IsKnown ks → IfOk (listed m ks) (λ f. AllNamed f.vars)

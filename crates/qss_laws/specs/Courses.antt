@@ -74,3 +74,6 @@ pub record EventsLeadFreely : Type 0 where
   pub courses : (name : Option Rule) (m : Machine) (more : List Standing) → GoesThrough name (first m) more →
       IsCalm (last_standing (first m) more) →
       (worlds : List World) × IsCourse m worlds (last_standing (first m) more).tick (last_standing (first m) more).world × IsSound m worlds
+  -- and up to the overflow that ended the run
+  pub overflows : (name : Option Rule) (m : Machine) (more : List Standing) (tick var : ℕ) → GoesThrough name (first m) more →
+      (last_standing (first m) more).end ≡ Some (Over tick var) → IsPassed m 0 (start_world m) tick var

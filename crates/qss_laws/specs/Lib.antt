@@ -4,3 +4,4 @@ pub mod Printed
 pub mod Lines
 pub mod Certificates
 pub mod Sources
+pub mod Items

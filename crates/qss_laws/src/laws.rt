@@ -3,6 +3,7 @@
 ghost use Rattle.qss_laws.specs.Certificates.{WrittenCertificatesAreShort};
 ghost use Rattle.qss_laws.specs.Listings.{ListingsAreRight};
 ghost use Rattle.qss_laws.specs.Courses.{EventsLeadFreely};
+ghost use Rattle.qss_laws.specs.Items.{ItemsAreKept};
 ghost use Rattle.qss_laws.specs.Lines.{LinesAreFields};
 ghost use Rattle.qss_laws.specs.Printed.{PrintedRunsAreFree};
 ghost use Rattle.qss_laws.specs.Sources.{SourcesAreWellFormed};
@@ -35,4 +36,9 @@ pub fn written_certificates_are_short()
 /// What a source spells is well formed, as each phase asks for it, and its canonical text spells the same again.
 pub fn sources_are_well_formed()
     ensures { SourcesAreWellFormed }
+{}
+
+/// In a model without faults of names no equation, statement or start value is dropped.
+pub fn items_are_kept()
+    ensures { ItemsAreKept }
 {}
