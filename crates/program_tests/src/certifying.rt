@@ -22,10 +22,10 @@ const TWO_CLAUSES: &str =
     "model m Real x; discrete Real c; equation der(x) = 1; algorithm when x >= 1 then reinit(x, 0); end when; when x >= 1 then c := pre(c) + 1; end when; annotation(experiment(StopTime = 1, QSS_CoefBits = 0, QSS_TickBits = 0, QSS_LevelBits = 0, QSS_Quantum = 1)); end m;";
 
 // The most states that a certificate may have, and one more.
-const SIXTEEN_STATES: &str =
+pub(crate) const SIXTEEN_STATES: &str =
     "model m Real u[16]; equation for i in 1:16 loop der(u[i]) = -u[i]; end for; annotation(experiment(StopTime = 1, QSS_CoefBits = 0, QSS_TickBits = 0, QSS_LevelBits = 0, QSS_Quantum = 1)); end m;";
 
-const SEVENTEEN_STATES: &str =
+pub(crate) const SEVENTEEN_STATES: &str =
     "model m Real u[17]; equation for i in 1:17 loop der(u[i]) = -u[i]; end for; annotation(experiment(StopTime = 1, QSS_CoefBits = 0, QSS_TickBits = 0, QSS_LevelBits = 0, QSS_Quantum = 1)); end m;";
 
 // What stands between the form and sigmaR.
@@ -122,13 +122,13 @@ const CUT: [(&str, &str, &str); 5] = [
 
 // A call: its words, its model and its certificate, and the calls of the shelf, of out and of err that are to fail.
 #[derive(Clone, Copy)]
-struct Call<'a> {
-    words: &'a [&'a str],
-    model: &'a str,
-    certificate: &'a str,
-    shelf_fails: &'a [u32],
-    out_fails: &'a [u32],
-    err_fails: &'a [u32],
+pub(crate) struct Call<'a> {
+    pub(crate) words: &'a [&'a str],
+    pub(crate) model: &'a str,
+    pub(crate) certificate: &'a str,
+    pub(crate) shelf_fails: &'a [u32],
+    pub(crate) out_fails: &'a [u32],
+    pub(crate) err_fails: &'a [u32],
 }
 
 // The status, and what out and err hold.
@@ -152,7 +152,7 @@ fn text(alloc: Global, form: &str, last: &str) -> Result<String, Fail> {
 }
 
 // A command with the files of a model and a certificate.
-fn call_of<'a>(words: &'a [&'a str], model: &'a str, certificate: &'a str) -> Call<'a> {
+pub(crate) fn call_of<'a>(words: &'a [&'a str], model: &'a str, certificate: &'a str) -> Call<'a> {
     Call {
         words,
         model,
@@ -170,7 +170,7 @@ fn changed(alloc: Global, text: &str, line: &str, other: &str) -> Result<String,
 }
 
 // A call has this status, text and line.
-fn assert_answered(
+pub(crate) fn assert_answered(
     rt: &impl Abort,
     alloc: Global,
     call: &Call,

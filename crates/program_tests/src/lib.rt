@@ -13,3 +13,5 @@ mod large;
 mod models;
 #[cfg(test)]
 mod runs;
+#[cfg(test)]
+mod traces;
