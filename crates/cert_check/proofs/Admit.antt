@@ -25,7 +25,7 @@ use Rattle.qss_machine.proofs.Near.{unit_positive, quanta_positive, step_facts}
 use Rattle.qss_machine.proofs.Admitted.{runs_are_legitimate}
 use Rattle.cert_matrix.specs.Sums.{size}
 use Rattle.cert_matrix.specs.Matrix.{vector}
-use Rattle.cert_matrix.proofs.Ring.{one-*ℤ}
+use Rattle.mu_num.proofs.Integers.{one-mul}
 use Rattle.cert_check.specs.declared.certificate.Certificate.{Certificate}
 use Rattle.cert_check.specs.Certificate.{Holds}
 use Rattle.cert_check.specs.Reading.{claim}
@@ -128,9 +128,9 @@ keeps m worlds steps run = record {
   starts = λ j h. refl;
   moves = λ i j l h.
       let k : i + 1 < length (states_from (start_world m) worlds) = omega arith in
-      let a = rw (add-one, one-*ℤ) at (run.moves i j k h) in
+      let a = rw (add-one, one-mul) at (run.moves i j k h) in
       let b = slope-same m 1 j (slice_index_or (levels_from (start_world m) worlds) i []) h in
-      a ∙ (rw (one-*ℤ (vector (start_drives m) j)) at b);
+      a ∙ (rw (one-mul (vector (start_drives m) j)) at b);
   first = first_near m;
   next = λ i j l h. next_from m 0 (start_world m) worlds steps i j (omega arith) h;
 }

@@ -4,7 +4,8 @@ use Rattle.std.proofs.Math.IntN.{+ℤ_assoc}
 use Rattle.std.proofs.lemmas.Int.{ints}
 use Rattle.cert_matrix.specs.Sums.{total, size}
 use Rattle.cert_matrix.specs.Form.{Vector, times, product, form}
-use Rattle.cert_matrix.proofs.Ring.{expand, *ℤ-+ℤ, *ℤ_assoc}
+use Rattle.mu_num.proofs.Integers.{mul-add, mul_assoc}
+use Rattle.cert_matrix.proofs.Ring.{expand}
 use Rattle.cert_matrix.proofs.Order.{square-≥, mul-≥, mul-mono, mul-cancel}
 use Rattle.cert_matrix.proofs.Bilinear.{form-same, form-times, times-add, times-neg, times-scale, times-same, times-times}
 use Rattle.cert_matrix.proofs.Sizes.{size-scale, size-same, size-shrink, weighted-size, root-≤, size-cancel}
@@ -69,7 +70,7 @@ slope-≤ m x holds unit> s s≥ state level inside near j h =
   where
     sum : (state level centre kappa z q : ℤ) → size (state -ℤ centre) ≤ℤ (kappa *ℤ z) → size (state -ℤ level) ≤ℤ (kappa *ℤ q)
         → size (level -ℤ centre) ≤ℤ (kappa *ℤ (z +ℤ q))
-    sum state level centre kappa z q h k = rw (*ℤ-+ℤ kappa z q) (omega (arith, ints))
+    sum state level centre kappa z q h k = rw (mul-add kappa z q) (omega (arith, ints))
 
     end : (k s f u rho t w : ℤ) → f ≡ u +ℤ s *ℤ k *ℤ rho → size u ≤ℤ (s *ℤ k *ℤ t) → size (s *ℤ k *ℤ rho) ≤ℤ (s *ℤ k *ℤ w)
         → size f ≤ℤ (k *ℤ (s *ℤ (t +ℤ w)))
@@ -100,7 +101,7 @@ miss-≤ m x holds unit> s r s> r> state next level inside near moves j h =
 
     sum : (state next level s k q t : ℤ) → size (next -ℤ state) ≤ℤ (s *ℤ (k *ℤ t)) → size (state -ℤ level) ≤ℤ (s *ℤ k *ℤ q)
         → size (level -ℤ next) ≤ℤ (s *ℤ k *ℤ (q +ℤ t))
-    sum state next level s k q t h l = rw (*ℤ-+ℤ (s *ℤ k) q t, *ℤ_assoc s k t) (omega (arith, ints))
+    sum state next level s k q t h l = rw (mul-add (s *ℤ k) q t, mul_assoc s k t) (omega (arith, ints))
 
 -- a step from the basin ends in the basin
 pub basin-step : (m : System) (x : Claim) → Holds m x → pos 0 <ℤ m.unit → (s r : ℤ) → pos 0 <ℤ s → pos 0 <ℤ r → (state next level : Vector)
@@ -143,7 +144,7 @@ basin-step m x holds unit> s r s> r> state next level inside near moves =
     level_offset next level c = omega (arith, ints)
 
     gain : (kappa v a b t u : ℤ) → v ≡ a +ℤ b → size a ≤ℤ (kappa *ℤ t) → size b ≤ℤ (kappa *ℤ u) → size v ≤ℤ (kappa *ℤ (t +ℤ u))
-    gain kappa v a b t u e h k = rw (*ℤ-+ℤ kappa t u) (omega (arith, ints))
+    gain kappa v a b t u e h k = rw (mul-add kappa t u) (omega (arith, ints))
 
 -- the first state lies in the basin where the start does
 start-≤ : (m : System) (x : Claim) (s : ℤ) (state start : Vector)

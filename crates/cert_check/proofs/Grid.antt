@@ -6,7 +6,8 @@ use Rattle.std.proofs.lemmas.Bool.{cases_lt}
 use Rattle.std.proofs.lemmas.Int.{ints}
 use Rattle.cert_matrix.specs.Sums.{size}
 use Rattle.cert_matrix.specs.Form.{Vector, times, form}
-use Rattle.cert_matrix.proofs.Ring.{expand, *ℤ-+ℤ, +ℤ-*ℤ, one-*ℤ}
+use Rattle.mu_num.proofs.Integers.{mul-add, add-mul, one-mul}
+use Rattle.cert_matrix.proofs.Ring.{expand}
 use Rattle.cert_matrix.proofs.Order.{mul-≥}
 use Rattle.cert_matrix.proofs.Bilinear.{times-scale}
 use Rattle.cert_matrix.proofs.Sizes.{size-scale}
@@ -69,7 +70,7 @@ move_part : (r q a b h g next this f t s c : ℤ) → g ≡ h +ℤ pos 1 → nex
 move_part r q a b h g next this f t s c g-is next-is this-is moves f-is =
     let scaled : q *ℤ (r *ℤ (b -ℤ a)) ≡ q *ℤ (t +ℤ s *ℤ c) = ap (λ (z : ℤ). q *ℤ z) moves in
     let e = simp expand at scaled in
-    rw (next-is, this-is, f-is, g-is) (simp (one-*ℤ, expand) (omega (arith, ints)))
+    rw (next-is, this-is, f-is, g-is) (simp (one-mul, expand) (omega (arith, ints)))
 
 miss_part : (k q a b d g next v level bound : ℤ) → pos 0 ≤ℤ d → pos 0 ≤ℤ g → d +ℤ g ≡ q → next ≡ q *ℤ a +ℤ g *ℤ (b -ℤ a) → v ≡ q *ℤ level
     → size (k *ℤ level -ℤ a) ≤ℤ bound → size (k *ℤ level -ℤ b) ≤ℤ bound → size (k *ℤ v -ℤ next) ≤ℤ (q *ℤ bound)
@@ -77,7 +78,7 @@ miss_part k q a b d g next v level bound d≥ g≥ q-is next-is v-is near far =
     let e : k *ℤ v -ℤ next ≡ d *ℤ (k *ℤ level -ℤ a) +ℤ g *ℤ (k *ℤ level -ℤ b) = rw (next-is, v-is, ← q-is) (simp expand (omega (arith, ints))) in
     let u = size-scale d (k *ℤ level -ℤ a) bound d≥ near in
     let w = size-scale g (k *ℤ level -ℤ b) bound g≥ far in
-    let b' : q *ℤ bound ≡ d *ℤ bound +ℤ g *ℤ bound = rw (← q-is) (+ℤ-*ℤ d g bound) in
+    let b' : q *ℤ bound ≡ d *ℤ bound +ℤ g *ℤ bound = rw (← q-is) (add-mul d g bound) in
     rw (e, b') (omega (arith, ints))
 
 pub scaled-≥ : (n : ℕ) (k : ℤ) → pos 0 <ℤ k → pos 0 ≤ℤ (pos n *ℤ k)
@@ -113,7 +114,7 @@ fine-steps m x holds unit> start w run below q q> = record {
 }
   where
     near_width : (state level kappa q s : ℤ) → pos 0 ≤ℤ kappa → pos 0 ≤ℤ s → size (state -ℤ level) ≤ℤ (kappa *ℤ q) → size (level -ℤ state) ≤ℤ (kappa *ℤ (q +ℤ s))
-    near_width state level kappa q s kappa≥ s≥ h = let p = mul-≥ kappa s kappa≥ s≥ in rw (*ℤ-+ℤ kappa q s) (omega (arith, ints))
+    near_width state level kappa q s kappa≥ s≥ h = let p = mul-≥ kappa s kappa≥ s≥ in rw (mul-add kappa q s) (omega (arith, ints))
 
     bound : (s q k w v : ℤ) → size v ≤ℤ (q *ℤ (s *ℤ k *ℤ w)) → size v ≤ℤ ((s *ℤ q) *ℤ k *ℤ w)
     bound s q k w v h =

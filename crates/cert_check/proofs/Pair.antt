@@ -5,7 +5,8 @@ use Rattle.std.proofs.Math.Nat.{mul-le-mul_right}
 use Rattle.std.proofs.lemmas.Int.{ints}
 use Rattle.cert_matrix.specs.Sums.{size}
 use Rattle.cert_matrix.specs.Form.{Vector, Table, times, product, form}
-use Rattle.cert_matrix.proofs.Ring.{expand, +ℤ-*ℤ}
+use Rattle.mu_num.proofs.Integers.{add-mul}
+use Rattle.cert_matrix.proofs.Ring.{expand}
 use Rattle.cert_matrix.proofs.Order.{square-≥, mul-≥, mul->, mul-mono, mul-cancel}
 use Rattle.cert_matrix.proofs.Bilinear.{form-same, form-times, times-add, times-neg, times-scale, times-same, times-times}
 use Rattle.cert_matrix.proofs.Sizes.{size-scale, weighted-size}
@@ -77,7 +78,7 @@ pair-step m x holds unit> s t r s≥ t≥ r> v v' mv w w' mw moves_v moves_w mis
         let q = size-scale s b _ s≥ l in
         let p' : t *ℤ (s *ℤ k *ℤ w) ≡ s *ℤ t *ℤ k *ℤ w = simp expand in
         let q' : s *ℤ (t *ℤ k *ℤ w) ≡ s *ℤ t *ℤ k *ℤ w = simp expand in
-        let e = +ℤ-*ℤ (s *ℤ t *ℤ k) (s *ℤ t *ℤ k) w in
+        let e = add-mul (s *ℤ t *ℤ k) (s *ℤ t *ℤ k) w in
         omega (arith, ints)
 
     gain : (kappa v u t : ℤ) → v ≡ u → size u ≤ℤ ((kappa +ℤ kappa) *ℤ t) → size v ≤ℤ (kappa *ℤ (pos 2 *ℤ t))

@@ -4,7 +4,8 @@ use Rattle.std.proofs.lemmas.Int.{ints}
 use Rattle.std.proofs.lemmas.Bool.{cases_lt}
 use Rattle.cert_matrix.specs.Sums.{size}
 use Rattle.cert_matrix.specs.Form.{Vector}
-use Rattle.cert_matrix.proofs.Ring.{expand, one-*ℤ}
+use Rattle.mu_num.proofs.Integers.{one-mul}
+use Rattle.cert_matrix.proofs.Ring.{expand}
 use Rattle.cert_matrix.proofs.Order.{mul-≥, mul-mono, mul-cancel}
 use Rattle.cert_matrix.proofs.Sizes.{size-cancel, size-scale, size-same}
 use Rattle.cert_check.specs.Certificate.{System, Claim, Holds}
@@ -17,7 +18,7 @@ level-≤ k q v k> q≥ h =
     let k≥ : pos 0 ≤ℤ k = omega (arith, ints) in
     let d : pos 0 ≤ℤ (q -ℤ pos 1) = omega (arith, ints) in
     let p = simp expand at (mul-≥ k (q -ℤ pos 1) k≥ d) in
-    let e : pos 1 *ℤ k *ℤ q ≡ k *ℤ q = ap (λ (x : ℤ). x *ℤ q) (one-*ℤ k) in
+    let e : pos 1 *ℤ k *ℤ q ≡ k *ℤ q = ap (λ (x : ℤ). x *ℤ q) (one-mul k) in
     let f : k *ℤ pos 1 ≡ k = omega (arith, ints) in
     rw e (omega (arith, ints))
 
@@ -31,8 +32,8 @@ quantum-≤ share own q certified level state c z k k> share≥ own≤ shares ne
     let k≥ : pos 0 ≤ℤ k = omega (arith, ints) in
     let centre = size-scale k c (size c) k≥ (size-same c) in
     let spread : k *ℤ (size c +ℤ z +ℤ certified) ≡ k *ℤ size c +ℤ k *ℤ z +ℤ k *ℤ certified = expand_three k (size c) z certified in
-    let near_c' : size (state -ℤ k *ℤ c) ≤ℤ (k *ℤ z) = rw one-*ℤ at near_c in
-    let near_level' : size (state -ℤ k *ℤ level) ≤ℤ (k *ℤ certified) = rw one-*ℤ at near_level in
+    let near_c' : size (state -ℤ k *ℤ c) ≤ℤ (k *ℤ z) = rw one-mul at near_c in
+    let near_level' : size (state -ℤ k *ℤ level) ≤ℤ (k *ℤ certified) = rw one-mul at near_level in
     let scaled : size (k *ℤ level) ≤ℤ (k *ℤ (size c +ℤ z +ℤ certified)) = rw spread (omega (arith, ints)) in
     let within = size-cancel k level (size c +ℤ z +ℤ certified) k> scaled in
     let a = mul-mono share _ _ share≥ within in
@@ -64,7 +65,7 @@ new-near m x unit> share≥ quantum≥ holds start w certified keeps i h before 
     stretch k q c v k> q≤ h =
         let k≥ : pos 0 ≤ℤ k = omega (arith, ints) in
         let a = mul-mono k q c k≥ q≤ in
-        let e : pos 1 *ℤ k *ℤ c ≡ k *ℤ c = ap (λ (x : ℤ). x *ℤ c) (one-*ℤ k) in
+        let e : pos 1 *ℤ k *ℤ c ≡ k *ℤ c = ap (λ (x : ℤ). x *ℤ c) (one-mul k) in
         rw e (omega (arith, ints))
 
     by : (size (w.states (suc i) j -ℤ m.unit *ℤ w.levels (suc i) j) ≤ℤ m.unit)
@@ -96,7 +97,7 @@ prefix-legitimate : (m : System) (x : Claim) → pos 0 <ℤ m.unit → pos 0 ≤
 prefix-legitimate m x unit> share≥ quantum≥ holds start w certified keeps zero h = record {
   scaled = omega arith;
   refined = omega arith;
-  starts = λ j l. keeps.starts j l ∙ sym (one-*ℤ (start j));
+  starts = λ j l. keeps.starts j l ∙ sym (one-mul (start j));
   moves = λ i j never l. absurd (omega arith);
   near = λ i j first l.
       let e : i ≡ 0 = omega arith in

@@ -88,13 +88,6 @@ fn own_quanta(m: &Machine) -> Column
     quantum
 }
 
-/// How many units of a state a level has.
-fn unit_of(m: &Machine) -> i128
-    ensures { result ≡ level_unit m.now }
-{
-    1 << (m.p + m.k)
-}
-
 /// The affine system of a machine.
 pub fn affine_system(m: &Machine) -> AffineSystem
     requires { IsInScope m.now }
@@ -110,7 +103,7 @@ pub fn affine_system(m: &Machine) -> AffineSystem
         coef: coefficients(m, n, discretes),
         constant: drives(m, n, discretes),
         quantum: own_quanta(m),
-        unit: unit_of(m),
+        unit: m.level_unit(),
         share: i128::from(m.relative),
     }
 }

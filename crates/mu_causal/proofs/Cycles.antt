@@ -35,21 +35,21 @@ chain_next needs v (x ∷ xs) end w c m =
           record { needed = n.needed; need = n.need; member = elim n.member [ inl i ↦ inl (among x n.needed xs i) | inr e ↦ inr e ] }
     ]
 
--- each member of a cycle needs a member
-cycle_next : (needs : ℕ → ℕ → Type 0) (round : List ℕ) (w : ℕ) → IsCycle needs round → Contains round w → (u : ℕ) × (needs w u × Contains round u)
-cycle_next needs [] w c m = absurd (omega (arith, m.1))
-cycle_next needs (v ∷ vs) w c m =
-    let n : NeedsMember needs vs v w = chain_next needs v vs v w c.0 m in
+-- each member of a closed chain needs a member
+closed_next : (needs : ℕ → ℕ → Type 0) (v : ℕ) (vs : List ℕ) (w : ℕ) → Chain needs v vs v → Contains (v ∷ vs) w → (u : ℕ) × (needs w u × Contains (v ∷ vs) u)
+closed_next needs v vs w c m =
+    let n : NeedsMember needs vs v w = chain_next needs v vs v w c m in
     (n.needed, (n.need, elim n.member [ inl i ↦ among v n.needed vs i | inr e ↦ subst (Contains (v ∷ vs)) (sym e) (0, omega arith, refl) ]))
 
--- no member of a cycle is ever listed
-never_listed : (variable : ℕ → Type 0) (needs : ℕ → ℕ → Type 0) (round done vars : List ℕ) → IsCycle needs round → ((w : ℕ) → Contains done w → Contains round w → ⊥) → Follow variable needs done vars → (w : ℕ) → Contains vars w → Contains round w → ⊥
-never_listed variable needs round done [] cycle clear f w c m = omega (arith, c.1)
-never_listed variable needs round done (v ∷ vs) cycle clear f w c m =
-    let not_here : Contains round v → ⊥ = λ k. let n = cycle_next needs round v cycle k in clear n.0 (f.0.is_ready.ready n.0 n.1.0) n.1.1 in
+-- members that each need a member are never listed
+never_listed : (variable : ℕ → Type 0) (needs : ℕ → ℕ → Type 0) (round done vars : List ℕ) → ((w : ℕ) → Contains round w → (u : ℕ) × (needs w u × Contains round u))
+    → ((w : ℕ) → Contains done w → Contains round w → ⊥) → Follow variable needs done vars → (w : ℕ) → Contains vars w → Contains round w → ⊥
+never_listed variable needs round done [] next clear f w c m = omega (arith, c.1)
+never_listed variable needs round done (v ∷ vs) next clear f w c m =
+    let not_here : Contains round v → ⊥ = λ k. let n = next v k in clear n.0 (f.0.is_ready.ready n.0 n.1.0) n.1.1 in
     elim (one_of v w vs c) [
       | inl e ↦ not_here (subst (Contains round) e m)
-      | inr d ↦ never_listed variable needs round (done ++ v ∷ []) vs cycle
+      | inr d ↦ never_listed variable needs round (done ++ v ∷ []) vs next
           (λ x old k. elim (Contains-append_cases done (v ∷ []) x old) [
             | inl before ↦ clear x before k
             | inr last ↦ elim (one_of v x [] last) [ inl e ↦ not_here (subst (Contains round) e k) | inr none ↦ omega (arith, none.1) ]
@@ -57,10 +57,14 @@ never_listed variable needs round done (v ∷ vs) cycle clear f w c m =
           f.1 w d m
     ]
 
--- where all variables can be listed there is no cycle
+-- where all variables can be listed there is no closed chain
+pub no_closed_chain : (variable : ℕ → Type 0) (needs : ℕ → ℕ → Type 0) (vars : List ℕ) (v : ℕ) (vs : List ℕ) → ((v w : ℕ) → needs v w → variable v) → IsOrder variable needs vars → Chain needs v vs v → ⊥
+no_closed_chain variable needs vars v vs there o c =
+    let first : Contains (v ∷ vs) v = (0, omega arith, refl) in
+    let n = closed_next needs v vs v c first in
+    never_listed variable needs (v ∷ vs) [] vars (λ w m. closed_next needs v vs w c m) (λ w k m. omega (arith, k.1)) o.each v (o.all v (there v n.0 n.1.0)) first
+
+-- and no cycle
 pub no_cycle : (variable : ℕ → Type 0) (needs : ℕ → ℕ → Type 0) (vars round : List ℕ) → ((v w : ℕ) → needs v w → variable v) → IsOrder variable needs vars → IsCycle needs round → ⊥
 no_cycle variable needs vars [] there o c = c
-no_cycle variable needs vars (v ∷ vs) there o c =
-    let first : Contains (v ∷ vs) v = (0, omega arith, refl) in
-    let n = cycle_next needs (v ∷ vs) v c first in
-    never_listed variable needs (v ∷ vs) [] vars c (λ w k m. omega (arith, k.1)) o.each v (o.all v (there v n.0 n.1.0)) first
+no_cycle variable needs vars (v ∷ vs) there o c = no_closed_chain variable needs vars v vs there o c.0

@@ -2,7 +2,7 @@
 
 ghost use Rattle.std.specs.Prelude.{◌≡◌, ℕ, List, IfOk, IfErr};
 ghost use Rattle.mu_tree.specs.FlatExpression.{flat_model, FlatModelTree};
-ghost use Rattle.mu_causal.specs.Causality.{IsOrder, IsCycle};
+ghost use Rattle.mu_causal.specs.Causality.{Chain, IsOrder, IsCycle};
 ghost use Rattle.mu_causal.specs.Dependencies.{IsNumbered, AreCounted, IsAlgebraic, DependsOn};
 ghost use Rattle.mu_causal.specs.Answers.{IsCausalFault};
 
@@ -46,6 +46,12 @@ pub fn order(alloc: Global, m: &FlatModel) -> Result<Order, CausalErr>
 /// A flat model with an order has no cycle: so a cycle is answered exactly where there is one.
 pub fn law_of_exclusion()
     ensures { (m : FlatModelTree) (vars round : List ℕ) → IsOrder (IsAlgebraic m) (DependsOn m) vars → IsCycle (DependsOn m) round → ⊥ }
+{}
+
+/// A flat model with an order has no closed chain of algebraic variables, each of which names the next one, whether or not it is a cycle that
+/// begins with its least and names none twice.
+pub fn law_of_chains()
+    ensures { (m : FlatModelTree) (vars : List ℕ) (v : ℕ) (vs : List ℕ) → IsOrder (IsAlgebraic m) (DependsOn m) vars → Chain (DependsOn m) v vs v → ⊥ }
 {}
 
 /// A flat model has one order.

@@ -30,3 +30,4 @@ pub mod SoundStates
 pub mod SumsComplete
 pub mod SumsEnds
 pub mod SumsSound
+pub mod SourceTokens

@@ -15,6 +15,7 @@ pub mod Models
 pub mod ReadBack
 pub mod Shapes
 pub mod Skipped
+pub mod SourceTokens
 pub mod States
 pub mod SumMachine
 pub mod SymbolViews

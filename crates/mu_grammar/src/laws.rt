@@ -7,6 +7,7 @@ ghost use Rattle.mu_grammar.specs.Grammar.{Symbol};
 ghost use Rattle.mu_grammar.specs.ModelMachine.{model_machine};
 ghost use Rattle.mu_grammar.specs.Models.{SpellOneModel, SpellsModel};
 ghost use Rattle.mu_grammar.specs.ReadBack.{ReadsBack};
+ghost use Rattle.mu_grammar.specs.SourceTokens.{TokensAreTokens};
 
 /// The machine has a whole model after exactly those tokens that spell it, and from each of its
 /// states some tokens lead to a model.
@@ -34,4 +35,9 @@ pub fn judged_once()
 /// again but for places, and are nested no deeper.
 pub fn models_read_back()
     ensures { (limit : ℕ) (ts : List Symbol) (m : ModelTree) → All IsToken ts → SpellsModel limit ts m → ReadsBack limit m }
+{}
+
+/// The tokens that a lexer finds in a source are tokens of the grammar, of which the laws above speak.
+pub fn tokens_of_sources()
+    ensures { TokensAreTokens }
 {}

@@ -7,8 +7,6 @@ pub mod InOrder
 pub mod Assembly
 pub mod UnitLaws
 pub mod Whole
-pub mod ProductSums
-pub mod Modes
 pub mod FormLaws
 pub mod Made
 pub mod Seen

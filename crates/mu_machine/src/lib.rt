@@ -10,7 +10,6 @@ mod numbers;
 mod rows;
 mod units;
 mod variables;
-mod weights;
 
 pub use fault::MachineErr;
 pub use laws::{finished_forms_are_laid_out, machines_are_unique};

@@ -9,12 +9,12 @@ ghost use Rattle.mu_machine.specs.Machines.{IsRightSide};
 ghost use Rattle.mu_machine.specs.declared.fault.MachineErr.TheVariants.{Start, Coefficient};
 
 use crate::fault::MachineErr;
-use crate::numbers::{is_some_number, passes, rounded};
+use crate::numbers::{is_some_number, rounded};
 use crate::units::Units;
-use crate::weights::is_light;
 use mu_forms::form::{ExactEntry, ExactForm, ExactProduct};
 use mu_io::Items;
-use qss_machine::{Entry, Form, Product, SlopeRow};
+use mu_num::passes;
+use qss_machine::{Entry, Form, Product, SlopeRow, is_light};
 use std::alloc::{AllocError, Global};
 
 // Adds an entry, unless its coefficient is 0.
@@ -211,7 +211,7 @@ fn starts_well(
     let Some(row) = rounded_row(alloc, form, units)? else {
         return Ok(true);
     };
-    is_light(alloc, &row, units.f, levels, values)
+    Ok(is_light(&row, units.f, levels, values))
 }
 
 /// The right sides, or the first one that is past a limit of its own.

@@ -9,9 +9,9 @@ ghost use Rattle.mu_machine.specs.Checks.{IsRefusal, checks, first_failed, is_qu
 ghost use Rattle.mu_machine.specs.declared.fault.MachineErr.TheVariants.{Start, Quantum};
 
 use crate::fault::MachineErr;
-use crate::numbers::{passes, rounded, rounded_down, unit};
+use crate::numbers::{rounded, rounded_down};
 use crate::units::Units;
-use mu_num::{Ratio, floor_div};
+use mu_num::{Ratio, floor_div, passes, unit};
 use mu_tree::flat::{FlatRole, FlatVar};
 use qss_machine::{DiscreteInfo, StateInfo};
 use std::alloc::{AllocError, Global};

@@ -27,7 +27,29 @@ fn valued(answer: Result<Ratio, NumErr>, at: u32, least: &mut Option<NameErr>) -
     }
 }
 
-// A sum and one more term.
+/// A sum and one more term, which a minus may stand before.
+pub fn joined(total: Ratio, minus: bool, value: Ratio) -> Result<Ratio, NumErr>
+    ensures { result ≡ joined minus total value }
+{
+    if minus {
+        total.sub(value)
+    } else {
+        total.add(value)
+    }
+}
+
+/// A product and one more factor, or divided by it.
+pub fn multiplied(total: Ratio, divide: bool, value: Ratio) -> Result<Ratio, NumErr>
+    ensures { result ≡ multiplied divide total value }
+{
+    if divide {
+        total.div(value)
+    } else {
+        total.mul(value)
+    }
+}
+
+// A sum and one more term, where both have a value.
 fn join(
     total: Option<Ratio>,
     minus: bool,
@@ -39,19 +61,12 @@ fn join(
     ensures faults { least.new ≡ least_of least.old (both_faults at (joined minus) total value) }
 {
     match (total, value) {
-        (Some(total), Some(value)) => {
-            let answer = if minus {
-                total.sub(value)
-            } else {
-                total.add(value)
-            };
-            valued(answer, at, least)
-        }
+        (Some(total), Some(value)) => valued(joined(total, minus, value), at, least),
         _ => None,
     }
 }
 
-// A product and one more factor.
+// A product and one more factor, where both have a value.
 fn multiply(
     total: Option<Ratio>,
     divide: bool,
@@ -63,14 +78,7 @@ fn multiply(
     ensures faults { least.new ≡ least_of least.old (both_faults at (multiplied divide) total value) }
 {
     match (total, value) {
-        (Some(total), Some(value)) => {
-            let answer = if divide {
-                total.div(value)
-            } else {
-                total.mul(value)
-            };
-            valued(answer, at, least)
-        }
+        (Some(total), Some(value)) => valued(multiplied(total, divide, value), at, least),
         _ => None,
     }
 }

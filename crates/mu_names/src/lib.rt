@@ -10,3 +10,5 @@ pub mod role;
 pub mod scope;
 pub mod standing;
 pub mod table;
+
+pub use constant::{joined, multiplied};

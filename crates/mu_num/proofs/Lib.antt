@@ -1,5 +1,6 @@
 pub mod Integers
 pub mod Tests
+pub mod SizeTests
 pub mod Quotients
 pub mod NearestCases
 pub mod TickLaws

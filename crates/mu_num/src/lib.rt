@@ -1,5 +1,5 @@
 //! Exact numbers without memory: fractions, quotients of whole numbers with a stated rounding, first
-//! ticks, and roots.
+//! ticks, roots, and sizes.
 #![tactic(auto)]
 
 mod curves;
@@ -8,6 +8,7 @@ mod laws;
 mod literal;
 mod ratio;
 mod root;
+mod sizes;
 mod ticks;
 
 pub use curves::first_curve;
@@ -16,6 +17,7 @@ pub use laws::{decimals_are_right, levels_are_near, lowest_terms_are_right, quot
 pub use literal::decimal;
 pub use ratio::{Ratio, nearest};
 pub use root::root_up;
+pub use sizes::{passes, shifted, unit};
 pub use ticks::{first_past, first_tick, tick_later};
 
 /// Why a number is refused.

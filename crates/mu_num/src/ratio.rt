@@ -7,6 +7,7 @@ ghost use Rattle.mu_num.specs.Fraction.{lowest, checked, sum, difference, produc
 
 use crate::NumErr;
 use crate::division::near_div;
+use crate::sizes::shifted;
 use std::marker::Model;
 
 /// A fraction in lowest terms, over a positive denominator, both terms at most 2^62 in size.
@@ -108,26 +109,6 @@ fn multiplied(a: i128, b: i128) -> i128
     ensures size { unsigned_abs result ≤ 2 ^ 124 }
 {
     a * b
-}
-
-// A power of 2.
-fn power_of_two(bits: u8) -> u128
-    requires { bits ≤ 64 }
-    ensures value { result ≡ 2 ^ bits }
-    ensures size { result ≤ 2 ^ 64 }
-{
-    1u128 << bits
-}
-
-// A small number times a power of 2.
-fn shifted(num: i128, bits: u8) -> i128
-    requires num { unsigned_abs num ≤ 2 ^ 62 }
-    requires bits { bits ≤ 64 }
-    ensures value { result ≡ num *ℤ pos (2 ^ bits) }
-    ensures size { unsigned_abs result ≤ 2 ^ 126 }
-{
-    let by = power_of_two(bits);
-    num * by as i128
 }
 
 impl Ratio {

@@ -4,7 +4,6 @@ ghost use Rattle.std.specs.Prelude.{◌≡◌, pos, map, ◌≤◌, ◌^◌, ◌
 ghost use Rattle.mu_num.specs.Decimal.{decimal_value};
 ghost use Rattle.mu_num.specs.Fraction.{whole};
 ghost use Rattle.mu_tree.specs.Expression.{expression, reference, signed, scaled, terms_of, factors_of};
-ghost use Rattle.mu_names.specs.Constant.{joined, multiplied};
 ghost use Rattle.mu_unroll.specs.Bounds.{IsNear, bounds_of};
 ghost use Rattle.mu_unroll.specs.Flattening.{bound_of, constants_in, index_in};
 ghost use Rattle.mu_unroll.specs.Places.{constant_of, meant_in};
@@ -13,6 +12,7 @@ ghost use Rattle.mu_unroll.specs.Values.{constant_value, placed, product_value, 
 
 use crate::fault::UnrollErr;
 use crate::place::{LoopVar, Meant, meaning_of};
+use mu_names::{joined, multiplied};
 use mu_num::{NumErr, Ratio, decimal};
 use mu_tree::expr::{Expr, Factor, Ref, Term};
 use std::collections::BTreeMap;
@@ -32,28 +32,6 @@ pub fn literal(digits: &[u8], at: u32) -> Result<Ratio, UnrollErr>
     ensures { result ≡ placed at (decimal_value digits.now) }
 {
     placed(decimal(digits), at)
-}
-
-// A sum and one more term.
-fn join(total: Ratio, minus: bool, value: Ratio, at: u32) -> Result<Ratio, UnrollErr>
-    ensures { result ≡ placed at (joined minus total value) }
-{
-    if minus {
-        placed(total.sub(value), at)
-    } else {
-        placed(total.add(value), at)
-    }
-}
-
-// A product and one more factor.
-fn multiply(total: Ratio, divide: bool, value: Ratio, at: u32) -> Result<Ratio, UnrollErr>
-    ensures { result ≡ placed at (multiplied divide total value) }
-{
-    if divide {
-        placed(total.div(value), at)
-    } else {
-        placed(total.mul(value), at)
-    }
 }
 
 // The constant that a name stands for.
@@ -98,7 +76,7 @@ fn sum_value(
             Ok(value) => value,
             Err(fault) => return Err(fault),
         };
-        total = match join(total, term.minus, value, term.at) {
+        total = match placed(joined(total, term.minus, value), term.at) {
             Ok(next) => next,
             Err(fault) => return Err(fault),
         };
@@ -121,7 +99,7 @@ fn product_value(
             Ok(value) => value,
             Err(fault) => return Err(fault),
         };
-        total = match multiply(total, factor.divide, value, factor.at) {
+        total = match placed(multiplied(total, factor.divide, value), factor.at) {
             Ok(next) => next,
             Err(fault) => return Err(fault),
         };

@@ -3,7 +3,6 @@ use Rattle.std.proofs.Common.{◌≡◌, ◌≢◌, ◌⊎◌, ℕ, zero, suc, �
 use Rattle.std.specs.declared.option.Option.{Option}
 use Rattle.std.specs.List.{All}
 use Rattle.std.proofs.lemmas.List.{drop-drop}
-use Rattle.std.proofs.lemmas.List.Elements.{All-nil, All-cons}
 use Rattle.mu_lexer.specs.Automaton.{kind_from, BestUpTo, better, named, word_among, kind_named}
 use Rattle.mu_lexer.specs.Reading.{begins_blank, begins_quote, begins_comment, comment_length, Stands, StopsReading, Reads, stay as at_end, blank as over_space, comment as over_remark, token as over_word, AreTokens, IsFirstFault}
 use Rattle.mu_lexer.specs.Spelling.{SpellsToken}
@@ -17,8 +16,6 @@ use Rattle.mu_lexer.specs.declared.token.Token.{Token}
 use Rattle.mu_lexer.specs.declared.token.TheConstants.{WORDS}
 use Rattle.mu_lexer.proofs.Places.{found_longest, found_none, size_within}
 use Rattle.mu_lexer.proofs.Progress.{Progress, start, over_blank, over_comment, over_token, finished, fault_here, no_tokens, no_error, only_error, error_at}
-use Rattle.mu_grammar.specs.Fronts.{IsToken}
-use Rattle.mu_grammar.specs.Symbols.{symbol_with, symbol_of, symbols}
 
 -- a front of this length or a shorter one
 at_most : (i m : ℕ) → m ≤ i + 1 → (m ≤ i) ⊎ (m ≡ i + 1)
@@ -124,26 +121,3 @@ lexed_from (suc left) bytes at tokens h so_far = by (λ next more. lexed_from le
 
 pub lexed : (bytes : List ℕ) → Lexed bytes
 lexed bytes = lexed_from (length bytes) bytes 0 [] (omega arith) (start bytes)
-
--- the tokens of a source are tokens
-is_token : (k : Kind) (text : List ℕ) (at : ℕ) → SpellsToken k text → IsToken (symbol_with k text at)
-is_token kind.Number text at h = h
-is_token kind.Str text at h = tt
-is_token kind.Ident text at h = h
-is_token (kind.Word w) text at h = tt
-is_token (kind.Mark m) text at h = tt
-
-same_text : (at n : ℕ) (s d : List ℕ) → s ≡ d → take n s ≡ take (at + n - at) d
-same_text at n s d e = let size : at + n - at ≡ n = omega arith in rw (size, e) refl
-
-read_tokens : (bytes : List ℕ) {end : ℕ} {rest : List ℕ} {at : ℕ} {s : List ℕ} {ts : List Token} → Reads end rest at s ts → s ≡ drop at bytes → All IsToken (symbols bytes ts)
-read_tokens bytes at_end e = All-nil IsToken
-read_tokens bytes {at = at} (over_space stands reads) e = read_tokens bytes reads (ap (drop 1) e ∙ drop-drop 1 at bytes)
-read_tokens bytes {at = at} (over_remark {n = n} stands reads) e = read_tokens bytes reads (ap (drop n) e ∙ drop-drop n at bytes)
-read_tokens bytes {at = at} {s = s} (over_word {n = n} {k = k} {ts = ts} stands reads) e =
-    All-cons IsToken (symbol_of bytes (record { kind = k; start = at; end = at + n })) (symbols bytes ts)
-    (subst (λ (text : List ℕ). IsToken (symbol_with k text at)) (same_text at n s (drop at bytes) e) (is_token k (take n s) at stands.1.spelled))
-    (read_tokens bytes reads (ap (drop n) e ∙ drop-drop n at bytes))
-
-pub are_tokens : (bytes : List ℕ) (tokens : List Token) → AreTokens bytes tokens → All IsToken (symbols bytes tokens)
-are_tokens bytes tokens reads = read_tokens bytes reads refl

@@ -44,7 +44,8 @@ use Rattle.qss_compile.specs.declared.fault.ModelErr.TheVariants.{Names}
 use Rattle.qss_compile.specs.declared.fault.Refused.{Refused}
 use Rattle.qss_compile.proofs.Canonical.{one_forms}
 use Rattle.qss_compile.proofs.Deciding.{Single, then_single}
-use Rattle.qss_compile.proofs.Lexing.{Lexed, lexed, are_tokens}
+use Rattle.mu_grammar.proofs.SourceTokens.{are_tokens}
+use Rattle.qss_compile.proofs.Lexing.{Lexed, lexed}
 
 -- what two refusals come of is one
 refused_alike : {F : Type 0} (make : F → Refused) (f g : F) (r s : Refused) → f ≡ g → r ≡ make f → s ≡ make g → r ≡ s

@@ -1,8 +1,12 @@
 -- The laws on what sources mean.
 use Rattle.std.specs.Prelude.{◌≡◌, ◌⊎◌, ℕ, List}
 use Rattle.mu_causal.specs.declared.answer.CausalErr.TheVariants.{Loop}
+use Rattle.mu_grammar.specs.Grammar.{Symbol}
+use Rattle.mu_grammar.specs.Models.{SpellsModel}
 use Rattle.mu_names.specs.Least.{place, number}
 use Rattle.mu_names.specs.declared.fault.NameErr.{NameErr}
+use Rattle.mu_tree.specs.ModelTree.{ModelTree}
+use Rattle.mu_unroll.specs.WellFormed.{IsWellFormed}
 use Rattle.qss_compile.specs.Meanings.{Means, IsRefused}
 use Rattle.qss_compile.specs.declared.fault.ModelErr.TheVariants.{Names, Causal}
 use Rattle.qss_compile.specs.declared.fault.Refused.{Refused}
@@ -44,3 +48,7 @@ CausesAreUnique = (bytes : List ℕ) (r s : Refused) → IsRefused bytes r → I
 -- each source means a machine or is refused
 abbrev pub SourcesAreDecided : Type 0
 SourcesAreDecided = (bytes : List ℕ) → ((m : Machine) × Means bytes m) ⊎ ((r : Refused) × IsRefused bytes r)
+
+-- a model that tokens spell is well formed
+abbrev pub SpelledModelsAreWellFormed : Type 0
+SpelledModelsAreWellFormed = (limit : ℕ) (ts : List Symbol) (m : ModelTree) → SpellsModel limit ts m → IsWellFormed m

@@ -1,6 +1,6 @@
 // Laws on what sources mean.
 
-ghost use Rattle.qss_compile.specs.Laws.{MeaningsAreUnique, MeaningsAreNotRefused, CausesAreUnique, SourcesAreDecided};
+ghost use Rattle.qss_compile.specs.Laws.{MeaningsAreUnique, MeaningsAreNotRefused, CausesAreUnique, SourcesAreDecided, SpelledModelsAreWellFormed};
 
 /// Law: a source means at most one machine.
 pub fn law_of_one_machine()
@@ -20,4 +20,9 @@ pub fn law_of_one_cause()
 /// Law: each source means a machine or is refused.
 pub fn sources_are_decided()
     ensures { SourcesAreDecided }
+{}
+
+/// Law: a model that tokens spell is well formed, as unrolling asks of it.
+pub fn spelled_models_are_well_formed()
+    ensures { SpelledModelsAreWellFormed }
 {}

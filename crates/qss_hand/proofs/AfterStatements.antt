@@ -1,12 +1,12 @@
 -- What one statement leaves as it was.
-use Rattle.std.proofs.Common.{◌≡◌, ℕ, ◌+◌, ◌<◌, ◌≤◌, true, false, List, [], ◌∷◌, ◌++◌, length, get_or, take, fold, ℤ, pos, refl, sym, ◌∙◌, ap, arith}
-use Rattle.std.proofs.lemmas.Bool.Decides.{nat_tests}
+use Rattle.std.proofs.Common.{◌≡◌, ℕ, ◌+◌, ◌<◌, ◌≤◌, true, List, [], ◌∷◌, length, get_or, take, fold, ℤ, pos, refl, sym, ◌∙◌, ap, arith}
 use Rattle.std.proofs.lemmas.List.Elements.{All-set}
 use Rattle.std.proofs.lemmas.List.{length-set, length-append}
 use Rattle.std.proofs.lemmas.List.Folds.{fold_stuck}
 use Rattle.std.proofs.lemmas.List.Sums.{fold_more}
 use Rattle.std.specs.Prelude.{is_some, Option, Some, None}
 use Rattle.mu_num.specs.Sizes.{IsWithin, passes}
+use Rattle.mu_num.proofs.SizeTests.{passes-within}
 use Rattle.mu_num.proofs.Tests.{if_cases}
 use Rattle.qss_machine.specs.declared.parts.Action.{Action}
 use Rattle.qss_machine.specs.declared.parts.Action.TheVariants.{Set, Reinit}
@@ -17,9 +17,6 @@ use Rattle.qss_machine.specs.Handlers.{Handling, assigned_value, assign, run_act
 use Rattle.qss_hand.specs.Values.{Values}
 use Rattle.qss_hand.specs.Works.{AreValuesOf, handling_of, values_after}
 
-passes_no : (bits : ℕ) (z : ℤ) → passes bits z ≡ false → IsWithin bits z
-passes_no bits z e = grind (arith, nat_tests)
-
 module _ (m : Machine) (w : Values) where
   fits_assign : (tick : ℕ) (action : Action) (z : ℤ) → AreValuesOf m w → AreValuesOf m (values_after w (assign m tick (handling_of w) action z))
   fits_assign tick (Set var form) z fits =
@@ -29,7 +26,7 @@ module _ (m : Machine) (w : Values) where
         discretes = length-set w.d _ z ∙ fits.discretes;
         before = fits.before;
         small_states = fits.small_states;
-        small_discretes = All-set (IsWithin 43) w.d _ z (passes_no 43 z e) fits.small_discretes;
+        small_discretes = All-set (IsWithin 43) w.d _ z (passes-within 43 z e) fits.small_discretes;
         small_before = fits.small_before;
         in_time = fits.in_time;
       })
@@ -39,7 +36,7 @@ module _ (m : Machine) (w : Values) where
         states = length-set w.x var z ∙ fits.states;
         discretes = fits.discretes;
         before = fits.before;
-        small_states = All-set (IsWithin 88) w.x var z (passes_no 88 z e) fits.small_states;
+        small_states = All-set (IsWithin 88) w.x var z (passes-within 88 z e) fits.small_states;
         small_discretes = fits.small_discretes;
         small_before = fits.small_before;
         in_time = fits.in_time;

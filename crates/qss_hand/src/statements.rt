@@ -10,29 +10,13 @@ ghost use Rattle.qss_machine.specs.declared.rows.RowKind.TheVariants as kind;
 ghost use Rattle.qss_hand.specs.Works.{AreValuesOf, handling_of, values_after, overflow_of};
 
 use crate::work::Work;
-use mu_num::near_div;
+use mu_num::{near_div, passes, unit};
 use qss_machine::{Action, Form, Machine, Row, RowKind};
 
 /// The variable whose assigned value passed its limit: 2^43 in size for a discrete value, 2^88 for a state.
 #[derive(Clone, Copy, PartialEq, Eq, Debug, Drop)]
 pub struct Over {
     pub var: u32,
-}
-
-// Whether a number is more than a power of two in size.
-fn is_past(z: i128, bits: u32) -> bool
-    requires { bits < 100 }
-    ensures { result ≡ passes bits z }
-{
-    z.unsigned_abs() > 1u128 << bits
-}
-
-// Two to the power of a number of bits.
-fn unit(bits: u8) -> i128
-    requires { bits ≤ 84 }
-    ensures { result ≡ pos (2 ^ bits) }
-{
-    1i128 << bits
 }
 
 // A form's value in a coarser unit, to the nearest, ties to even.
@@ -59,7 +43,7 @@ fn set_discrete(w: &mut Work, var: u32, place: usize, value: i128) -> Result<(),
     ensures values { w.new ≡ (if passes 43 value then w.old else record w.old { d = slice_set w.old.d place value; log = w.old.log ++ record { tick = w.old.tick; kind = kind.Set; var = var; level = value; state = pos 0 } ∷ [] }) }
     ensures over { overflow_of result ≡ (if passes 43 value then Some var else None) }
 {
-    if is_past(value, 43) {
+    if passes(value, 43) {
         return Err(Over { var });
     }
     let level = value as i64;
@@ -82,7 +66,7 @@ fn reinitialize(w: &mut Work, var: u32, value: i128) -> Result<(), Over>
     ensures values { w.new ≡ (if passes 88 value then w.old else record w.old { x = slice_set w.old.x var value; log = w.old.log ++ record { tick = w.old.tick; kind = kind.Reinit; var = var; level = pos 0; state = value } ∷ [] }) }
     ensures over { overflow_of result ≡ (if passes 88 value then Some var else None) }
 {
-    if is_past(value, 88) {
+    if passes(value, 88) {
         return Err(Over { var });
     }
     w.x[var as usize] = value;

@@ -1,9 +1,9 @@
 -- The states and the levels of runs keep their limits.
 use Rattle.std.proofs.Common.{◌≡◌, ℕ, zero, suc, ◌+◌, Bool, true, false, cond, List, [], ◌∷◌, map, set, fold, ℤ, pos, refl, sym, ◌∙◌, arith}
-use Rattle.std.proofs.lemmas.Bool.Decides.{nat_tests}
 use Rattle.std.proofs.lemmas.Iterator.Adapters.{position_from-zero}
 use Rattle.std.specs.List.{position_from}
 use Rattle.std.specs.Prelude.{Option, Some, None, Ok, is_some, All}
+use Rattle.mu_num.proofs.SizeTests.{passes-within}
 use Rattle.mu_num.proofs.Tests.{if_cases}
 use Rattle.qss_machine.specs.declared.parts.StateInfo.{StateInfo}
 use Rattle.qss_machine.specs.declared.parts.Action.{Action}
@@ -26,16 +26,13 @@ use Rattle.qss_machine.proofs.Near.{step_facts}
 zero_within : (bits : ℕ) → IsWithin bits (pos 0)
 zero_within bits = omega arith
 
-passes_no : (bits : ℕ) (z : ℤ) → passes bits z ≡ false → IsWithin bits z
-passes_no bits z e = grind (arith, nat_tests)
-
 cond_none : (b : Bool) (i : ℕ) (o : Option ℕ) → cond b (Some i) o ≡ None → (b ≡ false) × (o ≡ None)
 cond_none true i o e = absurd (cc)
 cond_none false i o e = (refl, e)
 
 none_from : (bits i : ℕ) (zs : List ℤ) → position_from (passes bits) i zs ≡ None → (j : ℕ) → IsWithin bits (int_at zs j)
 none_from bits i [] e j = zero_within bits
-none_from bits i (z ∷ zs) e zero = passes_no bits z (cond_none (passes bits z) i (position_from (passes bits) (i + 1) zs) e).0
+none_from bits i (z ∷ zs) e zero = passes-within bits z (cond_none (passes bits z) i (position_from (passes bits) (i + 1) zs) e).0
 none_from bits i (z ∷ zs) e (suc j) = none_from bits (i + 1) zs (cond_none (passes bits z) i (position_from (passes bits) (i + 1) zs) e).1 j
 
 pub none_past : (bits : ℕ) (zs : List ℤ) → first_past bits zs ≡ None → (j : ℕ) → IsWithin bits (int_at zs j)
@@ -57,7 +54,7 @@ module _ (m : Machine) (tick : ℕ) (before : List ℤ) where
   assign_small : (h : Handling) (action : Action) (z : ℤ) → HasSmallStates h → HasSmallStates (assign m tick h action z)
   assign_small h (Set var form) z small = if_cases HasSmallStates (passes 43 z) _ _ (λ e calm. absurd (cc)) (λ e. small)
   assign_small h (Reinit var form) z small =
-      if_cases HasSmallStates (passes 88 z) _ _ (λ e calm. absurd (cc)) (λ e calm. set_small h.states var z (passes_no 88 z e) (small calm))
+      if_cases HasSmallStates (passes 88 z) _ _ (λ e calm. absurd (cc)) (λ e calm. set_small h.states var z (passes-within 88 z e) (small calm))
 
   action_small : (h : Handling) (action : Action) → HasSmallStates h → HasSmallStates (run_action m tick before h action)
   action_small h action small =

@@ -5,8 +5,8 @@ ghost use Rattle.mu_num.specs.Sizes.{IsWithin};
 ghost use Rattle.qss_machine.specs.Numbers.{int_at};
 ghost use Rattle.qss_machine.specs.Slopes.{weighted_sum};
 
-use crate::modes::unit;
 use crate::parts::Entry;
+use mu_num::unit;
 
 // A number of at most 2^43 times one of at most 2^44.
 fn times(value: i64, unit: i128) -> i128
@@ -18,15 +18,6 @@ fn times(value: i64, unit: i128) -> i128
     i128::from(value) * unit
 }
 
-// How many units of a state a level has.
-fn unit_of(unit_bits: u8) -> i128
-    requires { unit_bits ≤ 44 }
-    ensures value { result ≡ pos (2 ^ unit_bits) }
-    ensures bound { IsWithin 44 result }
-{
-    unit(unit_bits)
-}
-
 // A discrete value in the unit of states.
 fn scaled(value: i64, unit_bits: u8) -> i128
     requires value { IsWithin 43 value }
@@ -34,7 +25,7 @@ fn scaled(value: i64, unit_bits: u8) -> i128
     ensures value { result ≡ value *ℤ pos (2 ^ unit_bits) }
     ensures bound { IsWithin 88 result }
 {
-    times(value, unit_of(unit_bits))
+    times(value, unit(unit_bits))
 }
 
 // The value of a form's variable in the unit of states: a state, a discrete value, or one before the tick.
@@ -145,7 +136,7 @@ pub(crate) fn constant_part(gamma: i128, unit_bits: u8) -> i128
     ensures value { result ≡ gamma *ℤ pos (2 ^ unit_bits) }
     ensures bound { IsWithin 122 result }
 {
-    gamma_times(gamma, unit_of(unit_bits))
+    gamma_times(gamma, unit(unit_bits))
 }
 
 // A number of at most 2^78 times one of at most 2^44.

@@ -26,4 +26,4 @@ pub use rows::{Row, RowKind};
 pub use sums::{coefficient, term, value_at};
 pub use system::Machine;
 pub use uses::Uses;
-pub use weights::{entry_size, entry_weight};
+pub use weights::{entry_size, entry_weight, is_light};

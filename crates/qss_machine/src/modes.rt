@@ -2,21 +2,13 @@
 
 ghost use Rattle.std.specs.Prelude.{◌≡◌, ℕ, ◌+◌, ◌*◌, ◌^◌, ◌<◌, ◌≤◌, length, All, pos, unsigned_abs};
 ghost use Rattle.mu_num.specs.Rounding.{nearest_of};
-ghost use Rattle.mu_num.specs.Sizes.{IsWithin, passes};
+ghost use Rattle.mu_num.specs.Sizes.{IsWithin};
 ghost use Rattle.qss_machine.specs.Slopes.{mode_coefficient, mode_fits};
 ghost use Rattle.qss_machine.specs.Limits.{IsRow};
 
 use crate::parts::SlopeRow;
 use crate::sums::{coefficient_among, product_sum};
-use mu_num::near_div;
-
-/// Two to the power of a number of bits.
-pub(crate) fn unit(bits: u8) -> i128
-    requires { bits ≤ 100 }
-    ensures { result ≡ pos (2 ^ bits) }
-{
-    1i128 << bits
-}
+use mu_num::{near_div, passes, unit};
 
 /// A sum of products in units of a coefficient.
 pub(crate) fn scaled_down(sum: i128, level_bits: u8) -> i128
@@ -52,13 +44,6 @@ pub(crate) fn mode_coefficient_of(
     own + scaled_down(sum, level_bits)
 }
 
-// Whether a number is more than 2^44 in size.
-fn is_large(z: i128) -> bool
-    ensures { result ≡ passes 44 z }
-{
-    z.unsigned_abs() > 1 << 44
-}
-
 /// Whether the mode coefficients of a row are at most 2^44 in size, as those of states without products are.
 pub(crate) fn modes_fit(
     row: &SlopeRow,
@@ -79,7 +64,7 @@ pub(crate) fn modes_fit(
             continue;
         }
         let mode = mode_coefficient_of(row, level_bits, state_count, discretes, state);
-        if is_large(mode) {
+        if passes(mode, 44) {
             return false;
         }
         past = state + 1;

@@ -10,6 +10,7 @@ use crate::quanta::{greater_of, share_of};
 use crate::slopes::row_slope;
 use crate::weights::row_weight;
 use mu_io::Items;
+use mu_num::unit;
 
 /// A compiled model of whole numbers, within all its limits.
 #[derive(Drop)]
@@ -40,7 +41,7 @@ impl Machine {
     ghost use Rattle.mu_num.specs.Sizes.{IsWithin};
     ghost use Rattle.qss_machine.specs.Slopes.{mode_fits};
     ghost use Rattle.qss_machine.specs.Limits.{IsBounded};
-    ghost use Rattle.qss_machine.specs.Machines.{state_count, discrete_count, row_at, mode_coefficient_at, slope_at, weight_at, quantum_of, value_of, speed_of};
+    ghost use Rattle.qss_machine.specs.Machines.{state_count, discrete_count, row_at, mode_coefficient_at, slope_at, weight_at, level_unit, quantum_of, value_of, speed_of};
 
     /// The coefficient of a state in a row under these discrete values, in units of 2^-p: its own, and the sum of
     /// its products divided by 2^f, to the nearest, ties to even.
@@ -95,6 +96,13 @@ impl Machine {
     {
         let right_side = &self.rows.as_slice()[row as usize];
         row_weight(right_side, self.f, levels, discretes)
+    }
+
+    /// How many units of a state a level has: 2^(p+k).
+    pub fn level_unit(&self) -> i128
+        ensures { result ≡ level_unit self.now }
+    {
+        unit(self.p + self.k)
     }
 
     /// The quantum of a state at a level: the greater of its own and of the machine's share of the level's size.

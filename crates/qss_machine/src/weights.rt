@@ -1,16 +1,17 @@
 //! Weights of rows: their slopes taken over sizes.
 
-ghost use Rattle.std.specs.Prelude.{◌≡◌, ℕ, ◌+◌, ◌*◌, ◌^◌, ◌<◌, ◌≤◌, length, All, IsTrue, pos, ◌*ℤ◌, ◌-ℤ◌, ◌++◌, unsigned_abs};
-ghost use Rattle.mu_num.specs.Sizes.{IsWithin};
+ghost use Rattle.std.specs.Prelude.{◌≡◌, ℕ, ◌+◌, ◌*◌, ◌^◌, ◌<◌, ◌≤◌, ◌&&◌, not, length, All, IsTrue, pos, ◌*ℤ◌, ◌-ℤ◌, ◌++◌, unsigned_abs};
+ghost use Rattle.mu_num.specs.Sizes.{IsWithin, passes};
 ghost use Rattle.qss_machine.specs.Numbers.{int_at, size, sum_over, sum_below};
 ghost use Rattle.qss_machine.specs.Slopes.{coefficient_of, mode_coefficient, mode_fits, weight_of};
 ghost use Rattle.qss_machine.specs.Limits.{IsRow};
 
 use crate::forms::add_three;
-use crate::modes::mode_coefficient_of;
+use crate::modes::{mode_coefficient_of, modes_fit};
 use crate::parts::{Entry, SlopeRow};
 use crate::slopes::wide_term;
 use crate::sums::{coefficient_among, entry_term};
+use mu_num::passes;
 
 /// The size of an entry's coefficient times the value of its variable.
 pub fn entry_size(entry: Entry, first: &[i64], second: &[i64]) -> i128
@@ -120,4 +121,18 @@ pub(crate) fn row_weight(row: &SlopeRow, level_bits: u8, levels: &[i64], discret
     let own = entry_weight(row.entries.as_slice(), levels, discretes);
     let products = excess_sum(row, level_bits, levels, discretes);
     add_three(own, products, row.beta.abs())
+}
+
+/// Whether the mode coefficients of a row are at most 2^44 in size, and its weight at most 2^88, at these levels and
+/// discrete values.
+pub fn is_light(row: &SlopeRow, level_bits: u8, levels: &[i64], discretes: &[i64]) -> bool
+    requires bits { level_bits ≤ 24 }
+    requires few { length levels.now + length discretes.now ≤ 4096 }
+    requires row { IsRow (length levels.now) (length discretes.now) row.now }
+    requires levels { All (IsWithin 43) levels.now }
+    requires discretes { All (IsWithin 43) discretes.now }
+    ensures { result ≡ (mode_fits level_bits (length levels.now) row.now discretes.now && not (passes 88 (weight_of level_bits row.now levels.now discretes.now))) }
+{
+    modes_fit(row, level_bits, levels.len(), discretes)
+        && !passes(row_weight(row, level_bits, levels, discretes), 88)
 }

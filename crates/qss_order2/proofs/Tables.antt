@@ -7,8 +7,6 @@ use Rattle.std.proofs.lemmas.Iterator.Adapters.{position_from-zero}
 use Rattle.std.specs.List.{position, position_from}
 use Rattle.std.specs.Prelude.{All, Some, None}
 use Rattle.std.specs.Vec.{with_items}
-use Rattle.std.proofs.lemmas.Bool.Decides.{nat_tests}
-use Rattle.mu_num.specs.Sizes.{IsWithin, passes}
 use Rattle.qss_machine.specs.Numbers.{int_at, tabulate}
 
 -- a table's values, and tables of the same values
@@ -94,9 +92,6 @@ first_of_table p n f k h before here =
 pub none_of_table : (p : ℤ → Bool) (n : ℕ) (f : ℕ → ℤ) → ((i : ℕ) → i < n → p (f i) ≡ false) → position p (tabulate n f) ≡ None
 none_of_table p n f before =
     none_is p (tabulate n f) (pos 0) (λ i low. let inside : i < n = omega (arith, low, length-map-range_with_len f 0 n) in ap p (at_table n f i inside) ∙ before i inside)
-
-pub within_passes : (bits : ℕ) (z : ℤ) → IsWithin bits z → passes bits z ≡ false
-within_passes bits z h = grind (arith, nat_tests)
 
 pub map_twice : {X Y Z : Type 0} (f : Y → Z) (g : X → Y) (xs : List X) → map f (map g xs) ≡ map (λ x. f (g x)) xs
 map_twice f g [] = refl

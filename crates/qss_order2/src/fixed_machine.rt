@@ -26,13 +26,6 @@ pub(crate) struct FixedMachine {
     pub ghost is_fixed: { IsFixed machine unit rows.items drives.items limits.items discretes.items },
 }
 
-// How many units of a state a level has.
-fn unit_of(m: &Machine) -> i128
-    ensures { result ≡ level_unit m.now }
-{
-    1i128 << (m.p + m.k)
-}
-
 // So many equal elements.
 pub(crate) fn copies<T: Copy>(alloc: Global, value: T, count: usize) -> Result<Vec<T>, AllocError>
     ensures { IfOk result (λ list. list.items ≡ replicate count value) }
@@ -146,7 +139,7 @@ impl FixedMachine {
     pub(crate) fn new(alloc: Global, m: Machine) -> Result<FixedMachine, AllocError>
         ensures { IfOk result (λ fixed. fixed.machine ≡ m) }
     {
-        let unit = unit_of(&m);
+        let unit = m.level_unit();
         let discretes = discretes_of(alloc, &m)?;
         let rows = rows_of(alloc, &m, discretes.as_slice())?;
         let drives = drives_of(alloc, &m, discretes.as_slice())?;

@@ -8,13 +8,14 @@ ghost use Rattle.qss_machine.specs.Numbers.{int_at, first_past, tabulate};
 ghost use Rattle.qss_order2.specs.Worlds.{rise_weight, bend_weight};
 
 use crate::fixed_machine::FixedMachine;
-use crate::sums::{is_past, is_steep, weight_of};
+use crate::sums::{is_steep, weight_of};
+use mu_num::passes;
 
 /// The most bits of a level.
-const LEVEL_BITS: u32 = 49;
+const LEVEL_BITS: u8 = 49;
 
 /// The most bits of a weight.
-const WEIGHT_BITS: u32 = 94;
+const WEIGHT_BITS: u8 = 94;
 
 // The least state whose level is past its limit.
 fn first_high(levels: &[i128]) -> Option<u32>
@@ -22,7 +23,7 @@ fn first_high(levels: &[i128]) -> Option<u32>
     ensures { result ≡ first_past 49 levels.now }
 {
     for j in 0..levels.len() {
-        if is_past(levels[j], LEVEL_BITS) {
+        if passes(levels[j], LEVEL_BITS) {
             return Some(j as u32);
         }
     }
@@ -36,7 +37,7 @@ fn is_heavy(f: &FixedMachine, row: usize, levels: &[i128]) -> bool
     requires small { All (IsWithin 50) levels.now }
     ensures { result ≡ passes 94 (rise_weight f.now.machine levels.now row) }
 {
-    is_past(
+    passes(
         weight_of(f.rows[row].as_slice(), f.drives[row], levels),
         WEIGHT_BITS,
     )

@@ -1,11 +1,11 @@
 //! The rules that have a name.
 
-ghost use Rattle.std.specs.Prelude.{◌≡◌, ◌*ℤ◌, Some};
-ghost use Rattle.mu_num.specs.Sizes.{IsWithin, IsPositiveWithin};
+ghost use Rattle.std.specs.Prelude.{Some};
 ghost use Rattle.qss_quant.specs.declared.rule.Rule.TheVariants.{Floor, Near, Inward};
 ghost use Rattle.qss_quant.specs.Rules.{IsAsked, IsAnswer};
 
 use mu_num::{ceil_div, floor_div, near_div};
+use qss_quant::in_units;
 
 // The greatest level at most the state.
 pub(crate) fn floor_level(state: i128, old: i64, unit: i128) -> i128
@@ -23,22 +23,12 @@ pub(crate) fn near_level(state: i128, old: i64, unit: i128) -> i128
     near_div(state, unit)
 }
 
-// So many levels in units of a state.
-fn scaled(level: i64, unit: i128) -> i128
-    requires level { IsWithin 43 level }
-    requires unit { IsPositiveWithin 44 unit }
-    ensures value { result ≡ unit *ℤ level }
-    ensures bound { IsWithin 87 result }
-{
-    unit * i128::from(level)
-}
-
 // The level next to the state on the side of the old level.
 pub(crate) fn inward_level(state: i128, old: i64, unit: i128) -> i128
     requires { IsAsked state old unit }
     ensures { IsAnswer (Some Inward) state old unit result }
 {
-    if scaled(old, unit) < state {
+    if in_units(old, unit) < state {
         floor_div(state, unit)
     } else {
         ceil_div(state, unit)

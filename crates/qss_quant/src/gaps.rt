@@ -1,14 +1,14 @@
 ghost use Rattle.std.specs.Prelude.{◌≡◌, pos, ◌*ℤ◌, ◌-ℤ◌, ◌<ℤ◌, unsigned_abs, IsTrue, ◌↔◌};
 ghost use Rattle.mu_num.specs.Sizes.{IsWithin, IsPositiveWithin};
 
-// So many levels in units of a state.
-fn scaled(value: i64, unit: i128) -> i128
-    requires value { IsWithin 43 value }
+/// So many levels in units of a state, of which a level has `unit`.
+pub fn in_units(levels: i64, unit: i128) -> i128
+    requires levels { IsWithin 43 levels }
     requires unit { IsPositiveWithin 44 unit }
-    ensures value { result ≡ unit *ℤ value }
+    ensures value { result ≡ unit *ℤ levels }
     ensures bound { IsWithin 87 result }
 {
-    unit * i128::from(value)
+    unit * i128::from(levels)
 }
 
 /// How far a state is above its level.
@@ -19,7 +19,7 @@ pub(crate) fn gap_of(x: i128, level: i64, unit: i128) -> i128
     ensures value { result ≡ x -ℤ unit *ℤ level }
     ensures bound { IsWithin 90 result }
 {
-    x - scaled(level, unit)
+    x - in_units(level, unit)
 }
 
 /// A quantum in units of a state.
@@ -30,7 +30,7 @@ pub(crate) fn limit_of(quantum: i64, unit: i128) -> i128
     ensures bound { IsWithin 87 result }
     ensures positive { pos 0 <ℤ result }
 {
-    scaled(quantum, unit)
+    in_units(quantum, unit)
 }
 
 /// Whether a number is below a limit in size.

@@ -87,6 +87,11 @@ fn firing_text(clause: u32, branch: u32, buffer: &mut [u8; FIRING_LENGTH]) -> &[
     &buffer[start..]
 }
 
+// What is told where a writer into memory fails: it wants memory. `csv` does not say which other errors a write may give.
+fn want_of_memory(_error: &Error) -> AllocError {
+    AllocError
+}
+
 // Adds the record of five fields.
 fn add_fields<'a>(
     writer: &mut Writer<Vec<u8>>,
@@ -101,7 +106,7 @@ fn add_fields<'a>(
 {
     match add_record(writer, &[tick, event, name, level, state]) {
         Ok(()) => Ok(()),
-        Err(_) => Err(AllocError),
+        Err(error) => Err(want_of_memory(&error)),
     }
 }
 

@@ -1,13 +1,14 @@
 -- Where only moved states arrive and take new levels, all states have the levels of a tick.
 use Rattle.std.proofs.Common.{◌≡◌, ℕ, ◌<◌, Bool, true, false, List, [], ◌∷◌, ◌++◌, length, get_or, ℤ, pos, refl, sym, ap, ◌∙◌, subst, inl, inr, ◌⊎◌, arith}
 use Rattle.std.proofs.lemmas.Bool.{cases_Bool}
-use Rattle.std.proofs.lemmas.Bool.Decides.{Decides-int_eq, nat_tests}
+use Rattle.std.proofs.lemmas.Bool.Decides.{Decides-int_eq}
 use Rattle.std.proofs.lemmas.List.{ext_get_or, get_or_default}
 use Rattle.std.proofs.lemmas.List.FromFn.{length-map-range_with_len}
 use Rattle.std.specs.List.{flat_map}
 use Rattle.std.specs.Ordering.{int_eq}
 use Rattle.std.specs.Prelude.{Option, None, MatchBool, All, if◌then◌else◌}
 use Rattle.mu_num.specs.Sizes.{IsWithin, passes}
+use Rattle.mu_num.proofs.SizeTests.{passes-within, within-passes}
 use Rattle.qss_machine.specs.declared.rows.RowKind.TheVariants as kind
 use Rattle.qss_machine.specs.declared.system.Machine.{Machine}
 use Rattle.qss_machine.specs.Numbers.{int_at, first_past}
@@ -22,7 +23,6 @@ use Rattle.qss_run.specs.Stores.{states_at}
 use Rattle.qss_run.specs.Writes.{IsFirstOf, IsWritten}
 use Rattle.qss_run.proofs.LevelRows.{row_of, level_row}
 use Rattle.qss_run.proofs.Quiet.{int_at-tabulate}
-use Rattle.qss_run.proofs.Ranges.{within-passes}
 use Rattle.qss_run.proofs.DueFirsts.{first_of_all}
 use Rattle.qss_run.proofs.DueRows.{rows_among}
 use Rattle.qss_run.proofs.Writes.{index_of, among_head, among_rest}
@@ -45,9 +45,6 @@ no_row : (tick j : ℕ) (old new state : ℤ) → new ≡ old → row_of tick j 
 no_row tick j old new state kept =
     let test : int_eq old new ≡ true = (Decides-int_eq old new).1 (sym kept) in
     ap (λ b. if b then [] else record { tick = tick; kind = kind.Level; var = j; level = new; state = state } ∷ []) test
-
-passes-within : (bits : ℕ) (z : ℤ) → passes bits z ≡ false → IsWithin bits z
-passes-within bits z e = grind (arith, nat_tests)
 
 by_true : (b : Bool) (P Q : Type 0) → b ≡ true → P → MatchBool b P Q
 by_true b P Q e p = subst (λ c. MatchBool c P Q) (sym e) p

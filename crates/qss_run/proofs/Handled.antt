@@ -1,9 +1,9 @@
 -- What the handlers of a tick did.
 use Rattle.std.proofs.Common.{◌≡◌, ℕ, ◌≤◌, Bool, true, false, List, [], length, get_or, ℤ, refl, sym, ◌∙◌, ap, arith}
-use Rattle.std.proofs.lemmas.Bool.Decides.{nat_tests}
 use Rattle.std.specs.Option.{option_or}
 use Rattle.std.specs.Prelude.{Option, Some, None, is_some, All}
 use Rattle.mu_num.specs.Sizes.{IsWithin, passes}
+use Rattle.mu_num.proofs.SizeTests.{passes-within}
 use Rattle.qss_machine.specs.declared.rows.Row.{Row}
 use Rattle.qss_machine.specs.declared.system.Machine.{Machine}
 use Rattle.qss_machine.specs.Numbers.{first_past}
@@ -35,12 +35,9 @@ module _ (m : Machine) (tick : ℕ) (x d : List ℤ) (arrived settled : List Boo
       ∙ ap (λ (y : List Row). run_clauses m tick d 0 (record { states = x; discretes = d; rows = y; overflow = None }) m.clauses flagged) of_log
       ∙ ap (λ (o : Option ℕ). run_clauses m tick d 0 (record { states = x; discretes = d; rows = []; overflow = o }) m.clauses flagged) (sym calm)
 
-passes_no : (bits : ℕ) (z : ℤ) → passes bits z ≡ false → IsWithin bits z
-passes_no bits z e = grind (arith, nat_tests)
-
 -- no number passes
 pub all_within : (bits : ℕ) (xs : List ℤ) → first_past bits xs ≡ None → All (IsWithin bits) xs
-all_within bits xs e k z h = passes_no bits (get_or xs k z) (none_passes z (passes bits) xs e k h)
+all_within bits xs e k z h = passes-within bits (get_or xs k z) (none_passes z (passes bits) xs e k h)
 
 pub not_some : (o : Option ℕ) → is_some o ≡ false → o ≡ None
 not_some None e = refl

@@ -8,12 +8,13 @@ use Rattle.qss_machine.specs.declared.parts.BranchInfo.{BranchInfo}
 use Rattle.qss_machine.specs.declared.parts.ClauseInfo.{ClauseInfo}
 use Rattle.qss_machine.specs.declared.system.Machine.{Machine}
 use Rattle.mu_num.specs.Sizes.{passes}
+use Rattle.mu_num.proofs.SizeTests.{within-passes}
 use Rattle.qss_machine.specs.Numbers.{int_at, tabulate, first_past}
 use Rattle.qss_machine.specs.Machines.{state_count, slope_at}
 use Rattle.qss_machine.specs.Handlers.{Handling, truths, due_flags, run_first_due, run_clauses}
 use Rattle.qss_machine.specs.Ticks.{World, handling_at, moved_states, is_near, is_overweight, next_levels, world_unless, settle, step}
 use Rattle.std.specs.Option.{option_or}
-use Rattle.qss_run.proofs.Ranges.{position-none, within-passes, near_small}
+use Rattle.qss_run.proofs.Ranges.{position-none, near_small}
 use Rattle.qss_run.specs.Skips.{states_after, world_after, NoneRises, IsQuiet, IsLeft}
 
 -- two tables of the same values are one

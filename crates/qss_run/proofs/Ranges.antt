@@ -10,7 +10,7 @@ use Rattle.std.specs.List.{position, position_or_len, prefix_len}
 use Rattle.std.specs.Int.RustNames.{unsigned_abs}
 use Rattle.std.specs.Prelude.{Some, None, not}
 use Rattle.mu_num.proofs.Tests.{int_lt-true}
-use Rattle.mu_num.specs.Sizes.{IsPositiveWithin, IsWithin, passes}
+use Rattle.mu_num.specs.Sizes.{IsPositiveWithin, IsWithin}
 use Rattle.qss_machine.proofs.Near.{quantum_positive, unit_low, unit_high}
 use Rattle.qss_machine.specs.declared.parts.StateInfo.{StateInfo}
 use Rattle.qss_machine.specs.declared.system.Machine.{Machine}
@@ -34,9 +34,6 @@ pub position-none : {X : Type 0} (d : X) (p : X → Bool) (xs : List X) → ((j 
 position-none d p xs none =
     let full = full_prefix d p xs none in
     rw (full, no_less) refl
-
-pub within-passes : (bits : ℕ) (z : ℤ) → IsWithin bits z → passes bits z ≡ false
-within-passes bits z h = grind (arith, nat_tests)
 
 quanta_small : (m : Machine) (j : ℕ) → j < state_count m → int_at (quanta m) j ≤ℤ pos (2 ^ 32)
 quanta_small m j h =

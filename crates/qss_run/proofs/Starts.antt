@@ -4,6 +4,7 @@ use Rattle.std.proofs.lemmas.List.{get_or-map, length-map, take_more, take_all, 
 use Rattle.std.specs.Bool.{IsTrue}
 use Rattle.std.specs.Prelude.{None, All, not, position, ◌||◌}
 use Rattle.mu_num.specs.Sizes.{IsWithin, passes}
+use Rattle.mu_num.proofs.SizeTests.{within-passes}
 use Rattle.qss_machine.specs.declared.parts.DiscreteInfo.{DiscreteInfo}
 use Rattle.qss_machine.specs.declared.parts.SlopeRow.{SlopeRow}
 use Rattle.qss_machine.specs.declared.parts.StateInfo.{StateInfo}
@@ -12,7 +13,7 @@ use Rattle.qss_machine.specs.Slopes.{mode_fits, weight_of}
 use Rattle.qss_machine.specs.Limits.{level_below}
 use Rattle.qss_machine.specs.Machines.{state_count, level_unit, start_states, start_discretes}
 use Rattle.qss_machine.specs.Ticks.{is_overweight}
-use Rattle.qss_run.proofs.Ranges.{position-none, within-passes}
+use Rattle.qss_run.proofs.Ranges.{position-none}
 
 -- what holds of each element's image
 all_map : {X Y : Type 0} (P : Y → Type 0) (f : X → Y) (xs : List X) (d : X) → ((k : ℕ) → k < length xs → P (f (get_or xs k d))) → All P (map f xs)

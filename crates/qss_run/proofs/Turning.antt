@@ -1,15 +1,15 @@
 -- A state's line at a new slope.
 use Rattle.std.proofs.Common.{◌≡◌, ◌≢◌, ℕ, ◌+◌, ◌-◌, ◌<◌, Bool, true, false, not, length, get_or, set, List, [], ℤ, pos, ◌+ℤ◌, ◌*ℤ◌, refl, sym, ◌∙◌, ap, subst, arith, below_more}
 use Rattle.std.proofs.Math.IntN.{zero-*ℤ}
-use Rattle.std.proofs.lemmas.Bool.Decides.{nat_tests}
 use Rattle.std.proofs.lemmas.Int.{ints}
 use Rattle.std.proofs.lemmas.List.{get_or-set_other, get_or-set_same}
 use Rattle.std.proofs.lemmas.List.FromFn.{length-map-range_with_len, get_or-map-range_with_len}
 use Rattle.std.specs.Bool.{IsTrue}
 use Rattle.std.specs.Prelude.{Option, None, position, ◌||◌, All, MatchBool}
 use Rattle.mu_num.proofs.Tests.{int_lt-true, int_lt-false}
-use Rattle.mu_num.specs.Sizes.{IsWithin, passes}
+use Rattle.mu_num.specs.Sizes.{IsWithin}
 use Rattle.mu_num.specs.Ticks.{FirstAfter}
+use Rattle.mu_num.proofs.SizeTests.{passes-within}
 use Rattle.qss_machine.specs.declared.parts.Condition.{Condition}
 use Rattle.qss_machine.specs.declared.parts.Rel.TheVariants.{Less}
 use Rattle.qss_machine.specs.declared.parts.SlopeRow.{SlopeRow}
@@ -62,15 +62,12 @@ or_false true true e = absurd (cc)
 or_false true false e = (refl, refl)
 or_false false b e = absurd (cc)
 
-passes_no : (bits : ℕ) (z : ℤ) → passes bits z ≡ false → IsWithin bits z
-passes_no bits z e = grind (arith, nat_tests)
-
 pub row_is_light : (m : Machine) (levels discretes : List ℤ) → position (is_overweight m levels discretes) m.rows ≡ None → (j : ℕ) → j < state_count m → IsLight m levels discretes j
 row_is_light m levels discretes light j h =
     let none : SlopeRow = record { entries = []; products = []; beta = pos 0 } in
     let inside : j < length m.rows = omega (arith, h, m.has_rows.one_each) in
     let parts = or_false _ _ (none_passes none (is_overweight m levels discretes) m.rows light j inside) in
-    let small : IsWithin 88 (weight_of m.f (row_at m j) levels discretes) = passes_no 88 (weight_of m.f (row_at m j) levels discretes) parts.1 in
+    let small : IsWithin 88 (weight_of m.f (row_at m j) levels discretes) = passes-within 88 (weight_of m.f (row_at m j) levels discretes) parts.1 in
     record { modes = parts.0; weight = small; slope = omega (arith, ints, slope-size m.f (row_at m j) levels discretes, small) }
 
 pub is_true : (b : Bool) → b ≡ true → IsTrue b

@@ -11,13 +11,6 @@ ghost use Rattle.qss_run.specs.Rules.{IsRuled};
 use qss_machine::{Machine, Row, RowKind};
 use qss_quant::Quantizer;
 
-/// How many units of a state a level has.
-pub(crate) fn level_unit(m: &Machine) -> i128
-    ensures value { result ≡ level_unit m.now }
-{
-    1i128 << (m.p + m.k)
-}
-
 /// The new level of a state: the old one while the state is within the quantum of it, else one that the rule gives.
 pub(crate) fn next_level(
     m: &Machine,

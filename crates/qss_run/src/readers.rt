@@ -3,7 +3,7 @@
 ghost use Rattle.std.specs.Prelude.{◌≡◌, ℕ, ◌<◌, ◌∷◌, ◌++◌, [], List, All, length, flat_map, slice_index_or};
 ghost use Rattle.qss_run.specs.Overweights.{comes_before, IsLeastPast};
 
-use crate::states::is_past;
+use mu_num::passes;
 use qss_machine::Uses;
 
 // Whether a row comes before the one that was found, if one was.
@@ -24,7 +24,7 @@ fn lesser_row(weights: &[i128], row: u32, found: Option<u32>) -> Option<u32>
     if !comes_before(found, row) {
         return found;
     }
-    if is_past(weights[row as usize], 88) {
+    if passes(weights[row as usize], 88) {
         return Some(row);
     }
     found

@@ -19,8 +19,8 @@ ghost use Rattle.qss_run.specs.Rules.{IsRuled};
 ghost use Rattle.qss_run.specs.Stores.{states_at};
 ghost use Rattle.qss_run.specs.Writes.{IsFirstOf, IsWritten};
 
-use crate::levels::{level_unit, next_level, take_level};
-use crate::states::is_past;
+use crate::levels::{next_level, take_level};
+use mu_num::passes;
 use qss_machine::{Machine, Row};
 use qss_quant::{Integrator, Quantizer};
 
@@ -39,13 +39,13 @@ fn arrive_due(lines: &[Integrator], tick: u64, moved: &[u32], x: &mut [i128])
 }
 
 // The least moved state whose number is more than a power of two in size.
-fn first_past_of(values: &[i128], moved: &[u32], bits: u32) -> Option<u32>
+fn first_past_of(values: &[i128], moved: &[u32], bits: u8) -> Option<u32>
     requires bits { bits < 100 }
     requires moved { AreNumbers (length values.now) moved.now }
     ensures { IsFirstOf (λ j. passes bits (int_at values.now j)) moved.now result }
 {
     for state in moved {
-        if is_past(values[*state as usize], bits) {
+        if passes(values[*state as usize], bits) {
             return Some(*state);
         }
     }
@@ -69,7 +69,7 @@ pub(crate) fn relevel_due(
     requires small_levels { All (IsWithin 43) levels.now }
     ensures { IsWritten (pos 0) (λ j level. IsNextLevel (IsRuled q.now.name) m.now j (int_at x.now j) (int_at levels.now j) level) moved.now fresh.old fresh.new }
 {
-    let unit = level_unit(m);
+    let unit = m.level_unit();
     for state in moved {
         let j = *state as usize;
         fresh[j] = next_level(m, q, *state, x[j], levels[j], unit);

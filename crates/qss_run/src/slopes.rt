@@ -9,7 +9,6 @@ ghost use Rattle.qss_sched.specs.Ranks.{due_at};
 ghost use Rattle.qss_run.specs.Sims.{IsDue};
 ghost use Rattle.qss_run.specs.Renewals.{goes_from};
 
-use crate::levels::level_unit;
 use qss_machine::Machine;
 use qss_quant::{Integrator, Steps};
 use qss_sched::Agenda;
@@ -54,7 +53,7 @@ pub(crate) fn leaving(m: &Machine, j: u32, line: &Integrator) -> Option<u64>
     ensures { IsDue m.now line.now.tick j line.now result }
 {
     let quantum = m.quantum_at(j, line.level);
-    line.due(quantum, level_unit(m))
+    line.due(quantum, m.level_unit())
 }
 
 /// State j goes on from a tick at its slope, and the agenda has the tick at which it then leaves its quantum. A line that

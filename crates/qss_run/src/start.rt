@@ -18,7 +18,6 @@ ghost use Rattle.qss_run.specs.Stores.{world_of, FitsMachine, Stands, IsBlank};
 
 use crate::conditions::BranchPlace;
 use crate::ends::set_world_rows;
-use crate::levels::level_unit;
 use crate::store::Store;
 use crate::watches::rewatch_all;
 use crate::weighing::weigh_all;
@@ -70,7 +69,7 @@ fn start_level(x0: i128, unit: i128) -> i64
 fn start_levels(alloc: Global, m: &Machine) -> Result<Vec<i64>, AllocError>
     ensures { IfOk result (λ levels. levels.items ≡ map (level_below (level_unit m.now)) (start_states m.now)) }
 {
-    let unit = level_unit(m);
+    let unit = m.level_unit();
     let states = m.states.as_slice();
     let mut levels: Vec<i64> = Vec::with_capacity(alloc, states.len())?;
     for j in 0..states.len() {
@@ -210,7 +209,7 @@ fn start_line(
         level,
     };
     let quantum = m.quantum_at(j, level);
-    agenda.set(j, line.due(quantum, level_unit(m)));
+    agenda.set(j, line.due(quantum, m.level_unit()));
 }
 
 // All states go on from tick 0 at the slopes of these levels and discrete values.

@@ -1,7 +1,6 @@
-//! States on arrival at a tick, and their limits.
+//! States on arrival at a tick.
 
 ghost use Rattle.std.specs.Prelude.{◌≡◌, ℕ, ◌<◌, ◌≤◌, ◌^◌, length};
-ghost use Rattle.mu_num.specs.Sizes.{passes};
 ghost use Rattle.mu_num.specs.Ticks.{tick_limit};
 ghost use Rattle.qss_machine.specs.Numbers.{tabulate};
 ghost use Rattle.qss_quant.specs.Lines.{state_at};
@@ -31,12 +30,4 @@ pub(crate) fn arrive_in(lines: &[Integrator], tick: u64, work: &mut Work)
     ensures { work.new ≡ record work.old { x = states_at lines.now tick } }
 {
     arrive(lines, tick, work.x.as_mut_slice());
-}
-
-/// Whether a number is more than a power of two in size.
-pub(crate) fn is_past(z: i128, bits: u32) -> bool
-    requires { bits < 100 }
-    ensures { result ≡ passes bits z }
-{
-    z.unsigned_abs() > 1u128 << bits
 }

@@ -16,14 +16,14 @@ system_by n coef constant quantum unit share = record { n = n; coef = table coef
 
 pub invariant_of-result-clause-positive : goal.invariant_of-result-clause-positive
 invariant_of-result-clause-positive c =
-    let fits : FitsSigned w128 c.unit_of.result = search rules in
-    rw (to_z-of_z, c.unit_of.ensures) (unit_positive c.args.m.now)
+    let fits : FitsSigned w128 c.level_unit.result = search rules in
+    rw (to_z-of_z, c.level_unit.ensures) (unit_positive c.args.m.now)
 
 pub invariant_of-result-clause-small : goal.invariant_of-result-clause-small
 invariant_of-result-clause-small c =
-    let fits : FitsSigned w128 c.unit_of.result = search rules in
+    let fits : FitsSigned w128 c.level_unit.result = search rules in
     let P : ℤ → Type 0 = λ z. z ≤ℤ pos (2 ^ 44) in
-    subst P (sym (to_z-of_z fits ∙ c.unit_of.ensures)) (unit_high c.args.m.now)
+    subst P (sym (to_z-of_z fits ∙ c.level_unit.ensures)) (unit_high c.args.m.now)
 
 pub returns-clause-coef : goal.returns-clause-coef
 returns-clause-coef c =
@@ -38,7 +38,7 @@ same-system n n' coef coef' constant constant' quantum quantum' unit unit' share
 
 pub returns-clause-system : goal.returns-clause-system
 returns-clause-system c =
-    let fits : FitsSigned w128 c.unit_of.result = search rules in
+    let fits : FitsSigned w128 c.level_unit.result = search rules in
     let share_fits : FitsSigned w128 c.from.result = search rules in
     same-system _ _ _ _ _ _ _ _ _ _ _ _ (ap length c.as_slice.ensures) c.coefficients.ensures c.drives.ensures c.own_quanta.ensures
-    (to_z-of_z fits ∙ c.unit_of.ensures) (to_z-of_z share_fits ∙ c.from.ensures)
+    (to_z-of_z fits ∙ c.level_unit.ensures) (to_z-of_z share_fits ∙ c.from.ensures)

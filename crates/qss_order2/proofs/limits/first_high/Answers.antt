@@ -8,10 +8,10 @@ use Rattle.qss_order2.proofs.Tables.{first_is, none_is}
 use Rattle.qss_order2.proofs.limits.first_high.Goals as goal
 use mir.Syntax.{w128}
 
-pub returns-then-is_past : goal.returns-then-is_past
-returns-then-is_past c =
+pub returns-then-passes : goal.returns-then-passes
+returns-then-passes c =
     let fits : FitsSigned w128 (int_at c.args.levels.now c.loop-j.j) = omega (arith, ints) in
-    let here : passes 49 (int_at c.args.levels.now c.loop-j.j) ≡ true = sym (rw (to_z-of_z w128 (int_at c.args.levels.now c.loop-j.j) fits) at c.is_past.ensures) ∙ c.if-is_past.true in
+    let here : passes 49 (int_at c.args.levels.now c.loop-j.j) ≡ true = sym (rw (to_z-of_z w128 (int_at c.args.levels.now c.loop-j.j) fits) at c.passes.ensures) ∙ c.if-passes.true in
     sym (first_is (passes 49) c.args.levels.now c.loop-j.j (pos 0) c.loop-j-test.true c.loop-j.invariant here)
 
 pub returns : goal.returns

@@ -30,4 +30,4 @@ returns c =
     let weight : c.weight_of.result ≡ rise_weight m c.args.levels.now c.args.row =
     own ∙ weight_is m c.args.row c.as_slice.result.now (subst (AreModes m c.args.row) (sym c.as_slice.ensures) modes) c.args.levels.now c.requires.levels c.index-2.result.now
     (drive_is c.args.f.now c.args.row c.requires.row c.index-2.result.now c.index-2.ensures) in
-    c.is_past.ensures ∙ ap (passes 94) (to_z-of_z w128 c.weight_of.result of_weight ∙ weight)
+    c.passes.ensures ∙ ap (passes 94) (to_z-of_z w128 c.weight_of.result of_weight ∙ weight)

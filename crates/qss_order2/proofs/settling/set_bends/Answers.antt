@@ -5,7 +5,8 @@ use Rattle.qss_machine.specs.Numbers.{tabulate}
 use Rattle.qss_machine.proofs.Ranges.{none_past}
 use Rattle.qss_order2.specs.Laws.{bend_at}
 use Rattle.qss_order2.specs.Worlds.{bend_weight}
-use Rattle.qss_order2.proofs.Tables.{at_table, filled_table, within_passes}
+use Rattle.mu_num.proofs.SizeTests.{within-passes}
+use Rattle.qss_order2.proofs.Tables.{at_table, filled_table}
 use Rattle.qss_order2.proofs.settling.set_bends.Goals as goal
 
 pub bend_at-requires-clause-within : goal.bend_at-requires-clause-within
@@ -14,7 +15,7 @@ bend_at-requires-clause-within c =
     let n = state_count m in
     let j = c.loop-row.row in
     let h : j < n = omega (arith, c.loop-row-test.true, c.requires.bends) in
-    within_passes 94 (bend_weight m c.args.changes.now j)
+    within-passes 94 (bend_weight m c.args.changes.now j)
     (subst (λ z. unsigned_abs z ≤ 2 ^ 94) (at_table n (bend_weight m c.args.changes.now) j h) (none_past 94 (tabulate n (bend_weight m c.args.changes.now)) c.requires.within j))
 
 pub returns : goal.returns

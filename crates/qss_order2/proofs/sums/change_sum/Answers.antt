@@ -1,8 +1,8 @@
 -- Each term is at most the sum of sizes.
-use Rattle.std.proofs.Common.{◌≡◌, ◌^◌, false, ℤ, pos, ◌*ℤ◌, arith, sym, ◌∙◌}
-use Rattle.std.proofs.lemmas.Bool.Decides.{nat_tests}
+use Rattle.std.proofs.Common.{◌^◌, false, ℤ, pos, ◌*ℤ◌, arith, sym, ◌∙◌}
 use Rattle.std.proofs.lemmas.Int.{ints}
-use Rattle.mu_num.specs.Sizes.{IsWithin, passes}
+use Rattle.mu_num.specs.Sizes.{IsWithin}
+use Rattle.mu_num.proofs.SizeTests.{passes-within}
 use Rattle.qss_machine.specs.declared.parts.Entry.{Entry}
 use Rattle.qss_machine.specs.Numbers.{int_at, size, sum_over}
 use Rattle.qss_machine.proofs.Loops.{sum_step, sum_done}
@@ -12,14 +12,11 @@ use Rattle.qss_order2.proofs.sums.change_sum.Goals as goal
 use mir.Syntax.{w128}
 use mir.Val.{to_z}
 
-passes_no : (z : ℤ) → passes 94 z ≡ false → IsWithin 94 z
-passes_no z e = grind (arith, nat_tests)
-
 pub change_term-sum-requires-clause-within : goal.change_term-sum-requires-clause-within
 change_term-sum-requires-clause-within c =
     let changes = c.args.changes.now in
     let f = λ (entry : Entry). size (entry.coef *ℤ int_at changes entry.var) in
-    let all : IsWithin 94 (sum_over f c.args.entries.now) = passes_no (sum_over f c.args.entries.now) c.requires.within in
+    let all : IsWithin 94 (sum_over f c.args.entries.now) = passes-within 94 (sum_over f c.args.entries.now) c.requires.within in
     let below = term_below f (λ e. size_from_zero (e.coef *ℤ int_at changes e.var)) c.args.entries.now c.loop-entry.entry-index (record { var = 0; coef = pos 0 }) c.loop-entry-test.true in
     omega (arith, ints, all, below)
 

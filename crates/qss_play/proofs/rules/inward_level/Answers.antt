@@ -5,22 +5,22 @@ use Rattle.qss_play.proofs.RuleAnswers.{above_answer, below_answer}
 use Rattle.qss_play.proofs.rules.inward_level.Goals as goal
 use mir.Syntax.{w128}
 
-pub returns-then-scaled-state : goal.returns-then-scaled-state
-returns-then-scaled-state c =
+pub returns-then-in_units-state : goal.returns-then-in_units-state
+returns-then-in_units-state c =
     let of_state = c.ranges.state in
     let of_old = c.ranges.old in
     let of_unit = c.ranges.unit in
-    let of_scaled : FitsSigned w128 c.scaled.result = record { sfits = c.scaled.type_inv } in
+    let of_in_units : FitsSigned w128 c.in_units.result = record { sfits = c.in_units.type_inv } in
     let above : (c.args.unit *ℤ c.args.old) <ℤ c.args.state =
-    subst (λ (z : ℤ). z <ℤ c.args.state) (simp to_z-of_z at c.scaled.ensures.value) (int_lt-true c.scaled.result c.args.state (simp to_z-of_z at c.if-scaled-state.true)) in
+    subst (λ (z : ℤ). z <ℤ c.args.state) (simp to_z-of_z at c.in_units.ensures.value) (int_lt-true c.in_units.result c.args.state (simp to_z-of_z at c.if-in_units-state.true)) in
     above_answer c.args.state c.args.old c.args.unit _ (search rules) above (search rules)
 
-pub returns-else-scaled-state : goal.returns-else-scaled-state
-returns-else-scaled-state c =
+pub returns-else-in_units-state : goal.returns-else-in_units-state
+returns-else-in_units-state c =
     let of_state = c.ranges.state in
     let of_old = c.ranges.old in
     let of_unit = c.ranges.unit in
-    let of_scaled : FitsSigned w128 c.scaled.result = record { sfits = c.scaled.type_inv } in
+    let of_in_units : FitsSigned w128 c.in_units.result = record { sfits = c.in_units.type_inv } in
     let below : c.args.state ≤ℤ (c.args.unit *ℤ c.args.old) =
-    subst (λ (z : ℤ). c.args.state ≤ℤ z) (simp to_z-of_z at c.scaled.ensures.value) (int_lt-false c.scaled.result c.args.state (simp to_z-of_z at c.if-scaled-state.false)) in
+    subst (λ (z : ℤ). c.args.state ≤ℤ z) (simp to_z-of_z at c.in_units.ensures.value) (int_lt-false c.in_units.result c.args.state (simp to_z-of_z at c.if-in_units-state.false)) in
     below_answer c.args.state c.args.old c.args.unit _ (search rules) below (search rules)

@@ -16,6 +16,6 @@ pub returns-clause-positive : goal.returns-clause-positive
 returns-clause-positive c =
     let of_quantum = c.ranges.quantum in
     let of_unit = c.ranges.unit in
-    let fits : FitsSigned w128 c.scaled.result = record { sfits = c.scaled.type_inv } in
-    rw (to_z-of_z w128 c.scaled.result fits)
-    (subst (λ z. pos 0 <ℤ z) (sym (simp to_z-of_z at c.scaled.ensures.value)) (product_positive c.args.unit c.args.quantum c.requires.unit.from_one c.requires.quantum.from_one))
+    let fits : FitsSigned w128 c.in_units.result = record { sfits = c.in_units.type_inv } in
+    rw (to_z-of_z w128 c.in_units.result fits)
+    (subst (λ z. pos 0 <ℤ z) (sym (simp to_z-of_z at c.in_units.ensures.value)) (product_positive c.args.unit c.args.quantum c.requires.unit.from_one c.requires.quantum.from_one))

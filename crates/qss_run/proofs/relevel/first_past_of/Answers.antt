@@ -8,12 +8,12 @@ use Rattle.qss_run.proofs.DueFirsts.{first_of, none_of}
 use Rattle.qss_run.proofs.relevel.first_past_of.Goals as goal
 use mir.Syntax.{w128}
 
-pub returns-then-is_past : goal.returns-then-is_past
-returns-then-is_past c =
+pub returns-then-passes : goal.returns-then-passes
+returns-then-passes c =
     let i = c.loop-state.state-index in
     let state = get_or c.args.moved.now i 0 in
     let fits : FitsSigned w128 (int_at c.args.values.now state) = omega (arith, ints) in
-    let here : passes c.args.bits (int_at c.args.values.now state) ≡ true = sym (rw (to_z-of_z w128 (int_at c.args.values.now state) fits) at c.is_past.ensures) ∙ c.if-is_past.true in
+    let here : passes c.args.bits (int_at c.args.values.now state) ≡ true = sym (rw (to_z-of_z w128 (int_at c.args.values.now state) fits) at c.passes.ensures) ∙ c.if-passes.true in
     first_of (λ j. passes c.args.bits (int_at c.args.values.now j)) c.args.moved.now i c.requires.moved.rising c.loop-state-test.true c.loop-state.invariant here
 
 pub returns : goal.returns

@@ -21,7 +21,7 @@ due-requires-clause-quantum c =
 pub due-requires-clause-unit : goal.due-requires-clause-unit
 due-requires-clause-unit c =
     let fits : FitsSigned w128 c.level_unit.result = record { sfits = c.level_unit.type_inv } in
-    rw (to_z-of_z w128 c.level_unit.result fits) (subst (IsPositiveWithin 44) (sym c.level_unit.ensures.value) (unit_fits c.args.m.now))
+    rw (to_z-of_z w128 c.level_unit.result fits) (subst (IsPositiveWithin 44) (sym c.level_unit.ensures) (unit_fits c.args.m.now))
 
 pub returns : goal.returns
 returns c =
@@ -33,5 +33,5 @@ returns c =
     let unit : FitsSigned w128 c.level_unit.result = record { sfits = c.level_unit.type_inv } in
     let own : c.quantum_at-quantum.result ≡ quantum_of m c.args.j c.line.inside.level = simp to_z-of_z at c.quantum_at-quantum.ensures in
     let first = simp to_z-of_z at c.due.ensures in
-    due_here m line.tick c.args.j line line.x line.slope line.level c.level_unit.result c.quantum_at-quantum.result c.due.result refl c.level_unit.ensures.value
+    due_here m line.tick c.args.j line line.x line.slope line.level c.level_unit.result c.quantum_at-quantum.result c.due.result refl c.level_unit.ensures
     (own ∙ ap (λ (l : Line). quantum_of m c.args.j l.level) c.line.view_is) first

@@ -25,7 +25,7 @@ loop-j-preserved c =
     let level : FitsSigned w64 c.start_level.result = record { sfits = c.start_level.type_inv } in
     let own : c.start_level.result ≡ level_below (level_unit m) (get_or m.states j state).x0 =
     c.start_level.ensures
-    ∙ ap (λ u. level_below u (to_z w128 (of_z w128 read.x0))) (to_z-of_z w128 c.level_unit-unit.result unit ∙ c.level_unit-unit.ensures.value)
+    ∙ ap (λ u. level_below u (to_z w128 (of_z w128 read.x0))) (to_z-of_z w128 c.level_unit-unit.result unit ∙ c.level_unit-unit.ensures)
     ∙ ap (level_below (level_unit m)) (to_z-of_z w128 read.x0 x ∙ ap (λ (s : StateInfo). s.x0) is) in
     record {
       so_far = c.push_reserved.ensures.items ∙ ap (λ l. c.loop-j.levels.items ++ l ∷ []) (to_z-of_z w64 c.start_level.result level)

@@ -23,7 +23,7 @@ due-requires-clause-quantum c =
 pub due-requires-clause-unit : goal.due-requires-clause-unit
 due-requires-clause-unit c =
     let fits : FitsSigned w128 c.level_unit.result = record { sfits = c.level_unit.type_inv } in
-    rw (to_z-of_z w128 c.level_unit.result fits) (subst (IsPositiveWithin 44) (sym c.level_unit.ensures.value) (unit_fits c.args.m.now))
+    rw (to_z-of_z w128 c.level_unit.result fits) (subst (IsPositiveWithin 44) (sym c.level_unit.ensures) (unit_fits c.args.m.now))
 
 pub returns-clause-due : goal.returns-clause-due
 returns-clause-due c =
@@ -38,4 +38,4 @@ returns-clause-due c =
     ap (λ due. due_at due c.args.j) c.set.ensures ∙ get_or-set_same c.args.agenda.now c.args.j c.due.result None c.requires.place in
     subst (IsDue m 0 c.args.j line) (sym held)
     (due_here m 0 c.args.j line x slope level (to_z w128 (of_z w128 c.level_unit.result)) (to_z w64 (of_z w64 c.quantum_at-quantum.result)) c.due.result
-    refl (to_z-of_z w128 c.level_unit.result unit ∙ c.level_unit.ensures.value) (to_z-of_z w64 c.quantum_at-quantum.result fits ∙ c.quantum_at-quantum.ensures) c.due.ensures)
+    refl (to_z-of_z w128 c.level_unit.result unit ∙ c.level_unit.ensures) (to_z-of_z w64 c.quantum_at-quantum.result fits ∙ c.quantum_at-quantum.ensures) c.due.ensures)

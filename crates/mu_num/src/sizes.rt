@@ -1,0 +1,40 @@
+// Sizes of whole numbers, and powers of 2.
+
+ghost use Rattle.std.specs.Prelude.{◌≡◌, ◌^◌, ◌≤◌, pos, ◌*ℤ◌, unsigned_abs};
+ghost use Rattle.mu_num.specs.Sizes.{passes};
+
+/// Whether a number is more than 2^bits in size.
+pub fn passes(z: i128, bits: u8) -> bool
+    requires { bits ≤ 126 }
+    ensures { result ≡ passes bits z }
+{
+    z.unsigned_abs() > 1u128 << bits
+}
+
+/// How many units of 2^-bits a whole one has: 2^bits.
+pub fn unit(bits: u8) -> i128
+    requires { bits ≤ 126 }
+    ensures { result ≡ pos (2 ^ bits) }
+{
+    1i128 << bits
+}
+
+// A number of at most 2^62 times one of at most 2^64.
+fn times(num: i128, unit: i128) -> i128
+    requires num { unsigned_abs num ≤ 2 ^ 62 }
+    requires unit { unsigned_abs unit ≤ 2 ^ 64 }
+    ensures value { result ≡ num *ℤ unit }
+    ensures size { unsigned_abs result ≤ 2 ^ 126 }
+{
+    num * unit
+}
+
+/// A number of at most 2^62 in size in units of 2^-bits.
+pub fn shifted(num: i128, bits: u8) -> i128
+    requires num { unsigned_abs num ≤ 2 ^ 62 }
+    requires bits { bits ≤ 64 }
+    ensures value { result ≡ num *ℤ pos (2 ^ bits) }
+    ensures size { unsigned_abs result ≤ 2 ^ 126 }
+{
+    times(num, unit(bits))
+}
