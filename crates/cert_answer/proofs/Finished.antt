@@ -1,5 +1,5 @@
 -- How calls end.
-use Rattle.std.proofs.Common.{◌≡◌, ℕ, ◌≤◌, inl, inr, List, length, refl, sym, subst, arith}
+use Rattle.std.proofs.Common.{Bool, ◌≡◌, ℕ, ◌≤◌, inl, inr, List, length, refl, sym, subst, arith}
 use Rattle.std.specs.declared.option.Option.{Option}
 use Rattle.std.specs.Io.KnownBytes.{Appends}
 use Rattle.qss_machine.specs.declared.system.Machine.{Machine}
@@ -47,9 +47,9 @@ certified-takes m c a (v, is, e) = subst TakesMemory (sym e) (by v)
 pub upgraded-takes : (c : Certificate) (a : Answer) → a ≡ upgraded c → TakesMemory a
 upgraded-takes c a e = subst TakesMemory (sym e) tt
 
-module _ {K : Type 0} (known : K → Option (List ℕ)) (faults : K → ℕ) where
+module _ {K : Type 0} (known : K → Option (List ℕ)) (faults : K → ℕ) (failed : K → Bool) where
   -- an answer of one kind is one of another
-  pub ends_as : (IsSuch Other : Answer → Type 0) → ((a : Answer) → IsSuch a → Other a) → (end : Ending) (old new : K) → Ends known faults IsSuch end old new → Ends known faults Other end old new
+  pub ends_as : (IsSuch Other : Answer → Type 0) → ((a : Answer) → IsSuch a → Other a) → (end : Ending) (old new : K) → Ends known faults failed IsSuch end old new → Ends known faults failed Other end old new
   ends_as IsSuch Other into end old new h = record {
     answer = h.answer;
     is = into h.answer h.is;
@@ -62,7 +62,7 @@ module _ {K : Type 0} (known : K → Option (List ℕ)) (faults : K → ℕ) whe
   }
 
   -- memory was wanting, and nothing is written
-  pub memory_wanted : (IsSuch : Answer → Type 0) → (a : Answer) → IsSuch a → TakesMemory a → (sink : K) → Ends known faults IsSuch ending.Memory sink sink
+  pub memory_wanted : (IsSuch : Answer → Type 0) → (a : Answer) → IsSuch a → TakesMemory a → (sink : K) → Ends known faults failed IsSuch ending.Memory sink sink
   memory_wanted IsSuch a is takes sink = record {
     answer = a;
     is = is;
@@ -75,7 +75,7 @@ module _ {K : Type 0} (known : K → Option (List ℕ)) (faults : K → ℕ) whe
   }
 
   -- a refusal is told, and nothing is written
-  refusal_told : (IsSuch : Answer → Type 0) (why : CertificateRefusal) → IsSuch (refused why) → (sink : K) → Ends known faults IsSuch (ending.Refused why) sink sink
+  refusal_told : (IsSuch : Answer → Type 0) (why : CertificateRefusal) → IsSuch (refused why) → (sink : K) → Ends known faults failed IsSuch (ending.Refused why) sink sink
   refusal_told IsSuch why is sink = record {
     answer = refused why;
     is = is;
@@ -90,17 +90,17 @@ module _ {K : Type 0} (known : K → Option (List ℕ)) (faults : K → ℕ) whe
   -- the bytes are not read
   pub not_read : (m : Machine) (bytes : List ℕ) (IsSuch : Certificate → Answer → Type 0) → ((c : Certificate) (a : Answer) → IsSuch c a → TakesMemory a) → (a : Answer) → IsAnswer m IsSuch bytes a
       → (end : Ending) → RefusesBy m bytes end → (sink : K)
-      → Ends known faults (IsAnswer m IsSuch bytes) end sink sink
+      → Ends known faults failed (IsAnswer m IsSuch bytes) end sink sink
   not_read m bytes IsSuch takes a is end (inl (e, scope, short)) sink =
-      let P : Ending → Type 0 = λ x. Ends known faults (IsAnswer m IsSuch bytes) x sink sink in
+      let P : Ending → Type 0 = λ x. Ends known faults failed (IsAnswer m IsSuch bytes) x sink sink in
       subst P (sym e) (memory_wanted (IsAnswer m IsSuch bytes) a is (answer-takes m bytes IsSuch takes a is scope short) sink)
   not_read m bytes IsSuch takes a is end (inr (why, h, e)) sink =
-      let P : Ending → Type 0 = λ x. Ends known faults (IsAnswer m IsSuch bytes) x sink sink in
+      let P : Ending → Type 0 = λ x. Ends known faults failed (IsAnswer m IsSuch bytes) x sink sink in
       subst P (sym e) (refusal_told (IsAnswer m IsSuch bytes) why (inl (why, h, refl)) sink)
 
   -- the certificate is not accepted
   pub verdict_told : (m : Machine) (c : Certificate) (v : Verdict) → IsVerdict (system_of m) (claim c) v → (v ≡ verdict.Accepted → ⊥) → (sink : K)
-      → Ends known faults (IsCertified m c) (ending.Refused (Rejected v)) sink sink
+      → Ends known faults failed (IsCertified m c) (ending.Refused (Rejected v)) sink sink
   verdict_told m c v h other sink = refusal_told (IsCertified m c) (Rejected v) (v, h, rejected_by v other) sink
     where
       rejected_by : (v : Verdict) → (v ≡ verdict.Accepted → ⊥) → refused (Rejected v) ≡ certified m c v
@@ -109,7 +109,7 @@ module _ {K : Type 0} (known : K → Option (List ℕ)) (faults : K → ℕ) whe
       rejected_by (verdict.Range a b) other = refl
 
   -- what is written of a certification is bounds that hold
-  pub promised_end : (m : Machine) (bytes : List ℕ) (end : Ending) (old new : K) → Ends known faults (IsCertification m bytes) end old new → end ≡ ending.Written
+  pub promised_end : (m : Machine) (bytes : List ℕ) (end : Ending) (old new : K) → Ends known faults failed (IsCertification m bytes) end old new → end ≡ ending.Written
       → (c : Certificate) × IsTextOf m bytes c × Appends (known old) (known new) (bounds_text m c) × IsPromised m c × AdmitsRuns m c
   promised_end m bytes end old new h e = by h.answer h.is (let P : Ending → Type 0 = λ x. MayEnd h.answer x in subst P e h.told) (h.whole e)
     where

@@ -15,7 +15,7 @@ use std::alloc::Global;
 
 /// Reads a certificate of a machine from its bytes, and writes it with all its lines, which is form 3. It is not checked.
 pub fn upgrade<O: Sink>(alloc: Global, m: &Machine, bytes: &[u8], out: &mut O) -> Ending
-    ensures { Ends O.written O.faults (IsUpgrade m.now bytes.now) result out.old out.new }
+    ensures { Ends O.written O.faults O.failed (IsUpgrade m.now bytes.now) result out.old out.new }
 {
     match read_for(alloc, m, bytes) {
         Ok(c) => write_newest(alloc, &c, out),
@@ -25,7 +25,7 @@ pub fn upgrade<O: Sink>(alloc: Global, m: &Machine, bytes: &[u8], out: &mut O) -
 
 // Writes a certificate with all its lines.
 fn write_newest<O: Sink>(alloc: Global, c: &Certificate, out: &mut O) -> Ending
-    ensures { Ends O.written O.faults (λ answer. answer ≡ upgraded c.now) result out.old out.new }
+    ensures { Ends O.written O.faults O.failed (λ answer. answer ≡ upgraded c.now) result out.old out.new }
 {
     match write_certificate(alloc, c) {
         Ok(text) => write_text(&text, out),

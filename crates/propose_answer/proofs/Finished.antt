@@ -1,5 +1,5 @@
 -- How calls end.
-use Rattle.std.proofs.Common.{◌≡◌, ℕ, inl, inr, List, refl, sym, subst}
+use Rattle.std.proofs.Common.{Bool, ◌≡◌, ℕ, inl, inr, List, refl, sym, subst}
 use Rattle.std.specs.declared.option.Option.{Option}
 use Rattle.std.specs.Io.KnownBytes.{Appends}
 use Rattle.qss_machine.specs.declared.system.Machine.{Machine}
@@ -40,10 +40,10 @@ candidate-takes m scope (x, e) = by (some_proposal m scope)
     by (proposal.Candidate c v, is) = (answered c v, inr (scope, (proposal.Candidate c v, is, refl)), answered-takes c v)
     by (proposal.NoCandidate step, is) = absurd (cc)
 
-module _ {K : Type 0} (known : K → Option (List ℕ)) (faults : K → ℕ) where
+module _ {K : Type 0} (known : K → Option (List ℕ)) (faults : K → ℕ) (failed : K → Bool) where
   -- an answer of one kind is one of another
-  pub ends_as : (IsSuch Other : Answer → Type 0) → ((a : Answer) → IsSuch a → Other a) → (end : ProposalEnding) (old new : K) → Ends known faults IsSuch end old new
-      → Ends known faults Other end old new
+  pub ends_as : (IsSuch Other : Answer → Type 0) → ((a : Answer) → IsSuch a → Other a) → (end : ProposalEnding) (old new : K) → Ends known faults failed IsSuch end old new
+      → Ends known faults failed Other end old new
   ends_as IsSuch Other into end old new h = record {
     answer = h.answer;
     is = into h.answer h.is;
@@ -56,7 +56,7 @@ module _ {K : Type 0} (known : K → Option (List ℕ)) (faults : K → ℕ) whe
   }
 
   -- memory was wanting, and nothing is written
-  pub memory_wanted : (IsSuch : Answer → Type 0) → (a : Answer) → IsSuch a → TakesMemory a → (sink : K) → Ends known faults IsSuch ending.Memory sink sink
+  pub memory_wanted : (IsSuch : Answer → Type 0) → (a : Answer) → IsSuch a → TakesMemory a → (sink : K) → Ends known faults failed IsSuch ending.Memory sink sink
   memory_wanted IsSuch a is takes sink = record {
     answer = a;
     is = is;
@@ -69,7 +69,7 @@ module _ {K : Type 0} (known : K → Option (List ℕ)) (faults : K → ℕ) whe
   }
 
   -- a refusal is told, and nothing is written
-  pub refusal_told : (IsSuch : Answer → Type 0) (why : ProposalRefusal) → IsSuch (refused why) → (sink : K) → Ends known faults IsSuch (ending.Refused why) sink sink
+  pub refusal_told : (IsSuch : Answer → Type 0) (why : ProposalRefusal) → IsSuch (refused why) → (sink : K) → Ends known faults failed IsSuch (ending.Refused why) sink sink
   refusal_told IsSuch why is sink = record {
     answer = refused why;
     is = is;
@@ -82,7 +82,7 @@ module _ {K : Type 0} (known : K → Option (List ℕ)) (faults : K → ℕ) whe
   }
 
   -- what is written is a text that keeps what it promises
-  pub promised_end : (m : Machine) (end : ProposalEnding) (old new : K) → Ends known faults (IsProposed m) end old new → end ≡ ending.Written
+  pub promised_end : (m : Machine) (end : ProposalEnding) (old new : K) → Ends known faults failed (IsProposed m) end old new → end ≡ ending.Written
       → (c : Certificate) × (text : List ℕ) × Appends (known old) (known new) text × IsKeptText m text c
   promised_end m end old new h e = by h.answer h.is (let P : ProposalEnding → Type 0 = λ x. MayEnd h.answer x in subst P e h.told) (h.whole e)
     where

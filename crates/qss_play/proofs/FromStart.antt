@@ -1,5 +1,5 @@
 -- A run that is played from its start.
-use Rattle.std.proofs.Common.{◌≡◌, ◌≢◌, inl, inr, ℕ, ◌-◌, List, ◌++◌, refl, sym, ap, ◌∙◌, subst, arith}
+use Rattle.std.proofs.Common.{Bool, ◌≡◌, ◌≢◌, inl, inr, ℕ, ◌-◌, List, ◌++◌, refl, sym, ap, ◌∙◌, subst, arith}
 use Rattle.std.specs.Prelude.{Option, Some, None, All}
 use Rattle.qss_machine.specs.declared.rows.Row.{Row}
 use Rattle.qss_machine.specs.declared.rows.RowKind.TheVariants as kind
@@ -54,14 +54,14 @@ over_before (Events tick) result run end done e = absurd end
 over_before Done result run end done e = let ended = done refl in absurd (cc)
 over_before (Over tick var) result run end done e = (var, end.0)
 
-module _ {K : Type 0} (written : K → Option (List ℕ)) (faults : K → ℕ) (only : Option (List ℕ)) (rule : Rule) (m : Machine) (old new : K) where
-  same_text : (stop : Option Stop) → IsWriting written faults stop old new (text_ahead only rule m) → IsWriting written faults stop old new (text_of only m (run_under rule m))
-  same_text stop w = subst (IsWriting written faults stop old new) (text_is only rule m) w
+module _ {K : Type 0} (written : K → Option (List ℕ)) (faults : K → ℕ) (failed : K → Bool) (only : Option (List ℕ)) (rule : Rule) (m : Machine) (old new : K) where
+  same_text : (stop : Option Stop) → IsWriting written faults failed stop old new (text_ahead only rule m) → IsWriting written faults failed stop old new (text_of only m (run_under rule m))
+  same_text stop w = subst (IsWriting written faults failed stop old new) (text_is only rule m) w
 
   -- all was written
   pub plays_all : (outcome : Outcome) (result : Played) → EndsFrom outcome 0 (run_ahead rule (first m)) → ((run : Run) → EndsFrom outcome 0 run → EndsSo m run result) → (outcome ≡ Done → result ≡ played.Ended) →
       result ≢ played.Fault →
-      IsWriting written faults None old new (text_ahead only rule m) → IsPlayed written faults m (run_under rule m) only result old new
+      IsWriting written faults failed None old new (text_ahead only rule m) → IsPlayed written faults failed m (run_under rule m) only result old new
   plays_all outcome result end so done calm w =
       let is = same_text None w in
       record {
@@ -74,31 +74,31 @@ module _ {K : Type 0} (written : K → Option (List ℕ)) (faults : K → ℕ) (
       }
 
   -- the sink failed
-  pub plays_fault : (s : Stop) → s ≡ Fault → IsWriting written faults (Some s) old new (text_ahead only rule m) → IsPlayed written faults m (run_under rule m) only played.Fault old new
+  pub plays_fault : (s : Stop) → s ≡ Fault → IsWriting written faults failed (Some s) old new (text_ahead only rule m) → IsPlayed written faults failed m (run_under rule m) only played.Fault old new
   plays_fault s e w =
-      let is = same_text (Some Fault) (subst (λ (stop : Stop). IsWriting written faults (Some stop) old new (text_ahead only rule m)) e w) in
+      let is = same_text (Some Fault) (subst (λ (stop : Stop). IsWriting written faults failed (Some stop) old new (text_ahead only rule m)) e w) in
       record { end = tt; whole = λ e. absurd (cc); prefix = is.prefix; short = λ e. absurd (cc); calm = λ e. absurd (e refl); last = λ e. is.last refl }
 
   -- memory was not found
-  pub plays_memory : (s : Stop) → s ≡ Memory → IsWriting written faults (Some s) old new (text_ahead only rule m) → IsShort written only m (run_under rule m) old new →
-      IsPlayed written faults m (run_under rule m) only played.Memory old new
+  pub plays_memory : (s : Stop) → s ≡ Memory → IsWriting written faults failed (Some s) old new (text_ahead only rule m) → IsShort written only m (run_under rule m) old new →
+      IsPlayed written faults failed m (run_under rule m) only played.Memory old new
   plays_memory s e w short =
-      let is = same_text (Some Memory) (subst (λ (stop : Stop). IsWriting written faults (Some stop) old new (text_ahead only rule m)) e w) in
+      let is = same_text (Some Memory) (subst (λ (stop : Stop). IsWriting written faults failed (Some stop) old new (text_ahead only rule m)) e w) in
       record { end = tt; whole = λ e. absurd (cc); prefix = is.prefix; short = λ e. short; calm = λ e. is.calm (λ f. absurd (cc)); last = λ e. absurd (cc) }
 
 -- nothing was written, since memory was not found
-pub plays_nothing : {K : Type 0} (written : K → Option (List ℕ)) (faults : K → ℕ) (only : Option (List ℕ)) (rule : Rule) (m : Machine) (old : K) →
-    IsPlayed written faults m (run_under rule m) only played.Memory old old
-plays_nothing written faults only rule m old = plays_memory written faults only rule m old old Memory refl (writes_none written faults old (text_ahead only rule m)) (inl refl)
+pub plays_nothing : {K : Type 0} (written : K → Option (List ℕ)) (faults : K → ℕ) (failed : K → Bool) (only : Option (List ℕ)) (rule : Rule) (m : Machine) (old : K) →
+    IsPlayed written faults failed m (run_under rule m) only played.Memory old old
+plays_nothing written faults failed only rule m old = plays_memory written faults failed only rule m old old Memory refl (writes_none written faults failed old (text_ahead only rule m)) (inl refl)
 
 -- the same where a simulator's course is the one at the start
 pub course_known : (rule : Rule) (m : Machine) (course : Standing) → course ≡ first m → All (HasVariable course.machine) (rows_ahead rule course)
 course_known rule m course e = subst (λ (s : Standing). All (HasVariable s.machine) (rows_ahead rule s)) (sym e) (first_known rule m)
 
-pub course_writing : {K : Type 0} (written : K → Option (List ℕ)) (faults : K → ℕ) (stop : Option Stop) (old new : K) (only : Option (List ℕ)) (rule : Rule) (m : Machine) (course : Standing) →
-    course ≡ first m → IsWriting written faults stop old new (header ++ lines_passed only course.machine (rows_ahead rule course)) → IsWriting written faults stop old new (text_ahead only rule m)
-course_writing written faults stop old new only rule m course e w =
-    subst (λ (s : Standing). IsWriting written faults stop old new (header ++ lines_passed only s.machine (rows_ahead rule s))) e w
+pub course_writing : {K : Type 0} (written : K → Option (List ℕ)) (faults : K → ℕ) (failed : K → Bool) (stop : Option Stop) (old new : K) (only : Option (List ℕ)) (rule : Rule) (m : Machine) (course : Standing) →
+    course ≡ first m → IsWriting written faults failed stop old new (header ++ lines_passed only course.machine (rows_ahead rule course)) → IsWriting written faults failed stop old new (text_ahead only rule m)
+course_writing written faults failed stop old new only rule m course e w =
+    subst (λ (s : Standing). IsWriting written faults failed stop old new (header ++ lines_passed only s.machine (rows_ahead rule s))) e w
 
 pub course_short : {K : Type 0} (written : K → Option (List ℕ)) (old new : K) (only : Option (List ℕ)) (rule : Rule) (m : Machine) (course : Standing) →
     course ≡ first m → StopsBefore written header only course.machine (rows_ahead rule course) old new → IsShort written only m (run_under rule m) old new
@@ -113,8 +113,8 @@ pub course_own : (m : Machine) (course : Standing) → course ≡ first m → co
 course_own m course e = e ∙ ap first (sym (ap (λ (s : Standing). s.machine) e))
 
 -- what was played of the machine that it keeps was played of the machine
-pub course_played : {K : Type 0} (written : K → Option (List ℕ)) (faults : K → ℕ) (rule : Rule) (m : Machine) (course : Standing) (filter only : Option (List ℕ)) (result : Played) (old new : K) →
-    course ≡ first m → filter ≡ only → IsPlayed written faults course.machine (run_under rule course.machine) filter result old new → IsPlayed written faults m (run_under rule m) only result old new
-course_played written faults rule m course filter only result old new e f p =
-    subst (λ (k : Machine). IsPlayed written faults k (run_under rule k) only result old new) (ap (λ (s : Standing). s.machine) e)
-    (subst (λ (o : Option (List ℕ)). IsPlayed written faults course.machine (run_under rule course.machine) o result old new) f p)
+pub course_played : {K : Type 0} (written : K → Option (List ℕ)) (faults : K → ℕ) (failed : K → Bool) (rule : Rule) (m : Machine) (course : Standing) (filter only : Option (List ℕ)) (result : Played) (old new : K) →
+    course ≡ first m → filter ≡ only → IsPlayed written faults failed course.machine (run_under rule course.machine) filter result old new → IsPlayed written faults failed m (run_under rule m) only result old new
+course_played written faults failed rule m course filter only result old new e f p =
+    subst (λ (k : Machine). IsPlayed written faults failed k (run_under rule k) only result old new) (ap (λ (s : Standing). s.machine) e)
+    (subst (λ (o : Option (List ℕ)). IsPlayed written faults failed course.machine (run_under rule course.machine) o result old new) f p)

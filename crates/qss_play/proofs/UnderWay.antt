@@ -1,5 +1,5 @@
 -- A run that is written as it goes.
-use Rattle.std.proofs.Common.{◌≡◌, ℕ, suc, ◌+◌, ◌-◌, ◌<◌, List, [], ◌∷◌, ◌++◌, length, refl, sym, ap, ◌∙◌, subst, arith, append_assoc, append-nil}
+use Rattle.std.proofs.Common.{Bool, ◌≡◌, ℕ, suc, ◌+◌, ◌-◌, ◌<◌, List, [], ◌∷◌, ◌++◌, length, refl, sym, ap, ◌∙◌, subst, arith, append_assoc, append-nil}
 use Rattle.std.specs.Prelude.{Option, Some, None, Result, Ok, Err, All}
 use Rattle.std.proofs.lemmas.List.Elements.{All-nil, All-cons, All-head, All-tail}
 use Rattle.std.proofs.KnownBytes.{Appends-trans}
@@ -121,7 +121,7 @@ same_end (Over tick var) now first run whole e ends =
 -- ---- what is written and what is ahead
 
 -- these rows of a run are written, and the others are ahead
-pub record IsUnderWay {K : Type 0} (written : K → Option (List ℕ)) (faults : K → ℕ) (rule : Rule) (only : Option (List ℕ)) (first now : Standing) (old mid : K) : Type 0 where
+pub record IsUnderWay {K : Type 0} (written : K → Option (List ℕ)) (faults : K → ℕ) (failed : K → Bool) (rule : Rule) (only : Option (List ℕ)) (first now : Standing) (old mid : K) : Type 0 where
   pub done : List Row
   pub rows : done ++ rows_left (level_by rule) now ≡ rows_ahead rule first
   pub known : All (HasVariable first.machine) (rows_left (level_by rule) now)
@@ -129,10 +129,10 @@ pub record IsUnderWay {K : Type 0} (written : K → Option (List ℕ)) (faults :
   pub calm : faults mid ≡ faults old
   pub end : end_of now.tick (run_ahead rule now) ≡ end_of first.tick (run_ahead rule first)
 
-module _ {K : Type 0} (written : K → Option (List ℕ)) (faults : K → ℕ) (rule : Rule) (only : Option (List ℕ)) (first : Standing) (old : K) where
+module _ {K : Type 0} (written : K → Option (List ℕ)) (faults : K → ℕ) (failed : K → Bool) (rule : Rule) (only : Option (List ℕ)) (first : Standing) (old : K) where
   -- the first rows are written
   pub begins : (mid : K) → All (HasVariable first.machine) (rows_ahead rule first) → Appends (written old) (written mid) (lines_passed only first.machine first.rows) → faults mid ≡ faults old →
-      IsUnderWay written faults rule only first first old mid
+      IsUnderWay written faults failed rule only first first old mid
   begins mid known appended calm = record {
     done = first.rows;
     rows = refl;
@@ -142,7 +142,7 @@ module _ {K : Type 0} (written : K → Option (List ℕ)) (faults : K → ℕ) (
     end = refl;
   }
 
-  module _ (now new : Standing) (mid : K) (way : IsUnderWay written faults rule only first now old mid) (ahead : rows_left (level_by rule) now ≡ rows_ahead rule new) where
+  module _ (now new : Standing) (mid : K) (way : IsUnderWay written faults failed rule only first now old mid) (ahead : rows_left (level_by rule) now ≡ rows_ahead rule new) where
     -- the rows of a call are of variables of the machine
     pub call_known : All (HasVariable first.machine) (rows_ahead rule new)
     call_known = subst (All (HasVariable first.machine)) ahead way.known
@@ -152,7 +152,7 @@ module _ {K : Type 0} (written : K → Option (List ℕ)) (faults : K → ℕ) (
 
     -- the run goes on
     pub goes_on : (last : K) → Appends (written mid) (written last) (lines_passed only first.machine new.rows) → faults last ≡ faults mid →
-        end_of now.tick (run_ahead rule now) ≡ end_of new.tick (run_ahead rule new) → IsUnderWay written faults rule only first new old last
+        end_of now.tick (run_ahead rule now) ≡ end_of new.tick (run_ahead rule new) → IsUnderWay written faults failed rule only first new old last
     goes_on last appended calm end = record {
       done = way.done ++ new.rows;
       rows = call_rows;
@@ -171,13 +171,13 @@ module _ {K : Type 0} (written : K → Option (List ℕ)) (faults : K → ℕ) (
         ∙ ap (lines_passed only first.machine) way.rows
 
     -- the sink or memory fails
-    pub fails : (s : Stop) (last : K) → IsWriting written faults (Some s) mid last (lines_passed only first.machine new.rows) →
-        IsWriting written faults (Some s) old last (lines_passed only first.machine (rows_ahead rule first))
+    pub fails : (s : Stop) (last : K) → IsWriting written faults failed (Some s) mid last (lines_passed only first.machine new.rows) →
+        IsWriting written faults failed (Some s) old last (lines_passed only first.machine (rows_ahead rule first))
     fails s last w =
-        subst (IsWriting written faults (Some s) old last) all_lines
-        (writes_later written faults (Some s) old mid last (lines_passed only first.machine way.done)
+        subst (IsWriting written faults failed (Some s) old last) all_lines
+        (writes_later written faults failed (Some s) old mid last (lines_passed only first.machine way.done)
         (lines_passed only first.machine new.rows ++ lines_passed only first.machine (rows_left (level_by rule) new)) way.appended way.calm
-        (stops_early written faults s mid last (lines_passed only first.machine new.rows) (lines_passed only first.machine (rows_left (level_by rule) new)) w))
+        (stops_early written faults failed s mid last (lines_passed only first.machine new.rows) (lines_passed only first.machine (rows_left (level_by rule) new)) w))
 
     -- memory is not found for the line of a row
     pub halts : (last : K) → StopsBefore written [] only first.machine new.rows mid last → StopsBefore written [] only first.machine (rows_ahead rule first) old last
@@ -187,14 +187,14 @@ module _ {K : Type 0} (written : K → Option (List ℕ)) (faults : K → ℕ) (
         (stops_sooner written only first.machine [] new.rows (rows_left (level_by rule) new) mid last s))
 
     -- the run ends
-    pub ends : (last : K) → rows_left (level_by rule) new ≡ [] → IsWriting written faults None mid last (lines_passed only first.machine new.rows) →
-        IsWriting written faults None old last (lines_passed only first.machine (rows_ahead rule first))
+    pub ends : (last : K) → rows_left (level_by rule) new ≡ [] → IsWriting written faults failed None mid last (lines_passed only first.machine new.rows) →
+        IsWriting written faults failed None old last (lines_passed only first.machine (rows_ahead rule first))
     ends last none w =
-        subst (IsWriting written faults None old last)
+        subst (IsWriting written faults failed None old last)
         (ap (λ (l : List ℕ). lines_passed only first.machine way.done ++ l)
         (sym (append-nil (lines_passed only first.machine new.rows)) ∙ ap (λ (l : List Row). lines_passed only first.machine new.rows ++ lines_passed only first.machine l) (sym none))
         ∙ all_lines)
-        (writes_later written faults None old mid last (lines_passed only first.machine way.done) (lines_passed only first.machine new.rows) way.appended way.calm w)
+        (writes_later written faults failed None old mid last (lines_passed only first.machine way.done) (lines_passed only first.machine new.rows) way.appended way.calm w)
 
     -- the run ends so
     pub ends_so : (outcome : Outcome) → EndsFrom outcome now.tick (run_ahead rule now) → EndsFrom outcome first.tick (run_ahead rule first)
@@ -205,10 +205,10 @@ pub none_left : (rule : Rule) (s : Standing) (end : Outcome) → s.end ≡ Some 
 none_left rule s end e = ap (λ (o : Option Outcome). unless_ended o (rows_from (level_by rule) s.machine (s.machine.last - s.tick) s.tick s.world)) e
 
 -- the rows of a simulator are written, or a prefix of them
-pub written_of : {K : Type 0} (written : K → Option (List ℕ)) (faults : K → ℕ) (stop : Option Stop) (old new : K) (only : Option (List ℕ)) (m n : Machine) (xs ys : List Row) → m ≡ n → xs ≡ ys →
-    IsWriting written faults stop old new (lines_passed only m xs) → IsWriting written faults stop old new (lines_passed only n ys)
-written_of written faults stop old new only m n xs ys e f w =
-    subst (λ (k : Machine). IsWriting written faults stop old new (lines_passed only k ys)) e (subst (λ (l : List Row). IsWriting written faults stop old new (lines_passed only m l)) f w)
+pub written_of : {K : Type 0} (written : K → Option (List ℕ)) (faults : K → ℕ) (failed : K → Bool) (stop : Option Stop) (old new : K) (only : Option (List ℕ)) (m n : Machine) (xs ys : List Row) → m ≡ n → xs ≡ ys →
+    IsWriting written faults failed stop old new (lines_passed only m xs) → IsWriting written faults failed stop old new (lines_passed only n ys)
+written_of written faults failed stop old new only m n xs ys e f w =
+    subst (λ (k : Machine). IsWriting written faults failed stop old new (lines_passed only k ys)) e (subst (λ (l : List Row). IsWriting written faults failed stop old new (lines_passed only m l)) f w)
 
 -- a row of a simulator is not written
 pub stops_of : {K : Type 0} (written : K → Option (List ℕ)) (old new : K) (head : List ℕ) (only : Option (List ℕ)) (m n : Machine) (xs ys : List Row) → m ≡ n → xs ≡ ys →

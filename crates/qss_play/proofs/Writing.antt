@@ -7,6 +7,7 @@ use Rattle.std.proofs.lemmas.List.{take_more, take-append-drop}
 use Rattle.std.proofs.lemmas.List.Concat.{flat_map-append}
 use Rattle.std.proofs.lemmas.List.Elements.{filter-append}
 use Rattle.std.specs.Io.KnownBytes.{Appends}
+use Rattle.mu_io.specs.Faults.{Rose}
 use Rattle.mu_io.specs.Sinks.{AppendsPrefix}
 use Rattle.qss_machine.specs.declared.rows.Row.{Row}
 use Rattle.qss_machine.specs.declared.system.Machine.{Machine}
@@ -62,9 +63,9 @@ later_prefix old mid now done xs before p = record {
 
 -- ---- sinks
 
-module _ {K : Type 0} (written : K → Option (List ℕ)) (faults : K → ℕ) where
+module _ {K : Type 0} (written : K → Option (List ℕ)) (faults : K → ℕ) (failed : K → Bool) where
   -- nothing is written
-  pub writes_nothing : (sink : K) → IsWriting written faults None sink sink []
+  pub writes_nothing : (sink : K) → IsWriting written faults failed None sink sink []
   writes_nothing sink = record {
     whole = λ e. Appends-nil (written sink);
     prefix = whole_prefix (written sink) (written sink) [] (Appends-nil (written sink));
@@ -73,7 +74,7 @@ module _ {K : Type 0} (written : K → Option (List ℕ)) (faults : K → ℕ) w
   }
 
   -- all is written
-  pub writes_all : (old new : K) (bytes : List ℕ) → Appends (written old) (written new) bytes → faults new ≡ faults old → IsWriting written faults None old new bytes
+  pub writes_all : (old new : K) (bytes : List ℕ) → Appends (written old) (written new) bytes → faults new ≡ faults old → IsWriting written faults failed None old new bytes
   writes_all old new bytes appended calm = record {
     whole = λ e. appended;
     prefix = whole_prefix (written old) (written new) bytes appended;
@@ -82,7 +83,7 @@ module _ {K : Type 0} (written : K → Option (List ℕ)) (faults : K → ℕ) w
   }
 
   -- memory was not found, and nothing is written
-  pub writes_none : (sink : K) (bytes : List ℕ) → IsWriting written faults (Some Memory) sink sink bytes
+  pub writes_none : (sink : K) (bytes : List ℕ) → IsWriting written faults failed (Some Memory) sink sink bytes
   writes_none sink bytes = record {
     whole = λ e. absurd (cc);
     prefix = record { front = []; rest = bytes; parts = refl; appended = Appends-nil (written sink) };
@@ -92,16 +93,16 @@ module _ {K : Type 0} (written : K → Option (List ℕ)) (faults : K → ℕ) w
 
   -- what was written before stands in front
   pub writes_later : (stop : Option Stop) (old mid new : K) (done bytes : List ℕ) → Appends (written old) (written mid) done → faults mid ≡ faults old →
-      IsWriting written faults stop mid new bytes → IsWriting written faults stop old new (done ++ bytes)
+      IsWriting written faults failed stop mid new bytes → IsWriting written faults failed stop old new (done ++ bytes)
   writes_later stop old mid new done bytes before same w = record {
     whole = λ e. Appends-trans (written old) (written mid) (written new) done bytes before (w.whole e);
     prefix = later_prefix (written old) (written mid) (written new) done bytes before w.prefix;
     calm = λ e. w.calm e ∙ same;
-    last = λ e. let end = w.last e in record { last = end.last; calm = end.calm ∙ same; kept = end.kept; rose = end.rose };
+    last = λ e. let end = w.last e in record { one = subst (λ n. Rose n (faults new)) same end.one; last = end.last };
   }
 
   -- a call that stopped wrote a prefix of more, too
-  pub stops_early : (s : Stop) (old new : K) (bytes more : List ℕ) → IsWriting written faults (Some s) old new bytes → IsWriting written faults (Some s) old new (bytes ++ more)
+  pub stops_early : (s : Stop) (old new : K) (bytes more : List ℕ) → IsWriting written faults failed (Some s) old new bytes → IsWriting written faults failed (Some s) old new (bytes ++ more)
   stops_early s old new bytes more w = record {
     whole = λ e. absurd (cc);
     prefix = front_prefix (written old) (written new) bytes more w.prefix;
@@ -130,9 +131,9 @@ module _ {K : Type 0} (written : K → Option (List ℕ)) (faults : K → ℕ) w
         ∙ ap (λ (l : List ℕ). lines_passed only m (take i rows) ++ l) (lines_passed-append only m (get_or rows i d ∷ []) (drop (suc i) rows))
 
     -- the writing stops at a row
-    pub row_stops : (s : Stop) → faults mid ≡ faults old → IsWriting written faults (Some s) mid new (lines_passed only m (get_or rows i d ∷ [])) → IsWriting written faults (Some s) old new (lines_passed only m rows)
+    pub row_stops : (s : Stop) → faults mid ≡ faults old → IsWriting written faults failed (Some s) mid new (lines_passed only m (get_or rows i d ∷ [])) → IsWriting written faults failed (Some s) old new (lines_passed only m rows)
     row_stops s calm w =
-        subst (IsWriting written faults (Some s) old new) (sym lines_cut)
+        subst (IsWriting written faults failed (Some s) old new) (sym lines_cut)
         (writes_later (Some s) old mid new (lines_passed only m (take i rows)) (lines_passed only m (get_or rows i d ∷ []) ++ lines_passed only m (drop (suc i) rows)) appended calm
         (stops_early s mid new (lines_passed only m (get_or rows i d ∷ [])) (lines_passed only m (drop (suc i) rows)) w))
 

@@ -40,10 +40,10 @@ IsShort written only m run old new =
     (new ≡ old) ⊎ (StopsBefore written header only m (run_rows m run) old new ⊎ (((var : ℕ) × (run.overflow ≡ Some var)) × Appends (written old) (written new) (text_of only m run)))
 
 -- a call played a run: how it ended, and what became of the sink
-pub record IsPlayed {K : Type 0} (written : K → Option (List ℕ)) (faults : K → ℕ) (m : Machine) (run : Run) (only : Option (List ℕ)) (result : Played) (old new : K) : Type 0 where
+pub record IsPlayed {K : Type 0} (written : K → Option (List ℕ)) (faults : K → ℕ) (failed : K → Bool) (m : Machine) (run : Run) (only : Option (List ℕ)) (result : Played) (old new : K) : Type 0 where
   pub end : EndsSo m run result
   pub whole : is_whole result ≡ true → Appends (written old) (written new) (text_of only m run)
   pub prefix : AppendsPrefix (written old) (written new) (text_of only m run)
   pub short : result ≡ Memory → IsShort written only m run old new
   pub calm : result ≢ Fault → faults new ≡ faults old
-  pub last : result ≡ Fault → EndsByFault written faults old new
+  pub last : result ≡ Fault → EndsByFault faults failed old new

@@ -1,5 +1,5 @@
 -- What becomes of a sink that bytes are written to.
-use Rattle.std.specs.Prelude.{◌≡◌, ◌≢◌, ℕ, true, List, ◌∷◌, ◌++◌, Option, Some, None}
+use Rattle.std.specs.Prelude.{Bool, ◌≡◌, ◌≢◌, ℕ, true, List, ◌∷◌, ◌++◌, Option, Some, None}
 use Rattle.std.specs.Io.KnownBytes.{Appends}
 use Rattle.mu_io.specs.Sinks.{AppendsPrefix, EndsByFault}
 use Rattle.qss_machine.specs.declared.rows.Row.{Row}
@@ -9,11 +9,11 @@ use Rattle.qss_play.specs.declared.written.Stop.{Stop}
 use Rattle.qss_play.specs.declared.written.Stop.TheVariants.{Fault}
 
 -- a call wrote these bytes, or a prefix of them where it stopped; only its last write failed, and only where it says so
-pub record IsWriting {K : Type 0} (written : K → Option (List ℕ)) (faults : K → ℕ) (stop : Option Stop) (old new : K) (bytes : List ℕ) : Type 0 where
+pub record IsWriting {K : Type 0} (written : K → Option (List ℕ)) (faults : K → ℕ) (failed : K → Bool) (stop : Option Stop) (old new : K) (bytes : List ℕ) : Type 0 where
   pub whole : stop ≡ None → Appends (written old) (written new) bytes
   pub prefix : AppendsPrefix (written old) (written new) bytes
   pub calm : stop ≢ Some Fault → faults new ≡ faults old
-  pub last : stop ≡ Some Fault → EndsByFault written faults old new
+  pub last : stop ≡ Some Fault → EndsByFault faults failed old new
 
 -- a call wrote this head and the lines of the first rows, whole, and stopped before the line of a row that passes
 pub record StopsBefore {K : Type 0} (written : K → Option (List ℕ)) (head : List ℕ) (only : Option (List ℕ)) (m : Machine) (rows : List Row) (old new : K) : Type 0 where

@@ -33,7 +33,7 @@ fn write_event<L: Ledger, O: Sink>(
     ensures quantizer { sim.new.quantizer ≡ sim.old.quantizer }
     ensures next { IfOk result (λ outcome. IsNext (IsRuled sim.old.quantizer.name) sim.old.course sim.new.course outcome) }
     ensures ahead { (rule : Rule) → sim.old.quantizer.name ≡ Some rule → rows_left (level_by rule) sim.old.course ≡ rows_ahead rule sim.new.course }
-    ensures written { IsWriting O.written O.faults (result_err result) out.old out.new (lines_passed filter.now sim.old.course.machine sim.new.course.rows) }
+    ensures written { IsWriting O.written O.faults O.failed (result_err result) out.old out.new (lines_passed filter.now sim.old.course.machine sim.new.course.rows) }
     ensures stopped { result_err result ≡ Some Stop.Memory → StopsBefore O.written [] filter.now sim.old.course.machine sim.new.course.rows out.old out.new }
 {
     let outcome = sim.next_event(steps);
@@ -53,7 +53,7 @@ pub(crate) fn write_events<L: Ledger, O: Sink>(
     requires named { (rule : Rule) × (sim.old.quantizer.name ≡ Some rule) }
     requires known { (rule : Rule) → sim.old.quantizer.name ≡ Some rule → All (HasVariable sim.old.course.machine) (rows_ahead rule sim.old.course) }
     ensures machine { sim.new.course.machine ≡ sim.old.course.machine }
-    ensures written { (rule : Rule) → sim.old.quantizer.name ≡ Some rule → IsWriting O.written O.faults (result_err result) out.old out.new (lines_passed filter.now sim.old.course.machine (rows_ahead rule sim.old.course)) }
+    ensures written { (rule : Rule) → sim.old.quantizer.name ≡ Some rule → IsWriting O.written O.faults O.failed (result_err result) out.old out.new (lines_passed filter.now sim.old.course.machine (rows_ahead rule sim.old.course)) }
     ensures stopped { (rule : Rule) → sim.old.quantizer.name ≡ Some rule → result_err result ≡ Some Stop.Memory → StopsBefore O.written [] filter.now sim.old.course.machine (rows_ahead rule sim.old.course) out.old out.new }
     ensures end { (rule : Rule) → sim.old.quantizer.name ≡ Some rule → IfOk result (λ outcome. EndsFrom outcome sim.old.course.tick (run_ahead rule sim.old.course)) }
 {

@@ -45,7 +45,7 @@ pub fn play<O: Sink>(
 
     // Out fails only where that is told, and is not written to afterwards.
     ensures calm { result ≢ Played.Fault → O.faults out.new ≡ O.faults out.old }
-    ensures last { result ≡ Played.Fault → EndsByFault O.written O.faults out.old out.new }
+    ensures last { result ≡ Played.Fault → EndsByFault O.faults O.failed out.old out.new }
 {
     let blank = Blank::new(1);
     match rule {
@@ -77,7 +77,7 @@ fn play_by<L: Ledger, O: Sink>(
     requires parts { blank.parts ≡ L.parts }
     requires some { 0 < L.parts }
     requires named { (rule : Rule) × (quantizer.name ≡ Some rule) }
-    ensures { (rule : Rule) → quantizer.name ≡ Some rule → IsPlayed O.written O.faults m (run_under rule m) only result out.old out.new }
+    ensures { (rule : Rule) → quantizer.name ≡ Some rule → IsPlayed O.written O.faults O.failed m (run_under rule m) only result out.old out.new }
 {
     match Sim::new(alloc, m, quantizer) {
         Ok(mut sim) => {
@@ -100,7 +100,7 @@ fn play_sim<L: Ledger, O: Sink>(
 ) -> Played
     requires start { sim.old.course ≡ first sim.old.course.machine }
     requires named { (rule : Rule) × (sim.old.quantizer.name ≡ Some rule) }
-    ensures { (rule : Rule) → sim.old.quantizer.name ≡ Some rule → IsPlayed O.written O.faults sim.old.course.machine (run_under rule sim.old.course.machine) filter.now result out.old out.new }
+    ensures { (rule : Rule) → sim.old.quantizer.name ≡ Some rule → IsPlayed O.written O.faults O.failed sim.old.course.machine (run_under rule sim.old.course.machine) filter.now result out.old out.new }
 {
     match write_run(alloc, sim, filter, steps, out) {
         Ok(outcome) => ended(alloc, sim.machine(), outcome),
@@ -121,7 +121,7 @@ fn write_run<L: Ledger, O: Sink>(
     requires named { (rule : Rule) × (sim.old.quantizer.name ≡ Some rule) }
     requires known { (rule : Rule) → sim.old.quantizer.name ≡ Some rule → All (HasVariable sim.old.course.machine) (rows_ahead rule sim.old.course) }
     ensures machine { sim.new.course.machine ≡ sim.old.course.machine }
-    ensures written { (rule : Rule) → sim.old.quantizer.name ≡ Some rule → IsWriting O.written O.faults (result_err result) out.old out.new (header_line ++ lines_passed filter.now sim.old.course.machine (rows_ahead rule sim.old.course)) }
+    ensures written { (rule : Rule) → sim.old.quantizer.name ≡ Some rule → IsWriting O.written O.faults O.failed (result_err result) out.old out.new (header_line ++ lines_passed filter.now sim.old.course.machine (rows_ahead rule sim.old.course)) }
     ensures stopped { (rule : Rule) → sim.old.quantizer.name ≡ Some rule → result_err result ≡ Some Stop.Memory → StopsBefore O.written header_line filter.now sim.old.course.machine (rows_ahead rule sim.old.course) out.old out.new }
     ensures end { (rule : Rule) → sim.old.quantizer.name ≡ Some rule → IfOk result (λ outcome. EndsFrom outcome sim.old.course.tick (run_ahead rule sim.old.course)) }
 {

@@ -19,7 +19,7 @@ pub enum Stop {
 
 /// Writes all of the bytes, or a prefix of them where the sink fails.
 pub fn write_bytes<O: Sink>(bytes: &[u8], out: &mut O) -> Result<(), Stop>
-    ensures written { IsWriting O.written O.faults (result_err result) out.old out.new bytes.now }
+    ensures written { IsWriting O.written O.faults O.failed (result_err result) out.old out.new bytes.now }
     ensures no_memory { result_err result ≢ Some Stop.Memory }
 {
     match write_all(out, bytes) {
@@ -36,7 +36,7 @@ fn write_line<O: Sink>(
     out: &mut O,
 ) -> Result<(), Stop>
     requires { HasVariable m.now row.now }
-    ensures written { IsWriting O.written O.faults (result_err result) out.old out.new (line_of m.now row.now) }
+    ensures written { IsWriting O.written O.faults O.failed (result_err result) out.old out.new (line_of m.now row.now) }
     ensures nothing { result_err result ≡ Some Stop.Memory → out.new ≡ out.old }
 {
     match lines.write(row, m) {
@@ -54,7 +54,7 @@ fn write_row<O: Sink>(
     out: &mut O,
 ) -> Result<(), Stop>
     requires { HasVariable m.now row.now }
-    ensures written { IsWriting O.written O.faults (result_err result) out.old out.new (lines_passed filter.now m.now (row.now ∷ [])) }
+    ensures written { IsWriting O.written O.faults O.failed (result_err result) out.old out.new (lines_passed filter.now m.now (row.now ∷ [])) }
     ensures nothing { result_err result ≡ Some Stop.Memory → out.new ≡ out.old }
     ensures passed { result_err result ≡ Some Stop.Memory → passes filter.now m.now row.now ≡ true }
 {
@@ -74,7 +74,7 @@ pub(crate) fn write_rows<O: Sink>(
     out: &mut O,
 ) -> Result<(), Stop>
     requires { All (HasVariable m.now) rows.now }
-    ensures written { IsWriting O.written O.faults (result_err result) out.old out.new (lines_passed filter.now m.now rows.now) }
+    ensures written { IsWriting O.written O.faults O.failed (result_err result) out.old out.new (lines_passed filter.now m.now rows.now) }
     ensures stopped { result_err result ≡ Some Stop.Memory → StopsBefore O.written [] filter.now m.now rows.now out.old out.new }
 {
     for row in rows {

@@ -1,5 +1,5 @@
 -- A second-order run that is written as it goes.
-use Rattle.std.proofs.Common.{◌≡◌, ℕ, ◌-◌, ◌<◌, List, [], ◌++◌, refl, sym, ap, ◌∙◌, subst, arith, append_assoc, append-nil}
+use Rattle.std.proofs.Common.{Bool, ◌≡◌, ℕ, ◌-◌, ◌<◌, List, [], ◌++◌, refl, sym, ap, ◌∙◌, subst, arith, append_assoc, append-nil}
 use Rattle.std.specs.Prelude.{Option, Some, None, All, true}
 use Rattle.std.proofs.KnownBytes.{Appends-trans}
 use Rattle.std.specs.Io.KnownBytes.{Appends}
@@ -22,7 +22,7 @@ use Rattle.qss_play2.proofs.Ends.{IsAble}
 use Rattle.qss_play2.proofs.Writing.{lines2-append, stops_sooner, stops_later}
 
 -- these rows of a run are written, and the others are ahead
-pub record IsUnderWay {K : Type 0} (written : K → Option (List ℕ)) (faults : K → ℕ) (first now : Standing2) (old mid : K) : Type 0 where
+pub record IsUnderWay {K : Type 0} (written : K → Option (List ℕ)) (faults : K → ℕ) (failed : K → Bool) (first now : Standing2) (old mid : K) : Type 0 where
   pub done : List Row2
   pub rows : done ++ rows2_left near_change now ≡ rows2_ahead first
   pub known : All (HasVariable2 first.machine) (rows2_left near_change now)
@@ -30,10 +30,10 @@ pub record IsUnderWay {K : Type 0} (written : K → Option (List ℕ)) (faults :
   pub calm : faults mid ≡ faults old
   pub end : IsAble now → overflow_ahead now ≡ overflow_ahead first
 
-module _ {K : Type 0} (written : K → Option (List ℕ)) (faults : K → ℕ) (first : Standing2) (old : K) where
+module _ {K : Type 0} (written : K → Option (List ℕ)) (faults : K → ℕ) (failed : K → Bool) (first : Standing2) (old : K) where
   -- the first rows are written
   pub begins : (mid : K) → All (HasVariable2 first.machine) (rows2_ahead first) → Appends (written old) (written mid) (lines2_of first.machine first.rows) → faults mid ≡ faults old →
-      IsUnderWay written faults first first old mid
+      IsUnderWay written faults failed first first old mid
   begins mid known appended calm = record {
     done = first.rows;
     rows = refl;
@@ -43,7 +43,7 @@ module _ {K : Type 0} (written : K → Option (List ℕ)) (faults : K → ℕ) (
     end = λ able. refl;
   }
 
-  module _ (now new : Standing2) (mid : K) (way : IsUnderWay written faults first now old mid) (ahead : rows2_left near_change now ≡ rows2_ahead new) where
+  module _ (now new : Standing2) (mid : K) (way : IsUnderWay written faults failed first now old mid) (ahead : rows2_left near_change now ≡ rows2_ahead new) where
     -- the rows of a call are of variables of the machine
     call_known : All (HasVariable2 first.machine) (rows2_ahead new)
     call_known = subst (All (HasVariable2 first.machine)) ahead way.known
@@ -53,7 +53,7 @@ module _ {K : Type 0} (written : K → Option (List ℕ)) (faults : K → ℕ) (
 
     -- the run goes on
     pub goes_on : (last : K) → Appends (written mid) (written last) (lines2_of first.machine new.rows) → faults last ≡ faults mid →
-        IsAble now → (IsAble new → overflow_ahead now ≡ overflow_ahead new) → IsUnderWay written faults first new old last
+        IsAble now → (IsAble new → overflow_ahead now ≡ overflow_ahead new) → IsUnderWay written faults failed first new old last
     goes_on last appended calm able end = record {
       done = way.done ++ new.rows;
       rows = call_rows;
@@ -72,13 +72,13 @@ module _ {K : Type 0} (written : K → Option (List ℕ)) (faults : K → ℕ) (
         ∙ ap (lines2_of first.machine) way.rows
 
     -- the sink or memory fails
-    pub fails : (s : Stop) (last : K) → IsWriting written faults (Some s) mid last (lines2_of first.machine new.rows) →
-        IsWriting written faults (Some s) old last (lines2_of first.machine (rows2_ahead first))
+    pub fails : (s : Stop) (last : K) → IsWriting written faults failed (Some s) mid last (lines2_of first.machine new.rows) →
+        IsWriting written faults failed (Some s) old last (lines2_of first.machine (rows2_ahead first))
     fails s last w =
-        subst (IsWriting written faults (Some s) old last) all_lines
-        (writes_later written faults (Some s) old mid last (lines2_of first.machine way.done)
+        subst (IsWriting written faults failed (Some s) old last) all_lines
+        (writes_later written faults failed (Some s) old mid last (lines2_of first.machine way.done)
         (lines2_of first.machine new.rows ++ lines2_of first.machine (rows2_left near_change new)) way.appended way.calm
-        (stops_early written faults s mid last (lines2_of first.machine new.rows) (lines2_of first.machine (rows2_left near_change new)) w))
+        (stops_early written faults failed s mid last (lines2_of first.machine new.rows) (lines2_of first.machine (rows2_left near_change new)) w))
 
     -- memory is not found for the line of a row
     pub halts : (last : K) → StopsBefore2 written [] first.machine new.rows mid last → StopsBefore2 written [] first.machine (rows2_ahead first) old last
@@ -88,14 +88,14 @@ module _ {K : Type 0} (written : K → Option (List ℕ)) (faults : K → ℕ) (
         (stops_sooner written first.machine [] new.rows (rows2_left near_change new) mid last s))
 
     -- the run ends
-    pub ends : (last : K) → rows2_left near_change new ≡ [] → IsWriting written faults None mid last (lines2_of first.machine new.rows) →
-        IsWriting written faults None old last (lines2_of first.machine (rows2_ahead first))
+    pub ends : (last : K) → rows2_left near_change new ≡ [] → IsWriting written faults failed None mid last (lines2_of first.machine new.rows) →
+        IsWriting written faults failed None old last (lines2_of first.machine (rows2_ahead first))
     ends last none w =
-        subst (IsWriting written faults None old last)
+        subst (IsWriting written faults failed None old last)
         (ap (λ (l : List ℕ). lines2_of first.machine way.done ++ l)
         (sym (append-nil (lines2_of first.machine new.rows)) ∙ ap (λ (l : List Row2). lines2_of first.machine new.rows ++ lines2_of first.machine l) (sym none))
         ∙ all_lines)
-        (writes_later written faults None old mid last (lines2_of first.machine way.done) (lines2_of first.machine new.rows) way.appended way.calm w)
+        (writes_later written faults failed None old mid last (lines2_of first.machine way.done) (lines2_of first.machine new.rows) way.appended way.calm w)
 
     -- the run ends so
     pub ends_so : (outcome : Outcome2) → IsAble now → EndsAs outcome (overflow_ahead now) → EndsAs outcome (overflow_ahead first)
@@ -109,10 +109,10 @@ none_left s end e =
     unless_ended2 o (rows2_after s.machine s.tick s.world after.0 after.1)) e
 
 -- the rows of a simulator are written, or a prefix of them
-pub written_of : {K : Type 0} (written : K → Option (List ℕ)) (faults : K → ℕ) (stop : Option Stop) (old new : K) (m n : Machine) (xs ys : List Row2) → m ≡ n → xs ≡ ys →
-    IsWriting written faults stop old new (lines2_of m xs) → IsWriting written faults stop old new (lines2_of n ys)
-written_of written faults stop old new m n xs ys e f w =
-    subst (λ (k : Machine). IsWriting written faults stop old new (lines2_of k ys)) e (subst (λ (l : List Row2). IsWriting written faults stop old new (lines2_of m l)) f w)
+pub written_of : {K : Type 0} (written : K → Option (List ℕ)) (faults : K → ℕ) (failed : K → Bool) (stop : Option Stop) (old new : K) (m n : Machine) (xs ys : List Row2) → m ≡ n → xs ≡ ys →
+    IsWriting written faults failed stop old new (lines2_of m xs) → IsWriting written faults failed stop old new (lines2_of n ys)
+written_of written faults failed stop old new m n xs ys e f w =
+    subst (λ (k : Machine). IsWriting written faults failed stop old new (lines2_of k ys)) e (subst (λ (l : List Row2). IsWriting written faults failed stop old new (lines2_of m l)) f w)
 
 -- a row of a simulator is not written
 pub stops_of : {K : Type 0} (written : K → Option (List ℕ)) (old new : K) (head : List ℕ) (m n : Machine) (xs ys : List Row2) → m ≡ n → xs ≡ ys →

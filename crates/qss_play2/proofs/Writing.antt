@@ -1,5 +1,5 @@
 -- The lines of second-order rows, written one after another.
-use Rattle.std.proofs.Common.{◌≡◌, ◌<◌, ℕ, suc, ◌+◌, List, [], ◌∷◌, ◌++◌, length, take, drop, get_or, sym, ap, ◌∙◌, subst, append_assoc, drop-cons, append-nil, pos}
+use Rattle.std.proofs.Common.{Bool, ◌≡◌, ◌<◌, ℕ, suc, ◌+◌, List, [], ◌∷◌, ◌++◌, length, take, drop, get_or, sym, ap, ◌∙◌, subst, append_assoc, drop-cons, append-nil, pos}
 use Rattle.std.specs.declared.option.Option.{Option}
 use Rattle.std.specs.Prelude.{Some}
 use Rattle.std.proofs.KnownBytes.{Appends-trans}
@@ -25,7 +25,7 @@ lines2-append m xs ys = flat_map-append (line2_of m) xs ys
 pub one_line : (m : Machine) (row : Row2) → lines2_of m (row ∷ []) ≡ line2_of m row
 one_line m row = append-nil (line2_of m row)
 
-module _ {K : Type 0} (written : K → Option (List ℕ)) (faults : K → ℕ) (m : Machine) (rows : List Row2) (i : ℕ) (d : Row2) (inside : i < length rows) (old mid new : K)
+module _ {K : Type 0} (written : K → Option (List ℕ)) (faults : K → ℕ) (failed : K → Bool) (m : Machine) (rows : List Row2) (i : ℕ) (d : Row2) (inside : i < length rows) (old mid new : K)
     (appended : Appends (written old) (written mid) (lines2_of m (take i rows))) where
   -- one more row is written
   pub row_more : Appends (written mid) (written new) (line2_of m (get_or rows i d)) → Appends (written old) (written new) (lines2_of m (take (i + 1) rows))
@@ -42,11 +42,11 @@ module _ {K : Type 0} (written : K → Option (List ℕ)) (faults : K → ℕ) (
   lines_cut = ap (lines2_of m) rows_cut ∙ lines2-append m (take i rows) (get_or rows i d ∷ drop (suc i) rows)
 
   -- the writing stops at a row
-  pub row_stops : (s : Stop) → faults mid ≡ faults old → IsWriting written faults (Some s) mid new (line2_of m (get_or rows i d)) → IsWriting written faults (Some s) old new (lines2_of m rows)
+  pub row_stops : (s : Stop) → faults mid ≡ faults old → IsWriting written faults failed (Some s) mid new (line2_of m (get_or rows i d)) → IsWriting written faults failed (Some s) old new (lines2_of m rows)
   row_stops s calm w =
-      subst (IsWriting written faults (Some s) old new) (sym lines_cut)
-      (writes_later written faults (Some s) old mid new (lines2_of m (take i rows)) (line2_of m (get_or rows i d) ++ lines2_of m (drop (suc i) rows)) appended calm
-      (stops_early written faults s mid new (line2_of m (get_or rows i d)) (lines2_of m (drop (suc i) rows)) w))
+      subst (IsWriting written faults failed (Some s) old new) (sym lines_cut)
+      (writes_later written faults failed (Some s) old mid new (lines2_of m (take i rows)) (line2_of m (get_or rows i d) ++ lines2_of m (drop (suc i) rows)) appended calm
+      (stops_early written faults failed s mid new (line2_of m (get_or rows i d)) (lines2_of m (drop (suc i) rows)) w))
 
   -- memory is not found for the line of a row
   pub stops_at : StopsBefore2 written [] m rows old mid

@@ -1,5 +1,5 @@
 -- The text of a second-order run, and how it ends.
-use Rattle.std.specs.Prelude.{◌≡◌, ◌≢◌, ◌⊎◌, ℕ, true, List, ◌∷◌, ◌++◌, Option, Some, None}
+use Rattle.std.specs.Prelude.{Bool, ◌≡◌, ◌≢◌, ◌⊎◌, ℕ, true, List, ◌∷◌, ◌++◌, Option, Some, None}
 use Rattle.std.specs.Io.KnownBytes.{Appends}
 use Rattle.mu_io.specs.Sinks.{AppendsPrefix, EndsByFault}
 use Rattle.qss_machine.specs.declared.system.Machine.{Machine}
@@ -45,10 +45,10 @@ IsShort2 written m run old new =
     (new ≡ old) ⊎ (StopsBefore2 written header m (run2_rows m run) old new ⊎ (((past : Past) × (run.overflow ≡ Some past)) × Appends (written old) (written new) (text2_of m run)))
 
 -- a call played a run: how it ended, and what became of the sink
-pub record IsPlayed2 {K : Type 0} (written : K → Option (List ℕ)) (faults : K → ℕ) (m : Machine) (run : Run2) (result : Played) (old new : K) : Type 0 where
+pub record IsPlayed2 {K : Type 0} (written : K → Option (List ℕ)) (faults : K → ℕ) (failed : K → Bool) (m : Machine) (run : Run2) (result : Played) (old new : K) : Type 0 where
   pub end : EndsSo2 m run result
   pub whole : is_whole result ≡ true → Appends (written old) (written new) (text2_of m run)
   pub prefix : AppendsPrefix (written old) (written new) (text2_of m run)
   pub short : result ≡ Memory → IsShort2 written m run old new
   pub calm : result ≢ Fault → faults new ≡ faults old
-  pub last : result ≡ Fault → EndsByFault written faults old new
+  pub last : result ≡ Fault → EndsByFault faults failed old new

@@ -25,7 +25,7 @@ fn write_event<O: Sink>(alloc: Global, sim: &mut Sim2, out: &mut O) -> Result<Ou
     ensures nearest { sim.new.rule.nearest ≡ true }
     ensures next { IfOk result (λ outcome. IsNext2 (IsRuled2 true) sim.old.course sim.new.course outcome) }
     ensures ahead { rows2_left near_change sim.old.course ≡ rows2_ahead sim.new.course }
-    ensures written { IsWriting O.written O.faults (result_err result) out.old out.new (lines2_of sim.old.course.machine sim.new.course.rows) }
+    ensures written { IsWriting O.written O.faults O.failed (result_err result) out.old out.new (lines2_of sim.old.course.machine sim.new.course.rows) }
     ensures stopped { result_err result ≡ Some Stop.Memory → StopsBefore2 O.written [] sim.old.course.machine sim.new.course.rows out.old out.new }
 {
     let outcome = sim.next_event();
@@ -43,7 +43,7 @@ pub(crate) fn write_events<O: Sink>(
     requires nearest { sim.old.rule.nearest ≡ true }
     requires known { All (HasVariable2 sim.old.course.machine) (rows2_ahead sim.old.course) }
     ensures machine { sim.new.course.machine ≡ sim.old.course.machine }
-    ensures written { IsWriting O.written O.faults (result_err result) out.old out.new (lines2_of sim.old.course.machine (rows2_ahead sim.old.course)) }
+    ensures written { IsWriting O.written O.faults O.failed (result_err result) out.old out.new (lines2_of sim.old.course.machine (rows2_ahead sim.old.course)) }
     ensures stopped { result_err result ≡ Some Stop.Memory → StopsBefore2 O.written [] sim.old.course.machine (rows2_ahead sim.old.course) out.old out.new }
     ensures end { IfOk result (λ outcome. EndsAs outcome (overflow_ahead sim.old.course)) }
 {

@@ -37,7 +37,7 @@ pub fn play2<O: Sink>(alloc: Global, m: Machine, out: &mut O) -> Played
 
     // Out fails only where that is told, and is not written to afterwards.
     ensures calm { result ≢ Played.Fault → O.faults out.new ≡ O.faults out.old }
-    ensures last { result ≡ Played.Fault → EndsByFault O.written O.faults out.old out.new }
+    ensures last { result ≡ Played.Fault → EndsByFault O.faults O.failed out.old out.new }
 {
     let rule = SlopeRule::new(near_change, true);
     match Sim2::new(alloc, m, rule) {
@@ -50,7 +50,7 @@ pub fn play2<O: Sink>(alloc: Global, m: Machine, out: &mut O) -> Played
 fn play_sim<O: Sink>(alloc: Global, sim: &mut Sim2, out: &mut O) -> Played
     requires start { IsStarted (IsRuled2 true) sim.old.course.machine sim.old.course }
     requires nearest { sim.old.rule.nearest ≡ true }
-    ensures { IsPlayed2 O.written O.faults sim.old.course.machine (near_run sim.old.course.machine) result out.old out.new }
+    ensures { IsPlayed2 O.written O.faults O.failed sim.old.course.machine (near_run sim.old.course.machine) result out.old out.new }
 {
     match write_run(alloc, sim, out) {
         Ok(outcome) => ended(alloc, sim.machine(), outcome),
@@ -65,7 +65,7 @@ fn write_run<O: Sink>(alloc: Global, sim: &mut Sim2, out: &mut O) -> Result<Outc
     requires nearest { sim.old.rule.nearest ≡ true }
     requires known { All (HasVariable2 sim.old.course.machine) (rows2_ahead sim.old.course) }
     ensures machine { sim.new.course.machine ≡ sim.old.course.machine }
-    ensures written { IsWriting O.written O.faults (result_err result) out.old out.new (header_line ++ lines2_of sim.old.course.machine (rows2_ahead sim.old.course)) }
+    ensures written { IsWriting O.written O.faults O.failed (result_err result) out.old out.new (header_line ++ lines2_of sim.old.course.machine (rows2_ahead sim.old.course)) }
     ensures stopped { result_err result ≡ Some Stop.Memory → StopsBefore2 O.written header_line sim.old.course.machine (rows2_ahead sim.old.course) out.old out.new }
     ensures end { IfOk result (λ outcome. EndsAs outcome (overflow_ahead sim.old.course)) }
 {

@@ -15,7 +15,7 @@ use std::alloc::Global;
 // Writes the line of a row, none of it where memory was not found.
 fn write_line<O: Sink>(alloc: Global, m: &Machine, row: &Row2, out: &mut O) -> Result<(), Stop>
     requires { HasVariable2 m.now row.now }
-    ensures written { IsWriting O.written O.faults (result_err result) out.old out.new (line2_of m.now row.now) }
+    ensures written { IsWriting O.written O.faults O.failed (result_err result) out.old out.new (line2_of m.now row.now) }
     ensures nothing { result_err result ≡ Some Stop.Memory → out.new ≡ out.old }
 {
     match row2_bytes(alloc, row, m) {
@@ -32,7 +32,7 @@ pub(crate) fn write_rows<O: Sink>(
     out: &mut O,
 ) -> Result<(), Stop>
     requires { All (HasVariable2 m.now) rows.now }
-    ensures written { IsWriting O.written O.faults (result_err result) out.old out.new (lines2_of m.now rows.now) }
+    ensures written { IsWriting O.written O.faults O.failed (result_err result) out.old out.new (lines2_of m.now rows.now) }
     ensures stopped { result_err result ≡ Some Stop.Memory → StopsBefore2 O.written [] m.now rows.now out.old out.new }
 {
     for row in rows {

@@ -35,8 +35,8 @@ whole_answer status reply answer old new replied is read write memory =
     subst P is replied (defined_unless status read write memory)
 
 -- a sink that ended by a fault had one more
-pub rose_by : {K : Type 0} (written : K → Option (List ℕ)) (faults : K → ℕ) (old new : K) → EndsByFault written faults old new → Rose (faults old) (faults new)
-rose_by written faults old new h = subst (λ n. Rose n (faults new)) h.calm h.rose
+pub rose_by : {K : Type 0} (faults : K → ℕ) (failed : K → Bool) (old new : K) → EndsByFault faults failed old new → Rose (faults old) (faults new)
+rose_by faults failed old new h = h.one
 
 -- ---- certified runs
 

@@ -213,7 +213,7 @@ whole_prefix old new xs written = record { front = xs; rest = []; parts = append
 
 -- ---- how a call ended
 
-module _ {K : Type 0} (known : K → Option (List ℕ)) (faults : K → ℕ) where
+module _ {K : Type 0} (known : K → Option (List ℕ)) (faults : K → ℕ) (failed : K → Bool) where
   abbrev Became : Answer → Outcome → K → K → Type 0
   Became answer what old new = IsOutcome answer what (known old) (known new) (faults old) (faults new)
 
@@ -251,17 +251,17 @@ module _ {K : Type 0} (known : K → Option (List ℕ)) (faults : K → ℕ) whe
 
   -- what became of a certificate, where its text has one answer, and no empty one
   done_outcome : (Is : Certificates.Answer → Type 0) → ((a b : Certificates.Answer) → Is a → Is b → a ≡ b) → ((text : List ℕ) → Is (Certificates.written text) → text ≡ [] → ⊥)
-      → (end : Ending) (old new : K) → Ends known faults Is end old new → (answer : Answer) → IsCertificateAnswer Is answer → Became answer (outcome_by end) old new
+      → (end : Ending) (old new : K) → Ends known faults failed Is end old new → (answer : Answer) → IsCertificateAnswer Is answer → Became answer (outcome_by end) old new
   done_outcome Is one some end old new h answer (such, is, e) =
       let same = one h.answer such h.is is in
       subst (λ (a : Answer). Became a (outcome_by end) old new) (ap certificate_answer same ∙ sym e)
       (became end h.answer old new h.told (λ text at. some text (subst Is at h.is)) h.whole h.prefix h.untouched h.calm)
 
-  pub certified_outcome : (m : Machine) (bytes : List ℕ) (end : Ending) (old new : K) → Ends known faults (Certificates.IsCertification m bytes) end old new
+  pub certified_outcome : (m : Machine) (bytes : List ℕ) (end : Ending) (old new : K) → Ends known faults failed (Certificates.IsCertification m bytes) end old new
       → (answer : Answer) → IsCertifyAnswer m bytes answer → Became answer (outcome_by end) old new
   certified_outcome m bytes end old new h answer is = done_outcome (Certificates.IsCertification m bytes) (one_each.one_certification m bytes) (bounds_some m bytes) end old new h answer is
 
-  pub upgraded_outcome : (m : Machine) (bytes : List ℕ) (end : Ending) (old new : K) → Ends known faults (Certificates.IsUpgrade m bytes) end old new
+  pub upgraded_outcome : (m : Machine) (bytes : List ℕ) (end : Ending) (old new : K) → Ends known faults failed (Certificates.IsUpgrade m bytes) end old new
       → (answer : Answer) → IsUpgradeAnswer m bytes answer → Became answer (outcome_by end) old new
   upgraded_outcome m bytes end old new h answer is = done_outcome (Certificates.IsUpgrade m bytes) (one_each.one_upgrade m bytes) (upgrade_some m bytes) end old new h answer is
 
@@ -278,7 +278,7 @@ module _ {K : Type 0} (known : K → Option (List ℕ)) (faults : K → ℕ) whe
   checked traced.Fault (Traces.refused why) old new told some whole prefix untouched calm = absurd (cc told)
   checked traced.Memory a old new told some whole prefix untouched calm = wanting (trace_answer a) old new (untouched refl)
 
-  pub checked_outcome : (m : Machine) (bytes : List ℕ) (end : TraceEnding) (old new : K) → TraceEndings.Ends known faults (Traces.IsChecked m bytes) end old new
+  pub checked_outcome : (m : Machine) (bytes : List ℕ) (end : TraceEnding) (old new : K) → TraceEndings.Ends known faults failed (Traces.IsChecked m bytes) end old new
       → (answer : Answer) → IsCheckAnswer m bytes answer → Became answer (outcome_traced end) old new
   checked_outcome m bytes end old new h answer (such, is, e) =
       let same = one_trace.one_answer m bytes h.answer such h.is is in
@@ -298,7 +298,7 @@ module _ {K : Type 0} (known : K → Option (List ℕ)) (faults : K → ℕ) whe
   proposing proposed.Fault (Proposals.refused why) old new told some whole prefix untouched calm = absurd (cc told)
   proposing proposed.Memory a old new told some whole prefix untouched calm = wanting (proposal_answer a) old new (untouched refl)
 
-  pub proposed_outcome : (m : Machine) (end : ProposalEnding) (old new : K) → ProposalEndings.Ends known faults (Proposals.IsProposed m) end old new
+  pub proposed_outcome : (m : Machine) (end : ProposalEnding) (old new : K) → ProposalEndings.Ends known faults failed (Proposals.IsProposed m) end old new
       → (answer : Answer) → IsProposeAnswer m answer → Became answer (outcome_proposed end) old new
   proposed_outcome m end old new h answer (such, is, e) =
       let same = one_proposed.one m h.answer such h.is is in

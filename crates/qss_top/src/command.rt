@@ -36,7 +36,7 @@ pub(crate) fn answer<S: Shelf, O: Sink>(
     ensures no_command { command_of (map (λ word. word.now) words.now) ≡ None → (result ≡ Outcome.Usage) ⊎ (result ≡ Outcome.Memory) }
     ensures untouched { leaves_out (writes_as_it_goes (command_of (map (λ word. word.now) words.now))) (status_of result) ≡ true → out.new ≡ out.old }
     ensures calm { result ≢ Outcome.WriteFault → O.faults out.new ≡ O.faults out.old }
-    ensures last { result ≡ Outcome.WriteFault → EndsByFault O.written O.faults out.old out.new }
+    ensures last { result ≡ Outcome.WriteFault → EndsByFault O.faults O.failed out.old out.new }
     ensures files { S.files shelf.new ≡ S.files shelf.old }
     ensures later { (name : List ℕ) → S.faults shelf.old name ≤ S.faults shelf.new name }
     ensures unharmed { result ≢ Outcome.ReadFault → (name : List ℕ) → S.faults shelf.new name ≡ S.faults shelf.old name }
@@ -59,7 +59,7 @@ fn on_request<S: Shelf, O: Sink>(
     ensures not_usage { result ≢ Outcome.Usage }
     ensures untouched { leaves_out (writes_as_it_goes (Some (command_in request.entry))) (status_of result) ≡ true → out.new ≡ out.old }
     ensures calm { result ≢ Outcome.WriteFault → O.faults out.new ≡ O.faults out.old }
-    ensures last { result ≡ Outcome.WriteFault → EndsByFault O.written O.faults out.old out.new }
+    ensures last { result ≡ Outcome.WriteFault → EndsByFault O.faults O.failed out.old out.new }
     ensures files { S.files shelf.new ≡ S.files shelf.old }
     ensures later { (name : List ℕ) → S.faults shelf.old name ≤ S.faults shelf.new name }
     ensures unharmed { result ≢ Outcome.ReadFault → (name : List ℕ) → S.faults shelf.new name ≡ S.faults shelf.old name }
@@ -87,7 +87,7 @@ fn on_file<S: Shelf, O: Sink>(
     ensures not_usage { result ≢ Outcome.Usage }
     ensures untouched { leaves_out (task_goes task.entry) (status_of result) ≡ true → out.new ≡ out.old }
     ensures calm { result ≢ Outcome.WriteFault → O.faults out.new ≡ O.faults out.old }
-    ensures last { result ≡ Outcome.WriteFault → EndsByFault O.written O.faults out.old out.new }
+    ensures last { result ≡ Outcome.WriteFault → EndsByFault O.faults O.failed out.old out.new }
     ensures files { S.files shelf.new ≡ S.files shelf.old }
     ensures counts { OnlyCounts model.now (S.faults shelf.old) (S.faults shelf.new) }
     ensures unharmed { result ≢ Outcome.ReadFault → (name : List ℕ) → S.faults shelf.new name ≡ S.faults shelf.old name }
@@ -108,7 +108,7 @@ fn on_source<O: Sink>(alloc: Global, task: Task, bytes: &[u8], out: &mut O) -> O
     ensures not_read { result ≢ Outcome.ReadFault }
     ensures untouched { leaves_out (task_goes task.entry) (status_of result) ≡ true → out.new ≡ out.old }
     ensures calm { result ≢ Outcome.WriteFault → O.faults out.new ≡ O.faults out.old }
-    ensures last { result ≡ Outcome.WriteFault → EndsByFault O.written O.faults out.old out.new }
+    ensures last { result ≡ Outcome.WriteFault → EndsByFault O.faults O.failed out.old out.new }
 {
     match task {
         Task::Run(options) => by_machine(alloc, Job::Run(options), bytes, out),
@@ -126,7 +126,7 @@ fn print_source<O: Sink>(alloc: Global, bytes: &[u8], out: &mut O) -> Outcome
     ensures not_read { result ≢ Outcome.ReadFault }
     ensures untouched { leaves_out false (status_of result) ≡ true → out.new ≡ out.old }
     ensures calm { result ≢ Outcome.WriteFault → O.faults out.new ≡ O.faults out.old }
-    ensures last { result ≡ Outcome.WriteFault → EndsByFault O.written O.faults out.old out.new }
+    ensures last { result ≡ Outcome.WriteFault → EndsByFault O.faults O.failed out.old out.new }
 {
     match model_of(alloc, bytes) {
         Ok(tree) => print_model(alloc, &tree, out),
@@ -140,7 +140,7 @@ fn print_model<O: Sink>(alloc: Global, tree: &Model, out: &mut O) -> Outcome
     ensures prints { leaves_out true (status_of result) ≡ false }
     ensures untouched { leaves_out false (status_of result) ≡ true → out.new ≡ out.old }
     ensures calm { result ≢ Outcome.WriteFault → O.faults out.new ≡ O.faults out.old }
-    ensures last { result ≡ Outcome.WriteFault → EndsByFault O.written O.faults out.old out.new }
+    ensures last { result ≡ Outcome.WriteFault → EndsByFault O.faults O.failed out.old out.new }
 {
     match write_model(alloc, tree) {
         Ok(text) => match write_all(out, &text) {

@@ -21,7 +21,7 @@ pub(crate) fn on_generation<O: Sink>(alloc: Global, generation: Generation, out:
     ensures not_read { result ≢ Outcome.ReadFault }
     ensures untouched { leaves_out false (status_of result) ≡ true → out.new ≡ out.old }
     ensures calm { result ≢ Outcome.WriteFault → O.faults out.new ≡ O.faults out.old }
-    ensures last { result ≡ Outcome.WriteFault → EndsByFault O.written O.faults out.old out.new }
+    ensures last { result ≡ Outcome.WriteFault → EndsByFault O.faults O.failed out.old out.new }
 {
     match generate(alloc, generation.seed, generation.cells) {
         Ok(source) => by_machine(alloc, Job::Sum(generation.cells), &source, out),
@@ -36,7 +36,7 @@ pub(crate) fn sum_machine<O: Sink>(alloc: Global, cells: u32, m: Machine, out: &
     ensures not_read { result ≢ Outcome.ReadFault }
     ensures untouched { leaves_out false (status_of result) ≡ true → out.new ≡ out.old }
     ensures calm { result ≢ Outcome.WriteFault → O.faults out.new ≡ O.faults out.old }
-    ensures last { result ≡ Outcome.WriteFault → EndsByFault O.written O.faults out.old out.new }
+    ensures last { result ≡ Outcome.WriteFault → EndsByFault O.faults O.failed out.old out.new }
 {
     let last = m.last;
     match tally(alloc, m) {

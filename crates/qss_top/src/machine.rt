@@ -37,7 +37,7 @@ pub(crate) fn by_machine<O: Sink>(alloc: Global, job: Job, bytes: &[u8], out: &m
     ensures not_read { result ≢ Outcome.ReadFault }
     ensures untouched { leaves_out (job_goes job.entry) (status_of result) ≡ true → out.new ≡ out.old }
     ensures calm { result ≢ Outcome.WriteFault → O.faults out.new ≡ O.faults out.old }
-    ensures last { result ≡ Outcome.WriteFault → EndsByFault O.written O.faults out.old out.new }
+    ensures last { result ≡ Outcome.WriteFault → EndsByFault O.faults O.failed out.old out.new }
 {
     let share = share_of(job);
     match machine_of(alloc, share.share, bytes) {
@@ -65,7 +65,7 @@ fn on_machine<O: Sink>(alloc: Global, job: Job, m: Machine, out: &mut O) -> Outc
     ensures not_read { result ≢ Outcome.ReadFault }
     ensures untouched { leaves_out (job_goes job.entry) (status_of result) ≡ true → out.new ≡ out.old }
     ensures calm { result ≢ Outcome.WriteFault → O.faults out.new ≡ O.faults out.old }
-    ensures last { result ≡ Outcome.WriteFault → EndsByFault O.written O.faults out.old out.new }
+    ensures last { result ≡ Outcome.WriteFault → EndsByFault O.faults O.failed out.old out.new }
 {
     match job {
         Job::Run(options) => run_machine(alloc, options, m, out),
@@ -93,7 +93,7 @@ fn run_machine<O: Sink>(alloc: Global, options: Options, m: Machine, out: &mut O
     ensures outcome { IsOutcome (printed (options_in options.entry) m) result (O.written out.old) (O.written out.new) (O.faults out.old) (O.faults out.new) }
     ensures runs { leaves_out true (status_of result) ≡ false }
     ensures calm { result ≢ Outcome.WriteFault → O.faults out.new ≡ O.faults out.old }
-    ensures last { result ≡ Outcome.WriteFault → EndsByFault O.written O.faults out.old out.new }
+    ensures last { result ≡ Outcome.WriteFault → EndsByFault O.faults O.failed out.old out.new }
 {
     match name_of(alloc, options.only) {
         Ok(only) => match play(alloc, m, options.rule, only, out) {
@@ -113,7 +113,7 @@ fn propose_machine<O: Sink>(alloc: Global, m: &Machine, out: &mut O) -> Outcome
     ensures not_read { result ≢ Outcome.ReadFault }
     ensures untouched { leaves_out false (status_of result) ≡ true → out.new ≡ out.old }
     ensures calm { result ≢ Outcome.WriteFault → O.faults out.new ≡ O.faults out.old }
-    ensures last { result ≡ Outcome.WriteFault → EndsByFault O.written O.faults out.old out.new }
+    ensures last { result ≡ Outcome.WriteFault → EndsByFault O.faults O.failed out.old out.new }
 {
     proposed_outcome(propose_text(alloc, m, out))
 }

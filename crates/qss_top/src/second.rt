@@ -21,7 +21,7 @@ pub(crate) fn second_machine<O: Sink>(alloc: Global, m: Machine, out: &mut O) ->
     ensures not_read { result ≢ Outcome.ReadFault }
     ensures untouched { leaves_out true (status_of result) ≡ true → out.new ≡ out.old }
     ensures calm { result ≢ Outcome.WriteFault → O.faults out.new ≡ O.faults out.old }
-    ensures last { result ≡ Outcome.WriteFault → EndsByFault O.written O.faults out.old out.new }
+    ensures last { result ≡ Outcome.WriteFault → EndsByFault O.faults O.failed out.old out.new }
 {
     let clauses = m.clauses.as_slice().len();
     if clauses == 0 {
@@ -39,7 +39,7 @@ fn run_second<O: Sink>(alloc: Global, m: Machine, out: &mut O) -> Outcome
     ensures outcome { IsOutcome (printed2 m) result (O.written out.old) (O.written out.new) (O.faults out.old) (O.faults out.new) }
     ensures runs { leaves_out true (status_of result) ≡ false }
     ensures calm { result ≢ Outcome.WriteFault → O.faults out.new ≡ O.faults out.old }
-    ensures last { result ≡ Outcome.WriteFault → EndsByFault O.written O.faults out.old out.new }
+    ensures last { result ≡ Outcome.WriteFault → EndsByFault O.faults O.failed out.old out.new }
 {
     match play2(alloc, m, out) {
         Played::Ended => Outcome::Done,

@@ -60,7 +60,7 @@ pub fn qss_main<S: Shelf, O: Sink, E: Sink>(
 
     // A write fault comes only of out, which gains nothing afterwards, and no other status of one.
     // A refusal leaves out as it is, and so does want of memory, but in a run.
-    ensures last { result ≡ Status.WriteFault → EndsByFault O.written O.faults out.old out.new }
+    ensures last { result ≡ Status.WriteFault → EndsByFault O.faults O.failed out.old out.new }
     ensures calm { result ≢ Status.WriteFault → O.faults out.new ≡ O.faults out.old }
     ensures untouched { leaves_out (writes_as_it_goes (command_of (map (λ word. word.now) words.now))) result ≡ true → out.new ≡ out.old }
 

@@ -1,5 +1,5 @@
 -- How calls end.
-use Rattle.std.proofs.Common.{◌≡◌, ℕ, ◌≤◌, inl, inr, List, length, refl, sym, subst, ◌∙◌, arith}
+use Rattle.std.proofs.Common.{Bool, ◌≡◌, ℕ, ◌≤◌, inl, inr, List, length, refl, sym, subst, ◌∙◌, arith}
 use Rattle.std.specs.declared.option.Option.{Option}
 use Rattle.std.specs.Io.KnownBytes.{Appends}
 use Rattle.qss_machine.specs.declared.system.Machine.{Machine}
@@ -33,9 +33,9 @@ pub no-run : (m : Machine) (bytes : List ℕ) (end : Ending) → RefusesBy m byt
 no-run m bytes end (inl (memory, scope, short)) why told t read run = absurd (cc)
 no-run m bytes end (inr (is, h, e)) why told t read run = accepted-fine m bytes is t h (accepted-of m bytes t read run)
 
-module _ {K : Type 0} (known : K → Option (List ℕ)) (faults : K → ℕ) where
+module _ {K : Type 0} (known : K → Option (List ℕ)) (faults : K → ℕ) (failed : K → Bool) where
   -- an answer of one kind is one of another
-  pub ends_as : (IsSuch Other : Answer → Type 0) → ((a : Answer) → IsSuch a → Other a) → (end : Ending) (old new : K) → Ends known faults IsSuch end old new → Ends known faults Other end old new
+  pub ends_as : (IsSuch Other : Answer → Type 0) → ((a : Answer) → IsSuch a → Other a) → (end : Ending) (old new : K) → Ends known faults failed IsSuch end old new → Ends known faults failed Other end old new
   ends_as IsSuch Other into end old new h = record {
     answer = h.answer;
     is = into h.answer h.is;
@@ -48,7 +48,7 @@ module _ {K : Type 0} (known : K → Option (List ℕ)) (faults : K → ℕ) whe
   }
 
   -- memory was wanting, and nothing is written
-  memory_wanted : (IsSuch : Answer → Type 0) → (a : Answer) → IsSuch a → TakesMemory a → (sink : K) → Ends known faults IsSuch ending.Memory sink sink
+  memory_wanted : (IsSuch : Answer → Type 0) → (a : Answer) → IsSuch a → TakesMemory a → (sink : K) → Ends known faults failed IsSuch ending.Memory sink sink
   memory_wanted IsSuch a is takes sink = record {
     answer = a;
     is = is;
@@ -61,7 +61,7 @@ module _ {K : Type 0} (known : K → Option (List ℕ)) (faults : K → ℕ) whe
   }
 
   -- a refusal is told, and nothing is written
-  refusal_told : (IsSuch : Answer → Type 0) (why : TraceRefusal) → IsSuch (refused why) → (sink : K) → Ends known faults IsSuch (ending.Refused why) sink sink
+  refusal_told : (IsSuch : Answer → Type 0) (why : TraceRefusal) → IsSuch (refused why) → (sink : K) → Ends known faults failed IsSuch (ending.Refused why) sink sink
   refusal_told IsSuch why is sink = record {
     answer = refused why;
     is = is;
@@ -74,15 +74,15 @@ module _ {K : Type 0} (known : K → Option (List ℕ)) (faults : K → ℕ) whe
   }
 
   -- no legitimate run is read
-  pub not_read : (m : Machine) (bytes : List ℕ) (a : Answer) → IsChecked m bytes a → (end : Ending) → RefusesBy m bytes end → (sink : K) → Ends known faults (IsChecked m bytes) end sink sink
+  pub not_read : (m : Machine) (bytes : List ℕ) (a : Answer) → IsChecked m bytes a → (end : Ending) → RefusesBy m bytes end → (sink : K) → Ends known faults failed (IsChecked m bytes) end sink sink
   not_read m bytes a is end (inl (e, scope, short)) sink =
-      let P : Ending → Type 0 = λ x. Ends known faults (IsChecked m bytes) x sink sink in
+      let P : Ending → Type 0 = λ x. Ends known faults failed (IsChecked m bytes) x sink sink in
       subst P (sym e) (memory_wanted (IsChecked m bytes) a is (answer-takes m bytes a is scope short) sink)
   not_read m bytes a is end (inr (why, h, e)) sink =
-      let P : Ending → Type 0 = λ x. Ends known faults (IsChecked m bytes) x sink sink in
+      let P : Ending → Type 0 = λ x. Ends known faults failed (IsChecked m bytes) x sink sink in
       subst P (sym e) (refusal_told (IsChecked m bytes) why (inl (why, h, refl)) sink)
 
-  module _ (t : Trace) (end : Ending) (old new : K) (h : Ends known faults (λ a. a ≡ written (summary t)) end old new) where
+  module _ (t : Trace) (end : Ending) (old new : K) (h : Ends known faults failed (λ a. a ≡ written (summary t)) end old new) where
     -- what is written is the summary
     pub summary_written : end ≡ ending.Written → Appends (known old) (known new) (summary t)
     summary_written e = let P : Answer → Type 0 = λ a. Appends (known old) (known new) (text_of a) in subst P h.is (h.whole e)

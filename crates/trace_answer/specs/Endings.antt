@@ -53,7 +53,7 @@ leaves_out ending.Fault = false
 leaves_out ending.Memory = true
 
 -- a call has such an answer and ended so: its text is written whole, or up to a fault of the sink, and else nothing is written
-pub record Ends {K : Type 0} (known : K → Option (List ℕ)) (faults : K → ℕ) (IsSuch : Answer → Type 0) (end : Ending) (old new : K) : Type 0 where
+pub record Ends {K : Type 0} (known : K → Option (List ℕ)) (faults : K → ℕ) (failed : K → Bool) (IsSuch : Answer → Type 0) (end : Ending) (old new : K) : Type 0 where
   pub answer : Answer
   pub is : IsSuch answer
   pub told : MayEnd answer end
@@ -61,7 +61,7 @@ pub record Ends {K : Type 0} (known : K → Option (List ℕ)) (faults : K → �
   pub prefix : end ≡ ending.Fault → AppendsPrefix (known old) (known new) (text_of answer)
   pub untouched : leaves_out end ≡ true → new ≡ old
   pub calm : end ≢ ending.Fault → faults new ≡ faults old
-  pub last : end ≡ ending.Fault → EndsByFault known faults old new
+  pub last : end ≡ ending.Fault → EndsByFault faults failed old new
 
 -- the number of a cause and its fields, in one line; want of memory is told in other words
 abbrev pub cause_line : TraceErr → List ℕ

@@ -6,5 +6,5 @@ use Rattle.propose_answer.proofs.proposing.tell.Goals as goal
 
 pub returns-in_default : goal.returns-in_default
 returns-in_default g c =
-    refusal_told (λ k. g.O.Sink.written k) (λ k. g.O.Sink.faults k) (λ (a : Answer). a ≡ answered c.args.c.now c.args.verdict) (Rejected c.args.verdict)
+    refusal_told (λ k. g.O.Sink.written k) (λ k. g.O.Sink.faults k) (λ k. g.O.Sink.failed k) (λ (a : Answer). a ≡ answered c.args.c.now c.args.verdict) (Rejected c.args.verdict)
     (rejected_by c.args.c.now c.args.verdict c.in_default.not-Accepted) c.args.out.now

@@ -6,4 +6,4 @@ use Rattle.propose_answer.proofs.proposing.tell_proposal.Goals as goal
 
 pub returns-in-NoCandidate : goal.returns-in-NoCandidate
 returns-in-NoCandidate g c =
-    refusal_told (λ k. g.O.Sink.written k) (λ k. g.O.Sink.faults k) (λ (a : Answer). a ≡ answer_of c.args.proposal.now) (NoCandidate c.in-NoCandidate.step) (rw c.in-NoCandidate.is refl) c.args.out.now
+    refusal_told (λ k. g.O.Sink.written k) (λ k. g.O.Sink.faults k) (λ k. g.O.Sink.failed k) (λ (a : Answer). a ≡ answer_of c.args.proposal.now) (NoCandidate c.in-NoCandidate.step) (rw c.in-NoCandidate.is refl) c.args.out.now

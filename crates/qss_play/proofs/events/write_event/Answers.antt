@@ -29,8 +29,8 @@ returns-in_err-write_rows g c =
       quantizer = c.next_event-outcome.ensures.same.1;
       next = search rules;
       ahead = λ rule e. c.next_event-outcome.ensures.rows rule e c.requires.unended;
-      written = subst (λ r. IsWriting (λ k. g.O.Sink.written k) (λ k. g.O.Sink.faults k) (result_err r) c.args.out.now c.write_rows.new.out (lines_passed c.args.filter.now c.args.sim.now.course.machine new.rows)) (sym given)
-          (written_of (λ k. g.O.Sink.written k) (λ k. g.O.Sink.faults k) (Some c.in_err-write_rows.field-0.0) c.args.out.now c.write_rows.new.out c.args.filter.now c.machine.result.now c.args.sim.now.course.machine
+      written = subst (λ r. IsWriting (λ k. g.O.Sink.written k) (λ k. g.O.Sink.faults k) (λ k. g.O.Sink.failed k) (result_err r) c.args.out.now c.write_rows.new.out (lines_passed c.args.filter.now c.args.sim.now.course.machine new.rows)) (sym given)
+          (written_of (λ k. g.O.Sink.written k) (λ k. g.O.Sink.faults k) (λ k. g.O.Sink.failed k) (Some c.in_err-write_rows.field-0.0) c.args.out.now c.write_rows.new.out c.args.filter.now c.machine.result.now c.args.sim.now.course.machine
           c.rows.result.now new.rows (c.machine.ensures ∙ c.next_event-outcome.ensures.same.0) c.rows.ensures c.in_err-write_rows.ensures.written);
       stopped = λ e.
           stops_of (λ k. g.O.Sink.written k) c.args.out.now c.write_rows.new.out [] c.args.filter.now c.machine.result.now c.args.sim.now.course.machine c.rows.result.now new.rows
@@ -45,7 +45,7 @@ returns g c =
       quantizer = c.next_event-outcome.ensures.same.1;
       next = c.next_event-outcome.ensures.next c.requires.unended;
       ahead = λ rule e. c.next_event-outcome.ensures.rows rule e c.requires.unended;
-      written = written_of (λ k. g.O.Sink.written k) (λ k. g.O.Sink.faults k) None c.args.out.now c.write_rows.new.out c.args.filter.now c.machine.result.now c.args.sim.now.course.machine
+      written = written_of (λ k. g.O.Sink.written k) (λ k. g.O.Sink.faults k) (λ k. g.O.Sink.failed k) None c.args.out.now c.write_rows.new.out c.args.filter.now c.machine.result.now c.args.sim.now.course.machine
           c.rows.result.now new.rows (c.machine.ensures ∙ c.next_event-outcome.ensures.same.0) c.rows.ensures c.in_ok-write_rows.ensures.written;
       stopped = λ e. absurd (cc e);
     }

@@ -25,15 +25,15 @@ pub returns-in_err-write_rows : goal.returns-in_err-write_rows
 returns-in_err-write_rows g c =
     let given : c.from_residual.result ≡ Err c.in_err-write_rows.field-0.0 = search rules in
     let now = c.args.sim.now.course in
-    let first = written_of (λ k. g.O.Sink.written k) (λ k. g.O.Sink.faults k) (Some c.in_err-write_rows.field-0.0) c.args.out.now c.write_rows.new.out c.args.filter.now c.machine.result.now now.machine
+    let first = written_of (λ k. g.O.Sink.written k) (λ k. g.O.Sink.faults k) (λ k. g.O.Sink.failed k) (Some c.in_err-write_rows.field-0.0) c.args.out.now c.write_rows.new.out c.args.filter.now c.machine.result.now now.machine
     c.rows.result.now now.rows c.machine.ensures c.rows.ensures c.in_err-write_rows.ensures.written in
     record {
       machine = refl;
       written = λ rule e.
-          subst (λ r. IsWriting (λ k. g.O.Sink.written k) (λ k. g.O.Sink.faults k) (result_err r) c.args.out.now c.write_rows.new.out (lines_passed c.args.filter.now now.machine (rows_ahead rule now))) (sym given)
-          (subst (IsWriting (λ k. g.O.Sink.written k) (λ k. g.O.Sink.faults k) (Some c.in_err-write_rows.field-0.0) c.args.out.now c.write_rows.new.out)
+          subst (λ r. IsWriting (λ k. g.O.Sink.written k) (λ k. g.O.Sink.faults k) (λ k. g.O.Sink.failed k) (result_err r) c.args.out.now c.write_rows.new.out (lines_passed c.args.filter.now now.machine (rows_ahead rule now))) (sym given)
+          (subst (IsWriting (λ k. g.O.Sink.written k) (λ k. g.O.Sink.faults k) (λ k. g.O.Sink.failed k) (Some c.in_err-write_rows.field-0.0) c.args.out.now c.write_rows.new.out)
           (sym (lines_passed-append c.args.filter.now now.machine now.rows (rows_left (level_by rule) now)))
-          (stops_early (λ k. g.O.Sink.written k) (λ k. g.O.Sink.faults k) c.in_err-write_rows.field-0.0 c.args.out.now c.write_rows.new.out
+          (stops_early (λ k. g.O.Sink.written k) (λ k. g.O.Sink.faults k) (λ k. g.O.Sink.failed k) c.in_err-write_rows.field-0.0 c.args.out.now c.write_rows.new.out
           (lines_passed c.args.filter.now now.machine now.rows) (lines_passed c.args.filter.now now.machine (rows_left (level_by rule) now)) first));
       stopped = λ rule e f.
           stops_sooner (λ k. g.O.Sink.written k) c.args.filter.now now.machine [] now.rows (rows_left (level_by rule) now) c.args.out.now c.write_rows.new.out
@@ -45,13 +45,13 @@ returns-in_err-write_rows g c =
 pub events-init : goal.events-init
 events-init g c =
     let now = c.args.sim.now.course in
-    let first = written_of (λ k. g.O.Sink.written k) (λ k. g.O.Sink.faults k) None c.args.out.now c.write_rows.new.out c.args.filter.now c.machine.result.now now.machine
+    let first = written_of (λ k. g.O.Sink.written k) (λ k. g.O.Sink.faults k) (λ k. g.O.Sink.failed k) None c.args.out.now c.write_rows.new.out c.args.filter.now c.machine.result.now now.machine
     c.rows.result.now now.rows c.machine.ensures c.rows.ensures c.in_ok-write_rows.ensures.written in
     record {
       machine = refl;
       named = refl;
       unended = c.requires.unended;
-      under_way = λ rule e. begins (λ k. g.O.Sink.written k) (λ k. g.O.Sink.faults k) rule c.args.filter.now now c.args.out.now c.write_rows.new.out (c.requires.known rule e) (first.whole refl) (first.calm (λ f. absurd (cc)));
+      under_way = λ rule e. begins (λ k. g.O.Sink.written k) (λ k. g.O.Sink.faults k) (λ k. g.O.Sink.failed k) rule c.args.filter.now now c.args.out.now c.write_rows.new.out (c.requires.known rule e) (first.whole refl) (first.calm (λ f. absurd (cc)));
     }
 
 pub write_event-requires : goal.write_event-requires
@@ -77,13 +77,13 @@ returns-in_err-write_event g c =
       machine = c.in_err-write_event.ensures.machine ∙ inv.machine;
       written = λ rule e.
           let named = inv.named ∙ e in
-          let piece = written_of (λ k. g.O.Sink.written k) (λ k. g.O.Sink.faults k) (Some c.in_err-write_event.field-0.0) c.events.out c.write_event.new.out c.args.filter.now now.machine first.machine
+          let piece = written_of (λ k. g.O.Sink.written k) (λ k. g.O.Sink.faults k) (λ k. g.O.Sink.failed k) (Some c.in_err-write_event.field-0.0) c.events.out c.write_event.new.out c.args.filter.now now.machine first.machine
           new.rows new.rows inv.machine refl c.in_err-write_event.ensures.written in
-          subst (λ r. IsWriting (λ k. g.O.Sink.written k) (λ k. g.O.Sink.faults k) (result_err r) c.args.out.now c.write_event.new.out (lines_passed c.args.filter.now first.machine (rows_ahead rule first))) (sym given)
-          (fails (λ k. g.O.Sink.written k) (λ k. g.O.Sink.faults k) rule c.args.filter.now first c.args.out.now now new c.events.out (inv.under_way rule e) (c.in_err-write_event.ensures.ahead rule named)
+          subst (λ r. IsWriting (λ k. g.O.Sink.written k) (λ k. g.O.Sink.faults k) (λ k. g.O.Sink.failed k) (result_err r) c.args.out.now c.write_event.new.out (lines_passed c.args.filter.now first.machine (rows_ahead rule first))) (sym given)
+          (fails (λ k. g.O.Sink.written k) (λ k. g.O.Sink.faults k) (λ k. g.O.Sink.failed k) rule c.args.filter.now first c.args.out.now now new c.events.out (inv.under_way rule e) (c.in_err-write_event.ensures.ahead rule named)
           c.in_err-write_event.field-0.0 c.write_event.new.out piece);
       stopped = λ rule e f.
-          halts (λ k. g.O.Sink.written k) (λ k. g.O.Sink.faults k) rule c.args.filter.now first c.args.out.now now new c.events.out (inv.under_way rule e) (c.in_err-write_event.ensures.ahead rule (inv.named ∙ e))
+          halts (λ k. g.O.Sink.written k) (λ k. g.O.Sink.faults k) (λ k. g.O.Sink.failed k) rule c.args.filter.now first c.args.out.now now new c.events.out (inv.under_way rule e) (c.in_err-write_event.ensures.ahead rule (inv.named ∙ e))
           c.write_event.new.out
           (stops_of (λ k. g.O.Sink.written k) c.events.out c.write_event.new.out [] c.args.filter.now now.machine first.machine new.rows new.rows inv.machine refl
           (c.in_err-write_event.ensures.stopped (subst (λ r. result_err r ≡ Some Memory) given f)));
@@ -97,7 +97,7 @@ events-preserved g c =
     let now = c.events.sim.course in
     let new = c.write_event.new.sim.course in
     let event = c.in_ok-write_event.ensures in
-    let piece = written_of (λ k. g.O.Sink.written k) (λ k. g.O.Sink.faults k) None c.events.out c.write_event.new.out c.args.filter.now now.machine first.machine new.rows new.rows inv.machine refl event.written in
+    let piece = written_of (λ k. g.O.Sink.written k) (λ k. g.O.Sink.faults k) (λ k. g.O.Sink.failed k) None c.events.out c.write_event.new.out c.args.filter.now now.machine first.machine new.rows new.rows inv.machine refl event.written in
     let kept : c.write_event.new.sim.quantizer.name ≡ c.events.sim.quantizer.name = rw event.quantizer refl in
     let rule = c.requires.named.0 in
     let named = inv.named ∙ c.requires.named.1 in
@@ -108,7 +108,7 @@ events-preserved g c =
       under_way = λ rule e.
           let named = inv.named ∙ e in
           let call = call_of c.events.sim.quantizer.name rule now new c.in_ok-write_event.field-0 (Events c.in-Events.tick) named event.machine c.in-Events.is event.next in
-          goes_on (λ k. g.O.Sink.written k) (λ k. g.O.Sink.faults k) rule c.args.filter.now first c.args.out.now now new c.events.out (inv.under_way rule e) (event.ahead rule named)
+          goes_on (λ k. g.O.Sink.written k) (λ k. g.O.Sink.faults k) (λ k. g.O.Sink.failed k) rule c.args.filter.now first c.args.out.now now new c.events.out (inv.under_way rule e) (event.ahead rule named)
           c.write_event.new.out (piece.whole refl) (piece.calm (λ f. absurd (cc))) (event_end rule now new c.in-Events.tick call);
     }
 
@@ -127,19 +127,19 @@ returns-in-Done g c =
     let now = c.events.sim.course in
     let new = c.write_event.new.sim.course in
     let event = c.in_ok-write_event.ensures in
-    let piece = written_of (λ k. g.O.Sink.written k) (λ k. g.O.Sink.faults k) None c.events.out c.write_event.new.out c.args.filter.now now.machine first.machine new.rows new.rows inv.machine refl event.written in
+    let piece = written_of (λ k. g.O.Sink.written k) (λ k. g.O.Sink.faults k) (λ k. g.O.Sink.failed k) None c.events.out c.write_event.new.out c.args.filter.now now.machine first.machine new.rows new.rows inv.machine refl event.written in
     record {
       machine = event.machine ∙ inv.machine;
       written = λ rule e.
           let named = inv.named ∙ e in
           let call = call_of c.events.sim.quantizer.name rule now new c.in_ok-write_event.field-0 Done named event.machine c.in-Done.is event.next in
-          ends (λ k. g.O.Sink.written k) (λ k. g.O.Sink.faults k) rule c.args.filter.now first c.args.out.now now new c.events.out (inv.under_way rule e) (event.ahead rule named)
+          ends (λ k. g.O.Sink.written k) (λ k. g.O.Sink.faults k) (λ k. g.O.Sink.failed k) rule c.args.filter.now first c.args.out.now now new c.events.out (inv.under_way rule e) (event.ahead rule named)
           c.write_event.new.out (done_left rule now new call) piece;
       stopped = λ rule e f. absurd (cc f);
       end = λ rule e.
           let named = inv.named ∙ e in
           let call = call_of c.events.sim.quantizer.name rule now new c.in_ok-write_event.field-0 Done named event.machine c.in-Done.is event.next in
-          ends_so (λ k. g.O.Sink.written k) (λ k. g.O.Sink.faults k) rule c.args.filter.now first c.args.out.now now new c.events.out (inv.under_way rule e) (event.ahead rule named)
+          ends_so (λ k. g.O.Sink.written k) (λ k. g.O.Sink.faults k) (λ k. g.O.Sink.failed k) rule c.args.filter.now first c.args.out.now now new c.events.out (inv.under_way rule e) (event.ahead rule named)
           Done (done_end rule now new call);
     }
 
@@ -151,18 +151,18 @@ returns-in-Over g c =
     let new = c.write_event.new.sim.course in
     let event = c.in_ok-write_event.ensures in
     let over = Over c.in-Over.tick c.in-Over.var in
-    let piece = written_of (λ k. g.O.Sink.written k) (λ k. g.O.Sink.faults k) None c.events.out c.write_event.new.out c.args.filter.now now.machine first.machine new.rows new.rows inv.machine refl event.written in
+    let piece = written_of (λ k. g.O.Sink.written k) (λ k. g.O.Sink.faults k) (λ k. g.O.Sink.failed k) None c.events.out c.write_event.new.out c.args.filter.now now.machine first.machine new.rows new.rows inv.machine refl event.written in
     record {
       machine = event.machine ∙ inv.machine;
       written = λ rule e.
           let named = inv.named ∙ e in
           let call = call_of c.events.sim.quantizer.name rule now new c.in_ok-write_event.field-0 over named event.machine c.in-Over.is event.next in
-          ends (λ k. g.O.Sink.written k) (λ k. g.O.Sink.faults k) rule c.args.filter.now first c.args.out.now now new c.events.out (inv.under_way rule e) (event.ahead rule named)
+          ends (λ k. g.O.Sink.written k) (λ k. g.O.Sink.faults k) (λ k. g.O.Sink.failed k) rule c.args.filter.now first c.args.out.now now new c.events.out (inv.under_way rule e) (event.ahead rule named)
           c.write_event.new.out (over_left rule now new c.in-Over.tick c.in-Over.var call) piece;
       stopped = λ rule e f. absurd (cc f);
       end = λ rule e.
           let named = inv.named ∙ e in
           let call = call_of c.events.sim.quantizer.name rule now new c.in_ok-write_event.field-0 over named event.machine c.in-Over.is event.next in
-          ends_so (λ k. g.O.Sink.written k) (λ k. g.O.Sink.faults k) rule c.args.filter.now first c.args.out.now now new c.events.out (inv.under_way rule e) (event.ahead rule named)
+          ends_so (λ k. g.O.Sink.written k) (λ k. g.O.Sink.faults k) (λ k. g.O.Sink.failed k) rule c.args.filter.now first c.args.out.now now new c.events.out (inv.under_way rule e) (event.ahead rule named)
           over (over_end rule now new c.in-Over.tick c.in-Over.var call);
     }

@@ -10,7 +10,7 @@ invariant-events g l = record {
   machine : l.sim.course.machine ≡ l.fn.sim.course.machine;
   named : l.sim.quantizer.name ≡ l.fn.sim.quantizer.name;
   unended : l.sim.course.end ≡ None;
-  under_way : (rule : Rule) → l.fn.sim.quantizer.name ≡ Some rule → IsUnderWay (λ k. g.O.Sink.written k) (λ k. g.O.Sink.faults k) rule l.filter l.fn.sim.course l.sim.course l.fn.out l.out;
+  under_way : (rule : Rule) → l.fn.sim.quantizer.name ≡ Some rule → IsUnderWay (λ k. g.O.Sink.written k) (λ k. g.O.Sink.faults k) (λ k. g.O.Sink.failed k) rule l.filter l.fn.sim.course l.sim.course l.fn.out l.out;
 }
 
 abbrev pub decreases-events : goal.decreases-events

@@ -10,8 +10,8 @@ play_sim-requires g c =
 pub returns-in-Ok : goal.returns-in-Ok
 returns-in-Ok g c rule e =
     let same : c.in-Ok.sim.quantizer.name ≡ c.args.quantizer.name = rw c.in-Ok.ensures.rule refl in
-    course_played (λ k. g.O.Sink.written k) (λ k. g.O.Sink.faults k) rule c.args.m c.in-Ok.sim.course c.new-filter.result c.args.only c.play_sim.result c.args.out.now c.play_sim.new.out c.in-Ok.ensures.start c.new-filter.ensures
+    course_played (λ k. g.O.Sink.written k) (λ k. g.O.Sink.faults k) (λ k. g.O.Sink.failed k) rule c.args.m c.in-Ok.sim.course c.new-filter.result c.args.only c.play_sim.result c.args.out.now c.play_sim.new.out c.in-Ok.ensures.start c.new-filter.ensures
     (c.play_sim.ensures rule (same ∙ e))
 
 pub returns-in-Err : goal.returns-in-Err
-returns-in-Err g c rule e = plays_nothing (λ k. g.O.Sink.written k) (λ k. g.O.Sink.faults k) c.args.only rule c.args.m c.args.out.now
+returns-in-Err g c rule e = plays_nothing (λ k. g.O.Sink.written k) (λ k. g.O.Sink.faults k) (λ k. g.O.Sink.failed k) c.args.only rule c.args.m c.args.out.now

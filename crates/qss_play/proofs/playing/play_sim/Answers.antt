@@ -29,23 +29,23 @@ pub returns-in-Ok : goal.returns-in-Ok
 returns-in-Ok g c rule e =
     let course = c.args.sim.now.course in
     let machine = c.machine.ensures ∙ c.in-Ok.ensures.machine in
-    plays_all (λ k. g.O.Sink.written k) (λ k. g.O.Sink.faults k) c.args.filter.now rule course.machine c.args.out.now c.write_run.new.out c.in-Ok.outcome c.ended.result
+    plays_all (λ k. g.O.Sink.written k) (λ k. g.O.Sink.faults k) (λ k. g.O.Sink.failed k) c.args.filter.now rule course.machine c.args.out.now c.write_run.new.out c.in-Ok.outcome c.ended.result
     (course_end rule course.machine course c.in-Ok.outcome c.requires.start (c.in-Ok.ensures.end rule e))
     (λ run h. subst (λ (m : Machine). EndsSo m run c.ended.result) machine (c.ended.ensures.end run h))
     c.ended.ensures.done
     c.ended.ensures.no_fault
-    (course_writing (λ k. g.O.Sink.written k) (λ k. g.O.Sink.faults k) None c.args.out.now c.write_run.new.out c.args.filter.now rule course.machine course c.requires.start (c.in-Ok.ensures.written rule e))
+    (course_writing (λ k. g.O.Sink.written k) (λ k. g.O.Sink.faults k) (λ k. g.O.Sink.failed k) None c.args.out.now c.write_run.new.out c.args.filter.now rule course.machine course c.requires.start (c.in-Ok.ensures.written rule e))
 
 pub returns-in-Err-Fault : goal.returns-in-Err-Fault
 returns-in-Err-Fault g c rule e =
     let course = c.args.sim.now.course in
-    plays_fault (λ k. g.O.Sink.written k) (λ k. g.O.Sink.faults k) c.args.filter.now rule course.machine c.args.out.now c.write_run.new.out c.in-Err-Fault.field-0 c.in-Err-Fault.field-0-is
-    (course_writing (λ k. g.O.Sink.written k) (λ k. g.O.Sink.faults k) (Some c.in-Err-Fault.field-0) c.args.out.now c.write_run.new.out c.args.filter.now rule course.machine course c.requires.start (c.in-Err-Fault.ensures.written rule e))
+    plays_fault (λ k. g.O.Sink.written k) (λ k. g.O.Sink.faults k) (λ k. g.O.Sink.failed k) c.args.filter.now rule course.machine c.args.out.now c.write_run.new.out c.in-Err-Fault.field-0 c.in-Err-Fault.field-0-is
+    (course_writing (λ k. g.O.Sink.written k) (λ k. g.O.Sink.faults k) (λ k. g.O.Sink.failed k) (Some c.in-Err-Fault.field-0) c.args.out.now c.write_run.new.out c.args.filter.now rule course.machine course c.requires.start (c.in-Err-Fault.ensures.written rule e))
 
 pub returns-in-Err-Memory : goal.returns-in-Err-Memory
 returns-in-Err-Memory g c rule e =
     let course = c.args.sim.now.course in
-    plays_memory (λ k. g.O.Sink.written k) (λ k. g.O.Sink.faults k) c.args.filter.now rule course.machine c.args.out.now c.write_run.new.out c.in-Err-Memory.field-0 c.in-Err-Memory.field-0-is
-    (course_writing (λ k. g.O.Sink.written k) (λ k. g.O.Sink.faults k) (Some c.in-Err-Memory.field-0) c.args.out.now c.write_run.new.out c.args.filter.now rule course.machine course c.requires.start (c.in-Err-Memory.ensures.written rule e))
+    plays_memory (λ k. g.O.Sink.written k) (λ k. g.O.Sink.faults k) (λ k. g.O.Sink.failed k) c.args.filter.now rule course.machine c.args.out.now c.write_run.new.out c.in-Err-Memory.field-0 c.in-Err-Memory.field-0-is
+    (course_writing (λ k. g.O.Sink.written k) (λ k. g.O.Sink.faults k) (λ k. g.O.Sink.failed k) (Some c.in-Err-Memory.field-0) c.args.out.now c.write_run.new.out c.args.filter.now rule course.machine course c.requires.start (c.in-Err-Memory.ensures.written rule e))
     (course_short (λ k. g.O.Sink.written k) c.args.out.now c.write_run.new.out c.args.filter.now rule course.machine course c.requires.start
     (c.in-Err-Memory.ensures.stopped rule e (ap (λ (s : Stop). Some s) c.in-Err-Memory.field-0-is)))

@@ -14,16 +14,16 @@ pub returns-in_err-write_bytes-clause-written : goal.returns-in_err-write_bytes-
 returns-in_err-write_bytes-clause-written g c rule e =
     let given : c.from_residual.result ≡ Err c.in_err-write_bytes.field-0.0 = search rules in
     let rows = lines_passed c.args.filter.now c.args.sim.now.course.machine (rows_ahead rule c.args.sim.now.course) in
-    subst (λ r. IsWriting (λ k. g.O.Sink.written k) (λ k. g.O.Sink.faults k) (result_err r) c.args.out.now c.write_bytes.new.out (header ++ rows)) (sym given)
-    (stops_early (λ k. g.O.Sink.written k) (λ k. g.O.Sink.faults k) c.in_err-write_bytes.field-0.0 c.args.out.now c.write_bytes.new.out header rows
-    (subst (λ (bytes : List ℕ). IsWriting (λ k. g.O.Sink.written k) (λ k. g.O.Sink.faults k) (Some c.in_err-write_bytes.field-0.0) c.args.out.now c.write_bytes.new.out bytes) c.header.ensures c.in_err-write_bytes.ensures.written))
+    subst (λ r. IsWriting (λ k. g.O.Sink.written k) (λ k. g.O.Sink.faults k) (λ k. g.O.Sink.failed k) (result_err r) c.args.out.now c.write_bytes.new.out (header ++ rows)) (sym given)
+    (stops_early (λ k. g.O.Sink.written k) (λ k. g.O.Sink.faults k) (λ k. g.O.Sink.failed k) c.in_err-write_bytes.field-0.0 c.args.out.now c.write_bytes.new.out header rows
+    (subst (λ (bytes : List ℕ). IsWriting (λ k. g.O.Sink.written k) (λ k. g.O.Sink.faults k) (λ k. g.O.Sink.failed k) (Some c.in_err-write_bytes.field-0.0) c.args.out.now c.write_bytes.new.out bytes) c.header.ensures c.in_err-write_bytes.ensures.written))
 
 pub returns-clause-written : goal.returns-clause-written
 returns-clause-written g c rule e =
     let first = c.in_ok-write_bytes.ensures.written in
     let rows = lines_passed c.args.filter.now c.args.sim.now.course.machine (rows_ahead rule c.args.sim.now.course) in
-    let whole = subst (λ (bytes : List ℕ). IsWriting (λ k. g.O.Sink.written k) (λ k. g.O.Sink.faults k) None c.args.out.now c.write_bytes.new.out bytes) c.header.ensures first in
-    writes_later (λ k. g.O.Sink.written k) (λ k. g.O.Sink.faults k) (result_err c.write_events.result) c.args.out.now c.write_bytes.new.out c.write_events.new.out header rows
+    let whole = subst (λ (bytes : List ℕ). IsWriting (λ k. g.O.Sink.written k) (λ k. g.O.Sink.faults k) (λ k. g.O.Sink.failed k) None c.args.out.now c.write_bytes.new.out bytes) c.header.ensures first in
+    writes_later (λ k. g.O.Sink.written k) (λ k. g.O.Sink.faults k) (λ k. g.O.Sink.failed k) (result_err c.write_events.result) c.args.out.now c.write_bytes.new.out c.write_events.new.out header rows
     (whole.whole refl) (whole.calm (λ f. absurd (cc))) (c.write_events.ensures.written rule e)
 
 pub returns-in_err-write_bytes-clause-stopped : goal.returns-in_err-write_bytes-clause-stopped
@@ -33,6 +33,6 @@ returns-in_err-write_bytes-clause-stopped g c rule e f =
 
 pub returns-clause-stopped : goal.returns-clause-stopped
 returns-clause-stopped g c rule e f =
-    let whole = subst (λ (bytes : List ℕ). IsWriting (λ k. g.O.Sink.written k) (λ k. g.O.Sink.faults k) None c.args.out.now c.write_bytes.new.out bytes) c.header.ensures c.in_ok-write_bytes.ensures.written in
+    let whole = subst (λ (bytes : List ℕ). IsWriting (λ k. g.O.Sink.written k) (λ k. g.O.Sink.faults k) (λ k. g.O.Sink.failed k) None c.args.out.now c.write_bytes.new.out bytes) c.header.ensures c.in_ok-write_bytes.ensures.written in
     stops_later (λ k. g.O.Sink.written k) c.args.filter.now c.args.sim.now.course.machine header [] (rows_ahead rule c.args.sim.now.course) c.args.out.now c.write_bytes.new.out c.write_events.new.out
     (subst (Appends (g.O.Sink.written c.args.out.now) (g.O.Sink.written c.write_bytes.new.out)) (sym (append-nil header)) (whole.whole refl)) (c.write_events.ensures.stopped rule e f)

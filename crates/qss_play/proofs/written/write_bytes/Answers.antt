@@ -4,14 +4,13 @@ use Rattle.qss_play.proofs.written.write_bytes.Goals as goal
 
 pub returns-in-Ok-clause-written : goal.returns-in-Ok-clause-written
 returns-in-Ok-clause-written g c =
-    writes_all (λ k. g.O.Sink.written k) (λ k. g.O.Sink.faults k) c.args.out.now c.write_all.new.sink c.args.bytes.now c.in-Ok.ensures.whole c.in-Ok.ensures.calm
+    writes_all (λ k. g.O.Sink.written k) (λ k. g.O.Sink.faults k) (λ k. g.O.Sink.failed k) c.args.out.now c.write_all.new.sink c.args.bytes.now c.in-Ok.ensures.whole c.in-Ok.ensures.calm
 
 pub returns-in-Err-Fault-clause-written : goal.returns-in-Err-Fault-clause-written
 returns-in-Err-Fault-clause-written g c =
-    let last = c.in-Err-Fault.ensures.last in
     record {
       whole = λ e. absurd (cc e);
       prefix = c.in-Err-Fault.ensures.prefix;
       calm = λ e. absurd (e refl);
-      last = λ e. record { last = last.0; calm = last.1.1; kept = last.1.2; rose = last.1.3 };
+      last = λ e. c.in-Err-Fault.ensures.last;
     }

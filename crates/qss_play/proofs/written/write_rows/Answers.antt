@@ -16,8 +16,8 @@ loop-row-init g c = record { appended = Appends-nil (g.O.Sink.written c.args.out
 pub returns-in_err-write_row-clause-written : goal.returns-in_err-write_row-clause-written
 returns-in_err-write_row-clause-written g c =
     let given : c.from_residual.result ≡ Err c.in_err-write_row.field-0.0 = search rules in
-    subst (λ r. IsWriting (λ k. g.O.Sink.written k) (λ k. g.O.Sink.faults k) (result_err r) c.args.out.now c.write_row.new.out (lines_passed c.args.filter.now c.args.m.now c.args.rows.now)) (sym given)
-    (row_stops (λ k. g.O.Sink.written k) (λ k. g.O.Sink.faults k) c.args.filter.now c.args.m.now c.args.rows.now c.loop-row.row-index _ c.loop-row-test.true c.args.out.now c.loop-row.out c.write_row.new.out
+    subst (λ r. IsWriting (λ k. g.O.Sink.written k) (λ k. g.O.Sink.faults k) (λ k. g.O.Sink.failed k) (result_err r) c.args.out.now c.write_row.new.out (lines_passed c.args.filter.now c.args.m.now c.args.rows.now)) (sym given)
+    (row_stops (λ k. g.O.Sink.written k) (λ k. g.O.Sink.faults k) (λ k. g.O.Sink.failed k) c.args.filter.now c.args.m.now c.args.rows.now c.loop-row.row-index _ c.loop-row-test.true c.args.out.now c.loop-row.out c.write_row.new.out
     c.loop-row.invariant.appended c.in_err-write_row.field-0.0 c.loop-row.invariant.calm c.in_err-write_row.ensures.written)
 
 pub returns-in_err-write_row-clause-stopped : goal.returns-in_err-write_row-clause-stopped
@@ -25,21 +25,21 @@ returns-in_err-write_row-clause-stopped g c e =
     let given : c.from_residual.result ≡ Err c.in_err-write_row.field-0.0 = search rules in
     let memory : Some c.in_err-write_row.field-0.0 ≡ Some Memory = subst (λ r. result_err r ≡ Some Memory) given e in
     subst (StopsBefore (λ k. g.O.Sink.written k) [] c.args.filter.now c.args.m.now c.args.rows.now c.args.out.now) (sym (c.in_err-write_row.ensures.nothing memory))
-    (stops_at (λ k. g.O.Sink.written k) (λ k. g.O.Sink.faults k) c.args.filter.now c.args.m.now c.args.rows.now c.loop-row.row-index _ c.loop-row-test.true c.args.out.now c.loop-row.out c.write_row.new.out
+    (stops_at (λ k. g.O.Sink.written k) (λ k. g.O.Sink.faults k) (λ k. g.O.Sink.failed k) c.args.filter.now c.args.m.now c.args.rows.now c.loop-row.row-index _ c.loop-row-test.true c.args.out.now c.loop-row.out c.write_row.new.out
     c.loop-row.invariant.appended (c.in_err-write_row.ensures.passed memory))
 
 pub loop-row-preserved : goal.loop-row-preserved
 loop-row-preserved g c =
     let w = c.in_ok-write_row.ensures.written in
     record {
-      appended = row_more (λ k. g.O.Sink.written k) (λ k. g.O.Sink.faults k) c.args.filter.now c.args.m.now c.args.rows.now c.loop-row.row-index _ c.loop-row-test.true c.args.out.now c.loop-row.out c.write_row.new.out
+      appended = row_more (λ k. g.O.Sink.written k) (λ k. g.O.Sink.faults k) (λ k. g.O.Sink.failed k) c.args.filter.now c.args.m.now c.args.rows.now c.loop-row.row-index _ c.loop-row-test.true c.args.out.now c.loop-row.out c.write_row.new.out
           c.loop-row.invariant.appended (w.whole refl);
       calm = w.calm (λ e. absurd (cc)) ∙ c.loop-row.invariant.calm;
     }
 
 pub returns-clause-written : goal.returns-clause-written
 returns-clause-written g c =
-    writes_all (λ k. g.O.Sink.written k) (λ k. g.O.Sink.faults k) c.args.out.now c.loop-row.out (lines_passed c.args.filter.now c.args.m.now c.args.rows.now)
+    writes_all (λ k. g.O.Sink.written k) (λ k. g.O.Sink.faults k) (λ k. g.O.Sink.failed k) c.args.out.now c.loop-row.out (lines_passed c.args.filter.now c.args.m.now c.args.rows.now)
     (subst (λ rows. Appends (g.O.Sink.written c.args.out.now) (g.O.Sink.written c.loop-row.out) (lines_passed c.args.filter.now c.args.m.now rows)) (take_all c.loop-row.row-index c.args.rows.now c.loop-row-test.false)
     c.loop-row.invariant.appended)
     c.loop-row.invariant.calm

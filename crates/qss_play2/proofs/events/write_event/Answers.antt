@@ -30,8 +30,8 @@ returns-in_err-write_rows g c =
       nearest = kept ∙ c.requires.nearest;
       next = search rules;
       ahead = c.next_event-outcome.ensures.rows c.requires.nearest c.requires.unended;
-      written = subst (λ r. IsWriting (λ k. g.O.Sink.written k) (λ k. g.O.Sink.faults k) (result_err r) c.args.out.now c.write_rows.new.out (lines2_of c.args.sim.now.course.machine new.rows)) (sym given)
-          (written_of (λ k. g.O.Sink.written k) (λ k. g.O.Sink.faults k) (Some c.in_err-write_rows.field-0.0) c.args.out.now c.write_rows.new.out c.machine.result.now c.args.sim.now.course.machine
+      written = subst (λ r. IsWriting (λ k. g.O.Sink.written k) (λ k. g.O.Sink.faults k) (λ k. g.O.Sink.failed k) (result_err r) c.args.out.now c.write_rows.new.out (lines2_of c.args.sim.now.course.machine new.rows)) (sym given)
+          (written_of (λ k. g.O.Sink.written k) (λ k. g.O.Sink.faults k) (λ k. g.O.Sink.failed k) (Some c.in_err-write_rows.field-0.0) c.args.out.now c.write_rows.new.out c.machine.result.now c.args.sim.now.course.machine
           c.rows.result.now new.rows (c.machine.ensures ∙ c.next_event-outcome.ensures.same.0) c.rows.ensures c.in_err-write_rows.ensures.written);
       stopped = λ e.
           stops_of (λ k. g.O.Sink.written k) c.args.out.now c.write_rows.new.out [] c.machine.result.now c.args.sim.now.course.machine c.rows.result.now new.rows
@@ -47,7 +47,7 @@ returns g c =
       nearest = kept ∙ c.requires.nearest;
       next = subst (λ n. IsNext2 (IsRuled2 n) c.args.sim.now.course new c.next_event-outcome.result) c.requires.nearest (c.next_event-outcome.ensures.next c.requires.unended);
       ahead = c.next_event-outcome.ensures.rows c.requires.nearest c.requires.unended;
-      written = written_of (λ k. g.O.Sink.written k) (λ k. g.O.Sink.faults k) None c.args.out.now c.write_rows.new.out c.machine.result.now c.args.sim.now.course.machine
+      written = written_of (λ k. g.O.Sink.written k) (λ k. g.O.Sink.faults k) (λ k. g.O.Sink.failed k) None c.args.out.now c.write_rows.new.out c.machine.result.now c.args.sim.now.course.machine
           c.rows.result.now new.rows (c.machine.ensures ∙ c.next_event-outcome.ensures.same.0) c.rows.ensures c.in_ok-write_rows.ensures.written;
       stopped = λ e. absurd (cc e);
     }

@@ -9,7 +9,7 @@ invariant-events g l = record {
   machine : l.sim.course.machine ≡ l.fn.sim.course.machine;
   nearest : l.sim.rule.nearest ≡ true;
   unended : l.sim.course.end ≡ None;
-  under_way : IsUnderWay (λ k. g.O.Sink.written k) (λ k. g.O.Sink.faults k) l.fn.sim.course l.sim.course l.fn.out l.out;
+  under_way : IsUnderWay (λ k. g.O.Sink.written k) (λ k. g.O.Sink.faults k) (λ k. g.O.Sink.failed k) l.fn.sim.course l.sim.course l.fn.out l.out;
 }
 
 abbrev pub decreases-events : goal.decreases-events

@@ -15,10 +15,10 @@ pub returns-in-Ok : goal.returns-in-Ok
 returns-in-Ok g c =
     let near = c.new-rule.ensures.nearest in
     let started = subst (λ n. IsStarted (IsRuled2 n) c.args.m c.in-Ok.sim.course) near c.in-Ok.ensures.start in
-    let played = course_played (λ k. g.O.Sink.written k) (λ k. g.O.Sink.faults k) c.args.m c.in-Ok.sim.course c.play_sim.result c.args.out.now c.play_sim.new.out started c.play_sim.ensures in
+    let played = course_played (λ k. g.O.Sink.written k) (λ k. g.O.Sink.faults k) (λ k. g.O.Sink.failed k) c.args.m c.in-Ok.sim.course c.play_sim.result c.args.out.now c.play_sim.new.out started c.play_sim.ensures in
     record { end = played.end; whole = played.whole; prefix = played.prefix; short = played.short; calm = played.calm; last = played.last }
 
 pub returns-in-Err : goal.returns-in-Err
 returns-in-Err g c =
-    let played = plays_nothing (λ k. g.O.Sink.written k) (λ k. g.O.Sink.faults k) c.args.m c.args.out.now in
+    let played = plays_nothing (λ k. g.O.Sink.written k) (λ k. g.O.Sink.faults k) (λ k. g.O.Sink.failed k) c.args.m c.args.out.now in
     record { end = played.end; whole = played.whole; prefix = played.prefix; short = played.short; calm = played.calm; last = played.last }

@@ -22,17 +22,17 @@ pub returns-in-Ok : goal.returns-in-Ok
 returns-in-Ok g c =
     let course = c.args.sim.now.course in
     let machine = c.machine.ensures ∙ c.in-Ok.ensures.machine in
-    plays_all course.machine course c.requires.start (λ k. g.O.Sink.written k) (λ k. g.O.Sink.faults k) c.args.out.now c.write_run.new.out c.in-Ok.outcome c.ended.result
+    plays_all course.machine course c.requires.start (λ k. g.O.Sink.written k) (λ k. g.O.Sink.faults k) (λ k. g.O.Sink.failed k) c.args.out.now c.write_run.new.out c.in-Ok.outcome c.ended.result
     c.in-Ok.ensures.end (λ overflow h. subst (λ (m : Machine). IsEndAs m overflow c.ended.result) machine (c.ended.ensures.end overflow h))
     c.ended.ensures.done c.ended.ensures.no_fault c.in-Ok.ensures.written
 
 pub returns-in-Err-Fault : goal.returns-in-Err-Fault
 returns-in-Err-Fault g c =
     let course = c.args.sim.now.course in
-    plays_fault course.machine course c.requires.start (λ k. g.O.Sink.written k) (λ k. g.O.Sink.faults k) c.args.out.now c.write_run.new.out c.in-Err-Fault.field-0 c.in-Err-Fault.field-0-is c.in-Err-Fault.ensures.written
+    plays_fault course.machine course c.requires.start (λ k. g.O.Sink.written k) (λ k. g.O.Sink.faults k) (λ k. g.O.Sink.failed k) c.args.out.now c.write_run.new.out c.in-Err-Fault.field-0 c.in-Err-Fault.field-0-is c.in-Err-Fault.ensures.written
 
 pub returns-in-Err-Memory : goal.returns-in-Err-Memory
 returns-in-Err-Memory g c =
     let course = c.args.sim.now.course in
-    plays_memory course.machine course c.requires.start (λ k. g.O.Sink.written k) (λ k. g.O.Sink.faults k) c.args.out.now c.write_run.new.out c.in-Err-Memory.field-0 c.in-Err-Memory.field-0-is c.in-Err-Memory.ensures.written
+    plays_memory course.machine course c.requires.start (λ k. g.O.Sink.written k) (λ k. g.O.Sink.faults k) (λ k. g.O.Sink.failed k) c.args.out.now c.write_run.new.out c.in-Err-Memory.field-0 c.in-Err-Memory.field-0-is c.in-Err-Memory.ensures.written
     (c.in-Err-Memory.ensures.stopped (ap (λ (s : Stop). Some s) c.in-Err-Memory.field-0-is))

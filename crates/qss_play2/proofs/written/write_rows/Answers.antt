@@ -18,8 +18,8 @@ loop-row-init g c = record { appended = Appends-nil (g.O.Sink.written c.args.out
 pub returns-in_err-write_line-clause-written : goal.returns-in_err-write_line-clause-written
 returns-in_err-write_line-clause-written g c =
     let given : c.from_residual.result ≡ Err c.in_err-write_line.field-0.0 = search rules in
-    subst (λ r. IsWriting (λ k. g.O.Sink.written k) (λ k. g.O.Sink.faults k) (result_err r) c.args.out.now c.write_line.new.out (lines2_of c.args.m.now c.args.rows.now)) (sym given)
-    (row_stops (λ k. g.O.Sink.written k) (λ k. g.O.Sink.faults k) c.args.m.now c.args.rows.now c.loop-row.row-index _ c.loop-row-test.true c.args.out.now c.loop-row.out c.write_line.new.out
+    subst (λ r. IsWriting (λ k. g.O.Sink.written k) (λ k. g.O.Sink.faults k) (λ k. g.O.Sink.failed k) (result_err r) c.args.out.now c.write_line.new.out (lines2_of c.args.m.now c.args.rows.now)) (sym given)
+    (row_stops (λ k. g.O.Sink.written k) (λ k. g.O.Sink.faults k) (λ k. g.O.Sink.failed k) c.args.m.now c.args.rows.now c.loop-row.row-index _ c.loop-row-test.true c.args.out.now c.loop-row.out c.write_line.new.out
     c.loop-row.invariant.appended c.in_err-write_line.field-0.0 c.loop-row.invariant.calm c.in_err-write_line.ensures.written)
 
 pub returns-in_err-write_line-clause-stopped : goal.returns-in_err-write_line-clause-stopped
@@ -27,21 +27,21 @@ returns-in_err-write_line-clause-stopped g c e =
     let given : c.from_residual.result ≡ Err c.in_err-write_line.field-0.0 = search rules in
     let memory : Some c.in_err-write_line.field-0.0 ≡ Some Memory = subst (λ r. result_err r ≡ Some Memory) given e in
     subst (StopsBefore2 (λ k. g.O.Sink.written k) [] c.args.m.now c.args.rows.now c.args.out.now) (sym (c.in_err-write_line.ensures.nothing memory))
-    (stops_at (λ k. g.O.Sink.written k) (λ k. g.O.Sink.faults k) c.args.m.now c.args.rows.now c.loop-row.row-index some_row c.loop-row-test.true c.args.out.now c.loop-row.out c.write_line.new.out
+    (stops_at (λ k. g.O.Sink.written k) (λ k. g.O.Sink.faults k) (λ k. g.O.Sink.failed k) c.args.m.now c.args.rows.now c.loop-row.row-index some_row c.loop-row-test.true c.args.out.now c.loop-row.out c.write_line.new.out
     c.loop-row.invariant.appended)
 
 pub loop-row-preserved : goal.loop-row-preserved
 loop-row-preserved g c =
     let w = c.in_ok-write_line.ensures.written in
     record {
-      appended = row_more (λ k. g.O.Sink.written k) (λ k. g.O.Sink.faults k) c.args.m.now c.args.rows.now c.loop-row.row-index _ c.loop-row-test.true c.args.out.now c.loop-row.out c.write_line.new.out
+      appended = row_more (λ k. g.O.Sink.written k) (λ k. g.O.Sink.faults k) (λ k. g.O.Sink.failed k) c.args.m.now c.args.rows.now c.loop-row.row-index _ c.loop-row-test.true c.args.out.now c.loop-row.out c.write_line.new.out
           c.loop-row.invariant.appended (w.whole refl);
       calm = w.calm (λ e. absurd (cc)) ∙ c.loop-row.invariant.calm;
     }
 
 pub returns-clause-written : goal.returns-clause-written
 returns-clause-written g c =
-    writes_all (λ k. g.O.Sink.written k) (λ k. g.O.Sink.faults k) c.args.out.now c.loop-row.out (lines2_of c.args.m.now c.args.rows.now)
+    writes_all (λ k. g.O.Sink.written k) (λ k. g.O.Sink.faults k) (λ k. g.O.Sink.failed k) c.args.out.now c.loop-row.out (lines2_of c.args.m.now c.args.rows.now)
     (subst (λ rows. Appends (g.O.Sink.written c.args.out.now) (g.O.Sink.written c.loop-row.out) (lines2_of c.args.m.now rows)) (take_all c.loop-row.row-index c.args.rows.now c.loop-row-test.false)
     c.loop-row.invariant.appended)
     c.loop-row.invariant.calm

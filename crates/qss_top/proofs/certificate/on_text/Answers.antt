@@ -9,7 +9,7 @@ use Rattle.qss_top.proofs.certificate.on_text.Goals as goal
 pub returns-in-Certify-clause-outcome : goal.returns-in-Certify-clause-outcome
 returns-in-Certify-clause-outcome g c answer h =
     subst (λ (w : Outcome). IsOutcome answer w (g.O.Sink.written c.args.out.now) (g.O.Sink.written c.certify.new.out) (g.O.Sink.faults c.args.out.now) (g.O.Sink.faults c.certify.new.out)) (sym c.outcome_of.ensures)
-    (certified_outcome (λ k. g.O.Sink.written k) (λ k. g.O.Sink.faults k) c.args.m.now c.args.text.now c.certify.result c.args.out.now c.certify.new.out c.certify.ensures.answered answer
+    (certified_outcome (λ k. g.O.Sink.written k) (λ k. g.O.Sink.faults k) (λ k. g.O.Sink.failed k) c.args.m.now c.args.text.now c.certify.result c.args.out.now c.certify.new.out c.certify.ensures.answered answer
     (rw c.in-Certify.is at h))
 
 pub returns-in-Certify-clause-not_read : goal.returns-in-Certify-clause-not_read
@@ -31,7 +31,7 @@ returns-in-Certify-clause-last g c e = c.certify.ensures.answered.last (done_fau
 pub returns-in-Upgrade-clause-outcome : goal.returns-in-Upgrade-clause-outcome
 returns-in-Upgrade-clause-outcome g c answer h =
     subst (λ (w : Outcome). IsOutcome answer w (g.O.Sink.written c.args.out.now) (g.O.Sink.written c.upgrade.new.out) (g.O.Sink.faults c.args.out.now) (g.O.Sink.faults c.upgrade.new.out)) (sym c.outcome_of-in-Upgrade.ensures)
-    (upgraded_outcome (λ k. g.O.Sink.written k) (λ k. g.O.Sink.faults k) c.args.m.now c.args.text.now c.upgrade.result c.args.out.now c.upgrade.new.out c.upgrade.ensures answer (rw c.in-Upgrade.is at h))
+    (upgraded_outcome (λ k. g.O.Sink.written k) (λ k. g.O.Sink.faults k) (λ k. g.O.Sink.failed k) c.args.m.now c.args.text.now c.upgrade.result c.args.out.now c.upgrade.new.out c.upgrade.ensures answer (rw c.in-Upgrade.is at h))
 
 pub returns-in-Upgrade-clause-not_read : goal.returns-in-Upgrade-clause-not_read
 returns-in-Upgrade-clause-not_read g c e = (done_read c.upgrade.result).0 (sym c.outcome_of-in-Upgrade.ensures ∙ e)
@@ -52,7 +52,7 @@ returns-in-Upgrade-clause-last g c e = c.upgrade.ensures.last (done_fault c.upgr
 pub returns-in-Check-clause-outcome : goal.returns-in-Check-clause-outcome
 returns-in-Check-clause-outcome g c answer h =
     subst (λ (w : Outcome). IsOutcome answer w (g.O.Sink.written c.args.out.now) (g.O.Sink.written c.check_trace_text.new.out) (g.O.Sink.faults c.args.out.now) (g.O.Sink.faults c.check_trace_text.new.out)) (sym c.traced_outcome.ensures)
-    (checked_outcome (λ k. g.O.Sink.written k) (λ k. g.O.Sink.faults k) c.args.m.now c.args.text.now c.check_trace_text.result c.args.out.now c.check_trace_text.new.out c.check_trace_text.ensures.answered answer
+    (checked_outcome (λ k. g.O.Sink.written k) (λ k. g.O.Sink.faults k) (λ k. g.O.Sink.failed k) c.args.m.now c.args.text.now c.check_trace_text.result c.args.out.now c.check_trace_text.new.out c.check_trace_text.ensures.answered answer
     (rw c.in-Check.is at h))
 
 pub returns-in-Check-clause-not_read : goal.returns-in-Check-clause-not_read

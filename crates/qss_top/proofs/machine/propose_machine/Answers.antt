@@ -9,7 +9,7 @@ use Rattle.qss_top.proofs.machine.propose_machine.Goals as goal
 pub returns-clause-outcome : goal.returns-clause-outcome
 returns-clause-outcome g c answer h =
     subst (λ (w : Outcome). IsOutcome answer w (g.O.Sink.written c.args.out.now) (g.O.Sink.written c.propose_text.new.out) (g.O.Sink.faults c.args.out.now) (g.O.Sink.faults c.propose_text.new.out)) (sym c.proposed_outcome.ensures)
-    (made_outcome (λ k. g.O.Sink.written k) (λ k. g.O.Sink.faults k) c.args.m.now c.propose_text.result c.args.out.now c.propose_text.new.out c.propose_text.ensures.answered answer h)
+    (made_outcome (λ k. g.O.Sink.written k) (λ k. g.O.Sink.faults k) (λ k. g.O.Sink.failed k) c.args.m.now c.propose_text.result c.args.out.now c.propose_text.new.out c.propose_text.ensures.answered answer h)
 
 pub returns-clause-not_usage : goal.returns-clause-not_usage
 returns-clause-not_usage g c e = (proposed_read c.propose_text.result).1 (sym c.proposed_outcome.ensures ∙ e)

@@ -67,7 +67,7 @@ pub returns-clause-complete : goal.returns-clause-complete
 returns-clause-complete g c told answer h is no_read_fault no_write_fault memory =
     whole_answer c.report.result told.reply answer (g.O.Sink.written c.args.out.now) (g.O.Sink.written c.answer-outcome.new.out) (returns-clause-replied g c told h) is
     (λ e. no_read_fault (returns-clause-read_fault g c told h e))
-    (λ e. no_write_fault (rose_by (λ k. g.O.Sink.written k) (λ k. g.O.Sink.faults k) c.args.out.now c.answer-outcome.new.out (returns-clause-last g c e))) memory
+    (λ e. no_write_fault (rose_by (λ k. g.O.Sink.faults k) (λ k. g.O.Sink.failed k) c.args.out.now c.answer-outcome.new.out (returns-clause-last g c e))) memory
 
 pub returns-clause-certified : goal.returns-clause-certified
 returns-clause-certified g c model certificate share is ok =
