@@ -1,12 +1,12 @@
 -- Forms that fit come back from their bits.
 use Rattle.std.proofs.Common.{◌≡◌, ℕ, ◌+◌, ◌^◌, ◌≤◌, Bool, true, false, not, ◌&&◌, List, [], ◌∷◌, ℤ, refl, ◌∙◌, ap, arith}
 use Rattle.std.proofs.lemmas.Bool.{and_parts, and_from, leb-true}
-use Rattle.std.proofs.lemmas.Bool.Decides.{nat_tests}
 use Rattle.std.proofs.lemmas.List.Sums.{sum_by-cons}
 use Rattle.std.specs.Int.RustNames.{unsigned_abs}
 use Rattle.std.specs.List.{list_all}
 use Rattle.std.specs.Prelude.{nat_le, sum_by}
 use Rattle.mu_num.specs.Sizes.{passes}
+use Rattle.mu_num.proofs.SizeTests.{within-passes}
 use Rattle.mu_forms.specs.declared.form.ExactForm.{ExactForm}
 use Rattle.qss_machine.specs.declared.parts.Entry.{Entry}
 use Rattle.mu_machine.specs.Rounded.{rounded, rounded_entries, rounded_form}
@@ -16,7 +16,7 @@ use mir.Syntax.{w64, w128}
 use mir.Val.{to_z, of_z}
 
 small_number : (z : ℤ) → unsigned_abs z ≤ 2 ^ 44 → not (passes 44 z) ≡ true
-small_number z h = grind (arith, nat_tests)
+small_number z h = ap not (within-passes 44 z h)
 
 -- coefficients whose sizes add up to little are small
 small_entries : (es : List Entry) → sum_by (λ (e : Entry). unsigned_abs e.coef) es ≤ 2 ^ 44 → list_all (λ (e : Entry). not (passes 44 e.coef)) es ≡ true
@@ -40,10 +40,7 @@ small_time es time gamma fits =
     let sum = sum_by (λ (e : Entry). unsigned_abs e.coef) es in
     let both = and_parts (nat_le (sum + unsigned_abs time) (2 ^ 38)) (not (passes 78 gamma)) fits in
     let le = leb-true (sum + unsigned_abs time) (2 ^ 38) both.0 in
-    passes_no time (omega (arith, le))
-  where
-    passes_no : (z : ℤ) → unsigned_abs z ≤ 2 ^ 44 → passes 44 z ≡ false
-    passes_no z h = grind (arith, nat_tests)
+    within-passes 44 time (omega (arith, le))
 
 -- what the code makes of rounded numbers that fit
 pub form_made : (p f : ℕ) (form : ExactForm) (es all : List Entry) (time gamma t g : ℤ) → all ≡ es → es ≡ rounded_entries p form.entries → time ≡ rounded p form.time → gamma ≡ rounded (f + p) form.constant →

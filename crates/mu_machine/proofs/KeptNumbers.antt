@@ -1,7 +1,6 @@
 -- Coefficients that are kept, since they are not 0.
 use Rattle.std.proofs.Common.{◌≡◌, ℕ, ◌+◌, ◌^◌, ◌≤◌, ◌<◌, Bool, true, false, not, ◌&&◌, List, [], ◌∷◌, ◌++◌, length, get_or, take, map, ℤ, pos, refl, sym, ◌∙◌, ap, arith}
 use Rattle.std.proofs.lemmas.Int.{ints, to_z-of_z}
-use Rattle.std.proofs.lemmas.Bool.Decides.{nat_tests}
 use Rattle.std.proofs.lemmas.Bool.{and_from}
 use Rattle.std.proofs.lemmas.List.{take_more, take_all, map-append}
 use Rattle.std.proofs.lemmas.List.Elements.{filter-append}
@@ -10,6 +9,7 @@ use Rattle.std.specs.Int.RustNames.{unsigned_abs, FitsSigned}
 use Rattle.std.specs.List.{list_all, filter}
 use Rattle.std.specs.Prelude.{if◌then◌else◌}
 use Rattle.mu_num.specs.Sizes.{passes}
+use Rattle.mu_num.proofs.SizeTests.{passes-within}
 use Rattle.mu_forms.specs.declared.form.ExactEntry.{ExactEntry}
 use Rattle.mu_forms.specs.declared.form.ExactProduct.{ExactProduct}
 use Rattle.qss_machine.specs.declared.parts.Entry.{Entry}
@@ -78,7 +78,7 @@ kept_end make coef xs i all h so_far small =
 -- a small number comes back from its bits
 pub cast_small : (z : ℤ) → passes 44 z ≡ false → to_z w64 (of_z w64 (to_z w128 (of_z w128 z))) ≡ z
 cast_small z e =
-    let small : unsigned_abs z ≤ 2 ^ 44 = grind (arith, nat_tests) in
+    let small : unsigned_abs z ≤ 2 ^ 44 = passes-within 44 z e in
     let wide : FitsSigned w128 z = omega (arith, ints) in
     let narrow : FitsSigned w64 z = omega (arith, ints) in
     ap (λ y. to_z w64 (of_z w64 y)) (to_z-of_z w128 z wide) ∙ to_z-of_z w64 z narrow
@@ -86,7 +86,7 @@ cast_small z e =
 -- so does a level
 pub cast_level : (z : ℤ) → passes 43 z ≡ false → to_z w64 (of_z w64 (to_z w128 (of_z w128 z))) ≡ z
 cast_level z e =
-    let small : unsigned_abs z ≤ 2 ^ 43 = grind (arith, nat_tests) in
+    let small : unsigned_abs z ≤ 2 ^ 43 = passes-within 43 z e in
     let wide : FitsSigned w128 z = omega (arith, ints) in
     let narrow : FitsSigned w64 z = omega (arith, ints) in
     ap (λ y. to_z w64 (of_z w64 y)) (to_z-of_z w128 z wide) ∙ to_z-of_z w64 z narrow
