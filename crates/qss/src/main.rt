@@ -1,11 +1,12 @@
 // The program: real files, standard output and standard error, and the words of its command line.
 #![tactic(auto)]
 
-ghost use Rattle.std.specs.Prelude.{◌≡◌, ◌⊎◌, []};
+ghost use Rattle.std.specs.Prelude.{◌≡◌, ◌≢◌, ◌⊎◌, [], OnOk, OnErr};
 ghost use Rattle.std.specs.Io.KnownBytes.{Appends};
 ghost use Rattle.mu_io.specs.Faults.{Rose};
+ghost use Rattle.mu_io.specs.Sinks.{AppendsPrefix};
 
-use mu_io::{FileShelf, StdSink, write_all};
+use mu_io::{FileShelf, StdSink, WriteErr, write_all};
 use qss_top::{Status, qss_main};
 use std::io::Write;
 use std::process::ExitCode;
@@ -23,13 +24,17 @@ fn finish<O: Write + Drop, E: Write + Drop>(
 ) -> Status
     ensures turned { (result ≡ status) ⊎ ((result ≡ Status.WriteFault) × ((status ≡ Status.Ok) ⊎ (status ≡ Status.Overflow)) × Rose out.old.faults out.new.faults) }
 
+    // Out gains nothing but a front of what it held, and nothing after a write that failed.
+    ensures prefix { AppendsPrefix (O.contents out.old.writer) (O.contents out.new.writer) out.old.held.items }
+    ensures still { status ≡ Status.WriteFault → out.new.writer ≡ out.old.writer }
+
     // A run that ends well has passed on all that out held, and a status that stays has its line
     // passed on, unless err fails. Nothing is held afterwards.
     ensures passed { (result ≡ Status.Ok) ⊎ (result ≡ Status.Overflow) → Appends (O.contents out.old.writer) (O.contents out.new.writer) out.old.held.items }
     ensures told { result ≡ status → Appends (E.contents err.old.writer) (E.contents err.new.writer) err.old.held.items ⊎ Rose err.old.faults err.new.faults }
     ensures emptied { (out.new.held.items ≡ []) × (err.new.held.items ≡ []) }
 {
-    let passed = out.pass_on();
+    let passed = pass_rest(status, out);
     let is_told = matches!(status, Status::Ok | Status::Overflow);
     let status = if passed.is_err() && is_told {
         err.forget();
@@ -39,7 +44,25 @@ fn finish<O: Write + Drop, E: Write + Drop>(
         status
     };
     let _ = err.pass_on();
+    err.forget();
     status
+}
+
+// Passes on what is still held, nothing after a write that failed. Nothing is held afterwards.
+fn pass_rest<W: Write + Drop>(status: Status, sink: &mut StdSink<W>) -> Result<(), WriteErr>
+    ensures whole { OnOk result (status ≢ Status.WriteFault → Appends (W.contents sink.old.writer) (W.contents sink.new.writer) sink.old.held.items) }
+    ensures prefix { AppendsPrefix (W.contents sink.old.writer) (W.contents sink.new.writer) sink.old.held.items }
+    ensures still { status ≡ Status.WriteFault → sink.new.writer ≡ sink.old.writer }
+    ensures cause { OnErr result (Rose sink.old.faults sink.new.faults) }
+    ensures emptied { sink.new.held.items ≡ [] }
+{
+    if matches!(status, Status::WriteFault) {
+        sink.forget();
+        return Ok(());
+    }
+    let passed = sink.pass_on();
+    sink.forget();
+    passed
 }
 
 fn run(rt: HostRuntime) -> io::Result<Status> {
