@@ -1,6 +1,6 @@
 //! The line that tells how a call ended.
 
-ghost use Rattle.std.specs.Prelude.{◌≡◌, IfOk};
+ghost use Rattle.std.specs.Prelude.{◌≡◌, IsOk, IfOk};
 ghost use Rattle.propose_answer.specs.Endings as Spec;
 
 use crate::ending::{ProposalEnding, ProposalRefusal};
@@ -31,7 +31,10 @@ pub fn refusal_line(alloc: Global, why: ProposalRefusal) -> Result<Vec<u8>, Allo
 
 /// The line that tells how a call ended, with its line feed; nothing where all is written.
 pub fn ending_line(alloc: Global, ending: ProposalEnding) -> Result<Vec<u8>, AllocError>
-    ensures { IfOk result (λ line. line.items ≡ Spec.ending_line ending) }
+    ensures line { IfOk result (λ line. line.items ≡ Spec.ending_line ending) }
+
+    // Where all is written, no memory is wanted.
+    ensures silent { ending ≡ ProposalEnding.Written → IsOk result }
 {
     match ending {
         ProposalEnding::Written => Ok(Vec::new(alloc)),
