@@ -1,12 +1,12 @@
 -- A run whose levels are counted as it goes.
-use Rattle.std.proofs.Common.{◌≡◌, ℕ, ◌+◌, ◌*◌, ◌^◌, ◌≤◌, ◌<◌, List, [], ◌++◌, length, ℤ, pos, refl, sym, ap, ◌∙◌, subst, arith, append-nil}
-use Rattle.std.specs.Prelude.{Option, None, Some}
+use Rattle.std.proofs.Common.{◌≡◌, ℕ, ◌+◌, ◌*◌, ◌^◌, ◌≤◌, ◌<◌, List, [], ◌++◌, ℤ, refl, sym, ap, ◌∙◌, subst, arith, append-nil}
+use Rattle.std.specs.Prelude.{None}
 use Rattle.std.proofs.lemmas.Int.{ints}
 use Rattle.qss_machine.specs.declared.rows.Row.{Row}
 use Rattle.qss_machine.specs.declared.rows.RowKind.TheVariants as kind
 use Rattle.qss_machine.specs.declared.system.Machine.{Machine}
 use Rattle.qss_machine.specs.Machines.{state_count, discrete_count}
-use Rattle.qss_machine.specs.Runs.{Run, last_world, run_rows, world_rows}
+use Rattle.qss_machine.specs.Runs.{last_world, run_rows, world_rows}
 use Rattle.qss_machine.specs.Ticks.{start_world}
 use Rattle.qss_quant.specs.declared.rule.Rule.TheVariants.{Floor}
 use Rattle.qss_quant.specs.Rules.{level_by}
@@ -15,14 +15,14 @@ use Rattle.qss_run.specs.declared.outcome.Outcome.TheVariants.{Events, Done, Ove
 use Rattle.qss_run.specs.Events.{rows_left}
 use Rattle.qss_run.specs.Standings.{Standing}
 use Rattle.qss_rows.specs.Lines.{name_of}
-use Rattle.qss_play.specs.Ahead.{first as first_of, run_ahead, rows_ahead, EndsFrom, IsEndOf}
+use Rattle.qss_play.specs.Ahead.{first as first_of, run_ahead, EndsFrom, IsEndOf}
 use Rattle.qss_play.specs.Plays.{run_under}
 use Rattle.qss_play.specs.Tallies.{level_count, end_sum, IsTally, IsCountFrom}
 use Rattle.qss_play.specs.declared.tallying.Tallied.{Tallied}
 use Rattle.qss_play.specs.declared.tallying.Tallied.TheVariants as tallied
 use Rattle.qss_play.proofs.Sums.{level_count-append, end_sum-append, AddsNothing, tick_nothing, start_nothing, start_levels}
 use Rattle.qss_play.proofs.FromStart.{rows_are, run_is, variable_known}
-use Rattle.qss_play.proofs.UnderWay.{end_of, same_end, IsCall, event_end}
+use Rattle.qss_play.proofs.RunEnds.{end_of, same_end, IsCall, event_end}
 
 abbrev left : Standing → List Row
 left s = rows_left (level_by Floor) s

@@ -1,7 +1,14 @@
 pub mod KnownRows
-pub mod Writing
-pub mod Sums
-pub mod UnderWay
-pub mod FromStart
-pub mod Counting
-pub mod RuleAnswers
+pub mod RowLines
+mod KnownRows2
+mod KnownParts
+mod WrittenLines
+mod Simulated
+mod Sums
+mod RunEnds
+mod Ends2
+mod FromStart
+mod RuledRuns
+mod SecondRuns
+mod Counting
+mod RuleAnswers

@@ -1,5 +1,5 @@
 -- What is ahead of a simulator: the run from where it stands, and its rows.
-use Rattle.std.specs.Prelude.{◌≡◌, ◌<◌, ℕ, ◌+◌, ◌-◌, List, ◌++◌, length, Some, None}
+use Rattle.std.specs.Prelude.{◌≡◌, ◌<◌, ℕ, ◌+◌, ◌-◌, List, ◌++◌, length, Option, Some, None}
 use Rattle.qss_machine.specs.Machines.{state_count, discrete_count}
 use Rattle.qss_machine.specs.Ticks.{start_world}
 use Rattle.qss_machine.specs.Runs.{Run, run_from, world_rows}
@@ -8,10 +8,15 @@ use Rattle.qss_machine.specs.declared.rows.RowKind.TheVariants as kind
 use Rattle.qss_machine.specs.declared.system.Machine.{Machine}
 use Rattle.qss_quant.specs.declared.rule.Rule.{Rule}
 use Rattle.qss_quant.specs.Rules.{level_by}
+use Rattle.qss_rows.specs.Filters.{passes}
+use Rattle.qss_rows.specs.Lines.{line_of}
 use Rattle.qss_run.specs.declared.outcome.Outcome.{Outcome}
 use Rattle.qss_run.specs.declared.outcome.Outcome.TheVariants.{Events, Done, Over}
 use Rattle.qss_run.specs.Events.{rows_left}
 use Rattle.qss_run.specs.Standings.{Standing}
+use Rattle.qss_play.specs.declared.run_end.RunEnd.{RunEnd}
+use Rattle.qss_play.specs.declared.run_end.RunEnd.TheVariants as end
+use Rattle.qss_play.specs.Simulations.{lines_by}
 
 -- where a simulator begins
 abbrev pub first : Machine → Standing
@@ -24,6 +29,15 @@ run_ahead rule s = run_from (level_by rule) s.machine (s.machine.last - s.tick) 
 -- the rows of its last event, and all that are still to come
 abbrev pub rows_ahead : Rule → Standing → List Row
 rows_ahead rule s = s.rows ++ rows_left (level_by rule) s
+
+-- a line for each row of a machine that passes a filter, none of the others
+abbrev pub row_lines : Option (List ℕ) → Machine → List Row → List (Option (List ℕ))
+row_lines only m rows = lines_by (passes only m) (line_of m) rows
+
+-- the outcome of the call that ends a run so
+abbrev pub outcome_of : RunEnd → Outcome
+outcome_of end.Done = Done
+outcome_of (end.Over tick var) = Over tick var
 
 -- a run from a tick on ends so, at the last tick, or by the overflow of a variable at a tick
 abbrev pub EndsFrom : Outcome → ℕ → Run → Type 0

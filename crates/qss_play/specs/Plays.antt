@@ -1,5 +1,5 @@
 -- The text of a run, and how it ends.
-use Rattle.std.specs.Prelude.{◌≡◌, ◌≢◌, ◌⊎◌, ℕ, ◌+◌, Bool, true, false, List, ◌++◌, length, Option, Some, None}
+use Rattle.std.specs.Prelude.{Bool, ◌≡◌, ◌≢◌, ◌⊎◌, ℕ, ◌+◌, true, List, ◌++◌, length, Option, Some, None}
 use Rattle.std.specs.Io.KnownBytes.{Appends}
 use Rattle.mu_io.specs.Sinks.{AppendsPrefix, EndsByFault}
 use Rattle.qss_machine.specs.Runs.{Run, run_by, run_rows}
@@ -10,6 +10,7 @@ use Rattle.qss_rows.specs.Filters.{lines_passed}
 use Rattle.qss_rows.specs.Lines.{header, name_of}
 use Rattle.qss_play.specs.declared.played.Played.{Played}
 use Rattle.qss_play.specs.declared.played.Played.TheVariants.{Ended, Overflowed, Fault, Memory}
+use Rattle.qss_play.specs.Simulations.{is_whole}
 use Rattle.qss_play.specs.Writings.{StopsBefore}
 
 -- the run of a machine by a rule with a name
@@ -26,13 +27,6 @@ EndsSo m run Ended = run.overflow ≡ None
 EndsSo m run (Overflowed name tick) = (var : ℕ) × (run.overflow ≡ Some var) × (name ≡ name_of m var) × (tick ≡ length run.worlds + 1)
 EndsSo m run Fault = Unit {0}
 EndsSo m run Memory = Unit {0}
-
--- whether all rows were written
-abbrev pub is_whole : Played → Bool
-is_whole Ended = true
-is_whole (Overflowed name tick) = true
-is_whole Fault = false
-is_whole Memory = false
 
 -- memory was not found: nothing was written, or whole lines up to that of a row that passes, or all, where a variable overflowed whose name was to be given
 abbrev pub IsShort : {K : Type 0} → (K → Option (List ℕ)) → Option (List ℕ) → Machine → Run → K → K → Type 0

@@ -10,7 +10,6 @@ use Rattle.qss_quant.specs.declared.rule.Rule.TheVariants.{Floor}
 use Rattle.qss_quant.specs.Rules.{level_by}
 use Rattle.qss_rows.specs.Lines.{name_of}
 use Rattle.qss_run.specs.declared.outcome.Outcome.{Outcome}
-use Rattle.qss_run.specs.declared.outcome.Outcome.TheVariants as outcome
 use Rattle.qss_run.specs.Events.{rows_left}
 use Rattle.qss_run.specs.Standings.{Standing}
 use Rattle.qss_play.specs.Ahead.{run_ahead, EndsFrom}

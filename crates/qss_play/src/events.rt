@@ -1,68 +1,88 @@
 //! The writing of a run, event by event.
 
-ghost use Rattle.std.specs.Prelude.{◌≡◌, [], None, Some, All, IfOk};
+ghost use Rattle.std.specs.Prelude.{◌≡◌, ◌<◌, ◌++◌, [], None, Some, IsSome, IfOk, IfSome, length};
 ghost use Rattle.std.specs.Result.{result_err};
-ghost use Rattle.qss_quant.specs.declared.rule.Rule.{Rule};
-ghost use Rattle.qss_quant.specs.Rules.{level_by};
-ghost use Rattle.qss_rows.specs.Filters.{lines_passed};
-ghost use Rattle.qss_rows.specs.Lines.{HasVariable};
-ghost use Rattle.qss_run.specs.Events.{IsNext, rows_left};
-ghost use Rattle.qss_run.specs.Rules.{IsRuled};
-ghost use Rattle.qss_play.specs.Ahead.{rows_ahead, run_ahead, EndsFrom};
-ghost use Rattle.qss_play.specs.Writings.{IsWriting, StopsBefore};
+ghost use Rattle.qss_play.specs.declared.run_end.RunEnd.{RunEnd};
+ghost use Rattle.qss_play.specs.Simulations.{line_at, bytes_in, text_in, StopsAtLine, IsEndIn};
+ghost use Rattle.qss_play.specs.Writings.{IsWriting};
 
-use crate::written::{Stop, write_rows};
+use crate::run_end::RunEnd;
+use crate::simulation::Simulation;
+use crate::written::{Stop, write_bytes};
 use mu_io::Sink;
-use qss_quant::Steps;
-use qss_rows::{Filter, LineWriter};
-use qss_run::{Outcome, Sim};
-use std::sync::ledger::Ledger;
+use qss_rows::LineWriter;
 
-// Goes on to the next event of a run, and writes its rows.
-fn write_event<L: Ledger, O: Sink>(
+// Writes the line of one of the present rows, none of it where memory was not found.
+fn write_row<S: Simulation, O: Sink>(
+    sim: &S,
+    row: usize,
     lines: &mut LineWriter,
-    sim: &mut Sim,
-    filter: &Filter,
-    steps: &mut Steps<L>,
     out: &mut O,
-) -> Result<Outcome, Stop>
-    requires unended { sim.old.course.end ≡ None }
-    requires named { (rule : Rule) × (sim.old.quantizer.name ≡ Some rule) }
-    requires known { (rule : Rule) → sim.old.quantizer.name ≡ Some rule → All (HasVariable sim.old.course.machine) (rows_left (level_by rule) sim.old.course) }
-    ensures machine { sim.new.course.machine ≡ sim.old.course.machine }
-    ensures quantizer { sim.new.quantizer ≡ sim.old.quantizer }
-    ensures next { IfOk result (λ outcome. IsNext (IsRuled sim.old.quantizer.name) sim.old.course sim.new.course outcome) }
-    ensures ahead { (rule : Rule) → sim.old.quantizer.name ≡ Some rule → rows_left (level_by rule) sim.old.course ≡ rows_ahead rule sim.new.course }
-    ensures written { IsWriting O.written O.faults O.failed (result_err result) out.old out.new (lines_passed filter.now sim.old.course.machine sim.new.course.rows) }
-    ensures stopped { result_err result ≡ Some Stop.Memory → StopsBefore O.written [] filter.now sim.old.course.machine sim.new.course.rows out.old out.new }
+) -> Result<(), Stop>
+    requires { row < length (S.present sim.now) }
+    ensures written { IsWriting O.written O.faults O.failed (result_err result) out.old out.new (bytes_in (line_at (S.present sim.now) row)) }
+    ensures nothing { result_err result ≡ Some Stop.Memory → out.new ≡ out.old }
+    ensures wanted { result_err result ≡ Some Stop.Memory → IsSome (line_at (S.present sim.now) row) }
 {
-    let outcome = sim.next_event(steps);
-    write_rows(lines, sim.machine(), filter, sim.rows(), out)?;
-    Ok(outcome)
+    match sim.make_line(row, lines) {
+        Ok(true) => write_bytes(lines.line(), out),
+        Ok(false) => Ok(()),
+        Err(_) => Err(Stop::Memory),
+    }
 }
 
-/// Writes the rows of a run from where its simulator stands up to its end, and gives how it ended.
-pub(crate) fn write_events<L: Ledger, O: Sink>(
+// Writes the lines of the present rows, one after another.
+fn write_rows<S: Simulation, O: Sink>(
+    sim: &S,
     lines: &mut LineWriter,
-    sim: &mut Sim,
-    filter: &Filter,
-    steps: &mut Steps<L>,
     out: &mut O,
-) -> Result<Outcome, Stop>
-    requires unended { sim.old.course.end ≡ None }
-    requires named { (rule : Rule) × (sim.old.quantizer.name ≡ Some rule) }
-    requires known { (rule : Rule) → sim.old.quantizer.name ≡ Some rule → All (HasVariable sim.old.course.machine) (rows_ahead rule sim.old.course) }
-    ensures machine { sim.new.course.machine ≡ sim.old.course.machine }
-    ensures written { (rule : Rule) → sim.old.quantizer.name ≡ Some rule → IsWriting O.written O.faults O.failed (result_err result) out.old out.new (lines_passed filter.now sim.old.course.machine (rows_ahead rule sim.old.course)) }
-    ensures stopped { (rule : Rule) → sim.old.quantizer.name ≡ Some rule → result_err result ≡ Some Stop.Memory → StopsBefore O.written [] filter.now sim.old.course.machine (rows_ahead rule sim.old.course) out.old out.new }
-    ensures end { (rule : Rule) → sim.old.quantizer.name ≡ Some rule → IfOk result (λ outcome. EndsFrom outcome sim.old.course.tick (run_ahead rule sim.old.course)) }
+) -> Result<(), Stop>
+    ensures written { IsWriting O.written O.faults O.failed (result_err result) out.old out.new (text_in (S.present sim.now)) }
+    ensures stopped { result_err result ≡ Some Stop.Memory → StopsAtLine O.written [] (S.present sim.now) out.old out.new }
 {
-    write_rows(lines, sim.machine(), filter, sim.rows(), out)?;
+    for row in 0..sim.row_count() {
+        write_row(sim, row, lines, out)?;
+    }
+    Ok(())
+}
+
+// Goes on to the next event of a run, and writes its rows.
+fn write_event<S: Simulation, O: Sink>(
+    sim: &mut S,
+    lines: &mut LineWriter,
+    out: &mut O,
+) -> Result<Option<RunEnd>, Stop>
+    requires { S.goes_on sim.old }
+    ensures machine { S.machine sim.new ≡ S.machine sim.old }
+    ensures lines { S.to_come sim.old ≡ S.present sim.new ++ S.to_come sim.new }
+    ensures unended { IfOk result (λ next. next ≡ None → (S.goes_on sim.new) × (S.ticks_left sim.new < S.ticks_left sim.old)) }
+    ensures same_end { IfOk result (λ next. (end : RunEnd) → next ≡ None → S.ends sim.new end → S.ends sim.old end) }
+    ensures ended { IfOk result (λ next. IfSome next (λ end. (S.to_come sim.new ≡ []) × (S.ends sim.old end) × IsEndIn (S.machine sim.old) end)) }
+    ensures written { IsWriting O.written O.faults O.failed (result_err result) out.old out.new (text_in (S.present sim.new)) }
+    ensures stopped { result_err result ≡ Some Stop.Memory → StopsAtLine O.written [] (S.present sim.new) out.old out.new }
+{
+    let end = sim.next_event();
+    write_rows(sim, lines, out)?;
+    Ok(end)
+}
+
+/// Writes the lines of a run from where its simulation stands up to its end, and gives how it ended.
+pub(crate) fn write_events<S: Simulation, O: Sink>(
+    sim: &mut S,
+    lines: &mut LineWriter,
+    out: &mut O,
+) -> Result<RunEnd, Stop>
+    requires { S.goes_on sim.old }
+    ensures machine { S.machine sim.new ≡ S.machine sim.old }
+    ensures written { IsWriting O.written O.faults O.failed (result_err result) out.old out.new (text_in (S.present sim.old ++ S.to_come sim.old)) }
+    ensures stopped { result_err result ≡ Some Stop.Memory → StopsAtLine O.written [] (S.present sim.old ++ S.to_come sim.old) out.old out.new }
+    ensures end { IfOk result (λ end. (S.ends sim.old end) × IsEndIn (S.machine sim.old) end) }
+{
+    write_rows(sim, lines, out)?;
     'events: loop {
-        match write_event(lines, sim, filter, steps, out)? {
-            Outcome::Events { .. } => continue 'events,
-            Outcome::Done => return Ok(Outcome::Done),
-            Outcome::Over { tick, var } => return Ok(Outcome::Over { tick, var }),
+        match write_event(sim, lines, out)? {
+            None => continue 'events,
+            Some(end) => return Ok(end),
         }
     }
 }

@@ -1,26 +1,20 @@
-//! Runs that are written as they go.
+//! First-order runs of machines that are written as they go.
 
-ghost use Rattle.std.specs.Prelude.{◌≡◌, ◌≢◌, ◌<◌, ◌++◌, All, None, Some, IfOk, true};
-ghost use Rattle.std.specs.Result.{result_err};
+ghost use Rattle.std.specs.Prelude.{◌≡◌, ◌≢◌, ◌<◌, Some, true};
 ghost use Rattle.std.specs.Io.KnownBytes.{Appends};
 ghost use Rattle.mu_io.specs.Sinks.{AppendsPrefix, EndsByFault};
-ghost use Rattle.qss_machine.specs.Runs.{Run};
-ghost use Rattle.qss_quant.specs.declared.rule.Rule.{Rule};
-ghost use Rattle.qss_rows.specs.Filters.{lines_passed};
-ghost use Rattle.qss_rows.specs.Lines.{HasVariable, header as header_line};
-ghost use Rattle.qss_play.specs.Ahead.{first, rows_ahead, run_ahead, EndsFrom, IsEndOf};
-ghost use Rattle.qss_play.specs.Plays.{run_under, text_of, EndsSo, is_whole, IsShort, IsPlayed};
-ghost use Rattle.qss_play.specs.Writings.{IsWriting, StopsBefore};
+ghost use Rattle.qss_play.specs.Plays.{run_under, text_of, EndsSo, IsShort, IsPlayed};
+ghost use Rattle.qss_play.specs.Simulations.{is_whole};
 
-use crate::events::write_events;
 use crate::played::Played;
+use crate::ruled_run::RuledRun;
 use crate::rules::{floor_level, inward_level, near_level};
-use crate::written::{Stop, write_bytes};
+use crate::writing::write_simulation;
 use mu_io::{Name, Sink};
 use qss_machine::Machine;
 use qss_quant::{Quantizer, Rule, Steps};
-use qss_rows::{Filter, LineWriter, header, variable_name};
-use qss_run::{Outcome, Sim};
+use qss_rows::Filter;
+use qss_run::Sim;
 use std::alloc::Global;
 use std::marker::Brand;
 use std::sync::ledger::{Blank, Ledger};
@@ -51,97 +45,48 @@ pub fn play<O: Sink>(
     match rule {
         Rule::Floor => {
             let quantizer = Quantizer::new(floor_level, Some(Rule::Floor));
-            play_by::<Brand, O>(blank, alloc, m, quantizer, only, out)
+            play_by::<Brand, O>(blank, alloc, m, quantizer, rule, only, out)
         }
         Rule::Near => {
             let quantizer = Quantizer::new(near_level, Some(Rule::Near));
-            play_by::<Brand, O>(blank, alloc, m, quantizer, only, out)
+            play_by::<Brand, O>(blank, alloc, m, quantizer, rule, only, out)
         }
         Rule::Inward => {
             let quantizer = Quantizer::new(inward_level, Some(Rule::Inward));
-            play_by::<Brand, O>(blank, alloc, m, quantizer, only, out)
+            play_by::<Brand, O>(blank, alloc, m, quantizer, rule, only, out)
         }
     }
 }
 
-// Runs a machine by a quantizer.
+// Runs a machine by the quantizer of a rule.
 fn play_by<L: Ledger, O: Sink>(
     blank: Blank,
     alloc: Global,
     m: Machine,
     quantizer: Quantizer,
+    rule: Rule,
     only: Option<Name>,
     out: &mut O,
 ) -> Played
     requires name { blank.name ≡ L.name }
     requires parts { blank.parts ≡ L.parts }
     requires some { 0 < L.parts }
-    requires named { (rule : Rule) × (quantizer.name ≡ Some rule) }
-    ensures { (rule : Rule) → quantizer.name ≡ Some rule → IsPlayed O.written O.faults O.failed m (run_under rule m) only result out.old out.new }
+    requires named { quantizer.name ≡ Some rule }
+    ensures { IsPlayed O.written O.faults O.failed m (run_under rule m) only result out.old out.new }
 {
     match Sim::new(alloc, m, quantizer) {
-        Ok(mut sim) => {
+        Ok(sim) => {
             let (book, share) = blank.open::<L>();
-            let mut steps = Steps::new(book, share);
+            let steps = Steps::new(book, share);
             let filter = Filter::new(only);
-            play_sim(alloc, &mut sim, &filter, &mut steps, out)
+            let mut run = RuledRun {
+                sim,
+                steps,
+                rule,
+                filter,
+            };
+            write_simulation(alloc, &mut run, out)
         }
         Err(_) => Played::Memory,
-    }
-}
-
-// Runs a machine from its start.
-fn play_sim<L: Ledger, O: Sink>(
-    alloc: Global,
-    sim: &mut Sim,
-    filter: &Filter,
-    steps: &mut Steps<L>,
-    out: &mut O,
-) -> Played
-    requires start { sim.old.course ≡ first sim.old.course.machine }
-    requires named { (rule : Rule) × (sim.old.quantizer.name ≡ Some rule) }
-    ensures { (rule : Rule) → sim.old.quantizer.name ≡ Some rule → IsPlayed O.written O.faults O.failed sim.old.course.machine (run_under rule sim.old.course.machine) filter.now result out.old out.new }
-{
-    match write_run(alloc, sim, filter, steps, out) {
-        Ok(outcome) => ended(alloc, sim.machine(), outcome),
-        Err(Stop::Fault) => Played::Fault,
-        Err(Stop::Memory) => Played::Memory,
-    }
-}
-
-// Writes the header, and the rows of a run up to its end.
-fn write_run<L: Ledger, O: Sink>(
-    alloc: Global,
-    sim: &mut Sim,
-    filter: &Filter,
-    steps: &mut Steps<L>,
-    out: &mut O,
-) -> Result<Outcome, Stop>
-    requires unended { sim.old.course.end ≡ None }
-    requires named { (rule : Rule) × (sim.old.quantizer.name ≡ Some rule) }
-    requires known { (rule : Rule) → sim.old.quantizer.name ≡ Some rule → All (HasVariable sim.old.course.machine) (rows_ahead rule sim.old.course) }
-    ensures machine { sim.new.course.machine ≡ sim.old.course.machine }
-    ensures written { (rule : Rule) → sim.old.quantizer.name ≡ Some rule → IsWriting O.written O.faults O.failed (result_err result) out.old out.new (header_line ++ lines_passed filter.now sim.old.course.machine (rows_ahead rule sim.old.course)) }
-    ensures stopped { (rule : Rule) → sim.old.quantizer.name ≡ Some rule → result_err result ≡ Some Stop.Memory → StopsBefore O.written header_line filter.now sim.old.course.machine (rows_ahead rule sim.old.course) out.old out.new }
-    ensures end { (rule : Rule) → sim.old.quantizer.name ≡ Some rule → IfOk result (λ outcome. EndsFrom outcome sim.old.course.tick (run_ahead rule sim.old.course)) }
-{
-    write_bytes(header(), out)?;
-    let mut lines = LineWriter::new(alloc);
-    write_events(&mut lines, sim, filter, steps, out)
-}
-
-// How the writing of a run ends whose rows are written.
-fn ended(alloc: Global, m: &Machine, outcome: Outcome) -> Played
-    requires { IsEndOf m.now outcome }
-    ensures end { (run : Run) → EndsFrom outcome 0 run → EndsSo m.now run result }
-    ensures done { outcome ≡ Outcome.Done → result ≡ Played.Ended }
-    ensures no_fault { result ≢ Played.Fault }
-{
-    match outcome {
-        Outcome::Over { tick, var } => match Name::new(alloc, variable_name(m, var)) {
-            Ok(name) => Played::Overflowed { name, tick },
-            Err(_) => Played::Memory,
-        },
-        Outcome::Events { .. } | Outcome::Done => Played::Ended,
     }
 }

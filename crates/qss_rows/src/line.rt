@@ -3,7 +3,7 @@
 ghost use Rattle.std.specs.Prelude.{◌≡◌, IfOk};
 ghost use Rattle.qss_rows.specs.Lines as Spec;
 
-use crate::record::{add_row, new_writer};
+use crate::writer::LineWriter;
 use qss_machine::{Machine, Row};
 use std::alloc::{AllocError, Global};
 
@@ -19,12 +19,9 @@ pub fn row_bytes(alloc: Global, r: &Row, m: &Machine) -> Result<Vec<u8>, AllocEr
     requires { Spec.HasVariable m.now r.now }
     ensures { IfOk result (λ line. line.items ≡ Spec.line_of m.now r.now) }
 {
-    let mut writer = new_writer(alloc);
-    add_row(&mut writer, r, m)?;
-    match writer.into_inner() {
-        Ok(line) => Ok(line),
-        Err(_) => Err(AllocError),
-    }
+    let mut lines = LineWriter::new(alloc);
+    lines.write(r, m)?;
+    lines.line().to_vec(alloc)
 }
 
 /// Law: where the name needs no quotes, the line of a row is its fields joined by commas, and a line

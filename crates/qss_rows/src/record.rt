@@ -11,8 +11,8 @@ use itoa::{Buffer, write_digits};
 use qss_machine::{Machine, Row, RowKind};
 use std::alloc::{AllocError, Global};
 
-// The most bytes that the numbers of a clause and of its branch take, with a point between them.
-const FIRING_LENGTH: usize = 21;
+/// The most bytes that the numbers of a clause and of its branch take, with a point between them.
+pub(crate) const FIRING_LENGTH: usize = 21;
 
 /// A writer into memory that has written nothing.
 pub(crate) fn new_writer(alloc: Global) -> Writer<Vec<u8>>
@@ -33,25 +33,6 @@ pub(crate) fn renew(alloc: Global, writer: &mut Writer<Vec<u8>>)
     *writer = new_writer(alloc);
 }
 
-/// Adds the record of a row of a machine to what a writer has written.
-pub(crate) fn add_row(writer: &mut Writer<Vec<u8>>, r: &Row, m: &Machine) -> Result<(), AllocError>
-    requires between { IsBetween writer.old }
-    requires var { Spec.HasVariable m.now r.now }
-    ensures { OnOk result (Gains writer.old writer.new (Spec.line_of m.now r.now)) }
-{
-    let is_state = (r.var as usize) < m.states.as_slice().len();
-    let mut firing = [0; FIRING_LENGTH];
-    let name = name_text(m, r, &mut firing);
-    add_fields(
-        writer,
-        Buffer::new().format(r.tick).as_bytes(),
-        word(r.kind),
-        name,
-        level_text(r.kind, r.level, &mut Buffer::new()),
-        state_text(is_state, r.kind, r.state, &mut Buffer::new()),
-    )
-}
-
 /// The name of a variable, by its number: the states come first, then the discrete variables.
 pub fn variable_name(m: &Machine, var: u32) -> &[u8]
     requires { var < state_count m.now + discrete_count m.now }
@@ -66,8 +47,12 @@ pub fn variable_name(m: &Machine, var: u32) -> &[u8]
     }
 }
 
-// The text of the name: that of the variable, or the numbers of a branch that fired.
-fn name_text<'a>(m: &'a Machine, r: &Row, firing: &'a mut [u8; FIRING_LENGTH]) -> &'a [u8]
+/// The text of the name: that of the variable, or the numbers of a branch that fired.
+pub(crate) fn name_text<'a>(
+    m: &'a Machine,
+    r: &Row,
+    firing: &'a mut [u8; FIRING_LENGTH],
+) -> &'a [u8]
     requires { Spec.HasVariable m.now r.now }
     ensures { result.now ≡ Spec.name_field m.now r.now.kind r.now.var }
 {
@@ -92,8 +77,8 @@ fn want_of_memory(_error: &Error) -> AllocError {
     AllocError
 }
 
-// Adds the record of five fields.
-fn add_fields<'a>(
+/// Adds the record of five fields.
+pub(crate) fn add_fields<'a>(
     writer: &mut Writer<Vec<u8>>,
     tick: &'a [u8],
     event: &'a [u8],
@@ -120,8 +105,8 @@ fn add_record(writer: &mut Writer<Vec<u8>>, fields: &[&[u8]]) -> Result<(), Erro
     Ok(())
 }
 
-// The text of the level or of the discrete value, where a row of this kind prints one.
-fn level_text(kind: RowKind, level: i64, buffer: &mut Buffer) -> &[u8]
+/// The text of the level or of the discrete value, where a row of this kind prints one.
+pub(crate) fn level_text(kind: RowKind, level: i64, buffer: &mut Buffer) -> &[u8]
     ensures { result.now ≡ Spec.level_field kind level }
 {
     match kind {
@@ -132,8 +117,8 @@ fn level_text(kind: RowKind, level: i64, buffer: &mut Buffer) -> &[u8]
     }
 }
 
-// The text of the state, where a row of this kind prints one.
-fn state_text(is_state: bool, kind: RowKind, state: i128, buffer: &mut Buffer) -> &[u8]
+/// The text of the state, where a row of this kind prints one.
+pub(crate) fn state_text(is_state: bool, kind: RowKind, state: i128, buffer: &mut Buffer) -> &[u8]
     ensures { result.now ≡ Spec.state_field is_state kind state }
 {
     match kind {
@@ -143,7 +128,8 @@ fn state_text(is_state: bool, kind: RowKind, state: i128, buffer: &mut Buffer) -
     }
 }
 
-fn word(kind: RowKind) -> &'static [u8]
+/// The word of a kind.
+pub(crate) fn word(kind: RowKind) -> &'static [u8]
     ensures { result.now ≡ Spec.word_of kind }
 {
     match kind {

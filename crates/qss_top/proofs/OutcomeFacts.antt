@@ -10,7 +10,7 @@ use Rattle.qss_machine.specs.declared.rows.Row.{Row}
 use Rattle.qss_machine.specs.declared.system.Machine.{Machine}
 use Rattle.qss_play.specs.Plays.{run_under, text_of, EndsSo, IsShort}
 use Rattle.qss_play.specs.declared.played.Played.TheVariants as played
-use Rattle.qss_play.proofs.Writing.{lines_passed-append, lines_passed-true}
+use Rattle.qss_play.proofs.RowLines.{lines_passed-append, lines_passed-true}
 use Rattle.qss_rows.specs.Filters.{passes, lines_passed}
 use Rattle.qss_rows.specs.Lines.{header, fields_of, line_of, lines_of}
 use Rattle.qss_top.specs.Answers.{Answer, printed}

@@ -33,7 +33,7 @@ use Rattle.propose_answer.specs.Answers.{IsProposed}
 use Rattle.propose_answer.specs.Endings as ProposalEndings
 use Rattle.propose_answer.specs.declared.ending.ProposalRefusal.{ProposalRefusal}
 use Rattle.qss_order2.specs.Runs.{Past, Run2}
-use Rattle.qss_play2.specs.Plays.{near_run, text2_of}
+use Rattle.qss_play.specs.Plays2.{near_run, text2_of}
 use Rattle.qss_words.specs.Commands.{RunOptions, Command, run_model, print_model, certify_model, upgrade_model, generate_model, check_model, propose_model, second_model, command_of, files_of}
 use Rattle.qss_top.specs.Shares.{IsShared}
 use Rattle.qss_top.specs.declared.status.Status.{Status}

@@ -10,8 +10,7 @@ use cert_answer::CertificateRefusal;
 use cert_check::Outside;
 use mu_io::Sink;
 use qss_machine::Machine;
-use qss_play::Played;
-use qss_play2::play2;
+use qss_play::{Played, play2};
 use std::alloc::Global;
 
 /// Writes the second-order run of a machine, and refuses a machine with clauses.

@@ -2,8 +2,8 @@ use Rattle.std.proofs.Common.{◌≡◌, ◌≤◌, ◌^◌, ◌∙◌, refl, ru
 use Rattle.qss_quant.specs.declared.rule.Rule.TheVariants.{Floor}
 use Rattle.qss_run.specs.declared.outcome.Outcome.TheVariants.{Events, Done, Over}
 use Rattle.qss_play.specs.Tallies.{level_count}
-use Rattle.qss_play.proofs.Counting.{counts_none, counts_on, counts_end}
-use Rattle.qss_play.proofs.UnderWay.{call_of, done_left, done_end, over_left, over_end}
+use Rattle.qss_play.proofs.Counting.{counts_on, counts_end}
+use Rattle.qss_play.proofs.RunEnds.{call_of, done_left, done_end, over_left, over_end}
 use Rattle.qss_play.proofs.tallying.count_events.Goals as goal
 
 pub events-preserved : goal.events-preserved

@@ -1,5 +1,5 @@
 use Rattle.std.proofs.Common.{refl}
-use Rattle.qss_play.proofs.Writing.{writes_all}
+use Rattle.qss_play.proofs.WrittenLines.{writes_all}
 use Rattle.qss_play.proofs.written.write_bytes.Goals as goal
 
 pub returns-in-Ok-clause-written : goal.returns-in-Ok-clause-written

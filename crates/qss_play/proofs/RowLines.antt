@@ -1,0 +1,135 @@
+-- The lines of rows, one after another.
+use Rattle.std.proofs.Common.{◌≡◌, ◌<◌, Bool, true, false, cond, ℕ, List, [], ◌∷◌, ◌++◌, length, flat_map, get_or, refl, sym, ap, ◌∙◌, subst, append-nil}
+use Rattle.std.specs.Prelude.{Option, Some, None, filter}
+use Rattle.std.specs.Io.KnownBytes.{Appends}
+use Rattle.std.proofs.lemmas.List.{get_or-map, length-map, map-append}
+use Rattle.std.proofs.lemmas.List.Concat.{flat_map-append}
+use Rattle.std.proofs.lemmas.List.Elements.{filter-append}
+use Rattle.qss_machine.specs.declared.rows.Row.{Row}
+use Rattle.qss_machine.specs.declared.system.Machine.{Machine}
+use Rattle.qss_order2.specs.declared.rows.Row2.{Row2}
+use Rattle.qss_order2.specs.Lines.{line2_of, lines2_of}
+use Rattle.qss_rows.specs.Filters.{passes, lines_passed}
+use Rattle.qss_rows.specs.Lines.{line_of, lines_of}
+use Rattle.qss_play.specs.Ahead.{row_lines}
+use Rattle.qss_play.specs.Ahead2.{row2_lines}
+use Rattle.qss_play.specs.Plays2.{StopsBefore2}
+use Rattle.qss_play.specs.Simulations.{line_if, lines_by, line_at, bytes_in, text_in, StopsAtLine}
+use Rattle.qss_play.specs.Writings.{StopsBefore}
+
+-- ---- lines that pass a filter, and those of second-order rows
+
+pub lines_passed-append : (only : Option (List ℕ)) (m : Machine) (xs ys : List Row) → lines_passed only m (xs ++ ys) ≡ lines_passed only m xs ++ lines_passed only m ys
+lines_passed-append only m xs ys =
+    ap (lines_of m) (filter-append (passes only m) xs ys) ∙ flat_map-append (line_of m) (filter (passes only m) xs) (filter (passes only m) ys)
+
+one_passed : (m : Machine) (row : Row) (b : Bool) → b ≡ true → lines_of m (cond b (row ∷ []) []) ≡ line_of m row
+one_passed m row true e = append-nil (line_of m row)
+one_passed m row false e = absurd (cc)
+
+-- the line of a row that passes
+pub lines_passed-true : (only : Option (List ℕ)) (m : Machine) (row : Row) → passes only m row ≡ true → lines_passed only m (row ∷ []) ≡ line_of m row
+lines_passed-true only m row e = one_passed m row (passes only m row) e
+
+pub lines2-append : (m : Machine) (xs ys : List Row2) → lines2_of m (xs ++ ys) ≡ lines2_of m xs ++ lines2_of m ys
+lines2-append m xs ys = flat_map-append (line2_of m) xs ys
+
+-- ---- a line for each row, where it has one
+
+module _ {X : Type 0} (passes : X → Bool) (line : X → List ℕ) where
+  abbrev line_by : X → Option (List ℕ)
+  line_by x = line_if (passes x) (line x)
+
+  pub lines_by-append : (xs ys : List X) → lines_by passes line (xs ++ ys) ≡ lines_by passes line xs ++ lines_by passes line ys
+  lines_by-append xs ys = map-append line_by xs ys
+
+  pub line_at-by : (xs : List X) (i : ℕ) (d : X) → i < length xs → line_at (lines_by passes line xs) i ≡ line_by (get_or xs i d)
+  line_at-by xs i d inside = get_or-map line_by xs i d None inside
+
+  pub length-by : (xs : List X) → length (lines_by passes line xs) ≡ length xs
+  length-by xs = length-map xs line_by
+
+  text_if : (b : Bool) (x : X) (xs : List X) → bytes_in (line_if b (line x)) ++ flat_map line xs ≡ flat_map line (cond b (x ∷ xs) xs)
+  text_if true x xs = refl
+  text_if false x xs = refl
+
+  -- one after another they are those of the rows that pass
+  pub text_by : (xs : List X) → text_in (lines_by passes line xs) ≡ flat_map line (filter passes xs)
+  text_by [] = refl
+  text_by (x ∷ xs) = ap (λ (l : List ℕ). bytes_in (line_by x) ++ l) (text_by xs) ∙ text_if (passes x) x (filter passes xs)
+
+  -- rows that are cut at a line
+  pub record IsSplit (xs : List X) (front : List (Option (List ℕ))) : Type 0 where
+    pub before : List X
+    pub row : X
+    pub after : List X
+    pub parts : before ++ (row ∷ after) ≡ xs
+    pub passed : passes row ≡ true
+    pub front_is : lines_by passes line before ≡ front
+
+  same_cons : (o p : Option (List ℕ)) (xs ys : List (Option (List ℕ))) → o ≡ p → xs ≡ ys → o ∷ xs ≡ p ∷ ys
+  same_cons o p xs ys e f = ap (λ (l : List (Option (List ℕ))). o ∷ l) f ∙ ap (λ (q : Option (List ℕ)). q ∷ ys) e
+
+  some_passes : (b : Bool) (given made : List ℕ) → Some given ≡ line_if b made → b ≡ true
+  some_passes true given made e = refl
+  some_passes false given made e = absurd (cc)
+
+  split_more : (x : X) (xs : List X) (o : Option (List ℕ)) (front : List (Option (List ℕ))) → line_by x ≡ o → IsSplit xs front → IsSplit (x ∷ xs) (o ∷ front)
+  split_more x xs o front first s = record {
+    before = x ∷ s.before;
+    row = s.row;
+    after = s.after;
+    parts = ap (λ (l : List X). x ∷ l) s.parts;
+    passed = s.passed;
+    front_is = same_cons (line_by x) o (lines_by passes line s.before) front first s.front_is;
+  }
+
+  pub split : (xs : List X) (front : List (Option (List ℕ))) (given : List ℕ) (rest : List (Option (List ℕ))) → front ++ (Some given ∷ rest) ≡ lines_by passes line xs → IsSplit xs front
+  split [] [] given rest e = absurd (cc)
+  split [] (o ∷ front) given rest e = absurd (cc)
+  split (x ∷ xs) [] given rest e =
+      let first : Some given ≡ line_by x = cc in
+      record { before = []; row = x; after = xs; parts = refl; passed = some_passes (passes x) given (line x) first; front_is = refl }
+  split (x ∷ xs) (o ∷ front) given rest e =
+      let first : line_by x ≡ o = cc in
+      let later : front ++ (Some given ∷ rest) ≡ lines_by passes line xs = cc in
+      split_more x xs o front first (split xs front given rest later)
+
+pub text_all : {X : Type 0} (line : X → List ℕ) (xs : List X) → text_in (lines_by (λ x. true) line xs) ≡ flat_map line xs
+text_all line [] = refl
+text_all line (x ∷ xs) = ap (λ (l : List ℕ). line x ++ l) (text_all line xs)
+
+-- ---- the text of rows, and where it stops
+
+pub row_text : (only : Option (List ℕ)) (m : Machine) (rows : List Row) → text_in (row_lines only m rows) ≡ lines_passed only m rows
+row_text only m rows = text_by (passes only m) (line_of m) rows
+
+pub row2_text : (m : Machine) (rows : List Row2) → text_in (row2_lines m rows) ≡ lines2_of m rows
+row2_text m rows = text_all (line2_of m) rows
+
+module _ {K : Type 0} (written : K → Option (List ℕ)) (head : List ℕ) (m : Machine) (old new : K) where
+  -- a call that stopped at a line stopped before the row
+  pub stops_before : (only : Option (List ℕ)) (rows : List Row) → StopsAtLine written head (row_lines only m rows) old new → StopsBefore written head only m rows old new
+  stops_before only rows s =
+      let cut = split (passes only m) (line_of m) rows s.front s.line s.rest s.parts in
+      let text : text_in s.front ≡ lines_passed only m cut.before = ap text_in (sym cut.front_is) ∙ row_text only m cut.before in
+      record {
+        front = cut.before;
+        row = cut.row;
+        rest = cut.after;
+        parts = cut.parts;
+        passed = cut.passed;
+        appended = subst (λ (l : List ℕ). Appends (written old) (written new) (head ++ l)) text s.appended;
+      }
+
+  pub stops_before2 : (rows : List Row2) → StopsAtLine written head (row2_lines m rows) old new → StopsBefore2 written head m rows old new
+  stops_before2 rows s =
+      let cut = split (λ row. true) (line2_of m) rows s.front s.line s.rest s.parts in
+      let text : text_in s.front ≡ lines2_of m cut.before = ap text_in (sym cut.front_is) ∙ row2_text m cut.before in
+      record {
+        front = cut.before;
+        row = cut.row;
+        rest = cut.after;
+        parts = cut.parts;
+        appended = subst (λ (l : List ℕ). Appends (written old) (written new) (head ++ l)) text s.appended;
+      }

@@ -1,0 +1,70 @@
+//! First-order runs.
+
+ghost use Rattle.std.specs.Prelude.{◌≡◌, Some, All};
+ghost use Rattle.qss_play.specs.Ahead.{rows_ahead};
+ghost use Rattle.qss_rows.specs.Lines.{HasVariable};
+
+use crate::run_end::RunEnd;
+use crate::simulation::Simulation;
+use qss_machine::Machine;
+use qss_quant::{Rule, Steps};
+use qss_rows::{Filter, LineWriter};
+use qss_run::{Outcome, Sim};
+use std::alloc::AllocError;
+use std::sync::ledger::Ledger;
+
+/// A run of a machine by a rule, of which the rows are written that pass a filter.
+#[derive(Drop)]
+pub(crate) struct RuledRun<L: Ledger> {
+    pub sim: Sim,
+    pub steps: Steps<L>,
+    pub rule: Rule,
+    pub filter: Filter,
+    pub ghost named: { sim.quantizer.name ≡ Some rule },
+    pub ghost known: { All (HasVariable sim.course.machine) (rows_ahead rule sim.course) },
+}
+
+impl<L: Ledger> Simulation for RuledRun<L> {
+    ghost use Rattle.std.specs.Prelude.{◌-◌, None};
+    ghost use Rattle.qss_quant.specs.Rules.{level_by};
+    ghost use Rattle.qss_run.specs.Events.{rows_left};
+    ghost use Rattle.qss_play.specs.Ahead.{row_lines, run_ahead, outcome_of, EndsFrom};
+
+    ghost machine = { λ run. run.sim.course.machine };
+
+    ghost present = { λ run. row_lines run.filter run.sim.course.machine run.sim.course.rows };
+
+    ghost to_come = { λ run. row_lines run.filter run.sim.course.machine (rows_left (level_by run.rule) run.sim.course) };
+
+    ghost ticks_left = { λ run. run.sim.course.machine.last - run.sim.course.tick };
+
+    ghost goes_on = { λ run. run.sim.course.end ≡ None };
+
+    ghost ends = { λ run end. EndsFrom (outcome_of end) run.sim.course.tick (run_ahead run.rule run.sim.course) };
+
+    fn next_event(&mut self) -> Option<RunEnd> {
+        match self.sim.next_event(&mut self.steps) {
+            Outcome::Events { .. } => None,
+            Outcome::Done => Some(RunEnd::Done),
+            Outcome::Over { tick, var } => Some(RunEnd::Over { tick, var }),
+        }
+    }
+
+    fn row_count(&self) -> usize {
+        self.sim.rows().len()
+    }
+
+    fn make_line(&self, row: usize, lines: &mut LineWriter) -> Result<bool, AllocError> {
+        let m = self.sim.machine();
+        let row = &self.sim.rows()[row];
+        if !self.filter.passes(row, m) {
+            return Ok(false);
+        }
+        lines.write(row, m)?;
+        Ok(true)
+    }
+
+    fn machine(&self) -> &Machine {
+        self.sim.machine()
+    }
+}
