@@ -1,0 +1,4 @@
+mod FirstSteps
+mod Placing
+mod FirstRuns
+mod Legitimate
