@@ -5,4 +5,7 @@ pub mod Drafts
 pub mod FirstRuns
 pub mod FirstPlaces
 pub mod FirstCourses
+pub mod Systems
 pub mod SecondRuns
+pub mod SecondPlaces
+pub mod SecondCourses

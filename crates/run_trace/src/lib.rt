@@ -7,6 +7,9 @@ mod first_course;
 mod first_place;
 mod limits;
 mod second;
+mod second_course;
+mod second_place;
+mod second_sums;
 mod starts;
 mod trace_over;
 
