@@ -1,6 +1,6 @@
 //! The line of a row.
 
-ghost use Rattle.std.specs.Prelude.{◌≡◌, [], OnOk, OnErr};
+ghost use Rattle.std.specs.Prelude.{◌≡◌, [], OnOk, OnErr, IfOk};
 ghost use Rattle.qss_rows.specs.Held.{line_in};
 ghost use Rattle.qss_order2.specs.Lines as Spec;
 
@@ -8,7 +8,17 @@ use crate::rows::{Kind2, Row2};
 use itoa::Buffer;
 use qss_machine::Machine;
 use qss_rows::{LineWriter, variable_name};
-use std::alloc::AllocError;
+use std::alloc::{AllocError, Global};
+
+/// The line of a row of a machine. A `LineWriter` serves many rows at less cost.
+pub fn row2_bytes(alloc: Global, r: &Row2, m: &Machine) -> Result<Vec<u8>, AllocError>
+    requires { Spec.HasVariable2 m.now r.now }
+    ensures { IfOk result (λ line. line.items ≡ Spec.line2_of m.now r.now) }
+{
+    let mut lines = LineWriter::new(alloc);
+    write_row2(&mut lines, r, m)?;
+    lines.line().to_vec(alloc)
+}
 
 /// Makes the line of a row of a machine. After an error the writer holds no line.
 pub fn write_row2(lines: &mut LineWriter, r: &Row2, m: &Machine) -> Result<(), AllocError>
