@@ -13,8 +13,8 @@ use Rattle.cert_check.specs.declared.verdict.Verdict.TheVariants as verdict
 use Rattle.cert_laws.specs.Verdicts.{IsVerdict}
 use Rattle.cert_lines.specs.Bounds.{bounds_text}
 use Rattle.cert_text.specs.Texts.{IsTextOf}
-use Rattle.cert_answer.specs.Answers.{Answer, refused, written, limit, IsRefusal, IsAnswer, IsCertified, certified, IsCertification, upgraded}
-use Rattle.cert_answer.specs.Endings.{Ends, MayEnd, TakesMemory, RefusesBy, ending_of, text_of}
+use Rattle.cert_answer.specs.Answers.{Answer, refused, written, limit, IsRefusal, IsRead, IsAnswer, IsCertified, certified, IsCertification, upgraded}
+use Rattle.cert_answer.specs.Endings.{Ends, MayEnd, TakesMemory, RefusesBy, RejectsBy, ending_of, text_of}
 use Rattle.cert_answer.specs.declared.ending.CertificateRefusal.{CertificateRefusal}
 use Rattle.cert_answer.specs.declared.ending.CertificateRefusal.TheVariants.{Outside, TooLong, Unread, Rejected}
 use Rattle.cert_answer.specs.declared.ending.Ending.{Ending}
@@ -46,6 +46,16 @@ certified-takes m c a (v, is, e) = subst TakesMemory (sym e) (by v)
 
 pub upgraded-takes : (c : Certificate) (a : Answer) → a ≡ upgraded c → TakesMemory a
 upgraded-takes c a e = subst TakesMemory (sym e) tt
+
+-- a certificate that is not accepted is refused for its verdict
+rejected_by : (m : Machine) (c : Certificate) (v : Verdict) → (v ≡ verdict.Accepted → ⊥) → refused (Rejected v) ≡ certified m c v
+rejected_by m c verdict.Accepted other = absurd (other refl)
+rejected_by m c (verdict.Rejected a b l r) other = refl
+rejected_by m c (verdict.Range a b) other = refl
+
+pub rejected : (m : Machine) (bytes : List ℕ) (c : Certificate) (v : Verdict) → IsRead m bytes c → IsVerdict (system_of m) (claim c) v → (v ≡ verdict.Accepted → ⊥)
+    → RejectsBy m bytes (ending.Refused (Rejected v))
+rejected m bytes c v read h other = inr (Rejected v, inr (c, read, (v, h, rejected_by m c v other)), refl)
 
 module _ {K : Type 0} (known : K → Option (List ℕ)) (faults : K → ℕ) (failed : K → Bool) where
   -- an answer of one kind is one of another
@@ -101,12 +111,7 @@ module _ {K : Type 0} (known : K → Option (List ℕ)) (faults : K → ℕ) (fa
   -- the certificate is not accepted
   pub verdict_told : (m : Machine) (c : Certificate) (v : Verdict) → IsVerdict (system_of m) (claim c) v → (v ≡ verdict.Accepted → ⊥) → (sink : K)
       → Ends known faults failed (IsCertified m c) (ending.Refused (Rejected v)) sink sink
-  verdict_told m c v h other sink = refusal_told (IsCertified m c) (Rejected v) (v, h, rejected_by v other) sink
-    where
-      rejected_by : (v : Verdict) → (v ≡ verdict.Accepted → ⊥) → refused (Rejected v) ≡ certified m c v
-      rejected_by verdict.Accepted other = absurd (other refl)
-      rejected_by (verdict.Rejected a b l r) other = refl
-      rejected_by (verdict.Range a b) other = refl
+  verdict_told m c v h other sink = refusal_told (IsCertified m c) (Rejected v) (v, h, rejected_by m c v other) sink
 
   -- what is written of a certification is bounds that hold
   pub promised_end : (m : Machine) (bytes : List ℕ) (end : Ending) (old new : K) → Ends known faults failed (IsCertification m bytes) end old new → end ≡ ending.Written

@@ -38,6 +38,11 @@ pub record IsRead (m : Machine) (bytes : List ℕ) (c : Certificate) : Type 0 wh
   pub short : length bytes ≤ limit
   pub text : IsTextOf m bytes c
 
+-- the bytes spell this certificate of the machine, and it is accepted
+pub record IsAccepted (m : Machine) (bytes : List ℕ) (c : Certificate) : Type 0 where
+  pub read : IsRead m bytes c
+  pub verdict : IsVerdict (system_of m) (claim c) Accepted
+
 -- an answer to the bytes: why they are not read, or an answer to the certificate that they spell
 abbrev pub IsAnswer : Machine → (Certificate → Answer → Type 0) → List ℕ → Answer → Type 0
 IsAnswer m IsSuch bytes answer =

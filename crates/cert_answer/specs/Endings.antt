@@ -5,7 +5,7 @@ use Rattle.mu_io.specs.Sinks.{AppendsPrefix, EndsByFault}
 use Rattle.qss_machine.specs.declared.system.Machine.{Machine}
 use Rattle.cert_check.specs.Scope.{IsInScope}
 use Rattle.cert_lines.specs.Refusals.{outside_line, verdict_line, cause_line}
-use Rattle.cert_answer.specs.Answers.{Answer, refused, written, limit, IsRefusal}
+use Rattle.cert_answer.specs.Answers.{Answer, refused, written, limit, IsRefusal, IsCertification}
 use Rattle.cert_answer.specs.declared.ending.CertificateRefusal.{CertificateRefusal}
 use Rattle.cert_answer.specs.declared.ending.CertificateRefusal.TheVariants.{Outside, TooLong, Unread, Rejected}
 use Rattle.cert_answer.specs.declared.ending.Ending.{Ending}
@@ -19,6 +19,10 @@ ending_of (written text) = ending.Written
 -- the bytes are not read, and the ending tells why: a refusal, or want of memory, which only a machine in scope and bytes that are not too many take
 abbrev pub RefusesBy : Machine → List ℕ → Ending → Type 0
 RefusesBy m bytes end = ((end ≡ ending.Memory) × IsInScope m × (length bytes ≤ limit)) ⊎ ((why : CertificateRefusal) × IsRefusal m bytes why × (end ≡ ending.Refused why))
+
+-- the bytes spell no certificate that is accepted, and the ending tells why: a refusal, or want of memory
+abbrev pub RejectsBy : Machine → List ℕ → Ending → Type 0
+RejectsBy m bytes end = (end ≡ ending.Memory) ⊎ ((why : CertificateRefusal) × IsCertification m bytes (refused why) × (end ≡ ending.Refused why))
 
 -- what an answer writes
 abbrev pub text_of : Answer → List ℕ

@@ -13,5 +13,6 @@ mod writing;
 pub use certifying::certify;
 pub use ending::{CertificateRefusal, Ending};
 pub use laws::{answers_are_one, bounds_hold, upgrades_keep};
+pub use reading::read_accepted;
 pub use telling::{ending_line, refusal_line};
 pub use upgrading::upgrade;

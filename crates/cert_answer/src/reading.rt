@@ -4,17 +4,29 @@ ghost use Rattle.std.specs.Prelude.{◌≡◌, ◌≢◌, ◌≤◌, ℕ, List, 
 ghost use Rattle.qss_machine.specs.declared.system.Machine.{Machine};
 ghost use Rattle.cert_check.specs.Scope.{IsInScope};
 ghost use Rattle.cert_text.specs.Texts.{IsRefusedFor};
-ghost use Rattle.cert_answer.specs.Answers.{limit, IsRead};
-ghost use Rattle.cert_answer.specs.Endings.{RefusesBy};
+ghost use Rattle.cert_answer.specs.Answers.{limit, IsRead, IsAccepted};
+ghost use Rattle.cert_answer.specs.Endings.{RefusesBy, RejectsBy};
 
 use crate::ending::{CertificateRefusal, Ending};
-use cert_check::{Certificate, scope};
+use cert_check::{Certificate, Verdict, check, scope};
 use cert_text::{CertErr, read_certificate};
 use qss_machine::Machine;
 use std::alloc::Global;
 
 // The most bytes that a certificate has.
 const LIMIT: usize = 1 << 18;
+
+/// The certificate of a machine that bytes spell, where it is accepted; or how a call ends that cannot have it.
+pub fn read_accepted(alloc: Global, m: &Machine, bytes: &[u8]) -> Result<Certificate, Ending>
+    ensures accepted { IfOk result (IsAccepted m.now bytes.now) }
+    ensures rejected { IfErr result (RejectsBy m.now bytes.now) }
+{
+    let c = read_for(alloc, m, bytes)?;
+    match check(m, &c) {
+        Verdict::Accepted => Ok(c),
+        verdict => Err(Ending::Refused(CertificateRefusal::Rejected(verdict))),
+    }
+}
 
 /// The certificate of a machine that bytes spell, or how a call ends that cannot have it.
 pub(crate) fn read_for(alloc: Global, m: &Machine, bytes: &[u8]) -> Result<Certificate, Ending>

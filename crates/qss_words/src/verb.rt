@@ -17,6 +17,7 @@ pub enum Verb {
     Check,
     Propose,
     Second,
+    Compare,
 }
 
 /// The verb of this name.
@@ -39,6 +40,8 @@ pub(crate) fn verb_named(name: &str) -> Option<Verb>
         Some(Verb::Propose)
     } else if name == "run2" {
         Some(Verb::Second)
+    } else if name == "compare" {
+        Some(Verb::Compare)
     } else {
         None
     }

@@ -8,3 +8,5 @@ mod SecondSteps
 mod SecondRuns
 mod SecondLegitimate
 mod Wides
+pub mod Listed
+pub mod OwnTraces

@@ -34,7 +34,7 @@ one-read m bytes a b v w read-a read-b is-v is-w =
     let P : Trace → Type 0 = λ t. IsVerdict m t v in
     one-verdict m b v w (subst P same is-v) is-w
 
-one_refusal : (m : Machine) (bytes : List ℕ) (a b : TraceRefusal) → IsRefusal m bytes a → IsRefusal m bytes b → a ≡ b
+pub one_refusal : (m : Machine) (bytes : List ℕ) (a b : TraceRefusal) → IsRefusal m bytes a → IsRefusal m bytes b → a ≡ b
 one_refusal m bytes (Outside why) (Outside other) p q = ap Outside (one_outside m why other p q)
 one_refusal m bytes (Outside why) TooLong p q = absurd (not_outside m why p q.0)
 one_refusal m bytes (Outside why) (Unread other) p q = absurd (not_outside m why p q.0)

@@ -1,9 +1,12 @@
 //! The line that tells how a call ended.
 
 ghost use Rattle.std.specs.Prelude.{◌≡◌, IfOk};
+ghost use Rattle.trace_answer.specs.Comparisons as Comparisons;
 ghost use Rattle.trace_answer.specs.Endings as Spec;
 
 use crate::ending::{Ending, TraceRefusal};
+use crate::stop::ComparisonRefusal;
+use cert_answer::refusal_line as certificate_line;
 use cert_lines::outside_line;
 use qss_trace::TraceErr;
 use std::alloc::{AllocError, Global};
@@ -58,4 +61,23 @@ pub fn ending_line(alloc: Global, ending: Ending) -> Result<Vec<u8>, AllocError>
         Ending::Fault => b"write fault\n".to_vec(alloc),
         Ending::Memory => b"out of memory\n".to_vec(alloc),
     }
+}
+
+/// The line that tells why two runs are not compared, with its line feed.
+pub fn comparison_line(alloc: Global, why: ComparisonRefusal) -> Result<Vec<u8>, AllocError>
+    ensures { IfOk result (λ line. line.items ≡ Comparisons.comparison_line why) }
+{
+    let line = match why {
+        ComparisonRefusal::Certificate(cause) => return certificate_line(alloc, cause),
+        ComparisonRefusal::Trace(cause) => return refusal_line(alloc, cause),
+        ComparisonRefusal::Start => return b"rejected: start\n".to_vec(alloc),
+        ComparisonRefusal::Quantum { run, state } => {
+            format!(in alloc; "rejected: quantum trace {run} state {state}\n")?
+        }
+        ComparisonRefusal::Long { last } => format!(in alloc; "rejected: long {last}\n")?,
+        ComparisonRefusal::Range { place1, place2 } => {
+            format!(in alloc; "rejected: range places {place1} {place2}\n")?
+        }
+    };
+    Ok(line.into_bytes())
 }

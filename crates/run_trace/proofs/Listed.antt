@@ -1,0 +1,150 @@
+-- Lists of states and levels as a trace.
+use Rattle.std.proofs.Common.{◌≡◌, ℕ, zero, suc, ◌+◌, ◌*◌, ◌/◌, ◌^◌, ◌<◌, ◌≤◌, List, [], ◌∷◌, ◌++◌, length, map, take, drop, get_or, ℤ, pos, ◌≤ℤ◌, refl, sym, ap, subst, ◌∙◌, arith, lit≤}
+use Rattle.std.proofs.Math.Nat.{mul-le-mul_right}
+use Rattle.std.proofs.Math.Seq.{ext_get_or, take-append_seam, drop-append-add}
+use Rattle.std.proofs.lemmas.Int.{ints}
+use Rattle.std.proofs.lemmas.List.{length-append, length-map, get_or-map, get_or_default}
+use Rattle.std.proofs.lemmas.List.Elements.{All-append, All-nil}
+use Rattle.std.proofs.lemmas.Nat.{div-mul-add}
+use Rattle.std.specs.Prelude.{All, unsigned_abs}
+use Rattle.mu_num.specs.Sizes.{IsWithin, IsPositiveWithin}
+use Rattle.qss_machine.specs.Machines.{state_count, quanta}
+use Rattle.qss_machine.specs.Numbers.{int_at}
+use Rattle.qss_machine.specs.declared.parts.StateInfo.{StateInfo}
+use Rattle.qss_machine.specs.declared.system.Machine.{Machine}
+use Rattle.cert_check.specs.Limits.{IsSize}
+use Rattle.qss_trace.specs.Limits.{IsFactor, AreQuanta, place_count}
+use Rattle.qss_trace.specs.Places.{place_at, places}
+use Rattle.qss_trace.specs.declared.trace.Trace.{Trace}
+use Rattle.qss_trace.proofs.Fields.{trace_of, same-trace}
+use Rattle.qss_trace.proofs.OneTrace.{numbers-same}
+use Rattle.qss_trace.proofs.Placing.{places-at, length-places}
+use Rattle.run_trace.specs.Traces.{IsTraceOf}
+
+-- ---- one trace
+
+-- numbers that stand in the same places are the same
+same-places : (n : ℕ) (xs ys : List ℤ) → 1 ≤ n → length xs ≡ place_count n xs * n → length ys ≡ place_count n ys * n → places n xs ≡ places n ys → xs ≡ ys
+same-places n xs ys some whole-x whole-y e =
+    let count : place_count n xs ≡ place_count n ys = sym (length-places n xs) ∙ ap length e ∙ length-places n ys in
+    let long : length ys ≡ length xs = whole-y ∙ ap (λ k. k * n) (sym count) ∙ sym whole-x in
+    numbers-same n xs ys some whole-x long (λ i h.
+    sym (places-at n i xs h) ∙ ap (λ (zs : List (List ℤ)). get_or zs i []) e ∙ places-at n i ys (omega (arith, count, h)))
+
+pub one-trace-of : (m : Machine) (scale : ℕ) (states levels : List (List ℤ)) (a b : Trace) → IsTraceOf m scale states levels a → IsTraceOf m scale states levels b → a ≡ b
+one-trace-of m scale states levels a b of-a of-b =
+    let size : a.n ≡ b.n = of-a.size ∙ sym of-b.size in
+    let whole : length b.states ≡ place_count a.n b.states * a.n = b.has_places.whole ∙ ap (λ k. place_count k b.states * k) (sym size) in
+    let states-same : a.states ≡ b.states = same-places a.n a.states b.states a.has_size.some a.has_places.whole whole (of-a.own_states ∙ sym of-b.own_states ∙ ap (λ k. places k b.states) (sym size)) in
+    let whole-a : length a.levels ≡ place_count a.n a.levels * a.n = a.has_places.as_many ∙ a.has_places.whole ∙ ap (λ k. k / a.n * a.n) (sym a.has_places.as_many) in
+    let whole-b : length b.levels ≡ place_count b.n b.levels * b.n = b.has_places.as_many ∙ b.has_places.whole ∙ ap (λ k. k / b.n * b.n) (sym b.has_places.as_many) in
+    let levels-same : a.levels ≡ b.levels = same-places a.n a.levels b.levels a.has_size.some whole-a (whole-b ∙ ap (λ k. place_count k b.levels * k) (sym size))
+    (of-a.own_levels ∙ sym of-b.own_levels ∙ ap (λ k. places k b.levels) (sym size)) in
+    let scales : a.scale ≡ b.scale = of-a.own_scale ∙ sym of-b.own_scale in
+    let refinements : a.refine ≡ b.refine = of-a.by_tick ∙ sym of-b.by_tick in
+    let quantum : a.q ≡ b.q = of-a.own_quanta ∙ sym of-b.own_quanta in
+    same-trace a b (λ i. record { n = size i; scale = scales i; refine = refinements i; q = quantum i; states = states-same i; levels = levels-same i })
+
+-- ---- some trace
+
+-- the numbers of lists, one after another
+joined : List (List ℤ) → List ℤ
+joined [] = []
+joined (x ∷ xs) = x ++ joined xs
+
+abbrev AreSized : ℕ → List (List ℤ) → Type 0
+AreSized n xs = All (λ ys. length ys ≡ n) xs
+
+rest-all : {X : Type 0} (P : X → Type 0) (x : X) (xs : List X) → All P (x ∷ xs) → All P xs
+rest-all P x xs all k d h = all (suc k) d (omega arith)
+
+length-joined : (n : ℕ) (xs : List (List ℤ)) → AreSized n xs → length (joined xs) ≡ length xs * n
+unfolding joined
+length-joined n [] sized = omega arith
+length-joined n (x ∷ xs) sized =
+    let first : length x ≡ n = sized 0 x (omega arith) in
+    let rest = length-joined n xs (rest-all (λ ys. length ys ≡ n) x xs sized) in
+    length-append x (joined xs) ∙ omega (arith, first, rest)
+
+place-joined : (n : ℕ) (xs : List (List ℤ)) (i : ℕ) → AreSized n xs → i < length xs → place_at n (joined xs) i ≡ get_or xs i []
+unfolding joined
+place-joined n [] i sized h = absurd (omega arith)
+place-joined n (x ∷ xs) zero sized h =
+    let first : n ≡ length x = sym (sized 0 x (omega arith)) in
+    let none : 0 * n ≡ 0 = omega arith in
+    ap (λ k. take n (drop k (x ++ joined xs))) none ∙ ap (λ k. take k (x ++ joined xs)) first ∙ take-append_seam x (joined xs)
+place-joined n (x ∷ xs) (suc i) sized h =
+    let first : n ≡ length x = sym (sized 0 x (omega arith)) in
+    let more : suc i * n ≡ length x + i * n = omega (arith, first) in
+    ap (λ k. take n (drop k (x ++ joined xs))) more ∙ ap (take n) (drop-append-add x (joined xs) (i * n))
+    ∙ place-joined n xs i (rest-all (λ ys. length ys ≡ n) x xs sized) (omega arith)
+
+count-joined : (n : ℕ) (xs : List (List ℤ)) → 1 ≤ n → AreSized n xs → place_count n (joined xs) ≡ length xs
+count-joined n xs some sized =
+    let long : length (joined xs) ≡ length xs * n + 0 = length-joined n xs sized ∙ omega arith in
+    ap (λ k. k / n) long ∙ div-mul-add (length xs) n 0 some
+
+places-joined : (n : ℕ) (xs : List (List ℤ)) → 1 ≤ n → AreSized n xs → places n (joined xs) ≡ xs
+places-joined n xs some sized =
+    let count = count-joined n xs some sized in
+    ext_get_or [] (places n (joined xs)) xs (length-places n (joined xs) ∙ count) (λ i h.
+    let inside : i < place_count n (joined xs) = omega (arith, h, length-places n (joined xs)) in
+    places-at n i (joined xs) inside ∙ place-joined n xs i sized (omega (arith, inside, count)))
+
+all-joined : (P : ℤ → Type 0) (xs : List (List ℤ)) → All (All P) xs → All P (joined xs)
+unfolding joined
+all-joined P [] all = All-nil P
+all-joined P (x ∷ xs) all = All-append P x (joined xs) (all 0 x (omega arith)) (all-joined P xs (rest-all (All P) x xs all))
+
+-- a machine's quanta are those of a trace
+quanta-sound : (m : Machine) → AreQuanta (state_count m) (quanta m)
+quanta-sound m = record {
+  one_each = length-map m.states (λ (state : StateInfo). state.quantum);
+  each = λ k d h.
+      let s : StateInfo = record { name = []; x0 = pos 0; quantum = pos 0 } in
+      let inside : k < state_count m = omega (arith, h, length-map m.states (λ (state : StateInfo). state.quantum)) in
+      let is = m.has_variables.each_state k s inside in
+      let low = is.quantum_low in
+      let high = is.quantum_high in
+      rw (get_or-map (λ (state : StateInfo). state.quantum) m.states k s d inside) (record { from_one = low; within = omega (arith, ints, low, high) });
+}
+
+pub some-trace-of : (m : Machine) (scale : ℕ) (states levels : List (List ℤ)) → IsSize (state_count m) → IsFactor scale → 1 ≤ length states → length states ≤ 2 ^ 24 → length levels ≡ length states
+    → AreSized (state_count m) states → AreSized (state_count m) levels → All (All (IsWithin 108)) states → All (All (IsWithin 64)) levels → (t : Trace) × IsTraceOf m scale states levels t
+some-trace-of m scale states levels size factor some few as_many sized-states sized-levels small-states small-levels =
+    let n = state_count m in
+    let count = count-joined n states size.some sized-states in
+    let long = length-joined n states sized-states in
+    let long-levels = length-joined n levels sized-levels in
+    let low : 1 * n ≤ length states * n = mul-le-mul_right n some in
+    let high : length states * n ≤ 2 ^ 24 * n = mul-le-mul_right n few in
+    let t : Trace = trace_of (record { n = n; scale = scale; refine = 1; q = quanta m; states = joined states; levels = joined levels }) (record {
+      size = size;
+      scale = factor;
+      refine = record { some = omega arith; few = omega arith };
+      quanta = quanta-sound m;
+      places = record {
+        whole = long ∙ ap (λ k. k * n) (sym count);
+        as_many = long-levels ∙ ap (λ k. k * n) as_many ∙ sym long;
+        some = omega (arith, long, low);
+        few = omega (arith, long, high);
+        small_states = all-joined (IsWithin 108) states small-states;
+        small_levels = all-joined (IsWithin 64) levels small-levels;
+      };
+    }) in (
+      t,
+      record {
+        size = refl;
+        own_scale = refl;
+        by_tick = refl;
+        own_quanta = refl;
+        own_states = places-joined n states size.some sized-states;
+        own_levels = places-joined n levels size.some sized-levels;
+      },
+    )
+
+-- numbers that are small are within a wider limit
+pub within-all : (narrow wide : ℕ) → 2 ^ narrow ≤ 2 ^ wide → (xs : List ℤ) → ((j : ℕ) → j < length xs → IsWithin narrow (int_at xs j)) → All (IsWithin wide) xs
+within-all narrow wide le xs each k d h =
+    let e : int_at xs k ≡ get_or xs k d = get_or_default xs k (pos 0) d h in
+    subst (IsWithin wide) e (omega (arith, each k h, le))

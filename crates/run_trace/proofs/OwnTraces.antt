@@ -1,0 +1,306 @@
+-- Each of a machine's own runs has one trace, or overflows at one tick; its trace is a legitimate run.
+use Rattle.std.proofs.Common.{◌≡◌, ℕ, zero, suc, ◌+◌, ◌^◌, ◌<◌, ◌≤◌, ◌⊎◌, inl, inr, Bool, true, false, cond, List, [], ◌∷◌, length, map, take, get_or, ℤ, pos, refl, sym, ap, subst, ◌∙◌, arith, lit≤}
+use Rattle.std.proofs.lemmas.Bool.{cases_lt}
+use Rattle.std.proofs.lemmas.Bool.Decides.{nat_tests}
+use Rattle.std.proofs.lemmas.Iterator.Adapters.{position_from-zero}
+use Rattle.std.proofs.lemmas.List.{length-map, get_or-map, get_or-take, length-take}
+use Rattle.std.proofs.lemmas.List.Elements.{All-cons, All-map, All-nil}
+use Rattle.std.proofs.lemmas.List.FromFn.{length-map-range_with_len, length-range_with_len, get_or-range_with_len}
+use Rattle.std.proofs.lemmas.List.Quantifiers.{position-Some}
+use Rattle.std.specs.List.{position, position_from, range_with_len}
+use Rattle.std.specs.Prelude.{All, Option, Some, None, Ok, MatchBool, ◌||◌, unsigned_abs}
+use Rattle.mu_num.proofs.NearLevels.{floor-free}
+use Rattle.mu_num.specs.Levels.{floor_level}
+use Rattle.mu_num.specs.Sizes.{IsWithin, passes}
+use Rattle.qss_machine.specs.Handlers.{Handling, run_clauses}
+use Rattle.qss_machine.specs.Laws.{HasSmallLevels, states_from, levels_from}
+use Rattle.qss_machine.specs.Legitimate.{IsLegitimate}
+use Rattle.qss_machine.specs.Limits.{IsState, level_below}
+use Rattle.qss_machine.specs.Machines.{state_count, level_unit, quanta, start_states}
+use Rattle.qss_machine.specs.Numbers.{int_at}
+use Rattle.qss_machine.specs.Runs.{LeadsBy, LeadsTo, EndsBy, Run, IsRun}
+use Rattle.qss_machine.specs.Slopes.{slope_of}
+use Rattle.qss_machine.specs.Ticks.{World, start_world, moved_states, handling_at, StepBy, By, IsQuantizing, IsNextLevel}
+use Rattle.qss_machine.specs.declared.parts.ClauseInfo.{ClauseInfo}
+use Rattle.qss_machine.specs.declared.parts.StateInfo.{StateInfo}
+use Rattle.qss_machine.specs.declared.system.Machine.{Machine}
+use Rattle.qss_machine.proofs.Admitted.{runs_are_legitimate}
+use Rattle.qss_machine.proofs.Near.{step_facts, unit_positive}
+use Rattle.qss_machine.proofs.OneRun.{runs_are_unique}
+use Rattle.qss_machine.proofs.Ranges.{states_small, start_small, step_small}
+use Rattle.qss_machine.proofs.Rules.{rules_are_free}
+use Rattle.cert_check.specs.Limits.{IsSize}
+use Rattle.qss_order2.specs.Laws.{states_from2, levels_from2}
+use Rattle.qss_order2.specs.Rules.{IsRuled2}
+use Rattle.qss_order2.specs.Runs.{Leads2, EndsBy2, Past}
+use Rattle.qss_order2.specs.Worlds.{World2, fineness, near_change, By2, AreChanges, rise_at, leaves, next_levels, IsStart2}
+use Rattle.qss_order2.proofs.Legitimacy.{ruled_runs_are_legitimate, nearest_is_free}
+use Rattle.qss_order2.proofs.Uniqueness.{second_runs_are_unique}
+use Rattle.qss_trace.proofs.Placing.{length-places}
+use Rattle.qss_trace.proofs.Turns.{state-small, level-small}
+use Rattle.qss_trace.specs.Trace.{count_of, IsRunOf}
+use Rattle.qss_trace.specs.declared.trace.Trace.{Trace}
+use Rattle.run_trace.specs.FirstRuns.{first_run, IsFirstTrace, IsFirstRefusal}
+use Rattle.run_trace.specs.SecondRuns.{second_run, second_worlds, is_wide, first_wide, IsSecondTrace, IsOverflow, IsTooWide, IsSecondRefusal}
+use Rattle.run_trace.specs.Traces.{IsTraceOf}
+use Rattle.run_trace.specs.declared.trace_over.TraceOver.TheVariants.{Over}
+use Rattle.run_trace.proofs.Listed.{one-trace-of, some-trace-of, within-all}
+
+-- a trace of legitimate states and levels is legitimate
+legitimate-of : (m : Machine) (scale : ℕ) (states levels : List (List ℤ)) (t : Trace) → IsTraceOf m scale states levels t → IsLegitimate m (start_states m) (quanta m) scale 1 states levels → IsRunOf m t
+legitimate-of m scale states levels t is h = rw (is.own_quanta, is.own_scale, is.by_tick, is.own_states, is.own_levels) h
+
+-- ---- the run under the floor rule
+
+no_handlers : (m : Machine) (tick : ℕ) (before : List ℤ) (number : ℕ) (h : Handling) (clauses : List ClauseInfo) (due : List Bool) → clauses ≡ [] → run_clauses m tick before number h clauses due ≡ h
+no_handlers m tick before number h [] due e = refl
+no_handlers m tick before number h (clause ∷ clauses) due e = absurd (cc)
+
+-- a world that a trace can hold
+record IsFit (m : Machine) (w : World) : Type 0 where
+  each_state : length w.states ≡ state_count m
+  each_level : length w.levels ≡ state_count m
+  small_states : (j : ℕ) → IsWithin 88 (int_at w.states j)
+  small_levels : HasSmallLevels w
+
+starts_small : (unit : ℤ) (states : List StateInfo) → All (IsState unit) states → (j : ℕ) → IsWithin 88 (int_at (map (λ (s : StateInfo). s.x0) states) j)
+starts_small unit [] all j = omega arith
+starts_small unit (s ∷ states) all zero = (all 0 s (omega arith)).start
+starts_small unit (s ∷ states) all (suc j) = starts_small unit states (λ k d h. all (suc k) d (omega arith)) j
+
+start_fit : (m : Machine) → IsFit m (start_world m)
+start_fit m = record {
+  each_state = length-map m.states (λ (state : StateInfo). state.x0);
+  each_level = length-map (start_states m) (level_below (level_unit m)) ∙ length-map m.states (λ (state : StateInfo). state.x0);
+  small_states = starts_small (level_unit m) m.states m.has_variables.each_state;
+  small_levels = start_small m;
+}
+
+step_fit : (Allows : ℕ → ℤ → ℤ → ℤ → Type 0) (m : Machine) (tick : ℕ) (w next : World) → m.clauses ≡ [] → StepBy Allows m tick w (Ok next) → IsFit m next
+step_fit Allows m tick w next none s =
+    let facts = step_facts Allows m tick w next s in
+    let small = states_small m tick w facts.no_overflow in
+    let idle = no_handlers m tick w.discretes 0 _ m.clauses _ none in
+    record {
+      each_state = ap length facts.states ∙ ap (λ (h : Handling). length h.states) idle ∙ length-map-range_with_len _ 0 (state_count m);
+      each_level = facts.levels.one_each;
+      small_states = subst (λ xs. (j : ℕ) → IsWithin 88 (int_at xs j)) (sym facts.states) small;
+      small_levels = step_small Allows m tick w next s;
+    }
+
+fit_from : (Allows : ℕ → ℤ → ℤ → ℤ → Type 0) (m : Machine) (tick : ℕ) (w : World) (worlds : List World) → m.clauses ≡ [] → IsFit m w → LeadsBy Allows m tick w worlds → All (IsFit m) (w ∷ worlds)
+fit_from Allows m tick w [] none fit leads = All-cons (IsFit m) w [] fit (All-nil (IsFit m))
+fit_from Allows m tick w (next ∷ worlds) none fit leads =
+    All-cons (IsFit m) w (next ∷ worlds) fit (fit_from Allows m (tick + 1) next worlds none (step_fit Allows m (tick + 1) w next none leads.0) leads.1)
+
+first-fits : (m : Machine) → m.clauses ≡ [] → All (IsFit m) (start_world m ∷ (first_run m).worlds)
+first-fits m none = fit_from (IsNextLevel (By floor_level) m) m 0 (start_world m) (first_run m).worlds none (start_fit m) (runs_are_unique.is_run floor_level m).steps
+
+first-traced : (m : Machine) → m.clauses ≡ [] → IsSize (state_count m) → m.last ≤ 65535 → (first_run m).overflow ≡ None → (t : Trace) × IsFirstTrace m t
+first-traced m none size short end =
+    let worlds = start_world m ∷ (first_run m).worlds in
+    let fits = first-fits m none in
+    let reach : length (first_run m).worlds ≡ m.last = subst (EndsBy (By floor_level) m (first_run m).worlds) end (runs_are_unique.is_run floor_level m).end in
+    let many-states = length-map worlds (λ (w : World). w.states) in
+    let many-levels = length-map worlds (λ (w : World). w.levels) in
+    let found = some-trace-of m 1 (states_from (start_world m) (first_run m).worlds) (levels_from (start_world m) (first_run m).worlds) size (record { some = omega arith; few = omega arith })
+    (omega (arith, many-states)) (omega (arith, many-states, reach, short)) (many-levels ∙ sym many-states)
+    (All-map (λ xs. length xs ≡ state_count m) (λ (w : World). w.states) worlds (λ k d h. (fits k d h).each_state))
+    (All-map (λ xs. length xs ≡ state_count m) (λ (w : World). w.levels) worlds (λ k d h. (fits k d h).each_level))
+    (All-map (All (IsWithin 108)) (λ (w : World). w.states) worlds (λ k d h. within-all 88 108 (lit≤ tt) (get_or worlds k d).states (λ j l. (fits k d h).small_states j)))
+    (All-map (All (IsWithin 64)) (λ (w : World). w.levels) worlds (λ k d h. within-all 43 64 (lit≤ tt) (get_or worlds k d).levels (λ j l. (fits k d h).small_levels j))) in
+    (found.0, record { reaches_end = end; is_trace = found.1 })
+
+pub some-first : (m : Machine) → m.clauses ≡ [] → IsSize (state_count m) → m.last ≤ 65535 → ((t : Trace) × IsFirstTrace m t) ⊎ ((tick : ℕ) × (var : ℕ) × IsFirstRefusal m (Over tick var))
+some-first m none size short = by (first_run m).overflow refl
+  where
+    by : (o : Option ℕ) → (first_run m).overflow ≡ o → ((t : Trace) × IsFirstTrace m t) ⊎ ((tick : ℕ) × (var : ℕ) × IsFirstRefusal m (Over tick var))
+    by None e = inl (first-traced m none size short e)
+    by (Some var) e = inr (length (first_run m).worlds + 1, var, (refl, e))
+
+pub one-first : (m : Machine) (a b : Trace) → IsFirstTrace m a → IsFirstTrace m b → a ≡ b
+one-first m a b p q = one-trace-of m 1 (states_from (start_world m) (first_run m).worlds) (levels_from (start_world m) (first_run m).worlds) a b p.is_trace q.is_trace
+
+pub first-apart : (m : Machine) (t : Trace) (tick var : ℕ) → IsFirstTrace m t → IsFirstRefusal m (Over tick var) → ⊥
+first-apart m t tick var p q = absurd (let e = sym p.reaches_end ∙ q.1 in cc)
+
+pub one-first-over : (m : Machine) (tick var tick' var' : ℕ) → IsFirstRefusal m (Over tick var) → IsFirstRefusal m (Over tick' var') → (tick ≡ tick') × (var ≡ var')
+one-first-over m tick var tick' var' p q = (p.0 ∙ sym q.0, (let e = sym p.1 ∙ q.1 in cc))
+
+floor-quantizes : IsQuantizing floor_level
+floor-quantizes unit state old low high small near = floor-free unit state old (let h = low in grind (arith, nat_tests))
+
+pub first-legitimate : (m : Machine) (t : Trace) → m.clauses ≡ [] → m.relative ≡ 0 → IsFirstTrace m t → IsRunOf m t
+first-legitimate m t none own p =
+    let worlds = (first_run m).worlds in
+    let steps = (runs_are_unique.is_run floor_level m).steps in
+    let free = rules_are_free.leads floor_level floor-quantizes m 0 (start_world m) worlds (start_small m) steps in
+    legitimate-of m 1 (states_from (start_world m) worlds) (levels_from (start_world m) worlds) t p.is_trace
+    (runs_are_legitimate.own m worlds none own (rules_are_free.freely m 0 (start_world m) worlds free))
+
+-- ---- the second-order run
+
+near_change_ruled : (m : Machine) (asked : ℕ → Bool) (levels old new : List ℤ) → AreChanges (By2 near_change) m asked levels old new → AreChanges (IsRuled2 true) m asked levels old new
+near_change_ruled m asked levels old new are = record { one_each = are.one_each; each = λ j h. by (asked j) (rise_at m j levels) (int_at new j) (int_at old j) (are.each j h) }
+  where
+    by : (b : Bool) (rise z y : ℤ) → MatchBool b (By2 near_change (level_unit m) rise z) (z ≡ y) → MatchBool b (IsRuled2 true (level_unit m) rise z) (z ≡ y)
+    by true rise z y e = record { close = rw e (nearest_is_free (level_unit m) rise (unit_positive m)); named = λ named. e }
+    by false rise z y e = e
+
+near_steps : (m : Machine) (tick : ℕ) (w : World2) (worlds : List World2) → Leads2 (By2 near_change) m tick w worlds → Leads2 (IsRuled2 true) m tick w worlds
+near_steps m tick w [] steps = tt
+near_steps m tick w (next ∷ worlds) steps =
+    ((steps.0.0, near_change_ruled m (leaves m w) (next_levels m w) w.changes steps.0.0 steps.0.1, steps.0.2), near_steps m (tick + 1) next worlds steps.1)
+
+second-lists : (m : Machine) → IsLegitimate m (start_states m) (quanta m) fineness 1 (states_from2 (second_run m).start (second_run m).worlds) (levels_from2 (second_run m).start (second_run m).worlds)
+second-lists m =
+    let run = second_runs_are_unique.is_run near_change m in
+    let begins = run.begins in
+    ruled_runs_are_legitimate true m (second_run m).start (second_run m).worlds
+    (record { states = begins.states; levels = begins.levels; changes = near_change_ruled m (λ j. true) (second_run m).start.levels [] (second_run m).start.changes begins.changes })
+    (near_steps m 0 (second_run m).start (second_run m).worlds run.steps)
+
+pub second-legitimate : (m : Machine) (t : Trace) → IsSecondTrace m t → IsRunOf m t
+second-legitimate m t p =
+    legitimate-of m fineness (states_from2 (second_run m).start (second_run m).worlds) (levels_from2 (second_run m).start (second_run m).worlds) t p.is_trace (second-lists m)
+
+-- ---- what a trace cannot hold
+
+cond-none : (b : Bool) (i : ℕ) (o : Option ℕ) → cond b (Some i) o ≡ None → (b ≡ false) × (o ≡ None)
+cond-none true i o e = absurd (cc)
+cond-none false i o e = (refl, e)
+
+none-from : {X : Type 0} (p : X → Bool) (i : ℕ) (xs : List X) → position_from p i xs ≡ None → (k : ℕ) (d : X) → k < length xs → p (get_or xs k d) ≡ false
+none-from p i [] e k d h = absurd (omega arith)
+none-from p i (x ∷ xs) e zero d h = (cond-none (p x) i (position_from p (i + 1) xs) e).0
+none-from p i (x ∷ xs) e (suc k) d h = none-from p (i + 1) xs (cond-none (p x) i (position_from p (i + 1) xs) e).1 k d (omega arith)
+
+-- no state of the world is wide
+abbrev IsNarrow : World2 → Type 0
+IsNarrow w = first_wide w ≡ None
+
+not-or : (a b : Bool) → (a || b) ≡ false → (a ≡ false) × (b ≡ false)
+not-or true b e = absurd (cc)
+not-or false b e = (refl, e)
+
+narrow-at : (w : World2) (j : ℕ) → IsNarrow w → j < length w.states → IsWithin 108 (int_at w.states j) × IsWithin 64 (int_at w.levels j)
+narrow-at w j none h =
+    let xs = range_with_len 0 (length w.states) in
+    let is : is_wide w (get_or xs j 0) ≡ false = none-from (is_wide w) 0 xs (sym (position_from-zero (is_wide w) xs) ∙ none) j 0 (omega (arith, h, length-range_with_len 0 (length w.states))) in
+    let here : get_or xs j 0 ≡ j = get_or-range_with_len 0 (length w.states) j 0 h ∙ omega arith in
+    let both = not-or (passes 108 (int_at w.states j)) (passes 64 (int_at w.levels j)) (subst (λ k. is_wide w k ≡ false) here is) in
+    let a = both.0 in
+    let b = both.1 in
+    (grind (arith, nat_tests, a), grind (arith, nat_tests, b))
+
+wide-at : (w : World2) (var : ℕ) → first_wide w ≡ Some var → (var < length w.states) × (is_wide w var ≡ true)
+wide-at w var e =
+    let xs = range_with_len 0 (length w.states) in
+    let found = position-Some (is_wide w) xs var 0 e in
+    let inside : var < length w.states = omega (arith, found.0, length-range_with_len 0 (length w.states)) in
+    let here : get_or xs var 0 ≡ var = get_or-range_with_len 0 (length w.states) var 0 inside ∙ omega arith in
+    (inside, subst (λ k. is_wide w k ≡ true) here found.1)
+
+not-wide : (w : World2) (j : ℕ) → IsWithin 108 (int_at w.states j) → IsWithin 64 (int_at w.levels j) → is_wide w j ≡ true → ⊥
+not-wide w j a b e = by (passes 108 (int_at w.states j)) refl
+  where
+    by : (t : Bool) → passes 108 (int_at w.states j) ≡ t → ⊥
+    by true is = absurd (grind (arith, nat_tests, a, is))
+    by false is = let f : passes 64 (int_at w.levels j) ≡ true = rw is at e in absurd (grind (arith, nat_tests, b, f))
+
+-- all worlds are narrow, or there is a first wide one
+abbrev IsFirstWide : List World2 → ℕ → ℕ → Type 0
+IsFirstWide ws tick var = (tick < length ws) × ((d : World2) → first_wide (get_or ws tick d) ≡ Some var) × All IsNarrow (take tick ws)
+
+scan : (ws : List World2) → All IsNarrow ws ⊎ ((tick : ℕ) × (var : ℕ) × IsFirstWide ws tick var)
+scan [] = inl (All-nil IsNarrow)
+scan (w ∷ ws) = by (first_wide w) refl (scan ws)
+  where
+    by : (o : Option ℕ) → first_wide w ≡ o → All IsNarrow ws ⊎ ((tick : ℕ) × (var : ℕ) × IsFirstWide ws tick var) → All IsNarrow (w ∷ ws) ⊎ ((tick : ℕ) × (var : ℕ) × IsFirstWide (w ∷ ws) tick var)
+    by (Some var) e rest = inr (0, var, (omega arith, (λ d. e), All-nil IsNarrow))
+    by None e (inl all) = inl (All-cons IsNarrow w ws e all)
+    by None e (inr (tick, var, found)) = inr (suc tick, var, (omega (arith, found.0), found.1, All-cons IsNarrow w (take tick ws) e found.2))
+
+second-traced : (m : Machine) → IsSize (state_count m) → m.last ≤ 65535 → (second_run m).overflow ≡ None → All IsNarrow (second_worlds m) → (t : Trace) × IsSecondTrace m t
+second-traced m size short end narrow =
+    let start = (second_run m).start in
+    let worlds = (second_run m).worlds in
+    let legitimate = second-lists m in
+    let ended = subst (EndsBy2 (By2 near_change) m start worlds) end (second_runs_are_unique.is_run near_change m).end in
+    let reach : length worlds ≡ m.last = ended.1 in
+    let many : length (states_from2 start worlds) ≡ suc (length worlds) = length-map (start ∷ worlds) (λ (w : World2). w.states) in
+    let found = some-trace-of m fineness (states_from2 start worlds) (levels_from2 start worlds) size (record { some = omega arith; few = omega arith })
+    legitimate.places (omega (arith, many, reach, short)) legitimate.as_many legitimate.state_lengths legitimate.level_lengths
+    (All-map (All (IsWithin 108)) (λ (w : World2). w.states) (start ∷ worlds) (λ k d h. within-all 108 108 (lit≤ tt) (get_or (start ∷ worlds) k d).states
+    (λ j l. (narrow-at (get_or (start ∷ worlds) k d) j (narrow k d h) l).0)))
+    (All-map (All (IsWithin 64)) (λ (w : World2). w.levels) (start ∷ worlds) (λ k d h. within-all 64 64 (lit≤ tt) (get_or (start ∷ worlds) k d).levels
+    (λ j l. (narrow-at (get_or (start ∷ worlds) k d) j (narrow k d h) (omega (arith, l, sizes k d h))).1))) in
+    (found.0, record { reaches_end = end; is_trace = found.1 })
+  where
+    sizes : (k : ℕ) (d : World2) → k < length (second_worlds m) → length (get_or (second_worlds m) k d).levels ≡ length (get_or (second_worlds m) k d).states
+    sizes k d h =
+        let legitimate = second-lists m in
+        let ws = second_worlds m in
+        let a = legitimate.state_lengths k d.states (omega (arith, h, length-map ws (λ (w : World2). w.states))) in
+        let b = legitimate.level_lengths k d.levels (omega (arith, h, length-map ws (λ (w : World2). w.levels))) in
+        ap length (sym (get_or-map (λ (w : World2). w.levels) ws k d d.levels h)) ∙ b ∙ sym a ∙ ap length (get_or-map (λ (w : World2). w.states) ws k d d.states h)
+
+pub some-second : (m : Machine) → IsSize (state_count m) → m.last ≤ 65535 → ((t : Trace) × IsSecondTrace m t) ⊎ ((tick : ℕ) × (var : ℕ) × IsSecondRefusal m (Over tick var))
+some-second m size short = by (scan (second_worlds m)) (second_run m).overflow refl
+  where
+    by : All IsNarrow (second_worlds m) ⊎ ((tick : ℕ) × (var : ℕ) × IsFirstWide (second_worlds m) tick var) → (o : Option Past) → (second_run m).overflow ≡ o
+        → ((t : Trace) × IsSecondTrace m t) ⊎ ((tick : ℕ) × (var : ℕ) × IsSecondRefusal m (Over tick var))
+    by (inr (tick, var, found)) o e = inr (tick, var, inr (record { inside = found.0; least = found.1 (second_run m).start; before = found.2 }))
+    by (inl narrow) (Some past) e = inr (past.tick, past.var, inl (record { overflow = e; before = narrow }))
+    by (inl narrow) None e = inl (second-traced m size short e narrow)
+
+pub one-second : (m : Machine) (a b : Trace) → IsSecondTrace m a → IsSecondTrace m b → a ≡ b
+one-second m a b p q =
+    one-trace-of m fineness (states_from2 (second_run m).start (second_run m).worlds) (levels_from2 (second_run m).start (second_run m).worlds) a b p.is_trace q.is_trace
+
+-- the trace of a run holds each of its worlds
+traced-narrow : (m : Machine) (t : Trace) (tick var : ℕ) → IsSecondTrace m t → IsTooWide m tick var → ⊥
+traced-narrow m t tick var p wide =
+    let ws = second_worlds m in
+    let start = (second_run m).start in
+    let w = get_or ws tick start in
+    let found = wide-at w var wide.least in
+    let count : length ws ≡ count_of t =
+    sym (length-map ws (λ (w : World2). w.states)) ∙ ap length (sym p.is_trace.own_states) ∙ length-places t.n t.states in
+    let sized = (second-lists m).state_lengths tick start.states (omega (arith, wide.inside, length-map ws (λ (w : World2). w.states))) in
+    let at-states = get_or-map (λ (w : World2). w.states) ws tick start [] wide.inside in
+    let at-levels = get_or-map (λ (w : World2). w.levels) ws tick start [] wide.inside in
+    let at-sized = get_or-map (λ (w : World2). w.states) ws tick start start.states wide.inside in
+    let inside : var < t.n = omega (arith, found.0, sized, ap length at-sized, p.is_trace.size) in
+    let a : IsWithin 108 (int_at w.states var) = subst (λ (xs : List ℤ). IsWithin 108 (int_at xs var)) (ap (λ (xs : List (List ℤ)). get_or xs tick []) p.is_trace.own_states ∙ at-states) (state-small t tick var (omega (arith, wide.inside, count)) inside) in
+    let b : IsWithin 64 (int_at w.levels var) = subst (λ (xs : List ℤ). IsWithin 64 (int_at xs var)) (ap (λ (xs : List (List ℤ)). get_or xs tick []) p.is_trace.own_levels ∙ at-levels) (level-small t tick var (omega (arith, wide.inside, count)) inside) in
+    not-wide w var a b found.1
+
+pub second-apart : (m : Machine) (t : Trace) (tick var : ℕ) → IsSecondTrace m t → IsSecondRefusal m (Over tick var) → ⊥
+second-apart m t tick var p (inl over) = absurd (let e = sym p.reaches_end ∙ over.overflow in cc)
+second-apart m t tick var p (inr wide) = traced-narrow m t tick var p wide
+
+no-later : (m : Machine) (tick var tick' var' : ℕ) → IsTooWide m tick var → IsTooWide m tick' var' → tick < tick' → ⊥
+no-later m tick var tick' var' p q l =
+    let ws = second_worlds m in
+    let start = (second_run m).start in
+    let narrow = q.before tick start (omega (arith, l, q.inside, length-take tick' ws)) in
+    let here : get_or (take tick' ws) tick start ≡ get_or ws tick start = get_or-take tick' ws tick start l in
+    absurd (let e : Some var ≡ None = sym p.least ∙ ap first_wide (sym here) ∙ narrow in cc)
+
+pub one-second-over : (m : Machine) (tick var tick' var' : ℕ) → IsSecondRefusal m (Over tick var) → IsSecondRefusal m (Over tick' var') → (tick ≡ tick') × (var ≡ var')
+one-second-over m tick var tick' var' (inl p) (inl q) =
+    let same = sym p.overflow ∙ q.overflow in
+    let past : Path Past (record { tick = tick; var = var }) (record { tick = tick'; var = var' }) = (cc) in
+    (ap (λ (x : Past). x.tick) past, ap (λ (x : Past). x.var) past)
+one-second-over m tick var tick' var' (inl p) (inr q) = absurd (let e = sym (p.before tick' (second_run m).start q.inside) ∙ q.least in cc)
+one-second-over m tick var tick' var' (inr p) (inl q) = absurd (let e = sym (q.before tick (second_run m).start p.inside) ∙ p.least in cc)
+one-second-over m tick var tick' var' (inr p) (inr q) = by (cases_lt tick tick') (cases_lt tick' tick)
+  where
+    by : (tick < tick') ⊎ (tick' ≤ tick) → (tick' < tick) ⊎ (tick ≤ tick') → (tick ≡ tick') × (var ≡ var')
+    by (inl l) h = absurd (no-later m tick var tick' var' p q l)
+    by (inr l) (inl h) = absurd (no-later m tick' var' tick var q p h)
+    by (inr l) (inr h) =
+        let same : tick ≡ tick' = omega arith in
+        let e : Some var ≡ Some var' = sym p.least ∙ ap (λ k. first_wide (get_or (second_worlds m) k (second_run m).start)) same ∙ q.least in
+        (same, (cc))
