@@ -1,6 +1,6 @@
 // Candidates of worked models and of models that seeds give.
 
-use crate::digests::DIGESTS;
+use crate::answers::ANSWERS;
 use crate::sources::source_of;
 use cert_check::{Certificate, Verdict, scope};
 use cert_propose::{Proposal, propose};
@@ -14,7 +14,7 @@ use std::test::Fail;
 const PRIME: u64 = 2_147_483_647;
 
 // Worked models, each with what is proposed for it.
-const WORKED: [(&str, u64); 8] = [
+const WORKED: [(&str, u64); 14] = [
     (
         "model m Real x(start = 64); equation der(x) = -1*x; annotation(experiment(StopTime = 1, QSS_CoefBits = 8, QSS_TickBits = 4, QSS_LevelBits = 0, QSS_Quantum = 4)); end m;",
         535122344,
@@ -46,6 +46,33 @@ const WORKED: [(&str, u64); 8] = [
     (
         "model m Real x; Real y(start = 1); Real z; equation der(x) = 1/4 - x; der(y) = x - y; der(z) = y - z; annotation(experiment(StopTime = 1, QSS_CoefBits = 8, QSS_TickBits = 6, QSS_LevelBits = 2, QSS_Quantum = 1/2)); end m;",
         1561194320,
+    ),
+    // The last step alone is out of range.
+    (
+        "model m Real x(start = 57262935); equation der(x) = -1/4*x; annotation(experiment(StopTime = 1, QSS_CoefBits = 24, QSS_TickBits = 0, QSS_LevelBits = 4, QSS_Quantum = 1)); end m;",
+        6,
+    ),
+    (
+        "model m Real x(start = 10540281099); equation der(x) = -64*x; annotation(experiment(StopTime = 1, QSS_CoefBits = 8, QSS_TickBits = 8, QSS_LevelBits = 4, QSS_Quantum = 16)); end m;",
+        6,
+    ),
+    // The basin is still growing: the ninth inequality fails.
+    (
+        "model m Real x(start = 578432208331); equation der(x) = -1*x; annotation(experiment(StopTime = 1, QSS_CoefBits = 2, QSS_TickBits = 0, QSS_LevelBits = 0, QSS_Quantum = 16)); end m;",
+        777709445,
+    ),
+    (
+        "model m Real x(start = 3527223113); equation der(x) = -1*x + 5185729; annotation(experiment(StopTime = 1, QSS_CoefBits = 0, QSS_TickBits = 0, QSS_LevelBits = 4, QSS_Quantum = 16)); end m;",
+        1889482632,
+    ),
+    // A sum of the fifth inequality is out of range.
+    (
+        "model m Real x(start = 1060702); equation der(x) = -1/16*x; annotation(experiment(StopTime = 1, QSS_CoefBits = 24, QSS_TickBits = 12, QSS_LevelBits = 0, QSS_Quantum = 2^8*2^8*256)); end m;",
+        1675715928,
+    ),
+    (
+        "model m Real x(start = 333990); equation der(x) = -1/2*x; annotation(experiment(StopTime = 1, QSS_CoefBits = 16, QSS_TickBits = 20, QSS_LevelBits = 2, QSS_Quantum = 2^8*2^8*256)); end m;",
+        5704988,
     ),
 ];
 
@@ -122,17 +149,33 @@ fn answer(alloc: Global, source: &[u8]) -> Result<Option<u64>, AllocError> {
 fn worked_models(rt: HostRuntime) -> Result<(), Fail> {
     let alloc = rt.alloc();
     for worked in WORKED.as_slice() {
-        assert_eq!(rt; answer(alloc, worked.0.as_bytes())?, Some(worked.1));
+        assert_eq!(rt;
+            answer(alloc, worked.0.as_bytes())?,
+            Some(worked.1),
+            "{}",
+            worked.0
+        );
     }
     Ok(())
+}
+
+// The seed and the answer of a line.
+fn seed_and_answer(line: &str) -> Option<(u64, u64)> {
+    let (seed, answer) = line.split_once(' ')?;
+    Some((seed.parse().ok()?, answer.parse().ok()?))
 }
 
 #[test]
 fn models_of_seeds(rt: HostRuntime) -> Result<(), Fail> {
     let alloc = rt.alloc();
-    for (seed, digest) in DIGESTS.as_slice().iter().enumerate() {
-        let source = source_of(alloc, seed as u64)?;
-        assert_eq!(rt; answer(alloc, source.as_slice())?, Some(*digest));
+    for line in ANSWERS.lines() {
+        let (seed, wanted) = seed_and_answer(line).ok_or("line")?;
+        let source = source_of(alloc, seed).ok_or("source")?;
+        assert_eq!(rt;
+            answer(alloc, source.as_slice())?,
+            Some(wanted),
+            "seed {seed}"
+        );
     }
     Ok(())
 }

@@ -12,17 +12,12 @@ impl Chance {
     }
 
     /// A number below a bound, or 0 where that is 0.
-    pub(crate) fn below(&mut self, bound: u32) -> u32 {
+    pub(crate) fn below(&mut self, bound: usize) -> usize {
         self.number = self
             .number
             .wrapping_mul(6_364_136_223_846_793_005)
             .wrapping_add(1_442_695_040_888_963_407);
-        let upper = (self.number >> 33) as u32;
+        let upper = (self.number >> 33) as usize;
         upper.checked_rem(bound).unwrap_or(0)
-    }
-
-    /// A number from `low` on, of so many.
-    pub(crate) fn from(&mut self, low: i64, count: u32) -> i64 {
-        low.saturating_add(i64::from(self.below(count)))
     }
 }

@@ -2,10 +2,12 @@
 #![tactic(auto)]
 
 #[cfg(test)]
+mod answers;
+#[cfg(test)]
 mod candidates;
 #[cfg(test)]
 mod chance;
 #[cfg(test)]
-mod digests;
+mod grammar;
 #[cfg(test)]
 mod sources;

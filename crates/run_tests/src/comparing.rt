@@ -34,8 +34,8 @@ const SETTINGS: [(Rule, u16); 6] = [
 const HEAVY: &str =
     "model m Real x0, x1(start = 1), x2(start = 1), x3(start = 1); equation der(x0) = 1048576*x1 - 1048576*x2 + 1048576*x3; der(x1) = 0; der(x2) = 0; der(x3) = 0; algorithm when time >= 1/524288 then reinit(x1, 549755813888); reinit(x2, 549755813888); reinit(x3, 549755813888); end when; annotation(experiment(StopTime = 1/65536, QSS_CoefBits = 24, QSS_TickBits = 20, QSS_LevelBits = 4, QSS_Quantum = 1)); end m;";
 
-// Room for the text of a run.
-const ROOM: usize = 1 << 18;
+/// Room for the text of a run.
+pub(crate) const ROOM: usize = 1 << 18;
 
 // How many sources meant a machine, and how many rows of each kind their runs had.
 #[derive(Debug, Default, Drop)]
@@ -70,8 +70,8 @@ impl Tally {
     }
 }
 
-// The machine of a source, or none where a phase refuses it.
-fn machine_of(alloc: Global, source: &[u8]) -> Option<Machine> {
+/// The machine of a source, or none where a phase refuses it.
+pub(crate) fn machine_of(alloc: Global, source: &[u8]) -> Option<Machine> {
     if source.len() > 1048576 {
         return None;
     }

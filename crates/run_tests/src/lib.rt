@@ -18,6 +18,12 @@ mod numbers;
 #[cfg(test)]
 mod runs;
 #[cfg(test)]
+mod second;
+#[cfg(test)]
+mod second_runs;
+#[cfg(test)]
+mod second_ticks;
+#[cfg(test)]
 mod slopes;
 #[cfg(test)]
 mod sources;

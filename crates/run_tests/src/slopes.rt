@@ -1,6 +1,6 @@
 // Slopes of a machine's rows, from levels and discrete values.
 
-use crate::numbers::{nearest, power};
+use crate::numbers::{nearest, power, total};
 use qss_machine::{Machine, SlopeRow};
 use std::alloc::Global;
 
@@ -48,12 +48,20 @@ pub(crate) fn mode_coefficients(
     Some(modes)
 }
 
-// Adds the level of each state times its mode coefficient.
-fn push_level_terms(terms: &mut Vec<i128>, modes: &[i128], levels: &[i128]) -> Option<()> {
+/// The level of each state times its mode coefficient.
+pub(crate) fn level_terms(
+    alloc: Global,
+    m: &Machine,
+    row: &SlopeRow,
+    levels: &[i128],
+    discretes: &[i128],
+) -> Option<Vec<i128>> {
+    let modes = mode_coefficients(alloc, m, row, discretes)?;
+    let mut terms = Vec::new(alloc);
     for (mode, level) in modes.iter().zip(levels) {
         terms.push(mode.checked_mul(*level)?).ok()?;
     }
-    Some(())
+    Some(terms)
 }
 
 // Adds each discrete value times its coefficient.
@@ -78,10 +86,21 @@ pub(crate) fn terms(
     levels: &[i128],
     discretes: &[i128],
 ) -> Option<Vec<i128>> {
-    let modes = mode_coefficients(alloc, m, row, discretes)?;
-    let mut terms = Vec::new(alloc);
-    push_level_terms(&mut terms, &modes, levels)?;
+    let mut terms = level_terms(alloc, m, row, levels, discretes)?;
     push_discrete_terms(&mut terms, row, m.states.as_slice().len(), discretes)?;
     terms.push(row.beta).ok()?;
     Some(terms)
+}
+
+/// What no level changes of a row: each discrete value by its coefficient, and the constant.
+pub(crate) fn drive(
+    alloc: Global,
+    m: &Machine,
+    row: &SlopeRow,
+    discretes: &[i128],
+) -> Option<i128> {
+    let mut terms = Vec::new(alloc);
+    push_discrete_terms(&mut terms, row, m.states.as_slice().len(), discretes)?;
+    terms.push(row.beta).ok()?;
+    total(&terms)
 }

@@ -74,7 +74,7 @@ impl Draft {
         Some(())
     }
 
-    // An equation for each state, and some clauses.
+    // An equation for each state.
     fn define(&mut self) -> Option<()> {
         self.write("equation ")?;
         for state in texts_of(b'x').get(..self.states)? {
@@ -82,6 +82,11 @@ impl Draft {
             self.write(state)?;
             self.write(") = $e$z; ")?;
         }
+        Some(())
+    }
+
+    // Some clauses.
+    fn handle(&mut self) -> Option<()> {
         self.write("algorithm ")?;
         for _ in 0..self.chance.below(4) {
             self.write("$wend when; ")?;
@@ -98,20 +103,35 @@ fn push_reversed(bytes: &mut Vec<u8>, text: &str) -> Option<()> {
     Some(())
 }
 
-/// The source of a seed.
-pub(crate) fn source_of(alloc: Global, seed: u64) -> Option<String> {
+// An empty draft of a seed.
+fn draft_of(alloc: Global, seed: u64) -> Draft {
     let mut chance = Chance::new(seed);
     let states = chance.below(4).saturating_add(1);
     let discretes = chance.below(3);
     let is_large = chance.below(4) == 0;
-    let mut draft = Draft {
+    Draft {
         alloc,
         chance,
         states,
         discretes,
         is_large,
         bytes: Vec::new(alloc),
-    };
+    }
+}
+
+/// The source of a seed.
+pub(crate) fn source_of(alloc: Global, seed: u64) -> Option<String> {
+    let mut draft = draft_of(alloc, seed);
+    draft.declare()?;
+    draft.define()?;
+    draft.handle()?;
+    draft.write("annotation(experiment($g)); end m;")?;
+    String::from_utf8(draft.bytes).ok()
+}
+
+/// The source of a seed, without clauses.
+pub(crate) fn plain_source_of(alloc: Global, seed: u64) -> Option<String> {
+    let mut draft = draft_of(alloc, seed);
     draft.declare()?;
     draft.define()?;
     draft.write("annotation(experiment($g)); end m;")?;

@@ -83,8 +83,8 @@ fn rows_within(
     Ok(())
 }
 
-// The states at the start.
-fn start_states(alloc: Global, m: &Machine) -> Option<Vec<i128>> {
+/// The states at the start.
+pub(crate) fn start_states(alloc: Global, m: &Machine) -> Option<Vec<i128>> {
     let mut states = Vec::new(alloc);
     for info in m.states.as_slice() {
         states.push(info.x0).ok()?;
@@ -92,8 +92,8 @@ fn start_states(alloc: Global, m: &Machine) -> Option<Vec<i128>> {
     Some(states)
 }
 
-// The discrete values at the start.
-fn start_discretes(alloc: Global, m: &Machine) -> Option<Vec<i128>> {
+/// The discrete values at the start.
+pub(crate) fn start_discretes(alloc: Global, m: &Machine) -> Option<Vec<i128>> {
     let mut discretes = Vec::new(alloc);
     for info in m.discretes.as_slice() {
         discretes.push(i128::from(info.d0)).ok()?;

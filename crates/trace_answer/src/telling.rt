@@ -1,6 +1,6 @@
 //! The line that tells how a call ended.
 
-ghost use Rattle.std.specs.Prelude.{◌≡◌, IfOk};
+ghost use Rattle.std.specs.Prelude.{◌≡◌, IsOk, IfOk};
 ghost use Rattle.trace_answer.specs.Comparisons as Comparisons;
 ghost use Rattle.trace_answer.specs.Endings as Spec;
 
@@ -53,7 +53,10 @@ fn cause_line(alloc: Global, why: TraceErr) -> Result<Vec<u8>, AllocError>
 
 /// The line that tells how a call ended, with its line feed; nothing where all is written.
 pub fn ending_line(alloc: Global, ending: Ending) -> Result<Vec<u8>, AllocError>
-    ensures { IfOk result (λ line. line.items ≡ Spec.ending_line ending) }
+    ensures line { IfOk result (λ line. line.items ≡ Spec.ending_line ending) }
+
+    // Where all is written, no memory is wanted.
+    ensures silent { ending ≡ Ending.Written → IsOk result }
 {
     match ending {
         Ending::Written => Ok(Vec::new(alloc)),
