@@ -33,8 +33,8 @@ fn unit_of(m: &Machine) -> i128
     1i128 << (m.p + m.k)
 }
 
-// So many equal elements.
-pub(crate) fn copies<T: Copy>(alloc: Global, value: T, count: usize) -> Result<Vec<T>, AllocError>
+/// So many equal elements.
+pub fn copies<T: Copy>(alloc: Global, value: T, count: usize) -> Result<Vec<T>, AllocError>
     ensures { IfOk result (λ list. list.items ≡ replicate count value) }
 {
     let mut list: Vec<T> = Vec::with_capacity(alloc, count)?;
@@ -44,8 +44,8 @@ pub(crate) fn copies<T: Copy>(alloc: Global, value: T, count: usize) -> Result<V
     Ok(list)
 }
 
-// The discrete values of the start.
-fn discretes_of(alloc: Global, m: &Machine) -> Result<Vec<i64>, AllocError>
+/// The discrete values of the start.
+pub fn discretes_of(alloc: Global, m: &Machine) -> Result<Vec<i64>, AllocError>
     ensures { IfOk result (λ list. list.items ≡ start_discretes m.now) }
 {
     let discretes = m.discretes.as_slice();

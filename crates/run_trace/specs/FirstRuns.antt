@@ -1,5 +1,5 @@
 -- The trace of a machine's run under the floor rule.
-use Rattle.std.specs.Prelude.{◌≡◌, ℕ, ◌+◌, length, Some, None}
+use Rattle.std.specs.Prelude.{◌≡◌, ◌+◌, length, Some, None}
 use Rattle.mu_num.specs.Levels.{floor_level}
 use Rattle.qss_machine.specs.declared.system.Machine.{Machine}
 use Rattle.qss_machine.specs.Ticks.{start_world}

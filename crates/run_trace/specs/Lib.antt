@@ -1,3 +1,11 @@
 pub mod Traces
+pub mod Worlds
+pub mod Wide
+pub mod Drafts
 pub mod FirstRuns
+pub mod FirstPlaces
+pub mod FirstCourses
+pub mod Systems
 pub mod SecondRuns
+pub mod SecondPlaces
+pub mod SecondCourses

@@ -1,9 +1,7 @@
 -- The trace of a machine's second-order run with the nearest changes.
-use Rattle.std.specs.Prelude.{◌≡◌, ℕ, ◌<◌, ◌⊎◌, Bool, ◌||◌, List, ◌∷◌, length, take, All, slice_index_or, position, Option, Some, None}
+use Rattle.std.specs.Prelude.{◌≡◌, ℕ, ◌<◌, ◌⊎◌, Bool, List, ◌∷◌, length, take, All, slice_index_or, position, Option, Some, None}
 use Rattle.std.specs.List.{range_with_len}
-use Rattle.mu_num.specs.Sizes.{passes}
 use Rattle.qss_machine.specs.declared.system.Machine.{Machine}
-use Rattle.qss_machine.specs.Numbers.{int_at}
 use Rattle.qss_order2.specs.Worlds.{World2, fineness, near_change}
 use Rattle.qss_order2.specs.Runs.{Run2, run2_by}
 use Rattle.qss_order2.specs.Laws.{states_from2, levels_from2}
@@ -11,6 +9,7 @@ use Rattle.qss_trace.specs.declared.trace.Trace.{Trace}
 use Rattle.run_trace.specs.declared.trace_over.TraceOver.{TraceOver}
 use Rattle.run_trace.specs.declared.trace_over.TraceOver.TheVariants.{Over, Memory}
 use Rattle.run_trace.specs.Traces.{IsTraceOf}
+use Rattle.run_trace.specs.Wide.{is_wide_at}
 
 -- the run
 abbrev pub second_run : Machine → Run2
@@ -22,7 +21,7 @@ second_worlds m = (second_run m).start ∷ (second_run m).worlds
 
 -- whether a state, or its level, is past what a trace can hold
 abbrev pub is_wide : World2 → ℕ → Bool
-is_wide w j = passes 108 (int_at w.states j) || passes 64 (int_at w.levels j)
+is_wide w j = is_wide_at w.states w.levels j
 
 -- the least such state
 abbrev pub first_wide : World2 → Option ℕ

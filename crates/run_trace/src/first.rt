@@ -1,13 +1,17 @@
 //! The trace of a machine's run under the floor rule.
 
 ghost use Rattle.std.specs.Prelude.{◌≡◌, ◌≤◌, [], IfOk, IfErr};
-ghost use Rattle.qss_machine.specs.Machines.{state_count};
 ghost use Rattle.cert_check.specs.Limits.{IsSize};
+ghost use Rattle.qss_machine.specs.Machines.{state_count};
 ghost use Rattle.qss_trace.specs.Trace.{IsRunOf};
 ghost use Rattle.run_trace.specs.FirstRuns.{IsFirstTrace, IsFirstRefusal};
 
+use crate::draft::finish;
+use crate::first_course::FirstCourse;
+use crate::starts::unit_of;
 use crate::trace_over::TraceOver;
 use qss_machine::Machine;
+use qss_order2::discretes_of;
 use qss_trace::Trace;
 use std::alloc::Global;
 
@@ -21,5 +25,10 @@ pub fn first_trace(alloc: Global, m: &Machine) -> Result<Trace, TraceOver>
     ensures refused { IfErr result (λ why. IsFirstRefusal m.now why) }
     ensures legitimate { m.now.relative ≡ 0 → IfOk result (λ t. IsRunOf m.now t) }
 {
-    Err(TraceOver::Memory)
+    let discretes = discretes_of(alloc, m)?;
+    let unit = unit_of(m);
+    let mut course = FirstCourse::new(alloc, m, unit)?;
+    course.follow(m, unit, discretes.as_slice())?;
+    let FirstCourse { place: _, draft } = course;
+    Ok(finish(alloc, m, 1, draft)?)
 }

@@ -1,8 +1,16 @@
-//! Traces of a machine's own runs: the first-order run under the floor rule, and the second-order run with the nearest changes.
+//! Traces of a machine's own runs: under the floor rule, and of the second order with the nearest changes.
 #![tactic(auto)]
 
+mod draft;
 mod first;
+mod first_course;
+mod first_place;
+mod limits;
 mod second;
+mod second_course;
+mod second_place;
+mod second_sums;
+mod starts;
 mod trace_over;
 
 pub use first::first_trace;

@@ -6,7 +6,11 @@ ghost use Rattle.cert_check.specs.Limits.{IsSize};
 ghost use Rattle.qss_trace.specs.Trace.{IsRunOf};
 ghost use Rattle.run_trace.specs.SecondRuns.{IsSecondTrace, IsSecondRefusal};
 
+use crate::draft::finish;
+use crate::second_course::SecondCourse;
+use crate::second_sums::FINENESS;
 use crate::trace_over::TraceOver;
+use cert_check::affine_system;
 use qss_machine::Machine;
 use qss_trace::Trace;
 use std::alloc::Global;
@@ -21,5 +25,9 @@ pub fn second_trace(alloc: Global, m: &Machine) -> Result<Trace, TraceOver>
     ensures refused { IfErr result (λ why. IsSecondRefusal m.now why) }
     ensures legitimate { IfOk result (λ t. IsRunOf m.now t) }
 {
-    Err(TraceOver::Memory)
+    let a = affine_system(m);
+    let mut course = SecondCourse::new(alloc, m, &a)?;
+    course.follow(m, &a)?;
+    let SecondCourse { place: _, draft } = course;
+    Ok(finish(alloc, m, FINENESS, draft)?)
 }
