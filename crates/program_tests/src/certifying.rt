@@ -120,12 +120,13 @@ const CUT: [(&str, &str, &str); 5] = [
     ),
 ];
 
-// A call: its words, its model and its certificate, and the calls of the shelf, of out and of err that are to fail.
+// A call: its words, its model, its certificate and a trace, and the calls of the shelf, of out and of err that are to fail.
 #[derive(Clone, Copy)]
 pub(crate) struct Call<'a> {
     pub(crate) words: &'a [&'a str],
     pub(crate) model: &'a str,
     pub(crate) certificate: &'a str,
+    pub(crate) trace: &'a str,
     pub(crate) shelf_fails: &'a [u32],
     pub(crate) out_fails: &'a [u32],
     pub(crate) err_fails: &'a [u32],
@@ -138,6 +139,8 @@ fn outcome(alloc: Global, call: &Call) -> Result<(Status, MemSink, MemSink), Fai
     let certificate = call.certificate.as_bytes().to_vec(alloc)?;
     files.push((Name::new(alloc, b"M")?, model))?;
     files.push((Name::new(alloc, b"C")?, certificate))?;
+    let trace = call.trace.as_bytes().to_vec(alloc)?;
+    files.push((Name::new(alloc, b"T")?, trace))?;
     let mut shelf = MemShelf::new(alloc, files, call.shelf_fails.to_vec(alloc)?);
     let mut out = MemSink::with_room(alloc, 1000, call.out_fails.to_vec(alloc)?)?;
     let mut err = MemSink::with_room(alloc, 1000, call.err_fails.to_vec(alloc)?)?;
@@ -146,7 +149,7 @@ fn outcome(alloc: Global, call: &Call) -> Result<(Status, MemSink, MemSink), Fai
 }
 
 // The certificate of the decay in a form, with its last lines.
-fn text(alloc: Global, form: &str, last: &str) -> Result<String, Fail> {
+pub(crate) fn text(alloc: Global, form: &str, last: &str) -> Result<String, Fail> {
     let text = format!(in alloc; "form,{}\n{}{}{}", form, FRONT, BACK, last)?;
     Ok(text)
 }
@@ -157,6 +160,7 @@ pub(crate) fn call_of<'a>(words: &'a [&'a str], model: &'a str, certificate: &'a
         words,
         model,
         certificate,
+        trace: "",
         shelf_fails: &[],
         out_fails: &[],
         err_fails: &[],
@@ -164,7 +168,7 @@ pub(crate) fn call_of<'a>(words: &'a [&'a str], model: &'a str, certificate: &'a
 }
 
 // The text with another line in place of this one.
-fn changed(alloc: Global, text: &str, line: &str, other: &str) -> Result<String, Fail> {
+pub(crate) fn changed(alloc: Global, text: &str, line: &str, other: &str) -> Result<String, Fail> {
     let text = text.replace(alloc, line, other)?;
     Ok(text)
 }

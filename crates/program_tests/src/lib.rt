@@ -4,6 +4,8 @@
 #[cfg(test)]
 mod certifying;
 #[cfg(test)]
+mod comparing;
+#[cfg(test)]
 mod examples;
 #[cfg(test)]
 mod generating;

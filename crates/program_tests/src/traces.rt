@@ -14,14 +14,14 @@ const DRIVEN: &str =
     "model m Real x(start = 64); equation der(x) = 16 + x; annotation(experiment(StopTime = 1, QSS_CoefBits = 8, QSS_TickBits = 4, QSS_LevelBits = 0, QSS_Quantum = 4)); end m;";
 
 // What is proposed for the decay.
-const PROPOSED: &str =
+pub(crate) const PROPOSED: &str =
     "form,3\nP,8453\np,8453\nmu,2163968\nlambda,256\nh1,1\nG1,0\nh2,1\nG2,0\nc,0\nR,34623488\nZ,64\nS,5\nsigmaR,175281408\nC,2738772\nsigmaC,701125632\nE,18\nstart1,262144\nstart2,262144\nQ,4\n";
 
 // Two places to a tick of the decay: a legitimate run, one whose last state is 16 units too low, and one that does not start
 // where the model does.
-const HALVES: &str = "trace,1\nscale,1\nrefine,2\nQ,4\nat,262144,64\nat,253952,62\nat,246016,60\n";
+pub(crate) const HALVES: &str = "trace,1\nscale,1\nrefine,2\nQ,4\nat,262144,64\nat,253952,62\nat,246016,60\n";
 
-const TOO_LOW: &str = "trace,1\nscale,1\nrefine,2\nQ,4\nat,262144,64\nat,253952,62\nat,246000,60\n";
+pub(crate) const TOO_LOW: &str = "trace,1\nscale,1\nrefine,2\nQ,4\nat,262144,64\nat,253952,62\nat,246000,60\n";
 
 const ELSEWHERE: &str = "trace,1\nscale,1\nrefine,2\nQ,4\nat,0,0\n";
 

@@ -10,7 +10,7 @@ use Rattle.cert_answer.proofs.Bounds.{bounds}
 use Rattle.qss_compile.specs.Meanings.{IsRefused}
 use Rattle.qss_compile.specs.declared.fault.Refused.{Refused}
 use Rattle.qss_machine.specs.declared.system.Machine.{Machine}
-use Rattle.qss_top.specs.Answers.{Answer, Told, answered, refusal, refused, too_long, certificate_answer, status_of_refusal, IsCertificateAnswer, IsCertifyAnswer, IsSourceRefusal, IsSourceMachine, Says, ReadsThen, Finds, ByMachine, ReadsText}
+use Rattle.qss_top.specs.Answers.{Answer, Told, answered, refusal, refused, too_long, certificate_answer, status_of_refusal, IsCertificateAnswer, IsCertifyAnswer, IsSourceRefusal, IsSourceMachine, Says, ReadsThen, Finds, ByMachine, ReadsText, SaysOn}
 use Rattle.qss_top.specs.CertifiedRuns.{AreCertified, CertifiedRunsStayNear}
 use Rattle.qss_top.specs.declared.status.Status.TheVariants as ends
 
@@ -68,14 +68,14 @@ module _ (model certificate : List ℕ) (share : ℕ) (files : Option Files) (an
         let same = said says.0 later answer says.2 (replied_behind certificate told later answer is replied) in
         on_answer text read says.1.0 says.1.1 (same ∙ says.1.2)
 
-    on_scope : (told : Told) → told.reply ≡ answered answer → ReadsText certificate IsCertifyAnswer m files told → AreCertified model certificate share files answer.out
+    on_scope : (told : Told) → told.reply ≡ answered answer → ReadsText certificate (SaysOn IsCertifyAnswer) m files told → AreCertified model certificate share files answer.out
     on_scope told replied (inl (why, is, says)) =
         let same = said says.0 told answer says.2 replied ∙ says.1 in
         absurd (refusal_status (certs.Outside why) (sym (ap (λ (x : Answer). x.status) same) ∙ ok))
     on_scope told replied (inr (scope, reads)) = on_text told replied reads.0 reads.1 reads.2
 
   on_source : (source : List ℕ) → Finds files model (Some source) → (told : Told) → told.reply ≡ answered answer
-      → ByMachine share source (λ m. ReadsText certificate IsCertifyAnswer m files) told → AreCertified model certificate share files answer.out
+      → ByMachine share source (λ m. ReadsText certificate (SaysOn IsCertifyAnswer) m files) told → AreCertified model certificate share files answer.out
   on_source source found told replied (inl says) =
       let same = said says.0 told answer says.2 replied in
       let status = source_status source says.0 says.1 in
@@ -84,7 +84,7 @@ module _ (model certificate : List ℕ) (share : ℕ) (files : Option Files) (an
   on_source source found told replied (inr (m, means, leads)) = on_scope source found m means told replied leads
 
   on_model : (told : Told) → told.reply ≡ answered answer → (source : Option (List ℕ)) → Finds files model source
-      → ReadsThen model (λ bytes. ByMachine share bytes (λ m. ReadsText certificate IsCertifyAnswer m files)) source told → AreCertified model certificate share files answer.out
+      → ReadsThen model (λ bytes. ByMachine share bytes (λ m. ReadsText certificate (SaysOn IsCertifyAnswer) m files)) source told → AreCertified model certificate share files answer.out
   on_model told replied None found leads =
       let none = sym (ap (λ (t : Told). t.reply) leads) ∙ replied in
       absurd (cc)

@@ -7,7 +7,7 @@ use Rattle.mu_io.specs.Faults.{Rose}
 use Rattle.mu_io.specs.Sinks.{EndsByFault}
 use Rattle.qss_machine.specs.declared.system.Machine.{Machine}
 use Rattle.qss_words.specs.Commands.{Command, certify_model, command_of}
-use Rattle.qss_top.specs.Answers.{Answer, Told, Reply, IsTold, Defines, LeadsTo, Says, ReadsThen, Reads, Finds, InScope, ByMachine, ReadsText, ReadsBoth, IsCertifyAnswer, answered, absent, untold}
+use Rattle.qss_top.specs.Answers.{Answer, Told, Reply, IsTold, Defines, LeadsTo, Says, ReadsThen, Reads, Finds, InScope, ByMachine, ReadsText, ReadsBoth, SaysOn, IsCertifyAnswer, answered, absent, untold}
 use Rattle.qss_top.specs.CertifiedRuns.{AreCertified}
 use Rattle.qss_top.specs.Statuses.{is_defined}
 use Rattle.qss_top.specs.TopCall.{IsReplied}
@@ -57,11 +57,11 @@ reads_known files name Leads known told h = by h.0 h.2
 certify_known : (model certificate : List ℕ) (share : ℕ) (files : Files) (told : Told) → LeadsTo (certify_model model certificate share) (Some files) told → IsKnown told.reply
 certify_known model certificate share files told h = reads_known files model _ on_source told h
   where
-    on_scope : (m : Machine) (later : Told) → ReadsText certificate IsCertifyAnswer m (Some files) later → IsKnown later.reply
+    on_scope : (m : Machine) (later : Told) → ReadsText certificate (SaysOn IsCertifyAnswer) m (Some files) later → IsKnown later.reply
     on_scope m later (inl out) = says_known _ later out.2
     on_scope m later (inr inside) = reads_known files certificate _ (λ text last says. says_known _ last says) later inside.1
 
-    on_source : (bytes : List ℕ) (later : Told) → ByMachine share bytes (λ m. ReadsText certificate IsCertifyAnswer m (Some files)) later → IsKnown later.reply
+    on_source : (bytes : List ℕ) (later : Told) → ByMachine share bytes (λ m. ReadsText certificate (SaysOn IsCertifyAnswer) m (Some files)) later → IsKnown later.reply
     on_source bytes later (inl says) = says_known _ later says
     on_source bytes later (inr (m, means, leads)) = on_scope m later leads
 

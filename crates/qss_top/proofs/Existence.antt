@@ -9,17 +9,25 @@ use Rattle.mu_tree.specs.ModelTree.{ModelTree}
 use Rattle.qss_compile.specs.Meanings.{IsRefused, IsUnspelled}
 use Rattle.qss_machine.specs.declared.system.Machine.{Machine}
 use Rattle.cert_check.specs.Scope.{IsInScope, IsOutsideBy}
+use Rattle.cert_check.specs.declared.certificate.Certificate.{Certificate}
 use Rattle.cert_check.specs.declared.outside.Outside.{Outside}
+use Rattle.qss_trace.specs.declared.trace.Trace.{Trace}
 use Rattle.cert_answer.specs.Answers as Certificates
 use Rattle.cert_answer.specs.Answers.{IsCertification, IsUpgrade}
 use Rattle.cert_answer.specs.declared.ending.CertificateRefusal.TheVariants as certs
 use Rattle.cert_answer.proofs.Sameness.{one_each}
 use Rattle.cert_answer.proofs.Scopes.{scope_of}
+use Rattle.trace_answer.proofs.Bases.{judged-basis}
+use Rattle.trace_answer.proofs.Compared.{judged-text}
 use Rattle.trace_answer.proofs.Sameness.{one_each as one_trace}
+use Rattle.trace_answer.proofs.Sides.{judged-side}
+use Rattle.trace_answer.specs.Comparisons.{Given, first_order, second_order, traced as given_trace, IsBasis, IsBaseless, IsSide, IsSideless, IsCompared, IsUncompared}
+use Rattle.trace_answer.specs.Laws.{IsJudged}
+use Rattle.trace_answer.specs.declared.stop.Stop.{Stop}
 use Rattle.propose_answer.proofs.Sameness.{one_proposed}
 use Rattle.qss_generate.specs.Source.{source}
-use Rattle.qss_words.specs.Commands.{RunOptions, Command, run_model, print_model, certify_model, upgrade_model, generate_model, check_model, propose_model, second_model, command_of, files_of}
-use Rattle.qss_top.specs.Answers.{Answer, Told, Reply, refusal, printed, printed_text, summed, usage, quiet, too_long, answered, absent, untold, IsSourceRefusal, IsTreeRefusal, IsSourceMachine, IsSourceTree, IsMachineAnswer, IsRunAnswer, IsPrintAnswer, IsGenerationAnswer, uncertifying, certificate_answer, IsCertificateAnswer, IsCertifyAnswer, IsUpgradeAnswer, IsCheckAnswer, trace_answer, IsProposeAnswer, proposal_answer, second_for, IsSecondAnswer, Says, ReadsThen, Finds, Reads, InScope, ByMachine, ReadsText, ReadsBoth, LeadsTo, Defines}
+use Rattle.qss_words.specs.Commands.{RunOptions, Command, run_model, print_model, certify_model, upgrade_model, generate_model, check_model, propose_model, second_model, compare_runs, Side, first_run, second_run, traced, command_of, files_of}
+use Rattle.qss_top.specs.Answers.{Answer, Told, Reply, refusal, printed, printed_text, summed, usage, quiet, too_long, answered, absent, untold, IsSourceRefusal, IsTreeRefusal, IsSourceMachine, IsSourceTree, IsMachineAnswer, IsRunAnswer, IsPrintAnswer, IsGenerationAnswer, uncertifying, certificate_answer, IsCertificateAnswer, IsCertifyAnswer, IsUpgradeAnswer, IsCheckAnswer, trace_answer, IsProposeAnswer, proposal_answer, second_for, IsSecondAnswer, Says, ReadsThen, Finds, Reads, InScope, ByMachine, ReadsText, ReadsBoth, SaysOn, stop_answer, text_answer, Stage, OnRun, OnSide, OnBoth, OnSides, Compares, LeadsTo, Defines}
 use Rattle.qss_top.specs.Laws.{AnswersExist}
 use Rattle.qss_top.specs.TopCall.{Replies}
 use Rattle.qss_top.specs.declared.status.Status.TheVariants as ends
@@ -115,21 +123,48 @@ scope_told m Leads some = by (scope_of m)
     by (inl out) = let told = says_told (uncertifying (certs.Outside out.0)) in (told.0, inl (out.0, out.1, told.1))
     by (inr inside) = let told = some inside in (told.0, inr (inside, told.1))
 
-both_told : (share : ℕ) → share ≤ 2048 → (model certificate : List ℕ) (Is : Machine → List ℕ → Answer → Type 0) → ((m : Machine) (text : List ℕ) → (such : Answer) × Is m text such) → (files : Option Files)
-    → SomeTold (ReadsBoth share model certificate Is files)
-both_told share few model certificate Is some files =
-    reads_told files model _ (λ bytes. machine_told share few bytes _ (λ m. scope_told m _ (λ scope. reads_told files certificate _ (λ text.
-    let such = some m text in
-    (record { arrivals = []; reply = answered such.0 }, (such.0, such.1, refl))))))
+both_told : (share : ℕ) → share ≤ 2048 → (model certificate : List ℕ) (Leads : Machine → List ℕ → Option Files → Told → Type 0) (files : Option Files)
+    → ((m : Machine) → IsInScope m → (text : List ℕ) → SomeTold (Leads m text files)) → SomeTold (ReadsBoth share model certificate Leads files)
+both_told share few model certificate Leads files some =
+    reads_told files model _ (λ bytes. machine_told share few bytes _ (λ m. scope_told m _ (λ scope. reads_told files certificate _ (λ text. some m scope text))))
+
+answer_told : (Is : Machine → List ℕ → Answer → Type 0) → ((m : Machine) (text : List ℕ) → (such : Answer) × Is m text such) → (files : Option Files) (m : Machine) → IsInScope m → (text : List ℕ)
+    → SomeTold (SaysOn Is m text files)
+answer_told Is some files m scope text = let such = some m text in (record { arrivals = []; reply = answered such.0 }, (such.0, such.1, refl))
+
+-- ---- a comparison
+
+stage_told : {X : Type 0} (m : Machine) (Gives : X → Type 0) (Stops : Stop → Type 0) (Leads : X → Told → Type 0) → IsJudged Gives Stops → ((x : X) → SomeTold (Leads x)) → SomeTold (Stage m Gives Stops Leads)
+stage_told {X} m Gives Stops Leads judged some = by judged.some
+  where
+    by : ((x : X) × Gives x) ⊎ ((stop : Stop) × Stops stop) → SomeTold (Stage m Gives Stops Leads)
+    by (inl (x, is)) = let told = some x in (told.0, inr (x, is, told.1))
+    by (inr (stop, is)) = let told = says_told (stop_answer m stop) in (told.0, inl (stop, is, told.1))
+
+run_told : (m : Machine) (c : Certificate) (run : ℕ) (given : Given) (Leads : Trace → Told → Type 0) → IsInScope m → ((t : Trace) → SomeTold (Leads t)) → SomeTold (OnRun m c run given Leads)
+run_told m c run given Leads scope some = stage_told m (IsSide m c given) (IsSideless m c run given) Leads (judged-side m c run given scope) some
+
+side_told : (files : Option Files) (m : Machine) (c : Certificate) (run : ℕ) (side : Side) (Leads : Trace → Told → Type 0) → IsInScope m → ((t : Trace) → SomeTold (Leads t)) → SomeTold (OnSide files m c run side Leads)
+side_told files m c run first_run Leads scope some = run_told m c run first_order Leads scope some
+side_told files m c run second_run Leads scope some = run_told m c run second_order Leads scope some
+side_told files m c run (traced name) Leads scope some = reads_told files name _ (λ bytes. run_told m c run (given_trace bytes) Leads scope some)
+
+comparison_told : (one two : Side) (files : Option Files) (m : Machine) → IsInScope m → (text : List ℕ) → SomeTold (Compares one two m text files)
+comparison_told one two files m scope text =
+    stage_told m (IsBasis m text) (IsBaseless m text) (λ c. OnSides one two m c files) (judged-basis m text) (λ c.
+    side_told files m c 1 one (λ t1. OnSide files m c 2 two (OnBoth m c t1)) scope (λ t1.
+    side_told files m c 2 two (OnBoth m c t1) scope (λ t2.
+    stage_told m (IsCompared m c t1 t2) (IsUncompared m c t1 t2) (λ text. Says (λ answer. answer ≡ text_answer text)) (judged-text m c t1 t2) (λ text. says_told (text_answer text)))))
 
 command_told : (command : Command) → HasShare command → (files : Files) → (told : Told) × LeadsTo command (Some files) told
 command_told (run_model model options) few files = file_told model (IsRunAnswer options) (run_answer options few) files
 command_told (print_model model) few files = file_told model IsPrintAnswer print_answer files
-command_told (certify_model model certificate share) few files = both_told share few model certificate IsCertifyAnswer some_certify (Some files)
-command_told (upgrade_model model certificate) few files = both_told 0 (omega arith) model certificate IsUpgradeAnswer some_upgrade (Some files)
-command_told (check_model model trace) few files = both_told 0 (omega arith) model trace IsCheckAnswer some_check (Some files)
+command_told (certify_model model certificate share) few files = both_told share few model certificate (SaysOn IsCertifyAnswer) (Some files) (answer_told IsCertifyAnswer some_certify (Some files))
+command_told (upgrade_model model certificate) few files = both_told 0 (omega arith) model certificate (SaysOn IsUpgradeAnswer) (Some files) (answer_told IsUpgradeAnswer some_upgrade (Some files))
+command_told (check_model model trace) few files = both_told 0 (omega arith) model trace (SaysOn IsCheckAnswer) (Some files) (answer_told IsCheckAnswer some_check (Some files))
 command_told (propose_model model) few files = file_told model (IsMachineAnswer 0 IsProposeAnswer) propose_answer files
 command_told (second_model model) few files = file_told model (IsMachineAnswer 0 IsSecondAnswer) second_answer files
+command_told (compare_runs model certificate one two) few files = both_told 0 (omega arith) model certificate (Compares one two) (Some files) (comparison_told one two (Some files))
 command_told (generate_model seed cells) few files =
     let answer = generation_answer seed cells in
     (record { arrivals = []; reply = answered answer.0 }, (answer.0, answer.1, refl))
@@ -158,20 +193,44 @@ bytes_reply name Leads bytes later = (record { arrivals = name ∷ later.0.arriv
 pub reads_reply : (name : List ℕ) (Leads : List ℕ → Told → Type 0) → ((bytes : List ℕ) → MayReply (Leads bytes)) → MayReply (Reads None name Leads)
 reads_reply name Leads some = bytes_reply name Leads [] (some [])
 
-pub certificate_reply : (share : ℕ) → share ≤ 2048 → (bytes certificate : List ℕ) (Is : Machine → List ℕ → Answer → Type 0) → ((m : Machine) (text : List ℕ) → (such : Answer) × Is m text such)
-    → MayReply (ByMachine share bytes (λ m. ReadsText certificate Is m None))
-certificate_reply share few bytes certificate Is some = by (source_judged share few bytes)
+pub certificate_reply : (share : ℕ) → share ≤ 2048 → (bytes certificate : List ℕ) (Leads : Machine → List ℕ → Option Files → Told → Type 0)
+    → ((m : Machine) → IsInScope m → (text : List ℕ) → MayReply (Leads m text None)) → MayReply (ByMachine share bytes (λ m. ReadsText certificate Leads m None))
+certificate_reply share few bytes certificate Leads some = by (source_judged share few bytes)
   where
-    read : (m : Machine) (text : List ℕ) → MayReply (Says (Is m text))
-    read m text = says_reply (Is m text) (some m text)
-
-    scope : (m : Machine) → ((why : Outside) × IsOutsideBy m why) ⊎ IsInScope m → MayReply (ReadsText certificate Is m None)
+    scope : (m : Machine) → ((why : Outside) × IsOutsideBy m why) ⊎ IsInScope m → MayReply (ReadsText certificate Leads m None)
     scope m (inl out) = let a = uncertifying (certs.Outside out.0) in (record { arrivals = []; reply = answered a }, a, inl (out.0, out.1, (a, refl, refl)), refl)
-    scope m (inr inside) = let p = reads_reply certificate (λ text. Says (Is m text)) (read m) in (p.0, p.1, inr (inside, p.2), p.3)
+    scope m (inr inside) = let p = reads_reply certificate (λ text. Leads m text None) (some m inside) in (p.0, p.1, inr (inside, p.2), p.3)
 
-    by : ((a : Answer) × IsSourceRefusal bytes a) ⊎ ((m : Machine) × IsSourceMachine share bytes m) → MayReply (ByMachine share bytes (λ m. ReadsText certificate Is m None))
+    by : ((a : Answer) × IsSourceRefusal bytes a) ⊎ ((m : Machine) × IsSourceMachine share bytes m) → MayReply (ByMachine share bytes (λ m. ReadsText certificate Leads m None))
     by (inl fails) = (record { arrivals = []; reply = answered fails.0 }, fails.0, inl (fails.0, fails.1, refl), refl)
     by (inr found) = let p = scope found.0 (scope_of found.0) in (p.0, p.1, inr (found.0, found.1, p.2), p.3)
+
+pub stage_reply : {X : Type 0} (m : Machine) (Gives : X → Type 0) (Stops : Stop → Type 0) (Leads : X → Told → Type 0) → IsJudged Gives Stops → ((x : X) → MayReply (Leads x)) → MayReply (Stage m Gives Stops Leads)
+stage_reply {X} m Gives Stops Leads judged some = by judged.some
+  where
+    by : ((x : X) × Gives x) ⊎ ((stop : Stop) × Stops stop) → MayReply (Stage m Gives Stops Leads)
+    by (inl (x, is)) = let p = some x in (p.0, p.1, inr (x, is, p.2), p.3)
+    by (inr (stop, is)) = let p = says_reply (λ a. a ≡ stop_answer m stop) (stop_answer m stop, refl) in (p.0, p.1, inl (stop, is, p.2), p.3)
+
+pub run_reply : (m : Machine) (c : Certificate) (run : ℕ) (given : Given) (Leads : Trace → Told → Type 0) → IsInScope m → ((t : Trace) → MayReply (Leads t)) → MayReply (OnRun m c run given Leads)
+run_reply m c run given Leads scope some = stage_reply m (IsSide m c given) (IsSideless m c run given) Leads (judged-side m c run given scope) some
+
+pub side_reply : (m : Machine) (c : Certificate) (run : ℕ) (side : Side) (Leads : Trace → Told → Type 0) → IsInScope m → ((t : Trace) → MayReply (Leads t)) → MayReply (OnSide None m c run side Leads)
+side_reply m c run first_run Leads scope some = run_reply m c run first_order Leads scope some
+side_reply m c run second_run Leads scope some = run_reply m c run second_order Leads scope some
+side_reply m c run (traced name) Leads scope some = reads_reply name _ (λ bytes. run_reply m c run (given_trace bytes) Leads scope some)
+
+-- what may be replied where both runs, or a certificate, or its bytes are had
+pub both_reply : (m : Machine) (c : Certificate) (t1 t2 : Trace) → MayReply (OnBoth m c t1 t2)
+both_reply m c t1 t2 =
+    stage_reply m (IsCompared m c t1 t2) (IsUncompared m c t1 t2) (λ text. Says (λ answer. answer ≡ text_answer text)) (judged-text m c t1 t2)
+    (λ text. says_reply (λ answer. answer ≡ text_answer text) (text_answer text, refl))
+
+pub sides_reply : (one two : Side) (m : Machine) (c : Certificate) → IsInScope m → MayReply (OnSides one two m c None)
+sides_reply one two m c scope = side_reply m c 1 one (λ t1. OnSide None m c 2 two (OnBoth m c t1)) scope (λ t1. side_reply m c 2 two (OnBoth m c t1) scope (both_reply m c t1))
+
+pub comparison_reply : (one two : Side) (m : Machine) → IsInScope m → (text : List ℕ) → MayReply (Compares one two m text None)
+comparison_reply one two m scope text = stage_reply m (IsBasis m text) (IsBaseless m text) (λ c. OnSides one two m c None) (judged-basis m text) (λ c. sides_reply one two m c scope)
 
 -- there are bytes of each length
 pub bytes_of : (n : ℕ) → (bytes : List ℕ) × (length bytes ≡ n)
@@ -188,13 +247,16 @@ refuses_long (print_model model) bytes long =
     bytes_reply model (λ bytes. Says (IsPrintAnswer bytes)) bytes (says_reply (IsPrintAnswer bytes) (refusal ends.ModelRefused too_long, inl (long_for IsUnspelled bytes long)))
 refuses_long (certify_model model certificate share) bytes long =
     let p = says_reply (IsSourceRefusal bytes) (refusal ends.ModelRefused too_long, long_refusal bytes long) in
-    bytes_reply model (λ bytes. ByMachine share bytes (λ m. ReadsText certificate IsCertifyAnswer m None)) bytes (p.0, p.1, inl p.2, p.3)
+    bytes_reply model (λ bytes. ByMachine share bytes (λ m. ReadsText certificate (SaysOn IsCertifyAnswer) m None)) bytes (p.0, p.1, inl p.2, p.3)
 refuses_long (upgrade_model model certificate) bytes long =
     let p = says_reply (IsSourceRefusal bytes) (refusal ends.ModelRefused too_long, long_refusal bytes long) in
-    bytes_reply model (λ bytes. ByMachine 0 bytes (λ m. ReadsText certificate IsUpgradeAnswer m None)) bytes (p.0, p.1, inl p.2, p.3)
+    bytes_reply model (λ bytes. ByMachine 0 bytes (λ m. ReadsText certificate (SaysOn IsUpgradeAnswer) m None)) bytes (p.0, p.1, inl p.2, p.3)
 refuses_long (check_model model trace) bytes long =
     let p = says_reply (IsSourceRefusal bytes) (refusal ends.ModelRefused too_long, long_refusal bytes long) in
-    bytes_reply model (λ bytes. ByMachine 0 bytes (λ m. ReadsText trace IsCheckAnswer m None)) bytes (p.0, p.1, inl p.2, p.3)
+    bytes_reply model (λ bytes. ByMachine 0 bytes (λ m. ReadsText trace (SaysOn IsCheckAnswer) m None)) bytes (p.0, p.1, inl p.2, p.3)
+refuses_long (compare_runs model certificate one two) bytes long =
+    let p = says_reply (IsSourceRefusal bytes) (refusal ends.ModelRefused too_long, long_refusal bytes long) in
+    bytes_reply model (λ bytes. ByMachine 0 bytes (λ m. ReadsText certificate (Compares one two) m None)) bytes (p.0, p.1, inl p.2, p.3)
 refuses_long (propose_model model) bytes long =
     bytes_reply model (λ bytes. Says (IsMachineAnswer 0 IsProposeAnswer bytes)) bytes
     (says_reply (IsMachineAnswer 0 IsProposeAnswer bytes) (refusal ends.ModelRefused too_long, inl (long_for IsRefused bytes long)))

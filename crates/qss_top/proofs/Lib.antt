@@ -10,6 +10,8 @@ pub mod Generations
 pub mod Jobs
 pub mod TopFacts
 pub mod TwoFiles
+pub mod Comparing
+pub mod Compared
 pub mod Certified
 pub mod Headline
 pub mod Completeness

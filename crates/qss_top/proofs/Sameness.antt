@@ -3,18 +3,26 @@ use Rattle.std.proofs.Common.{◌≡◌, ◌⊎◌, ℕ, List, [], ◌∷◌, sy
 use Rattle.std.specs.declared.option.Option.{Option}
 use Rattle.mu_io.specs.Files.{Files, file_of}
 use Rattle.cert_check.specs.Scope.{IsInScope}
+use Rattle.cert_check.specs.declared.certificate.Certificate.{Certificate}
 use Rattle.cert_check.specs.declared.outside.Outside.{Outside}
+use Rattle.qss_trace.specs.declared.trace.Trace.{Trace}
 use Rattle.cert_answer.specs.Answers as Certificates
 use Rattle.cert_answer.specs.Answers.{IsCertification, IsUpgrade}
 use Rattle.cert_answer.specs.declared.ending.CertificateRefusal.TheVariants as certs
 use Rattle.cert_answer.proofs.Sameness.{one_each}
 use Rattle.cert_answer.proofs.Scopes.{one_outside, not_outside}
+use Rattle.trace_answer.proofs.Bases.{judged-basis}
+use Rattle.trace_answer.proofs.Compared.{judged-text}
 use Rattle.trace_answer.proofs.Sameness.{one_each as one_trace}
+use Rattle.trace_answer.proofs.Sides.{judged-side}
+use Rattle.trace_answer.specs.Comparisons.{Given, first_order, second_order, traced as given_trace, IsBasis, IsBaseless, IsSide, IsSideless, IsCompared, IsUncompared}
+use Rattle.trace_answer.specs.Laws.{IsJudged}
+use Rattle.trace_answer.specs.declared.stop.Stop.{Stop}
 use Rattle.propose_answer.proofs.Sameness.{one_proposed}
 use Rattle.qss_machine.specs.declared.system.Machine.{Machine}
 use Rattle.qss_generate.specs.Source.{source}
-use Rattle.qss_words.specs.Commands.{RunOptions, Command, run_model, print_model, certify_model, upgrade_model, generate_model, check_model, propose_model, second_model, command_of}
-use Rattle.qss_top.specs.Answers.{Answer, Told, printed, printed_text, summed, IsSourceRefusal, IsTreeRefusal, IsSourceTree, IsMachineAnswer, IsRunAnswer, IsPrintAnswer, IsSummedAnswer, IsGenerationAnswer, answered, uncertifying, certificate_answer, IsCertificateAnswer, IsCertifyAnswer, IsUpgradeAnswer, IsCheckAnswer, trace_answer, IsProposeAnswer, proposal_answer, IsSecondAnswer, Says, ReadsThen, Reads, InScope, ByMachine, ReadsBoth, LeadsTo, Defines}
+use Rattle.qss_words.specs.Commands.{RunOptions, Command, run_model, print_model, certify_model, upgrade_model, generate_model, check_model, propose_model, second_model, compare_runs, Side, first_run, second_run, traced, command_of}
+use Rattle.qss_top.specs.Answers.{Answer, Told, printed, printed_text, summed, IsSourceRefusal, IsTreeRefusal, IsSourceTree, IsMachineAnswer, IsRunAnswer, IsPrintAnswer, IsSummedAnswer, IsGenerationAnswer, answered, uncertifying, certificate_answer, IsCertificateAnswer, IsCertifyAnswer, IsUpgradeAnswer, IsCheckAnswer, trace_answer, IsProposeAnswer, proposal_answer, IsSecondAnswer, Says, ReadsThen, Reads, InScope, ByMachine, ReadsBoth, SaysOn, stop_answer, text_answer, Stage, OnRun, OnSide, OnBoth, OnSides, Compares, LeadsTo, Defines}
 use Rattle.qss_top.specs.Laws.{AnswersAreUnique}
 use Rattle.qss_top.proofs.Sources.{one_source_refusal, one_tree_refusal, one_source_machine, one_source_tree, source_fine, tree_fine}
 
@@ -106,20 +114,48 @@ one_proposing bytes a b p q = one_machine_answer 0 IsProposeAnswer one_propose b
 pub one_second : (bytes : List ℕ) (a b : Answer) → IsMachineAnswer 0 IsSecondAnswer bytes a → IsMachineAnswer 0 IsSecondAnswer bytes b → a ≡ b
 one_second bytes a b p q = one_machine_answer 0 IsSecondAnswer (λ m a b e f. e ∙ sym f) bytes a b p q
 
-one_both : (share : ℕ) (model certificate : List ℕ) (Is : Machine → List ℕ → Answer → Type 0) → ((m : Machine) (text : List ℕ) (a b : Answer) → Is m text a → Is m text b → a ≡ b) → (files : Files)
-    → IsOne (ReadsBoth share model certificate Is (Some files))
-one_both share model certificate Is one files s t p q =
-    one_file model _ (λ bytes. one_machine_told share bytes _ (λ m. one_scope_told m _ (λ scope. one_file certificate _ (λ text.
-    one_says (Is m text) (one m text)) files))) files s t p q
+one_both : (share : ℕ) (model certificate : List ℕ) (Leads : Machine → List ℕ → Option Files → Told → Type 0) (files : Files)
+    → ((m : Machine) → IsInScope m → (text : List ℕ) → IsOne (Leads m text (Some files))) → IsOne (ReadsBoth share model certificate Leads (Some files))
+one_both share model certificate Leads files one s t p q =
+    one_file model _ (λ bytes. one_machine_told share bytes _ (λ m. one_scope_told m _ (λ scope. one_file certificate _ (λ text. one m scope text) files))) files s t p q
+
+one_answer : (Is : Machine → List ℕ → Answer → Type 0) → ((m : Machine) (text : List ℕ) (a b : Answer) → Is m text a → Is m text b → a ≡ b) → (files : Files) (m : Machine) → IsInScope m → (text : List ℕ)
+    → IsOne (SaysOn Is m text (Some files))
+one_answer Is one files m scope text s t p q = one_says (Is m text) (one m text) s t p q
+
+-- ---- a comparison
+
+one_stage : {X : Type 0} (m : Machine) (Gives : X → Type 0) (Stops : Stop → Type 0) (Leads : X → Told → Type 0) → IsJudged Gives Stops → ((x : X) → IsOne (Leads x)) → IsOne (Stage m Gives Stops Leads)
+one_stage {X} m Gives Stops Leads judged one s t (inl (stop, is, p)) (inl (other, so, q)) =
+    one_answer_told (stop_answer m stop) s t p (subst (λ (x : Stop). Says (λ answer. answer ≡ stop_answer m x) t) (judged.one_stop other stop so is) q)
+one_stage {X} m Gives Stops Leads judged one s t (inl (stop, is, p)) (inr (x, so, q)) = absurd (judged.apart x stop so is)
+one_stage {X} m Gives Stops Leads judged one s t (inr (x, is, p)) (inl (stop, so, q)) = absurd (judged.apart x stop is so)
+one_stage {X} m Gives Stops Leads judged one s t (inr (x, is, p)) (inr (y, so, q)) = one x s t p (subst (λ (z : X). Leads z t) (judged.one y x so is) q)
+
+one_run_told : (m : Machine) (c : Certificate) (run : ℕ) (given : Given) (Leads : Trace → Told → Type 0) → IsInScope m → ((t : Trace) → IsOne (Leads t)) → IsOne (OnRun m c run given Leads)
+one_run_told m c run given Leads scope one = one_stage m (IsSide m c given) (IsSideless m c run given) Leads (judged-side m c run given scope) one
+
+one_side : (files : Files) (m : Machine) (c : Certificate) (run : ℕ) (side : Side) (Leads : Trace → Told → Type 0) → IsInScope m → ((t : Trace) → IsOne (Leads t)) → IsOne (OnSide (Some files) m c run side Leads)
+one_side files m c run first_run Leads scope one = one_run_told m c run first_order Leads scope one
+one_side files m c run second_run Leads scope one = one_run_told m c run second_order Leads scope one
+one_side files m c run (traced name) Leads scope one = one_file name _ (λ bytes. one_run_told m c run (given_trace bytes) Leads scope one) files
+
+one_comparison : (one two : Side) (files : Files) (m : Machine) → IsInScope m → (text : List ℕ) → IsOne (Compares one two m text (Some files))
+one_comparison one two files m scope text =
+    one_stage m (IsBasis m text) (IsBaseless m text) (λ c. OnSides one two m c (Some files)) (judged-basis m text) (λ c.
+    one_side files m c 1 one (λ t1. OnSide (Some files) m c 2 two (OnBoth m c t1)) scope (λ t1.
+    one_side files m c 2 two (OnBoth m c t1) scope (λ t2.
+    one_stage m (IsCompared m c t1 t2) (IsUncompared m c t1 t2) (λ text. Says (λ answer. answer ≡ text_answer text)) (judged-text m c t1 t2) (λ text. one_answer_told (text_answer text)))))
 
 one_command : (command : Command) (files : Files) (s t : Told) → LeadsTo command (Some files) s → LeadsTo command (Some files) t → s ≡ t
 one_command (run_model model options) files s t p q =
     one_file model (λ bytes. Says (IsRunAnswer options bytes)) (λ bytes. one_says (IsRunAnswer options bytes) (one_run options bytes)) files s t p q
 one_command (print_model model) files s t p q =
     one_file model (λ bytes. Says (IsPrintAnswer bytes)) (λ bytes. one_says (IsPrintAnswer bytes) (one_print bytes)) files s t p q
-one_command (certify_model model certificate share) files s t p q = one_both share model certificate IsCertifyAnswer one_certify files s t p q
-one_command (upgrade_model model certificate) files s t p q = one_both 0 model certificate IsUpgradeAnswer one_upgrade files s t p q
-one_command (check_model model trace) files s t p q = one_both 0 model trace IsCheckAnswer one_check files s t p q
+one_command (certify_model model certificate share) files s t p q = one_both share model certificate (SaysOn IsCertifyAnswer) files (one_answer IsCertifyAnswer one_certify files) s t p q
+one_command (upgrade_model model certificate) files s t p q = one_both 0 model certificate (SaysOn IsUpgradeAnswer) files (one_answer IsUpgradeAnswer one_upgrade files) s t p q
+one_command (check_model model trace) files s t p q = one_both 0 model trace (SaysOn IsCheckAnswer) files (one_answer IsCheckAnswer one_check files) s t p q
+one_command (compare_runs model certificate one two) files s t p q = one_both 0 model certificate (Compares one two) files (one_comparison one two files) s t p q
 one_command (propose_model model) files s t p q =
     one_file model (λ bytes. Says (IsMachineAnswer 0 IsProposeAnswer bytes)) (λ bytes. one_says (IsMachineAnswer 0 IsProposeAnswer bytes) (one_proposing bytes)) files s t p q
 one_command (second_model model) files s t p q =

@@ -1,5 +1,5 @@
--- How a command on a model and a certificate serves what is told.
-use Rattle.std.proofs.Common.{◌≡◌, ◌≢◌, ◌+◌, ◌<◌, ◌≤◌, ◌^◌, Bool, true, false, ℕ, List, [], ◌∷◌, length, pos, refl, sym, ap, ◌∙◌, subst, arith, inl, inr, None, Some, append-nil}
+-- How a command on a model and a text on it serves what is told.
+use Rattle.std.proofs.Common.{◌≡◌, ◌≢◌, ◌+◌, ◌<◌, ◌≤◌, ◌^◌, Bool, true, false, ℕ, List, [], ◌∷◌, ◌++◌, length, pos, refl, sym, ap, ◌∙◌, subst, arith, inl, inr, None, Some, append-nil}
 use Rattle.std.specs.declared.option.Option.{Option}
 use Rattle.std.specs.Prelude.{IfSome, IsSomeAnd, bytes_eq}
 use Rattle.std.specs.Io.KnownBytes.{Appends}
@@ -27,7 +27,12 @@ use Rattle.trace_answer.specs.Endings as TraceEndings
 use Rattle.trace_answer.specs.declared.ending.Ending.{Ending as TraceEnding}
 use Rattle.trace_answer.specs.declared.ending.Ending.TheVariants as traced
 use Rattle.trace_answer.specs.declared.ending.TraceRefusal.TheVariants as traces
+use Rattle.trace_answer.specs.Comparisons.{IsBaseless}
+use Rattle.trace_answer.specs.declared.stop.ComparisonRefusal.TheVariants as comparisons
+use Rattle.trace_answer.specs.declared.stop.Stop.{Stop}
+use Rattle.trace_answer.specs.declared.stop.Stop.TheVariants as stops
 use Rattle.trace_answer.proofs.Accepting.{accepted}
+use Rattle.trace_answer.proofs.Bases.{judged-basis}
 use Rattle.trace_answer.proofs.Sameness.{one_each as one_trace}
 use Rattle.propose_answer.specs.Answers as Proposals
 use Rattle.propose_answer.specs.Endings as ProposalEndings
@@ -38,27 +43,27 @@ use Rattle.propose_answer.proofs.Sameness.{one_proposed}
 use Rattle.qss_machine.specs.declared.system.Machine.{Machine}
 use Rattle.qss_compile.specs.Meanings.{IsRefused}
 use Rattle.qss_compile.specs.declared.fault.Refused.{Refused}
-use Rattle.qss_top.specs.Answers.{Answer, Line, Tells, refused, Told, Reply, answered, absent, untold, refusal, too_long, IsSourceRefusal, IsSourceMachine, uncertified, uncertifying, certificate_answer, status_of_refusal, IsCertificateAnswer, IsCertifyAnswer, IsUpgradeAnswer, quiet, untraced, status_of_trace, trace_answer, IsCheckAnswer, unproposed, proposal_answer, IsProposeAnswer, Says, Reads, InScope, ByMachine, ReadsText, LeadsTo}
-use Rattle.qss_top.specs.Certificates.{IsDone, limit_in, long_in, outcome_by, outcome_traced, outcome_proposed, share_in}
+use Rattle.qss_top.specs.Answers.{Answer, Line, Tells, refused, Told, Reply, answered, absent, untold, refusal, too_long, IsSourceRefusal, IsSourceMachine, uncertified, uncertifying, certificate_answer, status_of_refusal, IsCertificateAnswer, IsCertifyAnswer, IsUpgradeAnswer, quiet, untraced, status_of_trace, trace_answer, IsCheckAnswer, unproposed, proposal_answer, IsProposeAnswer, incomparable, stop_answer, Reads, InScope, ByMachine, ReadsText, LeadsTo}
+use Rattle.qss_top.specs.Certificates.{IsDone, files_behind, limit_in, long_in, outcome_by, outcome_traced, outcome_proposed, share_in}
 use Rattle.qss_words.specs.Commands.{files_of}
 use Rattle.qss_top.specs.Outcomes.{IsOutcome, IsRefusedFor, Meets, Serves, status_of, line_text as outcome_text}
 use Rattle.qss_top.specs.Statuses.{leaves_out}
 use Rattle.qss_top.specs.TopCall.{IsReplied}
-use Rattle.qss_words.specs.Requests.{command_on}
+use Rattle.qss_words.specs.Requests.{command_on, side_in}
 use Rattle.qss_words.specs.declared.request.Deed.{Deed}
 use Rattle.qss_words.specs.declared.request.Deed.TheVariants as deeds
 use Rattle.qss_top.specs.declared.outcome.Outcome.{Outcome}
 use Rattle.qss_top.specs.declared.outcome.Outcome.TheVariants as outcome
 use Rattle.qss_top.specs.declared.status.Status.{Status}
 use Rattle.qss_top.specs.declared.status.Status.TheVariants as ends
-use Rattle.qss_top.proofs.Existence.{MayReply, says_reply, certificate_reply, some_certify, some_upgrade, some_check, bytes_of, longer}
+use Rattle.qss_top.proofs.Existence.{MayReply, says_reply, certificate_reply, comparison_reply, some_certify, some_upgrade, some_check, bytes_of, longer}
 use Rattle.qss_top.proofs.OutcomeFacts.{no_prefix, nothing_outcome, append_none, row_none}
 use Rattle.qss_top.proofs.Sources.{one_source_refusal, one_source_machine, source_fine, short_for, long_refusal}
 use Rattle.qss_top.proofs.Sameness.{one_certify, one_upgrade, one_check}
-use Rattle.qss_top.proofs.Serving.{unwritten, uncut, says_served, read_served, fault_served, memory_served, long_served}
+use Rattle.qss_top.proofs.Serving.{unwritten, uncut, read_served, fault_served, memory_served, long_served}
 
 -- a refusal, where nothing was written
-refused_now : (status : Status) (line : Line) (what : Outcome) (old : Option (List ℕ)) (before : ℕ) → status_of what ≡ status → Tells line (outcome_text what) → IsOutcome (refusal status line) what old old before before
+pub refused_now : (status : Status) (line : Line) (what : Outcome) (old : Option (List ℕ)) (before : ℕ) → status_of what ≡ status → Tells line (outcome_text what) → IsOutcome (refusal status line) what old old before before
 refused_now status line what old before is said = record { defined = λ e. (is, said, Appends-nil old); prefix = no_prefix old []; short = λ e. inl (Appends-nil old); quiet = λ e. refl }
 
 -- all that is led to is this answer, and nothing more is read
@@ -197,17 +202,6 @@ proposal_some m text is none =
     let law = kept_texts m text is in
     lines_none (lines (pos 3) law.0) _ _ refl (sym law.1.text_is ∙ none)
 
--- there is one answer
-one_done : (deed : Deed) (m : Machine) (bytes : List ℕ) (a b : Answer) → IsDone deed m bytes a → IsDone deed m bytes b → a ≡ b
-one_done (deeds.Certify share) m bytes a b p q = one_certify m bytes a b p q
-one_done deeds.Upgrade m bytes a b p q = one_upgrade m bytes a b p q
-one_done deeds.Check m bytes a b p q = one_check m bytes a b p q
-
-some_done : (deed : Deed) (m : Machine) (bytes : List ℕ) → (a : Answer) × IsDone deed m bytes a
-some_done (deeds.Certify share) m bytes = some_certify m bytes
-some_done deeds.Upgrade m bytes = some_upgrade m bytes
-some_done deeds.Check m bytes = some_check m bytes
-
 whole_prefix : (old new : Option (List ℕ)) (xs : List ℕ) → Appends old new xs → AppendsPrefix old new xs
 whole_prefix old new xs written = record { front = xs; rest = []; parts = append-nil xs; appended = written }
 
@@ -222,7 +216,7 @@ module _ {K : Type 0} (known : K → Option (List ℕ)) (faults : K → ℕ) (fa
   kept answer what old new same h = subst (λ (k : K). Became answer what old k) (sym same) h
 
   -- a text was written whole
-  wrote : (text : List ℕ) (old new : K) → Appends (known old) (known new) text → faults new ≡ faults old → Became (record { status = ends.Ok; out = text; line = quiet }) outcome.Done old new
+  pub wrote : (text : List ℕ) (old new : K) → Appends (known old) (known new) text → faults new ≡ faults old → Became (record { status = ends.Ok; out = text; line = quiet }) outcome.Done old new
   wrote text old new whole calm = record { defined = λ e. (refl, refl, whole); prefix = whole_prefix (known old) (known new) text whole; short = λ e. absurd (cc e); quiet = λ e. calm }
 
   -- a refusal is told
@@ -230,7 +224,7 @@ module _ {K : Type 0} (known : K → Option (List ℕ)) (faults : K → ℕ) (fa
   told_so status line what old new same is said = kept (refusal status line) what old new same (refused_now status line what (known old) (faults old) is said)
 
   -- a write failed in a text that is not empty
-  failed : (text : List ℕ) (old new : K) → (text ≡ [] → ⊥) → AppendsPrefix (known old) (known new) text → Became (record { status = ends.Ok; out = text; line = quiet }) outcome.WriteFault old new
+  pub failed : (text : List ℕ) (old new : K) → (text ≡ [] → ⊥) → AppendsPrefix (known old) (known new) text → Became (record { status = ends.Ok; out = text; line = quiet }) outcome.WriteFault old new
   failed text old new some prefix = record { defined = λ e. absurd (cc e); prefix = prefix; short = λ e. absurd (cc e); quiet = λ e. absurd (some e) }
 
   -- memory was wanting
@@ -369,67 +363,100 @@ counted_later name before now counts other = by (bytes_eq other name) refl
     by true is = let same = (bytes_eq-Decides other name).0 is in subst (λ (n : List ℕ). before n ≤ now n) (sym same) counts.later
     by false is = let same = counts.others other (λ e. let wrong = (bytes_eq-Decides other name).1 e in absurd (cc)) in omega (arith, same)
 
--- the certificate in a file of this name
+-- what a text may be replied, where files are not told
+done_reply : (deed : Deed) (m : Machine) → IsInScope m → (text : List ℕ) → MayReply (IsDone deed m text None)
+done_reply (deeds.Certify share) m scope text = says_reply (IsCertifyAnswer m text) (some_certify m text)
+done_reply deeds.Upgrade m scope text = says_reply (IsUpgradeAnswer m text) (some_upgrade m text)
+done_reply deeds.Check m scope text = says_reply (IsCheckAnswer m text) (some_check m text)
+done_reply (deeds.Compare sides) m scope text = comparison_reply (side_in sides.one) (side_in sides.two) m scope text
+
+-- bytes past the limit have this answer
+abbrev pub said : Answer → Told
+said answer = record { arrivals = []; reply = answered answer }
+
+abbrev long_stop : Stop
+long_stop = stops.Refused (comparisons.Certificate certs.TooLong)
+
+abbrev long_answer : Machine → Deed → Answer
+long_answer m (deeds.Certify share) = uncertifying certs.TooLong
+long_answer m deeds.Upgrade = uncertifying certs.TooLong
+long_answer m deeds.Check = refusal ends.CertRefused (untraced traces.TooLong)
+long_answer m (deeds.Compare sides) = stop_answer m long_stop
+
+module _ (m : Machine) (bytes : List ℕ) (scope : IsInScope m) where
+  long_certify : 2 ^ 18 < length bytes → IsCertifyAnswer m bytes (uncertifying certs.TooLong)
+  long_certify long = (Certificates.refused certs.TooLong, inl (certs.TooLong, (scope, long), refl), refl)
+
+  long_upgrade : 2 ^ 18 < length bytes → IsUpgradeAnswer m bytes (uncertifying certs.TooLong)
+  long_upgrade long = (Certificates.refused certs.TooLong, inl (certs.TooLong, (scope, long), refl), refl)
+
+  long_check : 2 ^ 24 < length bytes → IsCheckAnswer m bytes (refusal ends.CertRefused (untraced traces.TooLong))
+  long_check long = (Traces.refused traces.TooLong, inl (traces.TooLong, (scope, long), refl), refl)
+
+  long_baseless : 2 ^ 18 < length bytes → IsBaseless m bytes long_stop
+  long_baseless long = inl (certs.TooLong, (scope, long), refl)
+
+  long_leads : (d : Deed) → limit_in d < length bytes → (fs : Option Files) (t : Told) → IsDone d m bytes fs t → t ≡ said (long_answer m d)
+  long_leads (deeds.Certify share) long fs t leads = leads.2 ∙ ap said (one_certify m bytes leads.0 (uncertifying certs.TooLong) leads.1 (long_certify long))
+  long_leads deeds.Upgrade long fs t leads = leads.2 ∙ ap said (one_upgrade m bytes leads.0 (uncertifying certs.TooLong) leads.1 (long_upgrade long))
+  long_leads deeds.Check long fs t leads = leads.2 ∙ ap said (one_check m bytes leads.0 (refusal ends.CertRefused (untraced traces.TooLong)) leads.1 (long_check long))
+  long_leads (deeds.Compare sides) long fs t (inl (stop, is, says)) = says.2 ∙ ap said (says.1 ∙ ap (stop_answer m) ((judged-basis m bytes).one_stop stop long_stop is (long_baseless long)))
+  long_leads (deeds.Compare sides) long fs t (inr (c, basis, leads)) = absurd ((judged-basis m bytes).apart c long_stop basis (long_baseless long))
+
+  long_all : (d : Deed) → limit_in d < length bytes → IsDone d m bytes None (said (long_answer m d))
+  long_all (deeds.Certify share) long = (uncertifying certs.TooLong, long_certify long, refl)
+  long_all deeds.Upgrade long = (uncertifying certs.TooLong, long_upgrade long, refl)
+  long_all deeds.Check long = (refusal ends.CertRefused (untraced traces.TooLong), long_check long, refl)
+  long_all (deeds.Compare sides) long = inl (long_stop, long_baseless long, (stop_answer m long_stop, refl, refl))
+
+long_outcome : (m : Machine) (d : Deed) (old : Option (List ℕ)) (before : ℕ) → IsOutcome (long_answer m d) (long_in d) old old before before × (long_in d ≢ outcome.ReadFault)
+long_outcome m (deeds.Certify share) old before = (refused_now ends.CertRefused (uncertified certs.TooLong) (outcome.Uncertified certs.TooLong) old before refl refl, λ e. cc e)
+long_outcome m deeds.Upgrade old before = (refused_now ends.CertRefused (uncertified certs.TooLong) (outcome.Uncertified certs.TooLong) old before refl refl, λ e. cc e)
+long_outcome m deeds.Check old before = (refused_now ends.CertRefused (untraced traces.TooLong) (outcome.Untraced traces.TooLong) old before refl refl, λ e. cc e)
+long_outcome m (deeds.Compare sides) old before =
+    (refused_now ends.CertRefused (incomparable (comparisons.Certificate certs.TooLong)) (outcome.Incomparable (comparisons.Certificate certs.TooLong)) old before refl refl, λ e. cc e)
+
+-- the text in a file of this name
 module _ (deed : Deed) (m : Machine) (certificate : List ℕ) (files : Option Files) where
   abbrev Leads : List ℕ → Option Files → Told → Type 0
-  Leads text fs = Says (IsDone deed m text)
+  Leads text fs = IsDone deed m text fs
 
   abbrev TextFile : (what : Outcome) (old new : Option (List ℕ)) (out_before out_now : ℕ) (before now : List ℕ → ℕ) → Type 0
-  TextFile = Serves files (certificate ∷ []) (λ fs. Reads fs certificate (λ text. Leads text fs))
+  TextFile = Serves files (certificate ∷ files_behind deed) (λ fs. Reads fs certificate (λ text. Leads text fs))
 
-  text_reply : (text : List ℕ) → MayReply (Leads text None)
-  text_reply text = says_reply (IsDone deed m text) (some_done deed m text)
-
-  pub text_served : (bytes : List ℕ) (what : Outcome) (old new : Option (List ℕ)) (out_before out_now : ℕ) (before now : List ℕ → ℕ)
-      → OnlyCounts certificate before now → now certificate ≡ before certificate → IfSome files (λ fs. file_of fs certificate ≡ Some bytes) → what ≢ outcome.ReadFault
-      → ((a : Answer) → IsDone deed m bytes a → IsOutcome a what old new out_before out_now) → TextFile what old new out_before out_now before now
-  text_served bytes what old new out_before out_now before now counts calm told not_read is =
-      read_served certificate [] Leads files bytes what old new out_before out_now before now now counts calm told
-      (says_served files (IsDone deed m bytes) what old new out_before out_now now is (some_done deed m bytes) not_read)
-
-  -- bytes past the limit have this answer
-  abbrev long_answer : Deed → Answer
-  long_answer (deeds.Certify share) = uncertifying certs.TooLong
-  long_answer deeds.Upgrade = uncertifying certs.TooLong
-  long_answer deeds.Check = refusal ends.CertRefused (untraced traces.TooLong)
-
-  long_done : (d : Deed) (bytes : List ℕ) → IsInScope m → limit_in d < length bytes → IsDone d m bytes (long_answer d)
-  long_done (deeds.Certify share) bytes scope long = (Certificates.refused certs.TooLong, inl (certs.TooLong, (scope, long), refl), refl)
-  long_done deeds.Upgrade bytes scope long = (Certificates.refused certs.TooLong, inl (certs.TooLong, (scope, long), refl), refl)
-  long_done deeds.Check bytes scope long = (Traces.refused traces.TooLong, inl (traces.TooLong, (scope, long), refl), refl)
-
-  long_outcome : (d : Deed) (old : Option (List ℕ)) (before : ℕ) → IsOutcome (long_answer d) (long_in d) old old before before × (long_in d ≢ outcome.ReadFault)
-  long_outcome (deeds.Certify share) old before = (refused_now ends.CertRefused (uncertified certs.TooLong) (outcome.Uncertified certs.TooLong) old before refl refl, λ e. cc e)
-  long_outcome deeds.Upgrade old before = (refused_now ends.CertRefused (uncertified certs.TooLong) (outcome.Uncertified certs.TooLong) old before refl refl, λ e. cc e)
-  long_outcome deeds.Check old before = (refused_now ends.CertRefused (untraced traces.TooLong) (outcome.Untraced traces.TooLong) old before refl refl, λ e. cc e)
+  pub text_served : (bytes : List ℕ) (what : Outcome) (old new : Option (List ℕ)) (out_before out_now : ℕ) (before mid now : List ℕ → ℕ)
+      → OnlyCounts certificate before mid → mid certificate ≡ before certificate → IfSome files (λ fs. file_of fs certificate ≡ Some bytes)
+      → Serves files (files_behind deed) (Leads bytes) what old new out_before out_now mid now → TextFile what old new out_before out_now before now
+  text_served bytes what old new out_before out_now before mid now counts calm told h =
+      read_served certificate (files_behind deed) Leads files bytes what old new out_before out_now before mid now counts calm told h
 
   pub long_text_served : (old : Option (List ℕ)) (out_before : ℕ) (before now : List ℕ → ℕ) → IsInScope m → OnlyCounts certificate before now → now certificate ≡ before certificate
       → IfSome files (λ fs. IsSomeAnd (file_of fs certificate) (λ bytes. limit_in deed < length bytes)) → TextFile (long_in deed) old old out_before out_before before now
   long_text_served old out_before before now scope counts calm told =
-      let a = long_answer deed in
       let long = bytes_of (limit_in deed + 1) in
-      let is = long_outcome deed old out_before in
-      long_served certificate [] Leads files (limit_in deed) a (long_in deed) old out_before before now counts calm told
-      (λ bytes h fs t leads. leads.2 ∙ ap (λ (b : Answer). record { arrivals = []; reply = answered b }) (one_done deed m bytes leads.0 a leads.1 (long_done deed bytes scope h)))
-      (λ bytes h. (a, long_done deed bytes scope h, refl)) (long.0, longer (limit_in deed) long.0 long.1) is.0 is.1
+      let is = long_outcome m deed old out_before in
+      long_served certificate (files_behind deed) Leads files (limit_in deed) (long_answer m deed) (long_in deed) old out_before before now counts calm told
+      (λ bytes h fs t leads. long_leads m bytes scope deed h fs t leads) (λ bytes h. long_all m bytes scope deed h) (long.0, longer (limit_in deed) long.0 long.1) is.0 is.1
 
-  pub text_fault_served : (old : Option (List ℕ)) (out_before : ℕ) (before now : List ℕ → ℕ) → OnlyCounts certificate before now → Rose (before certificate) (now certificate)
+  pub text_fault_served : (old : Option (List ℕ)) (out_before : ℕ) (before now : List ℕ → ℕ) → IsInScope m → OnlyCounts certificate before now → Rose (before certificate) (now certificate)
       → TextFile outcome.ReadFault old old out_before out_before before now
-  text_fault_served old out_before before now counts rose = fault_served certificate [] Leads files old out_before before now counts rose text_reply
+  text_fault_served old out_before before now scope counts rose = fault_served certificate (files_behind deed) Leads files old out_before before now counts rose (done_reply deed m scope)
 
-  pub text_memory_served : (old : Option (List ℕ)) (out_before : ℕ) (before now : List ℕ → ℕ) → OnlyCounts certificate before now → TextFile outcome.Memory old old out_before out_before before now
-  text_memory_served old out_before before now counts = memory_served certificate [] Leads files old out_before before now counts text_reply
+  pub text_memory_served : (old : Option (List ℕ)) (out_before : ℕ) (before now : List ℕ → ℕ) → IsInScope m → OnlyCounts certificate before now
+      → TextFile outcome.Memory old old out_before out_before before now
+  text_memory_served old out_before before now scope counts = memory_served certificate (files_behind deed) Leads files old out_before before now counts (done_reply deed m scope)
 
 -- each source may be answered, where files are not told
 few_in : (deed : Deed) → share_in deed ≤ 2048
 few_in (deeds.Certify share) = share.within
 few_in deeds.Upgrade = omega arith
 few_in deeds.Check = omega arith
+few_in (deeds.Compare sides) = omega arith
 
 pub source_reply : (deed : Deed) (certificate bytes : List ℕ) → MayReply (ByMachine (share_in deed) bytes (λ m. ReadsText certificate (IsDone deed) m None))
-source_reply deed certificate bytes = certificate_reply (share_in deed) (few_in deed) bytes certificate (IsDone deed) (some_done deed)
+source_reply deed certificate bytes = certificate_reply (share_in deed) (few_in deed) bytes certificate (IsDone deed) (done_reply deed)
 
--- the model and the certificate in files of these names
+-- the model and the text in files of these names
 module _ (deed : Deed) (model certificate : List ℕ) (files : Option Files) where
   abbrev Behind : List ℕ → Option Files → Told → Type 0
   Behind bytes fs = ByMachine (share_in deed) bytes (λ m. ReadsText certificate (IsDone deed) m fs)
@@ -438,38 +465,39 @@ module _ (deed : Deed) (model certificate : List ℕ) (files : Option Files) whe
   Both = Serves files (files_of (command_on deed model certificate)) (LeadsTo (command_on deed model certificate))
 
   both_served : (d : Deed) (what : Outcome) (old new : Option (List ℕ)) (out_before out_now : ℕ) (before now : List ℕ → ℕ)
-      → Serves files (model ∷ certificate ∷ []) (λ fs. Reads fs model (λ bytes. ByMachine (share_in d) bytes (λ m. ReadsText certificate (IsDone d) m fs))) what old new out_before out_now before now
+      → Serves files (model ∷ certificate ∷ files_behind d) (λ fs. Reads fs model (λ bytes. ByMachine (share_in d) bytes (λ m. ReadsText certificate (IsDone d) m fs))) what old new out_before out_now before now
       → Serves files (files_of (command_on d model certificate)) (LeadsTo (command_on d model certificate)) what old new out_before out_now before now
   both_served (deeds.Certify share) what old new out_before out_now before now h = h
   both_served deeds.Upgrade what old new out_before out_now before now h = h
   both_served deeds.Check what old new out_before out_now before now h = h
+  both_served (deeds.Compare sides) what old new out_before out_now before now h = h
 
   pub models_served : (bytes : List ℕ) (what : Outcome) (old new : Option (List ℕ)) (out_before out_now : ℕ) (before mid now : List ℕ → ℕ)
       → OnlyCounts model before mid → mid model ≡ before model → IfSome files (λ fs. file_of fs model ≡ Some bytes)
-      → Serves files (certificate ∷ []) (Behind bytes) what old new out_before out_now mid now → Both what old new out_before out_now before now
+      → Serves files (certificate ∷ files_behind deed) (Behind bytes) what old new out_before out_now mid now → Both what old new out_before out_now before now
   models_served bytes what old new out_before out_now before mid now counts calm told h =
-      both_served deed what old new out_before out_now before now (read_served model (certificate ∷ []) Behind files bytes what old new out_before out_now before mid now counts calm told h)
+      both_served deed what old new out_before out_now before now (read_served model (certificate ∷ files_behind deed) Behind files bytes what old new out_before out_now before mid now counts calm told h)
 
-  long_leads : (bytes : List ℕ) → 2 ^ 20 < length bytes → (fs : Option Files) (t : Told) → Behind bytes fs t → t ≡ record { arrivals = []; reply = answered (refusal ends.ModelRefused too_long) }
-  long_leads bytes h fs t (inl says) =
+  long_model_leads : (bytes : List ℕ) → 2 ^ 20 < length bytes → (fs : Option Files) (t : Told) → Behind bytes fs t → t ≡ record { arrivals = []; reply = answered (refusal ends.ModelRefused too_long) }
+  long_model_leads bytes h fs t (inl says) =
       says.2 ∙ ap (λ (b : Answer). record { arrivals = []; reply = answered b }) (one_source_refusal bytes says.0 (refusal ends.ModelRefused too_long) says.1 (long_refusal bytes h))
-  long_leads bytes h fs t (inr found) = absurd (source_fine (share_in deed) bytes (refusal ends.ModelRefused too_long) found.0 (long_refusal bytes h) found.1)
+  long_model_leads bytes h fs t (inr found) = absurd (source_fine (share_in deed) bytes (refusal ends.ModelRefused too_long) found.0 (long_refusal bytes h) found.1)
 
-  long_all : (bytes : List ℕ) → 2 ^ 20 < length bytes → Behind bytes None (record { arrivals = []; reply = answered (refusal ends.ModelRefused too_long) })
-  long_all bytes h = inl (refusal ends.ModelRefused too_long, long_refusal bytes h, refl)
+  long_model_all : (bytes : List ℕ) → 2 ^ 20 < length bytes → Behind bytes None (record { arrivals = []; reply = answered (refusal ends.ModelRefused too_long) })
+  long_model_all bytes h = inl (refusal ends.ModelRefused too_long, long_refusal bytes h, refl)
 
   pub long_models_served : (old : Option (List ℕ)) (out_before : ℕ) (before now : List ℕ → ℕ) → OnlyCounts model before now → now model ≡ before model
       → IfSome files (λ fs. IsSomeAnd (file_of fs model) (λ bytes. 2 ^ 20 < length bytes)) → Both outcome.TooLong old old out_before out_before before now
   long_models_served old out_before before now counts calm told =
       let long = bytes_of (2 ^ 20 + 1) in
       both_served deed outcome.TooLong old old out_before out_before before now
-      (long_served model (certificate ∷ []) Behind files (2 ^ 20) (refusal ends.ModelRefused too_long) outcome.TooLong old out_before before now counts calm told long_leads long_all
+      (long_served model (certificate ∷ files_behind deed) Behind files (2 ^ 20) (refusal ends.ModelRefused too_long) outcome.TooLong old out_before before now counts calm told long_model_leads long_model_all
       (long.0, longer (2 ^ 20) long.0 long.1) (refused_now ends.ModelRefused too_long outcome.TooLong old out_before refl refl) (λ e. cc e))
 
   pub models_fault_served : (old : Option (List ℕ)) (out_before : ℕ) (before now : List ℕ → ℕ) → OnlyCounts model before now → Rose (before model) (now model) → Both outcome.ReadFault old old out_before out_before before now
   models_fault_served old out_before before now counts rose =
-      both_served deed outcome.ReadFault old old out_before out_before before now (fault_served model (certificate ∷ []) Behind files old out_before before now counts rose (source_reply deed certificate))
+      both_served deed outcome.ReadFault old old out_before out_before before now (fault_served model (certificate ∷ files_behind deed) Behind files old out_before before now counts rose (source_reply deed certificate))
 
   pub models_memory_served : (old : Option (List ℕ)) (out_before : ℕ) (before now : List ℕ → ℕ) → OnlyCounts model before now → Both outcome.Memory old old out_before out_before before now
   models_memory_served old out_before before now counts =
-      both_served deed outcome.Memory old old out_before out_before before now (memory_served model (certificate ∷ []) Behind files old out_before before now counts (source_reply deed certificate))
+      both_served deed outcome.Memory old old out_before out_before before now (memory_served model (certificate ∷ files_behind deed) Behind files old out_before before now counts (source_reply deed certificate))

@@ -16,6 +16,7 @@ use Rattle.qss_play.specs.Plays.{run_under, text_of as run_text}
 use Rattle.qss_play.specs.Tallies.{level_count, end_sum}
 use Rattle.qss_quant.specs.declared.rule.Rule.TheVariants.{Floor}
 use Rattle.cert_check.specs.Scope.{IsInScope, IsOutsideBy}
+use Rattle.cert_check.specs.declared.certificate.Certificate.{Certificate}
 use Rattle.cert_check.specs.declared.outside.Outside.{Outside}
 use Rattle.cert_check.specs.declared.outside.Outside.TheVariants.{HasClauses}
 use Rattle.cert_answer.specs.Answers as Certificates
@@ -25,16 +26,22 @@ use Rattle.cert_answer.specs.Endings.{refusal_line}
 use Rattle.cert_answer.specs.declared.ending.CertificateRefusal.{CertificateRefusal}
 use Rattle.trace_answer.specs.Answers as Traces
 use Rattle.trace_answer.specs.Answers.{IsChecked}
+use Rattle.trace_answer.specs.Comparisons.{Given, first_order, second_order, traced as given_trace, IsBasis, IsBaseless, IsSide, IsSideless, IsCompared, IsUncompared, comparison_line}
 use Rattle.trace_answer.specs.Endings as TraceEndings
 use Rattle.trace_answer.specs.declared.ending.TraceRefusal.{TraceRefusal}
 use Rattle.trace_answer.specs.declared.ending.TraceRefusal.TheVariants as traces
+use Rattle.trace_answer.specs.declared.stop.ComparisonRefusal.{ComparisonRefusal}
+use Rattle.trace_answer.specs.declared.stop.ComparisonRefusal.TheVariants as comparisons
+use Rattle.trace_answer.specs.declared.stop.Stop.{Stop}
+use Rattle.trace_answer.specs.declared.stop.Stop.TheVariants as stops
 use Rattle.propose_answer.specs.Answers as Proposals
 use Rattle.propose_answer.specs.Answers.{IsProposed}
 use Rattle.propose_answer.specs.Endings as ProposalEndings
 use Rattle.propose_answer.specs.declared.ending.ProposalRefusal.{ProposalRefusal}
 use Rattle.qss_order2.specs.Runs.{Past, Run2}
+use Rattle.qss_trace.specs.declared.trace.Trace.{Trace}
 use Rattle.qss_play.specs.Plays2.{near_run, text2_of}
-use Rattle.qss_words.specs.Commands.{RunOptions, Command, run_model, print_model, certify_model, upgrade_model, generate_model, check_model, propose_model, second_model, command_of, files_of}
+use Rattle.qss_words.specs.Commands.{RunOptions, Command, run_model, print_model, certify_model, upgrade_model, generate_model, check_model, propose_model, second_model, compare_runs, Side, first_run, second_run, traced, command_of, files_of}
 use Rattle.qss_top.specs.Shares.{IsShared}
 use Rattle.qss_top.specs.declared.status.Status.{Status}
 use Rattle.qss_top.specs.declared.status.Status.TheVariants as ends
@@ -48,6 +55,7 @@ pub data Line : Type 0 where
   uncertified : CertificateRefusal → Line
   untraced : TraceRefusal → Line
   unproposed : ProposalRefusal → Line
+  incomparable : ComparisonRefusal → Line
   over : (name : List ℕ) → (tick : ℕ) → Line
 
 -- the line on how words are a command
@@ -77,6 +85,7 @@ Tells (refused bytes) text = TellsRefusal bytes text
 Tells (uncertified why) text = text ≡ refusal_line why
 Tells (untraced why) text = text ≡ TraceEndings.refusal_line why
 Tells (unproposed why) text = text ≡ ProposalEndings.refusal_line why
+Tells (incomparable why) text = text ≡ comparison_line why
 Tells (over name tick) text = text ≡ overflow_line name tick
 
 -- an answer: how the program ends, what out gains, and what the line on err says
@@ -230,6 +239,25 @@ proposal_answer (Proposals.written text) = record { status = ends.Ok; out = text
 abbrev pub IsProposeAnswer : Machine → Answer → Type 0
 IsProposeAnswer m answer = (such : Proposals.Answer) × IsProposed m such × (answer ≡ proposal_answer such)
 
+-- how the program ends that does not compare two runs
+abbrev pub status_of_comparison : ComparisonRefusal → Status
+status_of_comparison (comparisons.Certificate why) = status_of_refusal why
+status_of_comparison comparisons.Start = ends.Rejected
+status_of_comparison (comparisons.Trace why) = status_of_trace why
+status_of_comparison (comparisons.Quantum run state) = ends.Rejected
+status_of_comparison (comparisons.Long last) = ends.Rejected
+status_of_comparison (comparisons.Range place1 place2) = ends.Rejected
+
+-- the answer that tells what stops a comparison of runs of the machine
+abbrev pub stop_answer : Machine → Stop → Answer
+stop_answer m (stops.Refused why) = refusal (status_of_comparison why) (incomparable why)
+stop_answer m (stops.Over tick var) = refusal ends.Overflow (over (name_of m var) tick)
+stop_answer m stops.Memory = refusal ends.Memory quiet
+
+-- the answer that writes a text
+abbrev pub text_answer : List ℕ → Answer
+text_answer text = record { status = ends.Ok; out = text; line = quiet }
+
 -- how the program ends on a second-order run, and what the line then says
 abbrev pub status_of_run2 : Run2 → Status
 status_of_run2 run = status_by run.overflow
@@ -299,23 +327,54 @@ InScope m Leads told =
 abbrev pub ByMachine : ℕ → List ℕ → (Machine → Told → Type 0) → Told → Type 0
 ByMachine share bytes Leads told = Says (IsSourceRefusal bytes) told ⊎ ((m : Machine) × IsSourceMachine share bytes m × Leads m told)
 
--- a text on a machine, such as a certificate, is read where certificates can speak of the machine, and is answered so
-abbrev pub ReadsText : (name : List ℕ) → (Machine → List ℕ → Answer → Type 0) → Machine → Option Files → Told → Type 0
-ReadsText name IsSuch m files told = InScope m (Reads files name (λ text. Says (IsSuch m text))) told
+-- a text on a machine, such as a certificate, is read where certificates can speak of the machine, and leads on
+abbrev pub ReadsText : (name : List ℕ) → (Machine → List ℕ → Option Files → Told → Type 0) → Machine → Option Files → Told → Type 0
+ReadsText name Leads m files told = InScope m (Reads files name (λ text. Leads m text files)) told
 
--- a model and then a text on its machine are read
-abbrev pub ReadsBoth : ℕ → (model name : List ℕ) → (Machine → List ℕ → Answer → Type 0) → Option Files → Told → Type 0
-ReadsBoth share model name IsSuch files told = Reads files model (λ bytes. ByMachine share bytes (λ m. ReadsText name IsSuch m files)) told
+-- a model and then a text on its machine are read, and lead on
+abbrev pub ReadsBoth : ℕ → (model name : List ℕ) → (Machine → List ℕ → Option Files → Told → Type 0) → Option Files → Told → Type 0
+ReadsBoth share model name Leads files told = Reads files model (λ bytes. ByMachine share bytes (λ m. ReadsText name Leads m files)) told
+
+-- a machine and a text on it are answered so
+abbrev pub SaysOn : (Machine → List ℕ → Answer → Type 0) → Machine → List ℕ → Option Files → Told → Type 0
+SaysOn IsSuch m text files told = Says (IsSuch m text) told
+
+-- a step of a comparison gives a thing that leads on, or stops it
+abbrev pub Stage : {X : Type 0} → Machine → (X → Type 0) → (Stop → Type 0) → (X → Told → Type 0) → Told → Type 0
+Stage {X} m Gives Stops Leads told = ((stop : Stop) × Stops stop × Says (λ answer. answer ≡ stop_answer m stop) told) ⊎ ((x : X) × Gives x × Leads x told)
+
+-- the run that is given leads on with its trace; it is the first of two, 1, or the second, 2
+abbrev pub OnRun : Machine → Certificate → (run : ℕ) → Given → (Trace → Told → Type 0) → Told → Type 0
+OnRun m c run given Leads told = Stage m (IsSide m c given) (IsSideless m c run given) Leads told
+
+-- the same for a run of the machine itself, or for one whose trace is read
+abbrev pub OnSide : Option Files → Machine → Certificate → (run : ℕ) → Side → (Trace → Told → Type 0) → Told → Type 0
+OnSide files m c run first_run Leads told = OnRun m c run first_order Leads told
+OnSide files m c run second_run Leads told = OnRun m c run second_order Leads told
+OnSide files m c run (traced name) Leads told = Reads files name (λ bytes. OnRun m c run (given_trace bytes) Leads) told
+
+-- two runs are answered with their text side by side
+abbrev pub OnBoth : Machine → Certificate → Trace → Trace → Told → Type 0
+OnBoth m c t1 t2 told = Stage m (IsCompared m c t1 t2) (IsUncompared m c t1 t2) (λ text. Says (λ answer. answer ≡ text_answer text)) told
+
+-- by a certificate the first run is had, and then the second
+abbrev pub OnSides : (one two : Side) → Machine → Certificate → Option Files → Told → Type 0
+OnSides one two m c files told = OnSide files m c 1 one (λ t1. OnSide files m c 2 two (OnBoth m c t1)) told
+
+-- the bytes of a certificate lead to a comparison by it
+abbrev pub Compares : (one two : Side) → Machine → List ℕ → Option Files → Told → Type 0
+Compares one two m text files told = Stage m (IsBasis m text) (IsBaseless m text) (λ c. OnSides one two m c files) told
 
 -- a command leads to what is told, or may lead to it where no files are told
 abbrev pub LeadsTo : Command → Option Files → Told → Type 0
 LeadsTo (run_model model options) files told = Reads files model (λ bytes. Says (IsRunAnswer options bytes)) told
 LeadsTo (print_model model) files told = Reads files model (λ bytes. Says (IsPrintAnswer bytes)) told
-LeadsTo (certify_model model certificate share) files told = ReadsBoth share model certificate IsCertifyAnswer files told
-LeadsTo (upgrade_model model certificate) files told = ReadsBoth 0 model certificate IsUpgradeAnswer files told
-LeadsTo (check_model model trace) files told = ReadsBoth 0 model trace IsCheckAnswer files told
+LeadsTo (certify_model model certificate share) files told = ReadsBoth share model certificate (SaysOn IsCertifyAnswer) files told
+LeadsTo (upgrade_model model certificate) files told = ReadsBoth 0 model certificate (SaysOn IsUpgradeAnswer) files told
+LeadsTo (check_model model trace) files told = ReadsBoth 0 model trace (SaysOn IsCheckAnswer) files told
 LeadsTo (propose_model model) files told = Reads files model (λ bytes. Says (IsMachineAnswer 0 IsProposeAnswer bytes)) told
 LeadsTo (second_model model) files told = Reads files model (λ bytes. Says (IsMachineAnswer 0 IsSecondAnswer bytes)) told
+LeadsTo (compare_runs model certificate one two) files told = ReadsBoth 0 model certificate (Compares one two) files told
 LeadsTo (generate_model seed cells) files told = Says (IsGenerationAnswer seed cells) told
 
 -- for some bytes that the command reads, the answer to it is such a one

@@ -9,3 +9,5 @@ pub mod Outcomes
 pub mod CertifiedRuns
 pub mod Headline
 pub mod ProposedRuns
+pub mod Comparing
+pub mod ComparedRuns

@@ -7,9 +7,10 @@ use Rattle.qss_compile.specs.Causes.{is_memory}
 use Rattle.qss_compile.specs.Lines as Refusals
 use Rattle.qss_compile.specs.declared.fault.Refused.{Refused}
 use Rattle.cert_answer.specs.Endings.{refusal_line}
+use Rattle.trace_answer.specs.Comparisons.{comparison_line}
 use Rattle.trace_answer.specs.Endings as TraceEndings
 use Rattle.propose_answer.specs.Endings as ProposalEndings
-use Rattle.qss_top.specs.Answers.{Answer, Told, Tells, answered, status_of_refusal, status_of_trace, usage_line, too_long_line, overflow_line}
+use Rattle.qss_top.specs.Answers.{Answer, Told, Tells, answered, status_of_refusal, status_of_trace, status_of_comparison, usage_line, too_long_line, overflow_line}
 use Rattle.qss_top.specs.Statuses.{is_defined}
 use Rattle.qss_top.specs.TopCall.{IsReplied, IsReplyLine, Replies, IsCutShort, text_of, SomeRose}
 use Rattle.qss_top.specs.declared.outcome.Outcome.{Outcome}
@@ -29,6 +30,7 @@ status_of (outcome.Overflow name tick) = ends.Overflow
 status_of (outcome.Uncertified why) = status_of_refusal why
 status_of (outcome.Untraced why) = status_of_trace why
 status_of (outcome.Unproposed why) = ends.Rejected
+status_of (outcome.Incomparable why) = status_of_comparison why
 status_of outcome.Memory = ends.Memory
 
 -- the text of its line, where it comes of a defined answer
@@ -40,6 +42,7 @@ line_text (outcome.Overflow name tick) = overflow_line name tick
 line_text (outcome.Uncertified why) = refusal_line why
 line_text (outcome.Untraced why) = TraceEndings.refusal_line why
 line_text (outcome.Unproposed why) = ProposalEndings.refusal_line why
+line_text (outcome.Incomparable why) = comparison_line why
 line_text _ = []
 
 -- the outcome of a refusal, which may be want of memory
@@ -57,6 +60,7 @@ takes_memory (outcome.Overflow name tick) = true
 takes_memory (outcome.Uncertified why) = true
 takes_memory (outcome.Untraced why) = true
 takes_memory (outcome.Unproposed why) = true
+takes_memory (outcome.Incomparable why) = true
 takes_memory _ = false
 
 -- the outcome is that of the answer, or a write fault or want of memory, and no more than the answer's text was written

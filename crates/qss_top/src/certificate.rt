@@ -1,15 +1,16 @@
-// The commands on a model and a certificate.
+// The commands on a model and a text on it.
 ghost use Rattle.std.specs.Prelude.{length, ◌≡◌, ◌≢◌, ◌≤◌, ◌^◌, [], ◌∷◌, true, false, ℕ, List};
 ghost use Rattle.mu_io.specs.Sinks.{EndsByFault};
 ghost use Rattle.cert_check.specs.Scope.{IsInScope};
-ghost use Rattle.qss_top.specs.Answers.{Answer, ByMachine, ReadsText, Reads, Says, LeadsTo};
-ghost use Rattle.qss_top.specs.Certificates.{IsDone, limit_in, long_in, outcome_by, outcome_traced, share_in};
+ghost use Rattle.qss_top.specs.Answers.{ByMachine, ReadsText, Reads, LeadsTo};
+ghost use Rattle.qss_top.specs.Certificates.{IsDone, files_behind, limit_in, long_in, outcome_by, outcome_traced, share_in};
 ghost use Rattle.qss_words.specs.Commands.{files_of};
-ghost use Rattle.qss_top.specs.Outcomes.{IsOutcome, Serves, status_of};
+ghost use Rattle.qss_top.specs.Outcomes.{Serves, status_of};
 ghost use Rattle.qss_top.specs.Statuses.{leaves_out};
 ghost use Rattle.qss_words.specs.Requests.{command_on};
 
 use crate::command::MODEL_LIMIT;
+use crate::comparison::compare_runs;
 use crate::outcome::Outcome;
 use crate::source::machine_of;
 use cert_answer::{CertificateRefusal, Ending, certify, upgrade};
@@ -18,13 +19,13 @@ use mu_io::{ReadErr, Shelf, Sink, read_all};
 use qss_machine::Machine;
 use qss_words::{Deed, Share};
 use std::alloc::Global;
-use trace_answer::{Ending as TraceEnding, TraceRefusal, check_trace_text};
+use trace_answer::{ComparisonRefusal, Ending as TraceEnding, TraceRefusal, check_trace_text};
 
 // The longest certificate that is read, in bytes.
 const CERTIFICATE_LIMIT: usize = 1 << 18;
 
 // The longest trace that is read, in bytes.
-const TRACE_LIMIT: usize = 1 << 24;
+pub(crate) const TRACE_LIMIT: usize = 1 << 24;
 
 /// Does this with the model and the certificate in two files.
 pub(crate) fn on_certificate<S: Shelf, O: Sink>(
@@ -35,7 +36,7 @@ pub(crate) fn on_certificate<S: Shelf, O: Sink>(
     shelf: &mut S,
     out: &mut O,
 ) -> Outcome
-    ensures serves { Serves (S.files shelf.old) (files_of (command_on deed model.now certificate.now)) (LeadsTo (command_on deed model.now certificate.now)) result (O.written out.old) (O.written out.new) (O.faults out.old) (O.faults out.new) (S.faults shelf.old) (S.faults shelf.new) }
+    ensures serves { Serves (S.files shelf.old) (files_of (command_on deed.entry model.now certificate.now)) (LeadsTo (command_on deed.entry model.now certificate.now)) result (O.written out.old) (O.written out.new) (O.faults out.old) (O.faults out.new) (S.faults shelf.old) (S.faults shelf.new) }
     ensures not_usage { result ≢ Outcome.Usage }
     ensures untouched { leaves_out false (status_of result) ≡ true → out.new ≡ out.old }
     ensures calm { result ≢ Outcome.WriteFault → O.faults out.new ≡ O.faults out.old }
@@ -62,7 +63,7 @@ fn on_model<S: Shelf, O: Sink>(
     out: &mut O,
 ) -> Outcome
     requires { length bytes.now ≤ 2 ^ 20 }
-    ensures serves { Serves (S.files shelf.old) (certificate.now ∷ []) (λ files. ByMachine (share_in deed) bytes.now (λ m. ReadsText certificate.now (IsDone deed) m files)) result (O.written out.old) (O.written out.new) (O.faults out.old) (O.faults out.new) (S.faults shelf.old) (S.faults shelf.new) }
+    ensures serves { Serves (S.files shelf.old) (certificate.now ∷ files_behind deed.entry) (λ files. ByMachine (share_in deed.entry) bytes.now (λ m. ReadsText certificate.now (IsDone deed.entry) m files)) result (O.written out.old) (O.written out.new) (O.faults out.old) (O.faults out.new) (S.faults shelf.old) (S.faults shelf.new) }
     ensures not_usage { result ≢ Outcome.Usage }
     ensures untouched { leaves_out false (status_of result) ≡ true → out.new ≡ out.old }
     ensures calm { result ≢ Outcome.WriteFault → O.faults out.new ≡ O.faults out.old }
@@ -80,11 +81,11 @@ fn on_model<S: Shelf, O: Sink>(
 
 // The share of what is done: an upgrade asks for none.
 fn share_of(deed: Deed) -> Share
-    ensures { result.share ≡ share_in deed }
+    ensures { result.share ≡ share_in deed.entry }
 {
     match deed {
         Deed::Certify(share) => share,
-        Deed::Upgrade | Deed::Check => Share { share: 0 },
+        Deed::Upgrade | Deed::Check | Deed::Compare(_) => Share { share: 0 },
     }
 }
 
@@ -97,7 +98,7 @@ fn in_scope<S: Shelf, O: Sink>(
     shelf: &mut S,
     out: &mut O,
 ) -> Outcome
-    ensures serves { Serves (S.files shelf.old) (certificate.now ∷ []) (ReadsText certificate.now (IsDone deed) m.now) result (O.written out.old) (O.written out.new) (O.faults out.old) (O.faults out.new) (S.faults shelf.old) (S.faults shelf.new) }
+    ensures serves { Serves (S.files shelf.old) (certificate.now ∷ files_behind deed.entry) (ReadsText certificate.now (IsDone deed.entry) m.now) result (O.written out.old) (O.written out.new) (O.faults out.old) (O.faults out.new) (S.faults shelf.old) (S.faults shelf.new) }
     ensures not_usage { result ≢ Outcome.Usage }
     ensures untouched { leaves_out false (status_of result) ≡ true → out.new ≡ out.old }
     ensures calm { result ≢ Outcome.WriteFault → O.faults out.new ≡ O.faults out.old }
@@ -122,7 +123,7 @@ fn on_text_file<S: Shelf, O: Sink>(
     out: &mut O,
 ) -> Outcome
     requires { IsInScope m.now }
-    ensures serves { Serves (S.files shelf.old) (certificate.now ∷ []) (λ files. Reads files certificate.now (λ text. Says (IsDone deed m.now text))) result (O.written out.old) (O.written out.new) (O.faults out.old) (O.faults out.new) (S.faults shelf.old) (S.faults shelf.new) }
+    ensures serves { Serves (S.files shelf.old) (certificate.now ∷ files_behind deed.entry) (λ files. Reads files certificate.now (λ text. IsDone deed.entry m.now text files)) result (O.written out.old) (O.written out.new) (O.faults out.old) (O.faults out.new) (S.faults shelf.old) (S.faults shelf.new) }
     ensures not_usage { result ≢ Outcome.Usage }
     ensures untouched { leaves_out false (status_of result) ≡ true → out.new ≡ out.old }
     ensures calm { result ≢ Outcome.WriteFault → O.faults out.new ≡ O.faults out.old }
@@ -132,7 +133,7 @@ fn on_text_file<S: Shelf, O: Sink>(
     ensures unharmed { result ≢ Outcome.ReadFault → (name : List ℕ) → S.faults shelf.new name ≡ S.faults shelf.old name }
 {
     match read_all(alloc, shelf, certificate, limit_of(deed)) {
-        Ok(text) => on_text(alloc, deed, m, &text, out),
+        Ok(text) => on_text(alloc, deed, m, &text, shelf, out),
         Err(ReadErr::TooLong) => too_long(deed),
         Err(ReadErr::Fault) => Outcome::ReadFault,
         Err(ReadErr::Memory) => Outcome::Memory,
@@ -141,17 +142,17 @@ fn on_text_file<S: Shelf, O: Sink>(
 
 // The longest text that is read, in bytes.
 fn limit_of(deed: Deed) -> usize
-    ensures { result ≡ limit_in deed }
+    ensures { result ≡ limit_in deed.entry }
 {
     match deed {
-        Deed::Certify(_) | Deed::Upgrade => CERTIFICATE_LIMIT,
+        Deed::Certify(_) | Deed::Upgrade | Deed::Compare(_) => CERTIFICATE_LIMIT,
         Deed::Check => TRACE_LIMIT,
     }
 }
 
 // What becomes of a command whose text is longer.
 fn too_long(deed: Deed) -> Outcome
-    ensures what { result ≡ long_in deed }
+    ensures what { result ≡ long_in deed.entry }
     ensures not_usage { result ≢ Outcome.Usage }
     ensures not_read { result ≢ Outcome.ReadFault }
     ensures not_write { result ≢ Outcome.WriteFault }
@@ -159,22 +160,36 @@ fn too_long(deed: Deed) -> Outcome
     match deed {
         Deed::Certify(_) | Deed::Upgrade => Outcome::Uncertified(CertificateRefusal::TooLong),
         Deed::Check => Outcome::Untraced(TraceRefusal::TooLong),
+        Deed::Compare(_) => Outcome::Incomparable(ComparisonRefusal::Certificate(
+            CertificateRefusal::TooLong,
+        )),
     }
 }
 
-// Does this with the bytes of a certificate.
-fn on_text<O: Sink>(alloc: Global, deed: Deed, m: &Machine, text: &[u8], out: &mut O) -> Outcome
-    ensures outcome { (answer : Answer) → IsDone deed m.now text.now answer → IsOutcome answer result (O.written out.old) (O.written out.new) (O.faults out.old) (O.faults out.new) }
-    ensures not_read { result ≢ Outcome.ReadFault }
+// Does this with the bytes of a text.
+fn on_text<S: Shelf, O: Sink>(
+    alloc: Global,
+    deed: Deed,
+    m: &Machine,
+    text: &[u8],
+    shelf: &mut S,
+    out: &mut O,
+) -> Outcome
+    requires { IsInScope m.now }
+    ensures serves { Serves (S.files shelf.old) (files_behind deed.entry) (IsDone deed.entry m.now text.now) result (O.written out.old) (O.written out.new) (O.faults out.old) (O.faults out.new) (S.faults shelf.old) (S.faults shelf.new) }
     ensures not_usage { result ≢ Outcome.Usage }
     ensures untouched { leaves_out false (status_of result) ≡ true → out.new ≡ out.old }
     ensures calm { result ≢ Outcome.WriteFault → O.faults out.new ≡ O.faults out.old }
     ensures last { result ≡ Outcome.WriteFault → EndsByFault O.faults O.failed out.old out.new }
+    ensures files { S.files shelf.new ≡ S.files shelf.old }
+    ensures later { (name : List ℕ) → S.faults shelf.old name ≤ S.faults shelf.new name }
+    ensures unharmed { result ≢ Outcome.ReadFault → (name : List ℕ) → S.faults shelf.new name ≡ S.faults shelf.old name }
 {
     match deed {
         Deed::Certify(_) => outcome_of(certify(alloc, m, text, out)),
         Deed::Upgrade => outcome_of(upgrade(alloc, m, text, out)),
         Deed::Check => traced_outcome(check_trace_text(alloc, m, text, out)),
+        Deed::Compare(sides) => compare_runs(alloc, sides, m, text, shelf, out),
     }
 }
 

@@ -1,5 +1,6 @@
 // Laws on what is told.
 ghost use Rattle.qss_top.specs.CertifiedRuns.{CertifiedRunsStayNear};
+ghost use Rattle.qss_top.specs.ComparedRuns.{ComparedRunsStayNear};
 ghost use Rattle.qss_top.specs.Headline.{RunPrintsTheRun, CertifyAcceptsExactly};
 ghost use Rattle.qss_top.specs.Laws.{AnswersAreUnique, AnswersExist};
 ghost use Rattle.qss_top.specs.ProposedRuns.{ProposedRunsStayNear};
@@ -35,4 +36,10 @@ pub fn certified_runs_stay_near()
 /// bounds, and the machine's own runs are among these.
 pub fn proposed_runs_stay_near()
     ensures { ProposedRunsStayNear }
+{}
+
+/// Law: where two runs are compared, both are legitimate runs of the machine that the model means, from its start and with quanta
+/// that the certificate allows, and the text has the greatest form of their difference, which is at most the certificate's bound.
+pub fn compared_runs_stay_near()
+    ensures { ComparedRunsStayNear }
 {}

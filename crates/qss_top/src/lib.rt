@@ -3,6 +3,7 @@
 
 mod certificate;
 mod command;
+mod comparison;
 mod generation;
 mod laws;
 mod machine;
@@ -14,7 +15,8 @@ mod top;
 
 pub use laws::{
     answers_are_unique, answers_exist, certified_runs_stay_near, certify_accepts_exactly,
-    proposed_runs_stay_near, run_prints_the_run,
+    compared_runs_stay_near, proposed_runs_stay_near, run_prints_the_run,
 };
+pub use run_trace::{TraceOver, first_trace, second_trace};
 pub use status::Status;
 pub use top::qss_main;

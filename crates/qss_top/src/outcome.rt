@@ -1,6 +1,6 @@
 // What became of a command, and the line that tells it.
 ghost use Rattle.std.specs.Prelude.{true, ◌≡◌, ◌⊎◌, ◌≤◌, ℕ, List, codes, IfOk};
-ghost use Rattle.qss_top.specs.Answers.{overflow_line, status_of_refusal, status_of_trace};
+ghost use Rattle.qss_top.specs.Answers.{overflow_line, status_of_comparison, status_of_refusal, status_of_trace};
 ghost use Rattle.qss_top.specs.Outcomes as Spec;
 ghost use Rattle.qss_top.specs.TopCall.{WritesLine};
 
@@ -10,7 +10,7 @@ use mu_io::{Name, Sink, write_all};
 use propose_answer::{ProposalRefusal, refusal_line as proposal_line};
 use qss_compile::{ModelErr, Refused, refusal_line};
 use std::alloc::{AllocError, Global};
-use trace_answer::{TraceRefusal, refusal_line as trace_line};
+use trace_answer::{ComparisonRefusal, TraceRefusal, comparison_line, refusal_line as trace_line};
 
 /// What became of a command.
 #[derive(Drop)]
@@ -25,6 +25,7 @@ pub enum Outcome {
     Uncertified(CertificateRefusal),
     Untraced(TraceRefusal),
     Unproposed(ProposalRefusal),
+    Incomparable(ComparisonRefusal),
     Memory,
 }
 
@@ -79,6 +80,10 @@ pub(crate) fn report<E: Sink>(alloc: Global, outcome: &Outcome, err: &mut E) -> 
             Ok(line) => tell(Status::Rejected, &line, err),
             Err(_) => tell(Status::Memory, b"out of memory\n", err),
         },
+        Outcome::Incomparable(why) => match comparison_line(alloc, *why) {
+            Ok(line) => tell(comparison_status(*why), &line, err),
+            Err(_) => tell(Status::Memory, b"out of memory\n", err),
+        },
         Outcome::Memory => tell(Status::Memory, b"out of memory\n", err),
     }
 }
@@ -100,6 +105,17 @@ fn trace_status(why: TraceRefusal) -> Status
     match why {
         TraceRefusal::Outside(_) | TraceRefusal::Broken { .. } => Status::Rejected,
         TraceRefusal::TooLong | TraceRefusal::Unread(_) => Status::CertRefused,
+    }
+}
+
+// How the program ends that does not compare two runs.
+fn comparison_status(why: ComparisonRefusal) -> Status
+    ensures { result ≡ status_of_comparison why }
+{
+    match why {
+        ComparisonRefusal::Certificate(cause) => refusal_status(cause),
+        ComparisonRefusal::Trace(cause) => trace_status(cause),
+        _ => Status::Rejected,
     }
 }
 

@@ -21,7 +21,7 @@ use Rattle.qss_machine.specs.Ticks.{World, start_world, moved_states, handling_a
 use Rattle.run_trace.specs.Worlds.{plain_world}
 
 -- without clauses the handlers do nothing, and there are no truths
-none_run : (m : Machine) (tick : ℕ) (before : List ℤ) (number : ℕ) (h : Handling) (clauses : List ClauseInfo) (due : List Bool) →
+pub none_run : (m : Machine) (tick : ℕ) (before : List ℤ) (number : ℕ) (h : Handling) (clauses : List ClauseInfo) (due : List Bool) →
     clauses ≡ [] → run_clauses m tick before number h clauses due ≡ h
 none_run m tick before number h [] due e = refl
 none_run m tick before number h (clause ∷ clauses) due e = absurd (cc)

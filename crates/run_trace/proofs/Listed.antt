@@ -20,6 +20,7 @@ use Rattle.qss_trace.proofs.Fields.{trace_of, same-trace}
 use Rattle.qss_trace.proofs.OneTrace.{numbers-same}
 use Rattle.qss_trace.proofs.Placing.{places-at, length-places}
 use Rattle.run_trace.specs.Traces.{IsTraceOf}
+use Rattle.run_trace.proofs.Placing.{joined, joined_length, count_of_joined, places_of_joined}
 
 -- ---- one trace
 
@@ -47,52 +48,13 @@ one-trace-of m scale states levels a b of-a of-b =
 
 -- ---- some trace
 
--- the numbers of lists, one after another
-joined : List (List ℤ) → List ℤ
-joined [] = []
-joined (x ∷ xs) = x ++ joined xs
-
 abbrev AreSized : ℕ → List (List ℤ) → Type 0
 AreSized n xs = All (λ ys. length ys ≡ n) xs
 
 rest-all : {X : Type 0} (P : X → Type 0) (x : X) (xs : List X) → All P (x ∷ xs) → All P xs
 rest-all P x xs all k d h = all (suc k) d (omega arith)
 
-length-joined : (n : ℕ) (xs : List (List ℤ)) → AreSized n xs → length (joined xs) ≡ length xs * n
-unfolding joined
-length-joined n [] sized = omega arith
-length-joined n (x ∷ xs) sized =
-    let first : length x ≡ n = sized 0 x (omega arith) in
-    let rest = length-joined n xs (rest-all (λ ys. length ys ≡ n) x xs sized) in
-    length-append x (joined xs) ∙ omega (arith, first, rest)
-
-place-joined : (n : ℕ) (xs : List (List ℤ)) (i : ℕ) → AreSized n xs → i < length xs → place_at n (joined xs) i ≡ get_or xs i []
-unfolding joined
-place-joined n [] i sized h = absurd (omega arith)
-place-joined n (x ∷ xs) zero sized h =
-    let first : n ≡ length x = sym (sized 0 x (omega arith)) in
-    let none : 0 * n ≡ 0 = omega arith in
-    ap (λ k. take n (drop k (x ++ joined xs))) none ∙ ap (λ k. take k (x ++ joined xs)) first ∙ take-append_seam x (joined xs)
-place-joined n (x ∷ xs) (suc i) sized h =
-    let first : n ≡ length x = sym (sized 0 x (omega arith)) in
-    let more : suc i * n ≡ length x + i * n = omega (arith, first) in
-    ap (λ k. take n (drop k (x ++ joined xs))) more ∙ ap (take n) (drop-append-add x (joined xs) (i * n))
-    ∙ place-joined n xs i (rest-all (λ ys. length ys ≡ n) x xs sized) (omega arith)
-
-count-joined : (n : ℕ) (xs : List (List ℤ)) → 1 ≤ n → AreSized n xs → place_count n (joined xs) ≡ length xs
-count-joined n xs some sized =
-    let long : length (joined xs) ≡ length xs * n + 0 = length-joined n xs sized ∙ omega arith in
-    ap (λ k. k / n) long ∙ div-mul-add (length xs) n 0 some
-
-places-joined : (n : ℕ) (xs : List (List ℤ)) → 1 ≤ n → AreSized n xs → places n (joined xs) ≡ xs
-places-joined n xs some sized =
-    let count = count-joined n xs some sized in
-    ext_get_or [] (places n (joined xs)) xs (length-places n (joined xs) ∙ count) (λ i h.
-    let inside : i < place_count n (joined xs) = omega (arith, h, length-places n (joined xs)) in
-    places-at n i (joined xs) inside ∙ place-joined n xs i sized (omega (arith, inside, count)))
-
 all-joined : (P : ℤ → Type 0) (xs : List (List ℤ)) → All (All P) xs → All P (joined xs)
-unfolding joined
 all-joined P [] all = All-nil P
 all-joined P (x ∷ xs) all = All-append P x (joined xs) (all 0 x (omega arith)) (all-joined P xs (rest-all (All P) x xs all))
 
@@ -113,9 +75,9 @@ pub some-trace-of : (m : Machine) (scale : ℕ) (states levels : List (List ℤ)
     → AreSized (state_count m) states → AreSized (state_count m) levels → All (All (IsWithin 108)) states → All (All (IsWithin 64)) levels → (t : Trace) × IsTraceOf m scale states levels t
 some-trace-of m scale states levels size factor some few as_many sized-states sized-levels small-states small-levels =
     let n = state_count m in
-    let count = count-joined n states size.some sized-states in
-    let long = length-joined n states sized-states in
-    let long-levels = length-joined n levels sized-levels in
+    let count = count_of_joined n states size.some sized-states in
+    let long = joined_length n states sized-states in
+    let long-levels = joined_length n levels sized-levels in
     let low : 1 * n ≤ length states * n = mul-le-mul_right n some in
     let high : length states * n ≤ 2 ^ 24 * n = mul-le-mul_right n few in
     let t : Trace = trace_of (record { n = n; scale = scale; refine = 1; q = quanta m; states = joined states; levels = joined levels }) (record {
@@ -138,13 +100,7 @@ some-trace-of m scale states levels size factor some few as_many sized-states si
         own_scale = refl;
         by_tick = refl;
         own_quanta = refl;
-        own_states = places-joined n states size.some sized-states;
-        own_levels = places-joined n levels size.some sized-levels;
+        own_states = places_of_joined n states size.some sized-states;
+        own_levels = places_of_joined n levels size.some sized-levels;
       },
     )
-
--- numbers that are small are within a wider limit
-pub within-all : (narrow wide : ℕ) → 2 ^ narrow ≤ 2 ^ wide → (xs : List ℤ) → ((j : ℕ) → j < length xs → IsWithin narrow (int_at xs j)) → All (IsWithin wide) xs
-within-all narrow wide le xs each k d h =
-    let e : int_at xs k ≡ get_or xs k d = get_or_default xs k (pos 0) d h in
-    subst (IsWithin wide) e (omega (arith, each k h, le))

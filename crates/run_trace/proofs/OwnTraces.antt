@@ -34,7 +34,7 @@ use Rattle.qss_order2.specs.Laws.{states_from2, levels_from2}
 use Rattle.qss_order2.specs.Rules.{IsRuled2}
 use Rattle.qss_order2.specs.Runs.{Leads2, EndsBy2, Past}
 use Rattle.qss_order2.specs.Worlds.{World2, fineness, near_change, By2, AreChanges, rise_at, leaves, next_levels, IsStart2}
-use Rattle.qss_order2.proofs.Legitimacy.{ruled_runs_are_legitimate, nearest_is_free}
+use Rattle.qss_order2.proofs.Tables.{all_of}
 use Rattle.qss_order2.proofs.Uniqueness.{second_runs_are_unique}
 use Rattle.qss_trace.proofs.Placing.{length-places}
 use Rattle.qss_trace.proofs.Turns.{state-small, level-small}
@@ -44,17 +44,14 @@ use Rattle.run_trace.specs.FirstRuns.{first_run, IsFirstTrace, IsFirstRefusal}
 use Rattle.run_trace.specs.SecondRuns.{second_run, second_worlds, is_wide, first_wide, IsSecondTrace, IsOverflow, IsTooWide, IsSecondRefusal}
 use Rattle.run_trace.specs.Traces.{IsTraceOf}
 use Rattle.run_trace.specs.declared.trace_over.TraceOver.TheVariants.{Over}
-use Rattle.run_trace.proofs.Listed.{one-trace-of, some-trace-of, within-all}
-
--- a trace of legitimate states and levels is legitimate
-legitimate-of : (m : Machine) (scale : ℕ) (states levels : List (List ℤ)) (t : Trace) → IsTraceOf m scale states levels t → IsLegitimate m (start_states m) (quanta m) scale 1 states levels → IsRunOf m t
-legitimate-of m scale states levels t is h = rw (is.own_quanta, is.own_scale, is.by_tick, is.own_states, is.own_levels) h
+use Rattle.run_trace.proofs.FirstRuns.{first_legitimate, wider}
+use Rattle.run_trace.proofs.FirstSteps.{none_run}
+use Rattle.run_trace.proofs.Legitimate.{trace_legitimate}
+use Rattle.run_trace.proofs.Listed.{one-trace-of, some-trace-of}
+use Rattle.run_trace.proofs.SecondLegitimate.{second_legitimate}
+use Rattle.run_trace.proofs.Wides.{narrow_states, narrow_levels}
 
 -- ---- the run under the floor rule
-
-no_handlers : (m : Machine) (tick : ℕ) (before : List ℤ) (number : ℕ) (h : Handling) (clauses : List ClauseInfo) (due : List Bool) → clauses ≡ [] → run_clauses m tick before number h clauses due ≡ h
-no_handlers m tick before number h [] due e = refl
-no_handlers m tick before number h (clause ∷ clauses) due e = absurd (cc)
 
 -- a world that a trace can hold
 record IsFit (m : Machine) (w : World) : Type 0 where
@@ -62,6 +59,10 @@ record IsFit (m : Machine) (w : World) : Type 0 where
   each_level : length w.levels ≡ state_count m
   small_states : (j : ℕ) → IsWithin 88 (int_at w.states j)
   small_levels : HasSmallLevels w
+
+-- a list of small numbers
+small-list : (narrow wide : ℕ) → 2 ^ narrow ≤ 2 ^ wide → (xs : List ℤ) → ((j : ℕ) → IsWithin narrow (int_at xs j)) → All (IsWithin wide) xs
+small-list narrow wide le xs each = wider narrow wide xs le (all_of (IsWithin narrow) xs (length xs) refl (λ k h. each k))
 
 starts_small : (unit : ℤ) (states : List StateInfo) → All (IsState unit) states → (j : ℕ) → IsWithin 88 (int_at (map (λ (s : StateInfo). s.x0) states) j)
 starts_small unit [] all j = omega arith
@@ -80,7 +81,7 @@ step_fit : (Allows : ℕ → ℤ → ℤ → ℤ → Type 0) (m : Machine) (tick
 step_fit Allows m tick w next none s =
     let facts = step_facts Allows m tick w next s in
     let small = states_small m tick w facts.no_overflow in
-    let idle = no_handlers m tick w.discretes 0 _ m.clauses _ none in
+    let idle = none_run m tick w.discretes 0 _ m.clauses _ none in
     record {
       each_state = ap length facts.states ∙ ap (λ (h : Handling). length h.states) idle ∙ length-map-range_with_len _ 0 (state_count m);
       each_level = facts.levels.one_each;
@@ -107,8 +108,8 @@ first-traced m none size short end =
     (omega (arith, many-states)) (omega (arith, many-states, reach, short)) (many-levels ∙ sym many-states)
     (All-map (λ xs. length xs ≡ state_count m) (λ (w : World). w.states) worlds (λ k d h. (fits k d h).each_state))
     (All-map (λ xs. length xs ≡ state_count m) (λ (w : World). w.levels) worlds (λ k d h. (fits k d h).each_level))
-    (All-map (All (IsWithin 108)) (λ (w : World). w.states) worlds (λ k d h. within-all 88 108 (lit≤ tt) (get_or worlds k d).states (λ j l. (fits k d h).small_states j)))
-    (All-map (All (IsWithin 64)) (λ (w : World). w.levels) worlds (λ k d h. within-all 43 64 (lit≤ tt) (get_or worlds k d).levels (λ j l. (fits k d h).small_levels j))) in
+    (All-map (All (IsWithin 108)) (λ (w : World). w.states) worlds (λ k d h. small-list 88 108 (lit≤ tt) (get_or worlds k d).states (fits k d h).small_states))
+    (All-map (All (IsWithin 64)) (λ (w : World). w.levels) worlds (λ k d h. small-list 43 64 (lit≤ tt) (get_or worlds k d).levels (fits k d h).small_levels)) in
     (found.0, record { reaches_end = end; is_trace = found.1 })
 
 pub some-first : (m : Machine) → m.clauses ≡ [] → IsSize (state_count m) → m.last ≤ 65535 → ((t : Trace) × IsFirstTrace m t) ⊎ ((tick : ℕ) × (var : ℕ) × IsFirstRefusal m (Over tick var))
@@ -127,71 +128,21 @@ first-apart m t tick var p q = absurd (let e = sym p.reaches_end ∙ q.1 in cc)
 pub one-first-over : (m : Machine) (tick var tick' var' : ℕ) → IsFirstRefusal m (Over tick var) → IsFirstRefusal m (Over tick' var') → (tick ≡ tick') × (var ≡ var')
 one-first-over m tick var tick' var' p q = (p.0 ∙ sym q.0, (let e = sym p.1 ∙ q.1 in cc))
 
-floor-quantizes : IsQuantizing floor_level
-floor-quantizes unit state old low high small near = floor-free unit state old (let h = low in grind (arith, nat_tests))
-
 pub first-legitimate : (m : Machine) (t : Trace) → m.clauses ≡ [] → m.relative ≡ 0 → IsFirstTrace m t → IsRunOf m t
 first-legitimate m t none own p =
-    let worlds = (first_run m).worlds in
-    let steps = (runs_are_unique.is_run floor_level m).steps in
-    let free = rules_are_free.leads floor_level floor-quantizes m 0 (start_world m) worlds (start_small m) steps in
-    legitimate-of m 1 (states_from (start_world m) worlds) (levels_from (start_world m) worlds) t p.is_trace
-    (runs_are_legitimate.own m worlds none own (rules_are_free.freely m 0 (start_world m) worlds free))
+    trace_legitimate m 1 (states_from (start_world m) (first_run m).worlds) (levels_from (start_world m) (first_run m).worlds) t p.is_trace (first_legitimate m none own)
 
 -- ---- the second-order run
 
-near_change_ruled : (m : Machine) (asked : ℕ → Bool) (levels old new : List ℤ) → AreChanges (By2 near_change) m asked levels old new → AreChanges (IsRuled2 true) m asked levels old new
-near_change_ruled m asked levels old new are = record { one_each = are.one_each; each = λ j h. by (asked j) (rise_at m j levels) (int_at new j) (int_at old j) (are.each j h) }
-  where
-    by : (b : Bool) (rise z y : ℤ) → MatchBool b (By2 near_change (level_unit m) rise z) (z ≡ y) → MatchBool b (IsRuled2 true (level_unit m) rise z) (z ≡ y)
-    by true rise z y e = record { close = rw e (nearest_is_free (level_unit m) rise (unit_positive m)); named = λ named. e }
-    by false rise z y e = e
-
-near_steps : (m : Machine) (tick : ℕ) (w : World2) (worlds : List World2) → Leads2 (By2 near_change) m tick w worlds → Leads2 (IsRuled2 true) m tick w worlds
-near_steps m tick w [] steps = tt
-near_steps m tick w (next ∷ worlds) steps =
-    ((steps.0.0, near_change_ruled m (leaves m w) (next_levels m w) w.changes steps.0.0 steps.0.1, steps.0.2), near_steps m (tick + 1) next worlds steps.1)
-
-second-lists : (m : Machine) → IsLegitimate m (start_states m) (quanta m) fineness 1 (states_from2 (second_run m).start (second_run m).worlds) (levels_from2 (second_run m).start (second_run m).worlds)
-second-lists m =
-    let run = second_runs_are_unique.is_run near_change m in
-    let begins = run.begins in
-    ruled_runs_are_legitimate true m (second_run m).start (second_run m).worlds
-    (record { states = begins.states; levels = begins.levels; changes = near_change_ruled m (λ j. true) (second_run m).start.levels [] (second_run m).start.changes begins.changes })
-    (near_steps m 0 (second_run m).start (second_run m).worlds run.steps)
-
 pub second-legitimate : (m : Machine) (t : Trace) → IsSecondTrace m t → IsRunOf m t
 second-legitimate m t p =
-    legitimate-of m fineness (states_from2 (second_run m).start (second_run m).worlds) (levels_from2 (second_run m).start (second_run m).worlds) t p.is_trace (second-lists m)
+    trace_legitimate m fineness (states_from2 (second_run m).start (second_run m).worlds) (levels_from2 (second_run m).start (second_run m).worlds) t p.is_trace (second_legitimate m)
 
 -- ---- what a trace cannot hold
-
-cond-none : (b : Bool) (i : ℕ) (o : Option ℕ) → cond b (Some i) o ≡ None → (b ≡ false) × (o ≡ None)
-cond-none true i o e = absurd (cc)
-cond-none false i o e = (refl, e)
-
-none-from : {X : Type 0} (p : X → Bool) (i : ℕ) (xs : List X) → position_from p i xs ≡ None → (k : ℕ) (d : X) → k < length xs → p (get_or xs k d) ≡ false
-none-from p i [] e k d h = absurd (omega arith)
-none-from p i (x ∷ xs) e zero d h = (cond-none (p x) i (position_from p (i + 1) xs) e).0
-none-from p i (x ∷ xs) e (suc k) d h = none-from p (i + 1) xs (cond-none (p x) i (position_from p (i + 1) xs) e).1 k d (omega arith)
 
 -- no state of the world is wide
 abbrev IsNarrow : World2 → Type 0
 IsNarrow w = first_wide w ≡ None
-
-not-or : (a b : Bool) → (a || b) ≡ false → (a ≡ false) × (b ≡ false)
-not-or true b e = absurd (cc)
-not-or false b e = (refl, e)
-
-narrow-at : (w : World2) (j : ℕ) → IsNarrow w → j < length w.states → IsWithin 108 (int_at w.states j) × IsWithin 64 (int_at w.levels j)
-narrow-at w j none h =
-    let xs = range_with_len 0 (length w.states) in
-    let is : is_wide w (get_or xs j 0) ≡ false = none-from (is_wide w) 0 xs (sym (position_from-zero (is_wide w) xs) ∙ none) j 0 (omega (arith, h, length-range_with_len 0 (length w.states))) in
-    let here : get_or xs j 0 ≡ j = get_or-range_with_len 0 (length w.states) j 0 h ∙ omega arith in
-    let both = not-or (passes 108 (int_at w.states j)) (passes 64 (int_at w.levels j)) (subst (λ k. is_wide w k ≡ false) here is) in
-    let a = both.0 in
-    let b = both.1 in
-    (grind (arith, nat_tests, a), grind (arith, nat_tests, b))
 
 wide-at : (w : World2) (var : ℕ) → first_wide w ≡ Some var → (var < length w.states) × (is_wide w var ≡ true)
 wide-at w var e =
@@ -225,21 +176,19 @@ second-traced : (m : Machine) → IsSize (state_count m) → m.last ≤ 65535 �
 second-traced m size short end narrow =
     let start = (second_run m).start in
     let worlds = (second_run m).worlds in
-    let legitimate = second-lists m in
+    let legitimate = second_legitimate m in
     let ended = subst (EndsBy2 (By2 near_change) m start worlds) end (second_runs_are_unique.is_run near_change m).end in
     let reach : length worlds ≡ m.last = ended.1 in
     let many : length (states_from2 start worlds) ≡ suc (length worlds) = length-map (start ∷ worlds) (λ (w : World2). w.states) in
     let found = some-trace-of m fineness (states_from2 start worlds) (levels_from2 start worlds) size (record { some = omega arith; few = omega arith })
     legitimate.places (omega (arith, many, reach, short)) legitimate.as_many legitimate.state_lengths legitimate.level_lengths
-    (All-map (All (IsWithin 108)) (λ (w : World2). w.states) (start ∷ worlds) (λ k d h. within-all 108 108 (lit≤ tt) (get_or (start ∷ worlds) k d).states
-    (λ j l. (narrow-at (get_or (start ∷ worlds) k d) j (narrow k d h) l).0)))
-    (All-map (All (IsWithin 64)) (λ (w : World2). w.levels) (start ∷ worlds) (λ k d h. within-all 64 64 (lit≤ tt) (get_or (start ∷ worlds) k d).levels
-    (λ j l. (narrow-at (get_or (start ∷ worlds) k d) j (narrow k d h) (omega (arith, l, sizes k d h))).1))) in
+    (All-map (All (IsWithin 108)) (λ (w : World2). w.states) (start ∷ worlds) (λ k d h. narrow_states (get_or (start ∷ worlds) k d) (length (get_or (start ∷ worlds) k d).states) refl (narrow k d h)))
+    (All-map (All (IsWithin 64)) (λ (w : World2). w.levels) (start ∷ worlds) (λ k d h. narrow_levels (get_or (start ∷ worlds) k d) (length (get_or (start ∷ worlds) k d).states) refl (sizes k d h) (narrow k d h))) in
     (found.0, record { reaches_end = end; is_trace = found.1 })
   where
     sizes : (k : ℕ) (d : World2) → k < length (second_worlds m) → length (get_or (second_worlds m) k d).levels ≡ length (get_or (second_worlds m) k d).states
     sizes k d h =
-        let legitimate = second-lists m in
+        let legitimate = second_legitimate m in
         let ws = second_worlds m in
         let a = legitimate.state_lengths k d.states (omega (arith, h, length-map ws (λ (w : World2). w.states))) in
         let b = legitimate.level_lengths k d.levels (omega (arith, h, length-map ws (λ (w : World2). w.levels))) in
@@ -267,7 +216,7 @@ traced-narrow m t tick var p wide =
     let found = wide-at w var wide.least in
     let count : length ws ≡ count_of t =
     sym (length-map ws (λ (w : World2). w.states)) ∙ ap length (sym p.is_trace.own_states) ∙ length-places t.n t.states in
-    let sized = (second-lists m).state_lengths tick start.states (omega (arith, wide.inside, length-map ws (λ (w : World2). w.states))) in
+    let sized = (second_legitimate m).state_lengths tick start.states (omega (arith, wide.inside, length-map ws (λ (w : World2). w.states))) in
     let at-states = get_or-map (λ (w : World2). w.states) ws tick start [] wide.inside in
     let at-levels = get_or-map (λ (w : World2). w.levels) ws tick start [] wide.inside in
     let at-sized = get_or-map (λ (w : World2). w.states) ws tick start start.states wide.inside in

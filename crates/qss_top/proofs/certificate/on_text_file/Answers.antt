@@ -1,3 +1,4 @@
+use Rattle.std.proofs.Common.{arith, ◌∙◌}
 use Rattle.qss_top.proofs.Serving.{unchanged}
 use Rattle.qss_top.proofs.TwoFiles.{counted_later, text_served, long_text_served, text_fault_served, text_memory_served}
 use Rattle.qss_top.proofs.certificate.on_text_file.Goals as goal
@@ -5,15 +6,17 @@ use Rattle.qss_top.proofs.certificate.on_text_file.Goals as goal
 pub returns-in-Ok-clause-serves : goal.returns-in-Ok-clause-serves
 returns-in-Ok-clause-serves g c =
     text_served c.args.deed c.args.m.now c.args.certificate.now (g.S.Shelf.files c.args.shelf.now) c.in-Ok.text.items c.on_text.result (g.O.Sink.written c.args.out.now) (g.O.Sink.written c.on_text.new.out)
-    (g.O.Sink.faults c.args.out.now) (g.O.Sink.faults c.on_text.new.out) (g.S.Shelf.faults c.args.shelf.now) (g.S.Shelf.faults c.read_all.new.shelf)
-    c.in-Ok.ensures.counts (c.in-Ok.ensures.calm (λ e. cc e)) c.in-Ok.ensures.bytes c.on_text.ensures.not_read (rw c.deref.ensures.value at c.on_text.ensures.outcome)
+    (g.O.Sink.faults c.args.out.now) (g.O.Sink.faults c.on_text.new.out) (g.S.Shelf.faults c.args.shelf.now) (g.S.Shelf.faults c.read_all.new.shelf) (g.S.Shelf.faults c.on_text.new.shelf)
+    c.in-Ok.ensures.counts (c.in-Ok.ensures.calm (λ e. cc e)) c.in-Ok.ensures.bytes (rw (c.deref.ensures.value, c.in-Ok.ensures.files) at c.on_text.ensures.serves)
 
 pub returns-in-Ok-clause-later : goal.returns-in-Ok-clause-later
-returns-in-Ok-clause-later g c name = counted_later c.args.certificate.now (g.S.Shelf.faults c.args.shelf.now) (g.S.Shelf.faults c.read_all.new.shelf) c.in-Ok.ensures.counts name
+returns-in-Ok-clause-later g c name =
+    omega (arith, counted_later c.args.certificate.now (g.S.Shelf.faults c.args.shelf.now) (g.S.Shelf.faults c.read_all.new.shelf) c.in-Ok.ensures.counts name, c.on_text.ensures.later name)
 
 pub returns-in-Ok-clause-unharmed : goal.returns-in-Ok-clause-unharmed
 returns-in-Ok-clause-unharmed g c e name =
-    unchanged c.args.certificate.now (g.S.Shelf.faults c.args.shelf.now) (g.S.Shelf.faults c.read_all.new.shelf) c.in-Ok.ensures.counts (c.in-Ok.ensures.calm (λ d. cc d)) name
+    c.on_text.ensures.unharmed e name
+    ∙ unchanged c.args.certificate.now (g.S.Shelf.faults c.args.shelf.now) (g.S.Shelf.faults c.read_all.new.shelf) c.in-Ok.ensures.counts (c.in-Ok.ensures.calm (λ d. cc d)) name
 
 pub returns-in-Err-TooLong-clause-serves : goal.returns-in-Err-TooLong-clause-serves
 returns-in-Err-TooLong-clause-serves g c =
@@ -34,7 +37,7 @@ returns-in-Err-TooLong-clause-unharmed g c e name =
 pub returns-in-Err-Fault-clause-serves : goal.returns-in-Err-Fault-clause-serves
 returns-in-Err-Fault-clause-serves g c =
     text_fault_served c.args.deed c.args.m.now c.args.certificate.now (g.S.Shelf.files c.args.shelf.now) (g.O.Sink.written c.args.out.now) (g.O.Sink.faults c.args.out.now)
-    (g.S.Shelf.faults c.args.shelf.now) (g.S.Shelf.faults c.read_all.new.shelf) c.in-Err-Fault.ensures.counts (c.in-Err-Fault.ensures.cause (cc (c.in-Err-Fault.field-0-is)))
+    (g.S.Shelf.faults c.args.shelf.now) (g.S.Shelf.faults c.read_all.new.shelf) c.requires c.in-Err-Fault.ensures.counts (c.in-Err-Fault.ensures.cause (cc (c.in-Err-Fault.field-0-is)))
 
 pub returns-in-Err-Fault-clause-later : goal.returns-in-Err-Fault-clause-later
 returns-in-Err-Fault-clause-later g c name =
@@ -43,7 +46,7 @@ returns-in-Err-Fault-clause-later g c name =
 pub returns-in-Err-Memory-clause-serves : goal.returns-in-Err-Memory-clause-serves
 returns-in-Err-Memory-clause-serves g c =
     text_memory_served c.args.deed c.args.m.now c.args.certificate.now (g.S.Shelf.files c.args.shelf.now) (g.O.Sink.written c.args.out.now) (g.O.Sink.faults c.args.out.now)
-    (g.S.Shelf.faults c.args.shelf.now) (g.S.Shelf.faults c.read_all.new.shelf) c.in-Err-Memory.ensures.counts
+    (g.S.Shelf.faults c.args.shelf.now) (g.S.Shelf.faults c.read_all.new.shelf) c.requires c.in-Err-Memory.ensures.counts
 
 pub returns-in-Err-Memory-clause-later : goal.returns-in-Err-Memory-clause-later
 returns-in-Err-Memory-clause-later g c name =

@@ -1,0 +1,33 @@
+-- What it means for two runs of a model that the program compares them.
+use Rattle.std.specs.Prelude.{◌≡◌, ℕ, List, Option, Some}
+use Rattle.mu_io.specs.Files.{Files}
+use Rattle.cert_check.specs.declared.certificate.Certificate.{Certificate}
+use Rattle.qss_machine.specs.declared.system.Machine.{Machine}
+use Rattle.qss_trace.specs.declared.trace.Trace.{Trace}
+use Rattle.trace_answer.specs.Comparisons.{IsBasis}
+use Rattle.trace_answer.specs.Laws.{AreNear}
+use Rattle.qss_words.specs.Commands.{Side, compare_runs}
+use Rattle.qss_top.specs.Answers.{Answer, Told, answered, Finds, IsSourceMachine, LeadsTo}
+use Rattle.qss_top.specs.declared.status.Status.TheVariants as ends
+
+-- for the bytes of both files, the machine that the model means and the certificate that is spelled, which is accepted and has the machine's start: the text
+-- is that of two legitimate runs side by side, and the greatest form of their difference, which it tells, is at most the certificate's bound
+pub record AreCompared (model certificate : List ℕ) (files : Option Files) (out : List ℕ) : Type 0 where
+  pub source : List ℕ
+  pub found : Finds files model (Some source)
+  pub text : List ℕ
+  pub read : Finds files certificate (Some text)
+  pub machine : Machine
+  pub means : IsSourceMachine 0 source machine
+  pub basis : Certificate
+  pub accepted : IsBasis machine text basis
+  pub first : Trace
+  pub second : Trace
+  pub near : AreNear machine basis first second out
+
+-- where the answer to a comparison of two runs is that all went well, they are near each other
+abbrev pub ComparedRunsStayNear : Type 0
+ComparedRunsStayNear =
+    (model certificate : List ℕ) (one two : Side) (files : Option Files) (told : Told) (answer : Answer) →
+    LeadsTo (compare_runs model certificate one two) files told → told.reply ≡ answered answer → answer.status ≡ ends.Ok →
+    AreCompared model certificate files answer.out
