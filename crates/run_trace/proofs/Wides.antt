@@ -7,6 +7,7 @@ use Rattle.std.proofs.lemmas.List.{get_or-map, length-map}
 use Rattle.std.specs.List.{position_from, range_with_len}
 use Rattle.std.specs.Prelude.{All, None, Some}
 use Rattle.mu_num.specs.Sizes.{IsWithin, passes}
+use Rattle.mu_num.proofs.SizeTests.{within-passes}
 use Rattle.qss_machine.specs.declared.parts.StateInfo.{StateInfo}
 use Rattle.qss_machine.specs.declared.system.Machine.{Machine}
 use Rattle.qss_machine.specs.Numbers.{int_at}
@@ -14,7 +15,7 @@ use Rattle.qss_machine.specs.Machines.{state_count, start_states}
 use Rattle.qss_order2.specs.Worlds.{World2, fine_states, fine_levels, near_change, start2}
 use Rattle.qss_order2.proofs.Sizes.{start_level_small}
 use Rattle.qss_order2.proofs.Starts.{fine_count}
-use Rattle.qss_order2.proofs.Tables.{all_of, within_passes}
+use Rattle.qss_order2.proofs.Tables.{all_of}
 use Rattle.run_trace.specs.SecondRuns.{first_wide, is_wide}
 use Rattle.run_trace.proofs.FirstSteps.{start_small_states}
 use Rattle.run_trace.proofs.Flags.{none_below, range_at, range_count}
@@ -68,5 +69,5 @@ start_narrow m =
     none_below (is_wide (start2 near_change m)) (length (fine_states m))
     (λ k h.
     let l : k < state_count m = omega (arith, h, fine_count m) in
-    ap₂ (λ (a b : Bool). a || b) (within_passes 108 (int_at (fine_states m) k) (let s = start_state_small m k l in omega arith))
-    (within_passes 64 (int_at (fine_levels m) k) (let s = start_level_small m k l in omega arith)))
+    ap₂ (λ (a b : Bool). a || b) (within-passes 108 (int_at (fine_states m) k) (let s = start_state_small m k l in omega arith))
+    (within-passes 64 (int_at (fine_levels m) k) (let s = start_level_small m k l in omega arith)))
