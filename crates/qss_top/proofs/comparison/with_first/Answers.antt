@@ -26,8 +26,11 @@ returns-in-Ok-clause-serves g c =
 
 pub returns-in-Ok-clause-later : goal.returns-in-Ok-clause-later
 returns-in-Ok-clause-later g c name =
-    omega (arith, had_later c.args.m.now c.args.c.now (g.S.Shelf.files c.args.shelf.now) (g.S.Shelf.faults c.args.shelf.now) (g.S.Shelf.faults c.side_of.new.shelf) (side_in c.args.sides.one) c.in-Ok.t1 c.in-Ok.ensures.had name,
-    c.with_second.ensures.later name)
+    omega (
+      arith,
+      had_later c.args.m.now c.args.c.now (g.S.Shelf.files c.args.shelf.now) (g.S.Shelf.faults c.args.shelf.now) (g.S.Shelf.faults c.side_of.new.shelf) (side_in c.args.sides.one) c.in-Ok.t1 c.in-Ok.ensures.had name,
+      c.with_second.ensures.later name,
+    )
 
 pub returns-in-Ok-clause-unharmed : goal.returns-in-Ok-clause-unharmed
 returns-in-Ok-clause-unharmed g c e name =
