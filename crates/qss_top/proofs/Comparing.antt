@@ -81,6 +81,10 @@ module _ {X : Type 0} (files : Option Files) (names : List (List ℕ)) (m : Mach
 
 -- ---- a run
 
+-- a trace's bytes are too many
+abbrev long_text : Stop
+long_text = stops.Refused (comparisons.Trace TooLong)
+
 module _ (m : Machine) (c : Certificate) (run : ℕ) (scope : IsInScope m) (files : Option Files) (names : List (List ℕ)) (Leads : Trace → Option Files → Told → Type 0) where
   abbrev Given_run : Given → Option Files → Told → Type 0
   Given_run given fs = OnRun m c run given (λ t. Leads t fs)
@@ -140,23 +144,20 @@ module _ (m : Machine) (c : Certificate) (run : ℕ) (scope : IsInScope m) (file
         (memory_served name names (λ bytes fs. Given_run (given_trace bytes) fs) files old out_before before now counts (λ bytes. replied (given_trace bytes)))
     unread_served name what old out_before before now (inr (inr (e, counts, calm, told))) =
         subst (λ (w : Outcome). Serves files (name ∷ names) (Side_run (traced name)) w old old out_before out_before before now) (sym e)
-        (long_served name names (λ bytes fs. Given_run (given_trace bytes) fs) files limit (stop_answer m long) (outcome.Incomparable (comparisons.Trace TooLong)) old out_before before now counts calm told only all
+        (long_served name names (λ bytes fs. Given_run (given_trace bytes) fs) files limit (stop_answer m long_text) (outcome.Incomparable (comparisons.Trace TooLong)) old out_before before now counts calm told only all
         (some.0, longer limit some.0 some.1)
         (refused_now (status_of_comparison (comparisons.Trace TooLong)) (incomparable (comparisons.Trace TooLong)) (outcome.Incomparable (comparisons.Trace TooLong)) old out_before refl refl) (λ d. cc d))
       where
-        abbrev long : Stop
-        long = stops.Refused (comparisons.Trace TooLong)
-
         some : (bytes : List ℕ) × (length bytes ≡ limit + 1)
         some = bytes_of (limit + 1)
 
-        only : (bytes : List ℕ) → limit < length bytes → (fs : Option Files) (t : Told) → Given_run (given_trace bytes) fs t → t ≡ said (stop_answer m long)
+        only : (bytes : List ℕ) → limit < length bytes → (fs : Option Files) (t : Told) → Given_run (given_trace bytes) fs t → t ≡ said (stop_answer m long_text)
         only bytes h fs t (inl (stop, is, says)) =
-            says.2 ∙ ap said (says.1 ∙ ap (stop_answer m) ((judged-side m c run (given_trace bytes) scope).one_stop stop long is (scope, h)))
-        only bytes h fs t (inr (x, is, leads)) = absurd ((judged-side m c run (given_trace bytes) scope).apart x long is (scope, h))
+            says.2 ∙ ap said (says.1 ∙ ap (stop_answer m) ((judged-side m c run (given_trace bytes) scope).one_stop stop long_text is (scope, h)))
+        only bytes h fs t (inr (x, is, leads)) = absurd ((judged-side m c run (given_trace bytes) scope).apart x long_text is (scope, h))
 
-        all : (bytes : List ℕ) → limit < length bytes → Given_run (given_trace bytes) None (said (stop_answer m long))
-        all bytes h = inl (long, (scope, h), (stop_answer m long, refl, refl))
+        all : (bytes : List ℕ) → limit < length bytes → Given_run (given_trace bytes) None (said (stop_answer m long_text))
+        all bytes h = inl (long_text, (scope, h), (stop_answer m long_text, refl, refl))
 
     pub unhad_served : (side : Side) (what : Outcome) (old : Option (List ℕ)) (out_before : ℕ) (before now : List ℕ → ℕ) → IsNotHad m c run side files before now what
         → Serves files (files_of_side side ++ names) (Side_run side) what old old out_before out_before before now
