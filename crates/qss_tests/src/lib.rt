@@ -24,4 +24,6 @@ mod quanta;
 #[cfg(test)]
 mod rows;
 #[cfg(test)]
+mod run_traces;
+#[cfg(test)]
 mod traces;

@@ -1,0 +1,166 @@
+// Traces of a machine's own runs, and runs that have none.
+
+ghost use Rattle.std.specs.Prelude.{◌≡◌, ◌∷◌, [], pos, ◌^◌, IfOk};
+
+use crate::certificates::decay;
+use crate::lists::{none, one};
+use cert_check::scope;
+use mu_io::{Items, Name};
+use qss_machine::{Entry, Machine, SlopeRow, StateInfo};
+use qss_trace::Trace;
+use run_trace::{TraceOver, first_trace, second_trace};
+use std::alloc::{AllocError, Global};
+use std::test::Fail;
+
+// The trace of a run, where the machine is one that may be traced.
+fn traced(alloc: Global, m: &Machine, second_order: bool) -> Result<Trace, TraceOver> {
+    if scope(m).is_err() || m.last > 65535 {
+        return Err(TraceOver::Memory);
+    }
+    if second_order {
+        second_trace(alloc, m)
+    } else {
+        first_trace(alloc, m)
+    }
+}
+
+// Whether a trace has these units, states and levels, and the quantum 4, place by tick.
+fn has(trace: &Trace, scale: u32, states: &[i128], levels: &[i128]) -> bool {
+    trace.scale == scale
+        && trace.refine == 1
+        && trace.q.as_slice() == [4].as_slice()
+        && trace.states.as_slice() == states
+        && trace.levels.as_slice() == levels
+}
+
+#[test]
+fn runs_are_traced(rt: HostRuntime) -> Result<(), Fail> {
+    let m = decay(rt.alloc())?;
+    let first = traced(rt.alloc(), &m, false)?;
+    assert!(rt; has(
+        &first,
+        1,
+        &[
+            262144, 245760, 230400, 215040, 201728, 188416, 176640, 164864, 154624, 144384, 135424,
+            126464, 118784, 111104, 103424, 97024, 90624,
+        ],
+        &[64, 60, 60, 52, 52, 46, 46, 40, 40, 35, 35, 30, 30, 30, 25, 25, 25],
+    ));
+    let second = traced(rt.alloc(), &m, true)?;
+    assert!(rt; has(
+        &second,
+        64,
+        &[
+            16777216, 15728640, 14745600, 13828096, 12976128, 12189696, 11468800, 10813440,
+            10137600, 9504000, 8912640, 8363520, 7856640, 7392000, 6969600, 6589440, 6177792,
+        ],
+        &[
+            4096, 3840, 3584, 3328, 3072, 2816, 2560, 2640, 2475, 2310, 2145, 1980, 1815, 1650,
+            1485, 1608, 1508,
+        ],
+    ));
+    Ok(())
+}
+
+// A state that starts at 0 and has the quantum 4.
+fn resting(alloc: Global) -> Result<Items<StateInfo>, AllocError>
+    ensures { IfOk result (λ states. states ≡ record { name = 120 ∷ []; x0 = pos 0; quantum = pos 4 } ∷ []) }
+{
+    let state = StateInfo {
+        name: Name::new(alloc, b"x")?,
+        x0: 0,
+        quantum: 4,
+    };
+    one(alloc, state)
+}
+
+// A right side of 2^78 alone.
+fn steep(alloc: Global) -> Result<Items<SlopeRow>, AllocError>
+    ensures { IfOk result (λ rows. rows ≡ record { entries = []; products = []; beta = pos (2 ^ 78) } ∷ []) }
+{
+    let row = SlopeRow {
+        entries: none(alloc),
+        products: none(alloc),
+        beta: 1 << 78,
+    };
+    one(alloc, row)
+}
+
+// A machine whose state rises by 2^78 in a tick. A level has one unit of a state.
+fn rising(alloc: Global) -> Result<Machine, AllocError> {
+    let states = resting(alloc)?;
+    let rows = steep(alloc)?;
+    Ok(Machine {
+        p: 0,
+        k: 0,
+        f: 0,
+        last: 3,
+        states,
+        discretes: none(alloc),
+        rows,
+        clauses: none(alloc),
+        relative: 0,
+    })
+}
+
+// A state that starts at 64 levels and has the quantum 4.
+fn high(alloc: Global) -> Result<Items<StateInfo>, AllocError>
+    ensures { IfOk result (λ states. states ≡ record { name = 120 ∷ []; x0 = pos 262144; quantum = pos 4 } ∷ []) }
+{
+    let state = StateInfo {
+        name: Name::new(alloc, b"x")?,
+        x0: 262144,
+        quantum: 4,
+    };
+    one(alloc, state)
+}
+
+// A right side of 256 times the state.
+fn growth(alloc: Global) -> Result<Items<SlopeRow>, AllocError>
+    ensures { IfOk result (λ rows. rows ≡ record { entries = record { var = 0; coef = pos 256 } ∷ []; products = []; beta = pos 0 } ∷ []) }
+{
+    let row = SlopeRow {
+        entries: one(alloc, Entry { var: 0, coef: 256 })?,
+        products: none(alloc),
+        beta: 0,
+    };
+    one(alloc, row)
+}
+
+// Growth by 256/4096 of the level in a tick.
+fn growing(alloc: Global) -> Result<Machine, AllocError> {
+    let states = high(alloc)?;
+    let rows = growth(alloc)?;
+    Ok(Machine {
+        p: 8,
+        k: 4,
+        f: 0,
+        last: 1000,
+        states,
+        discretes: none(alloc),
+        rows,
+        clauses: none(alloc),
+        relative: 0,
+    })
+}
+
+// Whether a run has no trace, for this tick and its only state.
+fn is_over(alloc: Global, m: &Machine, second_order: bool, tick: u64) -> bool {
+    match traced(alloc, m, second_order) {
+        Ok(_) => false,
+        Err(why) => why == TraceOver::Over { tick, var: 0 },
+    }
+}
+
+#[test]
+fn runs_without_a_trace_are_told(rt: HostRuntime) -> Result<(), Fail> {
+    // A level past 2^43, and one past 2^49 where the limits are looked at.
+    let m = growing(rt.alloc())?;
+    assert!(rt; is_over(rt.alloc(), &m, false, 424));
+    assert!(rt; is_over(rt.alloc(), &m, true, 424));
+    // The same, and a level past 2^64 at a tick at which no limit of the run is looked at.
+    let m = rising(rt.alloc())?;
+    assert!(rt; is_over(rt.alloc(), &m, false, 1));
+    assert!(rt; is_over(rt.alloc(), &m, true, 1));
+    Ok(())
+}
