@@ -82,13 +82,7 @@ const ANSWERED: [(&[&str], &str, u8, &str, &str); 20] = [
         "",
         "rejected: quantum trace 1 state 1\n",
     ),
-    (
-        WITH_ABSENT,
-        PROPOSED,
-        7,
-        "",
-        "trace refused: 1 1\n",
-    ),
+    (WITH_ABSENT, PROPOSED, 7, "", "trace refused: 1 1\n"),
     (WITH_ABSENT, HALVES, 3, "", "read fault\n"),
     (
         &["compare", "M", "C", "absent", "T"],
@@ -121,15 +115,7 @@ const ANSWERED: [(&[&str], &str, u8, &str, &str); 20] = [
         USAGE,
     ),
     (
-        &[
-            "compare",
-            "M",
-            "C",
-            "first",
-            "second",
-            "--relative",
-            "0",
-        ],
+        &["compare", "M", "C", "first", "second", "--relative", "0"],
         "",
         2,
         "",
@@ -168,7 +154,13 @@ fn runs_are_not_compared(rt: HostRuntime) -> Result<(), Fail> {
             6,
             "overflow: x at tick 7\n",
         ),
-        (TRACE_TWICE, DECAY, GREAT_FORM, 1, "rejected: range places 0 0\n"),
+        (
+            TRACE_TWICE,
+            DECAY,
+            GREAT_FORM,
+            1,
+            "rejected: range places 0 0\n",
+        ),
     ];
     for (words, model, certificate, code, line) in stopped {
         let call = Call {

@@ -19,9 +19,11 @@ pub(crate) const PROPOSED: &str =
 
 // Two places to a tick of the decay: a legitimate run, one whose last state is 16 units too low, and one that does not start
 // where the model does.
-pub(crate) const HALVES: &str = "trace,1\nscale,1\nrefine,2\nQ,4\nat,262144,64\nat,253952,62\nat,246016,60\n";
+pub(crate) const HALVES: &str =
+    "trace,1\nscale,1\nrefine,2\nQ,4\nat,262144,64\nat,253952,62\nat,246016,60\n";
 
-pub(crate) const TOO_LOW: &str = "trace,1\nscale,1\nrefine,2\nQ,4\nat,262144,64\nat,253952,62\nat,246000,60\n";
+pub(crate) const TOO_LOW: &str =
+    "trace,1\nscale,1\nrefine,2\nQ,4\nat,262144,64\nat,253952,62\nat,246000,60\n";
 
 const ELSEWHERE: &str = "trace,1\nscale,1\nrefine,2\nQ,4\nat,0,0\n";
 
