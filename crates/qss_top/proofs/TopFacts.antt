@@ -6,7 +6,9 @@ use Rattle.cert_answer.specs.declared.ending.CertificateRefusal.{CertificateRefu
 use Rattle.cert_answer.specs.declared.ending.CertificateRefusal.TheVariants as certs
 use Rattle.trace_answer.specs.declared.ending.TraceRefusal.{TraceRefusal}
 use Rattle.trace_answer.specs.declared.ending.TraceRefusal.TheVariants as traces
-use Rattle.qss_top.specs.Answers.{Reply, answered, absent, untold}
+use Rattle.trace_answer.specs.declared.stop.ComparisonRefusal.{ComparisonRefusal}
+use Rattle.trace_answer.specs.declared.stop.ComparisonRefusal.TheVariants as comparisons
+use Rattle.qss_top.specs.Answers.{Reply, answered, absent, untold, status_of_comparison}
 use Rattle.qss_top.specs.Outcomes.{status_of, line_text, takes_memory, IsReported}
 use Rattle.qss_top.specs.Statuses.{is_defined, leaves_out}
 use Rattle.qss_top.specs.TopCall.{IsReplied, IsReplyLine, IsLineOf, Replies, IsCutShort}
@@ -45,6 +47,28 @@ trace_leaves goes traces.TooLong = refl
 trace_leaves goes (traces.Unread why) = refl
 trace_leaves goes (traces.Broken place fact state left right) = refl
 
+-- a comparison that is refused ends in one of two ways
+comparison_ends : (why : ComparisonRefusal) → (status_of_comparison why ≡ ends.Rejected) ⊎ (status_of_comparison why ≡ ends.CertRefused)
+comparison_ends (comparisons.Certificate (certs.Outside why)) = inl refl
+comparison_ends (comparisons.Certificate certs.TooLong) = inr refl
+comparison_ends (comparisons.Certificate (certs.Unread why)) = inr refl
+comparison_ends (comparisons.Certificate (certs.Rejected v)) = inl refl
+comparison_ends comparisons.Start = inl refl
+comparison_ends (comparisons.Trace (traces.Outside why)) = inl refl
+comparison_ends (comparisons.Trace traces.TooLong) = inr refl
+comparison_ends (comparisons.Trace (traces.Unread why)) = inr refl
+comparison_ends (comparisons.Trace (traces.Broken place fact state left right)) = inl refl
+comparison_ends (comparisons.Quantum run state) = inl refl
+comparison_ends (comparisons.Long last) = inl refl
+comparison_ends (comparisons.Range place1 place2) = inl refl
+
+comparison_leaves : (goes : Bool) (why : ComparisonRefusal) → leaves_out goes (status_of (outcome.Incomparable why)) ≡ true
+comparison_leaves goes why = elim (comparison_ends why) [ inl is ↦ ap (leaves_out goes) is | inr is ↦ ap (leaves_out goes) is ]
+
+-- no other status is that of a comparison that is refused
+no_comparison : (why : ComparisonRefusal) (status : Status) → status ≢ ends.Rejected → status ≢ ends.CertRefused → status ≡ status_of (outcome.Incomparable why) → ⊥
+no_comparison why status one other e = elim (comparison_ends why) [ inl is ↦ one (e ∙ is) | inr is ↦ other (e ∙ is) ]
+
 -- a line that found no memory is one of a refusal or an overflow
 line_leaves : (goes : Bool) (what : Outcome) → takes_memory what ≡ true → not goes ≡ true → leaves_out goes (status_of what) ≡ true
 line_leaves goes (outcome.Refused r) takes e = refl
@@ -52,6 +76,7 @@ line_leaves goes (outcome.Overflow name tick) takes e = e
 line_leaves goes (outcome.Uncertified why) takes e = refusal_leaves goes why
 line_leaves goes (outcome.Untraced why) takes e = trace_leaves goes why
 line_leaves goes (outcome.Unproposed why) takes e = refl
+line_leaves goes (outcome.Incomparable why) takes e = comparison_leaves goes why
 line_leaves goes outcome.Done takes e = absurd (cc takes)
 line_leaves goes outcome.Usage takes e = absurd (cc takes)
 line_leaves goes outcome.ReadFault takes e = absurd (cc takes)
@@ -86,6 +111,7 @@ read_is (outcome.Untraced traces.TooLong) e = absurd (cc e)
 read_is (outcome.Untraced (traces.Unread why)) e = absurd (cc e)
 read_is (outcome.Untraced (traces.Broken place fact state left right)) e = absurd (cc e)
 read_is (outcome.Unproposed why) e = absurd (cc e)
+read_is (outcome.Incomparable why) e = absurd (no_comparison why ends.ReadFault (λ d. cc d) (λ d. cc d) e)
 
 write_is : (what : Outcome) → ends.WriteFault ≡ status_of what → what ≡ outcome.WriteFault
 write_is outcome.Done e = absurd (cc e)
@@ -105,6 +131,7 @@ write_is (outcome.Untraced traces.TooLong) e = absurd (cc e)
 write_is (outcome.Untraced (traces.Unread why)) e = absurd (cc e)
 write_is (outcome.Untraced (traces.Broken place fact state left right)) e = absurd (cc e)
 write_is (outcome.Unproposed why) e = absurd (cc e)
+write_is (outcome.Incomparable why) e = absurd (no_comparison why ends.WriteFault (λ d. cc d) (λ d. cc d) e)
 
 memory_is : (what : Outcome) → ends.Memory ≡ status_of what → what ≡ outcome.Memory
 memory_is outcome.Done e = absurd (cc e)
@@ -124,6 +151,7 @@ memory_is (outcome.Untraced traces.TooLong) e = absurd (cc e)
 memory_is (outcome.Untraced (traces.Unread why)) e = absurd (cc e)
 memory_is (outcome.Untraced (traces.Broken place fact state left right)) e = absurd (cc e)
 memory_is (outcome.Unproposed why) e = absurd (cc e)
+memory_is (outcome.Incomparable why) e = absurd (no_comparison why ends.Memory (λ d. cc d) (λ d. cc d) e)
 
 done_is : (what : Outcome) → ends.Ok ≡ status_of what → what ≡ outcome.Done
 done_is outcome.Done e = refl
@@ -143,6 +171,7 @@ done_is (outcome.Untraced traces.TooLong) e = absurd (cc e)
 done_is (outcome.Untraced (traces.Unread why)) e = absurd (cc e)
 done_is (outcome.Untraced (traces.Broken place fact state left right)) e = absurd (cc e)
 done_is (outcome.Unproposed why) e = absurd (cc e)
+done_is (outcome.Incomparable why) e = absurd (no_comparison why ends.Ok (λ d. cc d) (λ d. cc d) e)
 
 usage_is : (what : Outcome) → ends.Usage ≡ status_of what → what ≡ outcome.Usage
 usage_is outcome.Done e = absurd (cc e)
@@ -162,6 +191,7 @@ usage_is (outcome.Untraced traces.TooLong) e = absurd (cc e)
 usage_is (outcome.Untraced (traces.Unread why)) e = absurd (cc e)
 usage_is (outcome.Untraced (traces.Broken place fact state left right)) e = absurd (cc e)
 usage_is (outcome.Unproposed why) e = absurd (cc e)
+usage_is (outcome.Incomparable why) e = absurd (no_comparison why ends.Usage (λ d. cc d) (λ d. cc d) e)
 
 pub read_of : (status : Status) (what : Outcome) → IsStatus status what → status ≡ ends.ReadFault → what ≡ outcome.ReadFault
 read_of status what h e = read_is what (sym e ∙ same_status status what h (λ m. absurd (cc (e, m))))
@@ -233,6 +263,7 @@ module _ {K : Type 0} (written : K → Option (List ℕ)) (reply : Reply) (goes 
   line_cut (outcome.Uncertified why) takes h left = kept (left (refusal_leaves goes why))
   line_cut (outcome.Untraced why) takes h left = kept (left (trace_leaves goes why))
   line_cut (outcome.Unproposed why) takes h left = kept (left refl)
+  line_cut (outcome.Incomparable why) takes h left = kept (left (comparison_leaves goes why))
   line_cut outcome.Done takes h left = absurd (cc takes)
   line_cut outcome.Usage takes h left = absurd (cc takes)
   line_cut outcome.ReadFault takes h left = absurd (cc takes)

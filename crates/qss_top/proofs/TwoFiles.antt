@@ -224,8 +224,8 @@ module _ {K : Type 0} (known : K → Option (List ℕ)) (faults : K → ℕ) (fa
   told_so status line what old new same is said = kept (refusal status line) what old new same (refused_now status line what (known old) (faults old) is said)
 
   -- a write failed in a text that is not empty
-  pub failed : (text : List ℕ) (old new : K) → (text ≡ [] → ⊥) → AppendsPrefix (known old) (known new) text → Became (record { status = ends.Ok; out = text; line = quiet }) outcome.WriteFault old new
-  failed text old new some prefix = record { defined = λ e. absurd (cc e); prefix = prefix; short = λ e. absurd (cc e); quiet = λ e. absurd (some e) }
+  pub wrote_front : (text : List ℕ) (old new : K) → (text ≡ [] → ⊥) → AppendsPrefix (known old) (known new) text → Became (record { status = ends.Ok; out = text; line = quiet }) outcome.WriteFault old new
+  wrote_front text old new some prefix = record { defined = λ e. absurd (cc e); prefix = prefix; short = λ e. absurd (cc e); quiet = λ e. absurd (some e) }
 
   -- memory was wanting
   wanting : (a : Answer) (old new : K) → new ≡ old → Became a outcome.Memory old new
@@ -239,7 +239,7 @@ module _ {K : Type 0} (known : K → Option (List ℕ)) (faults : K → ℕ) (fa
   became (ending.Refused why) a old new told some whole prefix untouched calm =
       subst (λ (x : Certificates.Answer). Became (certificate_answer x) (outcome.Uncertified why) old new) (sym told)
       (told_so (status_of_refusal why) (uncertified why) (outcome.Uncertified why) old new (untouched refl) refl refl)
-  became ending.Fault (Certificates.written text) old new told some whole prefix untouched calm = failed text old new (some text refl) (prefix refl)
+  became ending.Fault (Certificates.written text) old new told some whole prefix untouched calm = wrote_front text old new (some text refl) (prefix refl)
   became ending.Fault (Certificates.refused why) old new told some whole prefix untouched calm = absurd (cc told)
   became ending.Memory a old new told some whole prefix untouched calm = wanting (certificate_answer a) old new (untouched refl)
 
@@ -268,7 +268,7 @@ module _ {K : Type 0} (known : K → Option (List ℕ)) (faults : K → ℕ) (fa
   checked (traced.Refused why) a old new told some whole prefix untouched calm =
       subst (λ (x : Traces.Answer). Became (trace_answer x) (outcome.Untraced why) old new) (sym told)
       (told_so (status_of_trace why) (untraced why) (outcome.Untraced why) old new (untouched refl) refl refl)
-  checked traced.Fault (Traces.written text) old new told some whole prefix untouched calm = failed text old new (some text refl) (prefix refl)
+  checked traced.Fault (Traces.written text) old new told some whole prefix untouched calm = wrote_front text old new (some text refl) (prefix refl)
   checked traced.Fault (Traces.refused why) old new told some whole prefix untouched calm = absurd (cc told)
   checked traced.Memory a old new told some whole prefix untouched calm = wanting (trace_answer a) old new (untouched refl)
 
@@ -288,7 +288,7 @@ module _ {K : Type 0} (known : K → Option (List ℕ)) (faults : K → ℕ) (fa
   proposing (proposed.Refused why) a old new told some whole prefix untouched calm =
       subst (λ (x : Proposals.Answer). Became (proposal_answer x) (outcome.Unproposed why) old new) (sym told)
       (told_so ends.Rejected (unproposed why) (outcome.Unproposed why) old new (untouched refl) refl refl)
-  proposing proposed.Fault (Proposals.written text) old new told some whole prefix untouched calm = failed text old new (some text refl) (prefix refl)
+  proposing proposed.Fault (Proposals.written text) old new told some whole prefix untouched calm = wrote_front text old new (some text refl) (prefix refl)
   proposing proposed.Fault (Proposals.refused why) old new told some whole prefix untouched calm = absurd (cc told)
   proposing proposed.Memory a old new told some whole prefix untouched calm = wanting (proposal_answer a) old new (untouched refl)
 

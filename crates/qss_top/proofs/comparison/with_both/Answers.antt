@@ -9,7 +9,7 @@ use Rattle.qss_top.proofs.Serving.{says_served}
 use Rattle.qss_top.proofs.comparison.with_both.Goals as goal
 
 pub write_text-requires : goal.write_text-requires
-write_text-requires g c e = let told = c.in-Ok.ensures.compared.told in let is = c.deref.ensures.value in cc (sym told ∙ is ∙ e)
+write_text-requires g c e = let told = c.in-Ok.ensures.compared.told in let is = c.deref.ensures.value in cc (sym told ∙ sym is ∙ e)
 
 pub returns-in-Ok-clause-serves : goal.returns-in-Ok-clause-serves
 returns-in-Ok-clause-serves g c files before =
