@@ -27,7 +27,7 @@ use Rattle.mu_unroll.specs.Values.{then_do}
 use Rattle.mu_unroll.specs.declared.fault.UnrollErr.{UnrollErr}
 use Rattle.mu_unroll.specs.declared.place.Found.{Found}
 use Rattle.mu_unroll.specs.declared.place.Found.TheVariants as found_as
-use Rattle.qss_compile.proofs.Lexing.{are_tokens}
+use Rattle.mu_grammar.proofs.SourceTokens.{are_tokens}
 use Rattle.qss_compile.specs.Meanings.{Means}
 use Rattle.qss_machine.specs.Machines.{state_count, discrete_count}
 use Rattle.qss_machine.specs.declared.parts.DiscreteInfo.{DiscreteInfo}

@@ -10,7 +10,7 @@ use Rattle.mu_tree.specs.ModelTree.{ModelTree}
 use Rattle.mu_unroll.proofs.FlatModels.{flat_model_right}
 use Rattle.mu_unroll.specs.WellFormed.{IsWellFormed}
 use Rattle.mu_unroll.specs.declared.fault.UnrollErr.{UnrollErr}
-use Rattle.qss_compile.proofs.Lexing.{are_tokens}
+use Rattle.mu_grammar.proofs.SourceTokens.{are_tokens}
 use Rattle.qss_compile.proofs.WellFormed.{well_formed}
 use Rattle.qss_compile.specs.Meanings.{FlatSource, IsFlatOf, SpellsTree}
 use Rattle.qss_laws.specs.Sources.{IsSpelledAgain, SourcesAreWellFormed}
