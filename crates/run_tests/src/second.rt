@@ -18,7 +18,7 @@ use std::test::Fail;
 // How many seeds are taken, and how many of their sources are to mean a machine.
 const SEEDS: u64 = 300;
 
-const WANTED: u64 = 250;
+const WANTED: u64 = 230;
 
 // How many runs are to overflow, and how many at tick 0.
 const WANTED_OVERFLOWS: u64 = 20;
