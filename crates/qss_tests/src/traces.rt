@@ -50,92 +50,96 @@ fn is_refused(
     Ok(ending.code() == code && line.as_slice() == wanted && out.bytes().is_empty())
 }
 
+// Texts of legitimate runs, and the line that tells of each.
+const LEGITIMATE: [(&[u8], &[u8]); 9] = [
+    (
+        b"trace,1\nscale,1\nrefine,2\nQ,4\nat,262144,64\nat,253952,62\nat,246016,60\n",
+        b"3,1,2\n",
+    ),
+    // A byte order mark, lines that end in a carriage return, empty lines, quotes, zeros in front, and no last line feed.
+    (
+        b"\xef\xbb\xbftrace,1\nscale,1\nrefine,2\nQ,4\nat,262144,64\n",
+        b"1,1,2\n",
+    ),
+    (
+        b"trace,1\r\nscale,1\r\nrefine,2\r\nQ,4\r\nat,262144,64\r\nat,253952,62\r\n",
+        b"2,1,2\n",
+    ),
+    (
+        b"\n\ntrace,1\n\nscale,1\nrefine,2\r\n\r\nQ,4\nat,262144,64\n\n",
+        b"1,1,2\n",
+    ),
+    (
+        b"\"trace\",\"1\"\nscale,\"1\"\nrefine,2\nQ,4\n\"at\",\"262144\",64",
+        b"1,1,2\n",
+    ),
+    (
+        b"trace,001\nscale,00001\nrefine,2\nQ,04\nat,00262144,064\n",
+        b"1,1,2\n",
+    ),
+    // A state may be a whole quantum from its level, on either side.
+    (
+        b"trace,1\nscale,1\nrefine,2\nQ,4\nat,262144,68\n",
+        b"1,1,2\n",
+    ),
+    (
+        b"trace,1\nscale,1\nrefine,65536\nQ,4\nat,262144,60\n",
+        b"1,1,65536\n",
+    ),
+    (
+        b"trace,1\nscale,2\nrefine,1\nQ,4\nat,524288,128\nat,491520,120\n",
+        b"2,2,1\n",
+    ),
+];
+
 #[test]
 fn legitimate_runs_are_accepted(rt: HostRuntime) -> Result<(), Fail> {
     let alloc = rt.alloc();
     let m = decay(alloc)?;
-    let cases: [(&[u8], &[u8]); 9] = [
-        (
-            b"trace,1\nscale,1\nrefine,2\nQ,4\nat,262144,64\nat,253952,62\nat,246016,60\n",
-            b"3,1,2\n",
-        ),
-        // A byte order mark, lines that end in a carriage return, empty lines, quotes, zeros in front, and no last line feed.
-        (
-            b"\xef\xbb\xbftrace,1\nscale,1\nrefine,2\nQ,4\nat,262144,64\n",
-            b"1,1,2\n",
-        ),
-        (
-            b"trace,1\r\nscale,1\r\nrefine,2\r\nQ,4\r\nat,262144,64\r\nat,253952,62\r\n",
-            b"2,1,2\n",
-        ),
-        (
-            b"\n\ntrace,1\n\nscale,1\nrefine,2\r\n\r\nQ,4\nat,262144,64\n\n",
-            b"1,1,2\n",
-        ),
-        (
-            b"\"trace\",\"1\"\nscale,\"1\"\nrefine,2\nQ,4\n\"at\",\"262144\",64",
-            b"1,1,2\n",
-        ),
-        (
-            b"trace,001\nscale,00001\nrefine,2\nQ,04\nat,00262144,064\n",
-            b"1,1,2\n",
-        ),
-        // A state may be a whole quantum from its level, on either side.
-        (
-            b"trace,1\nscale,1\nrefine,2\nQ,4\nat,262144,68\n",
-            b"1,1,2\n",
-        ),
-        (
-            b"trace,1\nscale,1\nrefine,65536\nQ,4\nat,262144,60\n",
-            b"1,1,65536\n",
-        ),
-        (
-            b"trace,1\nscale,2\nrefine,1\nQ,4\nat,524288,128\nat,491520,120\n",
-            b"2,2,1\n",
-        ),
-    ];
-    for (bytes, last) in cases {
+    for (bytes, last) in LEGITIMATE {
         assert!(rt; is_accepted(alloc, &m, bytes, last)?);
     }
     Ok(())
 }
 
+// Places behind the head that are no legitimate run, and the first fact that fails.
+const OTHERS: [(&[u8], &[u8]); 7] = [
+    (
+        b"at,262144,64\nat,253952,62\nat,246000,60\n",
+        b"rejected: trace place 2 fact 2 state 1 left -15904 right -15872\n",
+    ),
+    (
+        b"at,262145,64\n",
+        b"rejected: trace place 0 fact 1 state 1 left 262145 right 262144\n",
+    ),
+    (
+        b"at,262144,69\nat,0,0\n",
+        b"rejected: trace place 0 fact 3 state 1 left 20480 right 16384\n",
+    ),
+    (
+        b"at,262144,59\n",
+        b"rejected: trace place 0 fact 3 state 1 left 20480 right 16384\n",
+    ),
+    // The start is compared before the level, and the rise before the level.
+    (
+        b"at,0,64\n",
+        b"rejected: trace place 0 fact 1 state 1 left 0 right 262144\n",
+    ),
+    (
+        b"at,262144,64\nat,262144,0\n",
+        b"rejected: trace place 1 fact 2 state 1 left 0 right -16384\n",
+    ),
+    (
+        b"at,324518553658426726783156020576256,18446744073709551616\n",
+        b"rejected: trace place 0 fact 1 state 1 left 324518553658426726783156020576256 right 262144\n",
+    ),
+];
+
 #[test]
 fn other_traces_are_told_by_the_first_fact_that_fails(rt: HostRuntime) -> Result<(), Fail> {
     let alloc = rt.alloc();
     let m = decay(alloc)?;
-    let cases: [(&[u8], &[u8]); 7] = [
-        (
-            b"at,262144,64\nat,253952,62\nat,246000,60\n",
-            b"rejected: trace place 2 fact 2 state 1 left -15904 right -15872\n",
-        ),
-        (
-            b"at,262145,64\n",
-            b"rejected: trace place 0 fact 1 state 1 left 262145 right 262144\n",
-        ),
-        (
-            b"at,262144,69\nat,0,0\n",
-            b"rejected: trace place 0 fact 3 state 1 left 20480 right 16384\n",
-        ),
-        (
-            b"at,262144,59\n",
-            b"rejected: trace place 0 fact 3 state 1 left 20480 right 16384\n",
-        ),
-        // The start is compared before the level, and the rise before the level.
-        (
-            b"at,0,64\n",
-            b"rejected: trace place 0 fact 1 state 1 left 0 right 262144\n",
-        ),
-        (
-            b"at,262144,64\nat,262144,0\n",
-            b"rejected: trace place 1 fact 2 state 1 left 0 right -16384\n",
-        ),
-        (
-            b"at,324518553658426726783156020576256,18446744073709551616\n",
-            b"rejected: trace place 0 fact 1 state 1 left 324518553658426726783156020576256 right 262144\n",
-        ),
-    ];
-    for (places, line) in cases {
+    for (places, line) in OTHERS {
         let bytes = text(alloc, places)?;
         assert!(rt; is_refused(alloc, &m, &bytes, 1, line)?);
     }
@@ -159,61 +163,126 @@ fn is_unread(alloc: Global, bytes: &[u8], wanted: TraceErr) -> bool {
     }
 }
 
+// Texts that are no trace, and the first fault of each.
+const UNREAD: [(&[u8], TraceErr); 21] = [
+    (b"", TraceErr::Missing { line: 1 }),
+    (b"\xef\xbb\xbf", TraceErr::Missing { line: 1 }),
+    (b"\n\r\n", TraceErr::Missing { line: 1 }),
+    (b"trace,1", TraceErr::Missing { line: 2 }),
+    (b"trace,1\nscale,1\n", TraceErr::Missing { line: 3 }),
+    (
+        b"trace,1\nscale,1\nrefine,2\n",
+        TraceErr::Missing { line: 4 },
+    ),
+    (b"form,1\n", TraceErr::Keyword { line: 1 }),
+    (b"Trace,1\n", TraceErr::Keyword { line: 1 }),
+    (b"trace,1\nrefine,1\n", TraceErr::Keyword { line: 2 }),
+    (
+        b"trace\n",
+        TraceErr::Shape {
+            line: 1,
+            want: 2,
+            got: 1,
+        },
+    ),
+    (
+        b"trace,1,\n",
+        TraceErr::Shape {
+            line: 1,
+            want: 2,
+            got: 3,
+        },
+    ),
+    (
+        b"trace,1\nscale,0,1\n",
+        TraceErr::Shape {
+            line: 2,
+            want: 2,
+            got: 3,
+        },
+    ),
+    (b"trace,x\n", TraceErr::Number { line: 1, field: 2 }),
+    (b"trace,0\n", TraceErr::Form { got: 0 }),
+    (b"trace,-2\nscale,0\n", TraceErr::Form { got: -2 }),
+    (
+        b"trace,1\nscale,0\n",
+        TraceErr::Number { line: 2, field: 2 },
+    ),
+    (
+        b"trace,1\nscale,65537\n",
+        TraceErr::Number { line: 2, field: 2 },
+    ),
+    (
+        b"trace,1\nscale,1\nrefine,0\n",
+        TraceErr::Number { line: 3, field: 2 },
+    ),
+    (
+        b"trace,1\nscale,1\nrefine,65537\n",
+        TraceErr::Number { line: 3, field: 2 },
+    ),
+    (
+        b"trace,1\nscale,1\nrefine,2\nQ,0\n",
+        TraceErr::Number { line: 4, field: 2 },
+    ),
+    (
+        b"trace,1\nscale,1\nrefine,2\nQ,8796093022209\n",
+        TraceErr::Number { line: 4, field: 2 },
+    ),
+];
+
+// Places behind the head that can't be read, and the first fault of each.
+const UNREAD_PLACES: [(&[u8], TraceErr); 12] = [
+    (b"", TraceErr::Missing { line: 5 }),
+    (b"at,262144,64\nQ,4\n", TraceErr::Keyword { line: 6 }),
+    (
+        b"at,262144\n",
+        TraceErr::Shape {
+            line: 5,
+            want: 3,
+            got: 2,
+        },
+    ),
+    (
+        b"at,262144,64\nat,253952,62,1\n",
+        TraceErr::Shape {
+            line: 6,
+            want: 3,
+            got: 4,
+        },
+    ),
+    (
+        b"at,262144,64\nat\n",
+        TraceErr::Shape {
+            line: 6,
+            want: 3,
+            got: 1,
+        },
+    ),
+    (b"at,x,y\n", TraceErr::Number { line: 5, field: 2 }),
+    (b"at,,64\n", TraceErr::Number { line: 5, field: 2 }),
+    (b"at,262144,64.0\n", TraceErr::Number { line: 5, field: 3 }),
+    (b"at, 262144,64\n", TraceErr::Number { line: 5, field: 2 }),
+    (
+        b"at,324518553658426726783156020576257,64\n",
+        TraceErr::Number { line: 5, field: 2 },
+    ),
+    (
+        b"at,262144,-18446744073709551617\n",
+        TraceErr::Number { line: 5, field: 3 },
+    ),
+    (
+        b"at,0000000000000000000000000000000000000001,64\n",
+        TraceErr::Number { line: 5, field: 2 },
+    ),
+];
+
 #[test]
 fn other_texts_of_traces_are_refused_at_the_first_fault(rt: HostRuntime) -> Result<(), Fail> {
     let alloc = rt.alloc();
-    let shape = |line, want, got| TraceErr::Shape { line, want, got };
-    let number = |line, field| TraceErr::Number { line, field };
-    let whole: [(&[u8], TraceErr); 21] = [
-        (b"", TraceErr::Missing { line: 1 }),
-        (b"\xef\xbb\xbf", TraceErr::Missing { line: 1 }),
-        (b"\n\r\n", TraceErr::Missing { line: 1 }),
-        (b"trace,1", TraceErr::Missing { line: 2 }),
-        (b"trace,1\nscale,1\n", TraceErr::Missing { line: 3 }),
-        (
-            b"trace,1\nscale,1\nrefine,2\n",
-            TraceErr::Missing { line: 4 },
-        ),
-        (b"form,1\n", TraceErr::Keyword { line: 1 }),
-        (b"Trace,1\n", TraceErr::Keyword { line: 1 }),
-        (b"trace,1\nrefine,1\n", TraceErr::Keyword { line: 2 }),
-        (b"trace\n", shape(1, 2, 1)),
-        (b"trace,1,\n", shape(1, 2, 3)),
-        (b"trace,1\nscale,0,1\n", shape(2, 2, 3)),
-        (b"trace,x\n", number(1, 2)),
-        (b"trace,0\n", TraceErr::Form { got: 0 }),
-        (b"trace,-2\nscale,0\n", TraceErr::Form { got: -2 }),
-        (b"trace,1\nscale,0\n", number(2, 2)),
-        (b"trace,1\nscale,65537\n", number(2, 2)),
-        (b"trace,1\nscale,1\nrefine,0\n", number(3, 2)),
-        (b"trace,1\nscale,1\nrefine,65537\n", number(3, 2)),
-        (b"trace,1\nscale,1\nrefine,2\nQ,0\n", number(4, 2)),
-        (
-            b"trace,1\nscale,1\nrefine,2\nQ,8796093022209\n",
-            number(4, 2),
-        ),
-    ];
-    for (bytes, why) in whole {
+    for (bytes, why) in UNREAD {
         assert!(rt; is_unread(alloc, bytes, why));
     }
-    let places: [(&[u8], TraceErr); 12] = [
-        (b"", TraceErr::Missing { line: 5 }),
-        (b"at,262144,64\nQ,4\n", TraceErr::Keyword { line: 6 }),
-        (b"at,262144\n", shape(5, 3, 2)),
-        (b"at,262144,64\nat,253952,62,1\n", shape(6, 3, 4)),
-        (b"at,262144,64\nat\n", shape(6, 3, 1)),
-        (b"at,x,y\n", number(5, 2)),
-        (b"at,,64\n", number(5, 2)),
-        (b"at,262144,64.0\n", number(5, 3)),
-        (b"at, 262144,64\n", number(5, 2)),
-        (b"at,324518553658426726783156020576257,64\n", number(5, 2)),
-        (b"at,262144,-18446744073709551617\n", number(5, 3)),
-        (
-            b"at,0000000000000000000000000000000000000001,64\n",
-            number(5, 2),
-        ),
-    ];
-    for (places, why) in places {
+    for (places, why) in UNREAD_PLACES {
         let bytes = text(alloc, places)?;
         assert!(rt; is_unread(alloc, &bytes, why));
     }
@@ -283,6 +352,23 @@ fn compared(p: i128, c: i128, first: &Trace, second: &Trace) -> Option<Greatest>
     Some(compare(&form, c, 4096, first, second))
 }
 
+// That the greatest value lies at this pair of places, under the bound of 432 at these units.
+fn found(common: u64, place1: u32, place2: u32, value: i128) -> Option<Greatest> {
+    let bound = 7247757312;
+    Some(Greatest::Found {
+        common,
+        place1,
+        place2,
+        value,
+        bound,
+    })
+}
+
+// That a number passes its range at this pair of places.
+fn range(place1: u32, place2: u32) -> Option<Greatest> {
+    Some(Greatest::Range { place1, place2 })
+}
+
 #[test]
 fn two_traces_are_compared_at_their_common_ticks(rt: HostRuntime) -> Result<(), Fail> {
     let alloc = rt.alloc();
@@ -290,42 +376,13 @@ fn two_traces_are_compared_at_their_common_ticks(rt: HostRuntime) -> Result<(), 
         assert!(rt; false);
         return Ok(());
     };
-    let found = Greatest::Found {
-        common: 2,
-        place1: 1,
-        place2: 2,
-        value: 65536,
-        bound: 7247757312,
-    };
-    assert_eq!(rt; compared(1, 432, &own, &finer), Some(found));
-    let back = Greatest::Found {
-        common: 2,
-        place1: 2,
-        place2: 1,
-        value: 65536,
-        bound: 7247757312,
-    };
-    assert_eq!(rt; compared(1, 432, &finer, &own), Some(back));
+    assert_eq!(rt; compared(1, 432, &own, &finer), found(2, 1, 2, 65536));
+    assert_eq!(rt; compared(1, 432, &finer, &own), found(2, 2, 1, 65536));
     // Of equal values the first is told.
-    let same = Greatest::Found {
-        common: 17,
-        place1: 0,
-        place2: 0,
-        value: 0,
-        bound: 7247757312,
-    };
-    assert_eq!(rt; compared(1, 432, &own, &own), Some(same));
+    assert_eq!(rt; compared(1, 432, &own, &own), found(17, 0, 0, 0));
     // The bound passes 2^126, or the form at the second common tick.
-    let bound = Greatest::Range {
-        place1: 0,
-        place2: 0,
-    };
     let most = 85070591730234615865843651857942052864;
-    assert_eq!(rt; compared(1, most, &own, &finer), Some(bound));
-    let pair = Greatest::Range {
-        place1: 1,
-        place2: 2,
-    };
-    assert_eq!(rt; compared(most, 432, &own, &finer), Some(pair));
+    assert_eq!(rt; compared(1, most, &own, &finer), range(0, 0));
+    assert_eq!(rt; compared(most, 432, &own, &finer), range(1, 2));
     Ok(())
 }
