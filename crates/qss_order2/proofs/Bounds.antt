@@ -50,12 +50,13 @@ module _ (m : Machine) (levels changes : List ℤ) (within : past_limit m levels
   pub rise_within : (j : ℕ) → j < state_count m → IsWithin 94 (rise_at m j levels)
   rise_within j h = rise_by_weight m levels (none_of _ _ parts.1).0 j h
 
-  pub bend_within : (j : ℕ) → j < state_count m → IsWithin 94 (bend_at m j changes)
-  bend_within j h =
+  pub bends_flat : (j : ℕ) → j < state_count m → IsWithin 94 (bend_weight m changes j)
+  bends_flat j h =
       let weights = tabulate (state_count m) (bend_weight m changes) in
-      let own : IsWithin 94 (int_at weights j) = none_past 94 weights (none_of _ _ parts.1).1 j in
-      let heavy : IsWithin 94 (bend_weight m changes j) = subst (IsWithin 94) (at_table (state_count m) (bend_weight m changes) j h) own in
-      omega (arith, ints, heavy, sum_within_sizes (state_count m) (λ i. start_coefficient m j i *ℤ int_at changes i))
+      subst (IsWithin 94) (at_table (state_count m) (bend_weight m changes) j h) (none_past 94 weights (none_of _ _ parts.1).1 j)
+
+  pub bend_within : (j : ℕ) → j < state_count m → IsWithin 94 (bend_at m j changes)
+  bend_within j h = omega (arith, ints, bends_flat j h, sum_within_sizes (state_count m) (λ i. start_coefficient m j i *ℤ int_at changes i))
 
 -- a state near a small level is small
 near_small : (k : ℕ) (x level reach : ℤ) → k ≤ 2 ^ 44 → unsigned_abs level ≤ 2 ^ 49 → pos (unsigned_abs (x -ℤ pos k *ℤ level)) <ℤ reach → reach ≤ℤ pos (2 ^ 82) → IsWithin 94 x

@@ -12,7 +12,7 @@ use Rattle.qss_machine.specs.Numbers.{int_at}
 use Rattle.qss_machine.specs.Machines.{state_count, level_unit}
 use Rattle.qss_order2.specs.Worlds.{World2, leaves, moved_state, moved_level, next_states, next_levels, requantizes, is_look, look_span}
 use Rattle.qss_order2.specs.Laws.{world2_after}
-use Rattle.qss_order2.specs.Stores.{levels_after, due_at, is_due, IsDue2, IsNextLook, IsMovedOn}
+use Rattle.qss_order2.specs.Stores.{levels_after, is_due, IsDue2, IsNextLook, IsMovedOn}
 use Rattle.qss_order2.proofs.Calm.{state_later, level_later}
 use Rattle.qss_order2.proofs.DueTicks.{dues_calm, due_leaves, undue_stays}
 use Rattle.qss_order2.proofs.Tables.{at_table, same_table}
@@ -32,20 +32,20 @@ any_of p first (suc count) j low high leaving = by_test (λ more. any_of p (firs
         later : (a b : ℕ) → a ≤ b → (a ≡ b → ⊥) → a + 1 ≤ b
         later a b le ne = grind arith
 
-module _ (m : Machine) (tick : ℕ) (w : World2) (dues : List (Option ℕ)) (left : List Bool) (k : ℕ) (next : IsNextLook m tick w dues left (suc k)) where
-  leaves_is : (j : ℕ) → j < state_count m → is_due (due_at dues j) (suc k) ≡ leaves m (world2_after m w k) j
-  leaves_is j h = by_due (due_at dues j) refl
+module _ (m : Machine) (tick : ℕ) (w : World2) (due : ℕ → Option ℕ) (left : List Bool) (k : ℕ) (next : IsNextLook m tick w due left (suc k)) where
+  leaves_is : (j : ℕ) → j < state_count m → is_due (due j) (suc k) ≡ leaves m (world2_after m w k) j
+  leaves_is j h = by_due (due j) refl
     where
-      stays : (found : Option ℕ) → due_at dues j ≡ found → ((d : ℕ) → found ≡ Some d → suc k < d) → leaves m (world2_after m w k) j ≡ false
+      stays : (found : Option ℕ) → due j ≡ found → ((d : ℕ) → found ≡ Some d → suc k < d) → leaves m (world2_after m w k) j ≡ false
       stays found e later = undue_stays m w next.reach k j found h (subst (IsDue2 m w next.reach j) e (next.each j h)) later next.within
 
-      by_due : (found : Option ℕ) → due_at dues j ≡ found → is_due found (suc k) ≡ leaves m (world2_after m w k) j
+      by_due : (found : Option ℕ) → due j ≡ found → is_due found (suc k) ≡ leaves m (world2_after m w k) j
       by_due None e = sym (stays None e (λ d f. absurd (cc)))
       by_due (Some d) e = by_test (d == suc k) refl
         where
           by_test : (test : Bool) → (d == suc k) ≡ test → (d == suc k) ≡ leaves m (world2_after m w k) j
           by_test true f =
-              let here : due_at dues j ≡ Some (suc k) = e ∙ ap (λ (n : ℕ). Some n) (eqb-true d (suc k) f) in
+              let here : due j ≡ Some (suc k) = e ∙ ap (λ (n : ℕ). Some n) (eqb-true d (suc k) f) in
               f ∙ sym (due_leaves m w next.reach k j h (subst (IsDue2 m w next.reach j) here (next.each j h)))
           by_test false f =
               let other = eqb-false d (suc k) f in
@@ -115,7 +115,7 @@ module _ (m : Machine) (tick : ℕ) (w : World2) (dues : List (Option ℕ)) (lef
   moved_from states levels of_states of_levels =
       let window = next.is_window in
       record {
-        is_calm = dues_calm m tick w next.reach k (due_at dues) next.each (λ j d h e. omega (arith, next.none_before j d h e)) (omega (arith, next.within)) (omega (arith, next.within, window.in_time))
+        is_calm = dues_calm m tick w next.reach k due next.each (λ j d h e. omega (arith, next.none_before j d h e)) (omega (arith, next.within)) (omega (arith, next.within, window.in_time))
             (omega (arith, next.within, window.no_look));
         in_time = omega (arith, next.within, window.in_time);
         flags = flags_are;
@@ -125,14 +125,14 @@ module _ (m : Machine) (tick : ℕ) (w : World2) (dues : List (Option ℕ)) (lef
       }
 
 -- the next look comes later
-pub look_later : (m : Machine) (tick : ℕ) (w : World2) (dues : List (Option ℕ)) (left : List Bool) (ticks : ℕ) → IsNextLook m tick w dues left ticks → 0 < ticks
-look_later m tick w dues left zero next =
+pub look_later : (m : Machine) (tick : ℕ) (w : World2) (due : ℕ → Option ℕ) (left : List Bool) (ticks : ℕ) → IsNextLook m tick w due left ticks → 0 < ticks
+look_later m tick w due left zero next =
     let found = next.reached (omega (arith, next.is_window.some)) in
-    let due = subst (IsDue2 m w next.reach found.0) found.2 (next.each found.0 found.1) in
-    absurd (omega (arith, due.later))
-look_later m tick w dues left (suc k) next = omega arith
+    let first = subst (IsDue2 m w next.reach found.0) found.2 (next.each found.0 found.1) in
+    absurd (omega (arith, first.later))
+look_later m tick w due left (suc k) next = omega arith
 
-pub moved_on : (m : Machine) (tick : ℕ) (w : World2) (dues : List (Option ℕ)) (left : List Bool) (ticks : ℕ) (states levels : List ℤ) → IsNextLook m tick w dues left ticks →
+pub moved_on : (m : Machine) (tick : ℕ) (w : World2) (due : ℕ → Option ℕ) (left : List Bool) (ticks : ℕ) (states levels : List ℤ) → IsNextLook m tick w due left ticks →
     states ≡ (world2_after m w ticks).states → levels ≡ levels_after m w left ticks → (k : ℕ) × (ticks ≡ suc k) × IsMovedOn m tick w k left states levels
-moved_on m tick w dues left zero states levels next of_states of_levels = absurd (omega (arith, look_later m tick w dues left zero next))
-moved_on m tick w dues left (suc k) states levels next of_states of_levels = (k, refl, moved_from m tick w dues left k next states levels of_states of_levels)
+moved_on m tick w due left zero states levels next of_states of_levels = absurd (omega (arith, look_later m tick w due left zero next))
+moved_on m tick w due left (suc k) states levels next of_states of_levels = (k, refl, moved_from m tick w due left k next states levels of_states of_levels)

@@ -10,6 +10,7 @@ use Rattle.qss_machine.specs.Numbers.{int_at, tabulate, first_past}
 use Rattle.qss_machine.specs.Machines.{state_count, level_unit}
 use Rattle.qss_machine.proofs.Near.{unit_positive}
 use Rattle.qss_order2.specs.Worlds.{rise_at, rise_weight, bend_weight, past_limit, near_change, AreChanges}
+use Rattle.qss_order2.specs.Limits.{past_levels}
 use Rattle.qss_order2.specs.Rules.{IsAnswer, IsRuled2}
 use Rattle.qss_order2.proofs.Legitimacy.{nearest_is_free}
 use Rattle.qss_order2.proofs.Sizes.{unit_fits}
@@ -21,20 +22,17 @@ or_again : (a b c : Option ℕ) → option_or (option_or a b) c ≡ option_or a 
 or_again None b c = refl
 or_again (Some v) b c = refl
 
-abbrev pub of_levels : Machine → List ℤ → Option ℕ
-of_levels m levels = option_or (first_past 49 levels) (first_past 94 (tabulate (state_count m) (rise_weight m levels)))
-
 abbrev pub of_changes : Machine → List ℤ → Option ℕ
 of_changes m changes = first_past 94 (tabulate (state_count m) (bend_weight m changes))
 
 module _ (m : Machine) (levels changes : List ℤ) where
-  again : option_or (of_levels m levels) (of_changes m changes) ≡ past_limit m levels changes
+  again : option_or (past_levels m levels) (of_changes m changes) ≡ past_limit m levels changes
   again = or_again (first_past 49 levels) (first_past 94 (tabulate (state_count m) (rise_weight m levels))) (of_changes m changes)
 
-  pub past_first : (var : ℕ) → of_levels m levels ≡ Some var → past_limit m levels changes ≡ Some var
+  pub past_first : (var : ℕ) → past_levels m levels ≡ Some var → past_limit m levels changes ≡ Some var
   past_first var e = sym again ∙ ap (λ (o : Option ℕ). option_or o (of_changes m changes)) e
 
-  pub past_then : of_levels m levels ≡ None → past_limit m levels changes ≡ of_changes m changes
+  pub past_then : past_levels m levels ≡ None → past_limit m levels changes ≡ of_changes m changes
   past_then e = sym again ∙ ap (λ (o : Option ℕ). option_or o (of_changes m changes)) e
 
 -- ---- changes

@@ -78,7 +78,7 @@ times_zero a = omega (arith, ints)
 sum_zero : (n : ℕ) (f : ℕ → ℤ) → ((i : ℕ) → f i ≡ pos 0) → sum_below n f ≡ pos 0
 sum_zero n f none = sum_below-same n f (λ i. pos 0) (λ i h. none i) ∙ sum_below-zero n
 
-sum_from_zero : (n : ℕ) (f : ℕ → ℤ) → ((i : ℕ) → pos 0 ≤ℤ f i) → pos 0 ≤ℤ sum_below n f
+pub sum_from_zero : (n : ℕ) (f : ℕ → ℤ) → ((i : ℕ) → pos 0 ≤ℤ f i) → pos 0 ≤ℤ sum_below n f
 sum_from_zero zero f each = omega (arith, ints)
 sum_from_zero (suc n) f each = omega (arith, ints, sum_from_zero n f each, each n)
 

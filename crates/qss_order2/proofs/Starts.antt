@@ -29,7 +29,7 @@ start_near m w states levels j h =
     ∙ ap (λ (xs : List ℤ). floor_of (int_at xs j) (level_unit m)) (sym states) in
     subst (λ z. pos (unsigned_abs (int_at w.states j -ℤ level_unit m *ℤ z)) <ℤ reach_of m j) (sym level) (floor_inside m j (int_at w.states j) h)
 
-flag_of_all : (n j : ℕ) → j < n → flag_at (replicate n true) j ≡ true
+pub flag_of_all : (n j : ℕ) → j < n → flag_at (replicate n true) j ≡ true
 flag_of_all zero j h = absurd (omega arith)
 flag_of_all (suc n) zero h = refl
 flag_of_all (suc n) (suc j) h = flag_of_all n j (omega arith)

@@ -7,7 +7,7 @@ use Rattle.qss_order2.specs.declared.store.Store.{Store}
 use Rattle.qss_order2.specs.Worlds.{World2, world2_unless}
 use Rattle.qss_order2.specs.Runs.{last_world2, tick_rows2}
 use Rattle.qss_order2.specs.Events.{Standing2, LeadsSilently2, IsVisit2}
-use Rattle.qss_order2.specs.Stores.{world_of, IsMovedOn}
+use Rattle.qss_order2.specs.Stores.{world_of}
 
 -- a store at a tick, as it is seen
 abbrev pub standing_of : Machine → ℕ → Store → Option Outcome2 → Standing2
@@ -30,11 +30,6 @@ pub record AreSilent2 (Rule : ℤ → ℤ → ℤ → Type 0) (m : Machine) (fro
   pub leads : LeadsSilently2 Rule m from w0 silent
   pub as_many : from + length silent ≡ tick
   pub reached : last_world2 w0 silent ≡ w
-
--- a store was moved on by so many ticks to the next look
-abbrev pub WasMovedOn : Machine → ℕ → Store → Store → ℕ → Type 0
-WasMovedOn m tick old new ticks =
-    (calm : ℕ) × (ticks ≡ calm + 1) × IsMovedOn m tick (world_of old.motion) calm new.left.items new.motion.states.items new.motion.levels.items
 
 -- a store went on to a tick by ticks without rows, and by one more, of which it has the rows
 abbrev pub HasLooked : (ℤ → ℤ → ℤ → Type 0) → Machine → ℕ → Store → ℕ → Store → Type 0

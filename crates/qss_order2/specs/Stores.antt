@@ -1,5 +1,5 @@
 -- What a second-order simulator keeps, and the world that it stands for.
-use Rattle.std.specs.Prelude.{◌≡◌, ℕ, ◌+◌, ◌<◌, ◌≤◌, ◌%◌, ◌⊎◌, Bool, true, false, ◌==◌, List, [], ◌∷◌, length, ℤ, pos, ◌-ℤ◌, ◌*ℤ◌, ◌<ℤ◌, ◌≤ℤ◌, unsigned_abs, Option, Some, None, MatchBool, slice_index_or, flat_map, replicate, vec_capacity, if◌then◌else◌}
+use Rattle.std.specs.Prelude.{◌≡◌, ℕ, ◌+◌, ◌-◌, ◌<◌, ◌≤◌, ◌%◌, ◌⊎◌, Bool, true, false, ◌==◌, List, [], ◌∷◌, length, ℤ, pos, ◌-ℤ◌, ◌*ℤ◌, ◌<ℤ◌, ◌≤ℤ◌, unsigned_abs, Option, Some, None, MatchBool, slice_index_or, flat_map, replicate, vec_capacity, if◌then◌else◌}
 use Rattle.std.specs.List.{range_with_len}
 use Rattle.mu_num.specs.Curves.{FirstUpTo}
 use Rattle.mu_num.specs.Rounding.{floor_of}
@@ -8,6 +8,7 @@ use Rattle.qss_machine.specs.declared.system.Machine.{Machine}
 use Rattle.qss_machine.specs.Firing.{flag_at}
 use Rattle.qss_machine.specs.Numbers.{int_at, tabulate}
 use Rattle.qss_machine.specs.Machines.{state_count, discrete_count, level_unit}
+use Rattle.qss_machine.specs.Legitimate.{start_coefficient}
 use Rattle.qss_order2.specs.declared.motion.Motion.{Motion}
 use Rattle.qss_order2.specs.declared.store.Store.{Store}
 use Rattle.qss_order2.specs.declared.outcome2.Outcome2.{Outcome2}
@@ -16,6 +17,7 @@ use Rattle.qss_order2.specs.declared.rows.Kind2.{Kind2}
 use Rattle.qss_order2.specs.Rules.{IsAnswer}
 use Rattle.qss_order2.specs.Runs.{level_row, slope_row}
 use Rattle.qss_order2.specs.Worlds.{World2, rise_at, reach_of, past_limit, AreChanges, fine_states, fine_levels, look_span, is_look, leaves, requantizes, next_states, next_levels}
+use Rattle.qss_order2.specs.Limits.{IsCalmBy}
 use Rattle.qss_order2.specs.Laws.{bend_at, world2_after, gap_after, IsCalm2}
 
 -- the world of a motion
@@ -86,15 +88,48 @@ pub record IsWindow (tick last reach : ℕ) : Type 0 where
   pub no_look : tick % look_span + reach ≤ look_span
   pub ends : (tick + reach ≡ last) ⊎ ((tick + reach) % look_span ≡ 0)
 
+-- how many ticks it is from a tick to a due one, if there is one
+abbrev pub until : ℕ → Option ℕ → Option ℕ
+until tick None = None
+until tick (Some due) = Some (due - tick)
+
+-- the ticks up to the end of a window at which states leave are known
+pub record HasDues (m : Machine) (tick window : ℕ) (w : World2) (dues : List (Option ℕ)) : Type 0 where
+  pub is_window : IsWindow tick m.last (window - tick)
+  pub each : (j : ℕ) → j < state_count m → IsDue2 m w (window - tick) j (until tick (due_at dues j))
+
+-- so are those of the states that are not marked
+pub record KeepsDues (m : Machine) (tick window : ℕ) (w : World2) (touched : List Bool) (dues : List (Option ℕ)) : Type 0 where
+  pub is_window : IsWindow tick m.last (window - tick)
+  pub quiet : (j : ℕ) → j < state_count m → flag_at touched j ≡ false → IsDue2 m w (window - tick) j (until tick (due_at dues j))
+
 -- the next look after a world at a tick comes after so many ticks, and these states leave there
-pub record IsNextLook (m : Machine) (tick : ℕ) (w : World2) (dues : List (Option ℕ)) (left : List Bool) (ticks : ℕ) : Type 0 where
+pub record IsNextLook (m : Machine) (tick : ℕ) (w : World2) (due : ℕ → Option ℕ) (left : List Bool) (ticks : ℕ) : Type 0 where
   pub reach : ℕ
   pub is_window : IsWindow tick m.last reach
   pub within : ticks ≤ reach
-  pub each : (j : ℕ) → j < state_count m → IsDue2 m w reach j (due_at dues j)
-  pub none_before : (j d : ℕ) → j < state_count m → due_at dues j ≡ Some d → ticks ≤ d
-  pub reached : ticks < reach → (j : ℕ) × (j < state_count m) × (due_at dues j ≡ Some ticks)
-  pub flags : (j : ℕ) → j < state_count m → flag_at left j ≡ is_due (due_at dues j) ticks
+  pub each : (j : ℕ) → j < state_count m → IsDue2 m w reach j (due j)
+  pub none_before : (j d : ℕ) → j < state_count m → due j ≡ Some d → ticks ≤ d
+  pub reached : ticks < reach → (j : ℕ) × (j < state_count m) × (due j ≡ Some ticks)
+  pub flags : (j : ℕ) → j < state_count m → flag_at left j ≡ is_due (due j) ticks
+
+-- a state stays, and its row reads none of those that leave
+pub record IsQuiet (m : Machine) (left : List Bool) (j : ℕ) : Type 0 where
+  pub stays : flag_at left j ≡ false
+  pub reads_none : (i : ℕ) → i < state_count m → flag_at left i ≡ true → start_coefficient m j i ≡ pos 0
+
+-- all states that are not marked are quiet
+abbrev pub AreQuiet : Machine → List Bool → List Bool → Type 0
+AreQuiet m left touched = (j : ℕ) → j < state_count m → flag_at touched j ≡ false → IsQuiet m left j
+
+-- states and levels of a motion are those so many ticks after a world within its limits, at which these states left; all else is as it was there
+pub record IsArrived (m : Machine) (w : World2) (left : List Bool) (ticks : ℕ) (q : Motion) : Type 0 where
+  pub within : past_limit m w.levels w.changes ≡ None
+  pub few : ticks ≤ look_span
+  pub changes : q.changes.items ≡ w.changes
+  pub levels : q.levels.items ≡ levels_after m w left ticks
+  pub rises : q.rises.items ≡ tabulate (state_count m) (λ j. rise_at m j w.levels)
+  pub bends : q.bends.items ≡ tabulate (state_count m) (λ j. bend_at m j w.changes)
 
 -- from a world at a tick to the next look: so many calm ticks, and one more, at which these states leave
 pub record IsMovedOn (m : Machine) (tick : ℕ) (w : World2) (calm : ℕ) (left : List Bool) (states levels : List ℤ) : Type 0 where
@@ -114,6 +149,8 @@ pub record FitsMachine (m : Machine) (s : Store) : Type 0 where
   pub sized : IsSized m s.motion
   pub dues : length s.dues.items ≡ state_count m
   pub left : length s.left.items ≡ state_count m
+  pub touched : length s.touched.items ≡ state_count m
+  pub calm : IsCalmBy m s.calm
   pub room : state_count m + state_count m + discrete_count m + 1 ≤ vec_capacity s.rows
 
 -- a store stands for its world at a tick; where a state is past a limit there, it is tick 0
@@ -122,6 +159,7 @@ pub record Stands (m : Machine) (tick : ℕ) (s : Store) : Type 0 where
   pub over : past_limit m s.motion.levels.items s.motion.changes.items ≡ s.over
   pub at_start : (var : ℕ) → s.over ≡ Some var → tick ≡ 0
   pub moves : s.over ≡ None → Moves m s.motion
+  pub dues : s.over ≡ None → tick < s.window → KeepsDues m tick s.window (world_of s.motion) s.touched.items s.dues.items
 
 -- a store with memory, and the states and levels of the start, at which the rule is to be asked for each state
 pub record IsBlank (m : Machine) (s : Store) : Type 0 where
@@ -130,6 +168,7 @@ pub record IsBlank (m : Machine) (s : Store) : Type 0 where
   pub levels : s.motion.levels.items ≡ fine_levels m
   pub changes : s.motion.changes.items ≡ replicate (state_count m) (pos 0)
   pub left : s.left.items ≡ replicate (state_count m) true
+  pub window : s.window ≡ 0
 
 -- what a simulator keeps: a tick of the run, and until the end of the run a store that stands there
 pub record IsSim (m : Machine) (tick : ℕ) (end : Option Outcome2) (s : Store) : Type 0 where

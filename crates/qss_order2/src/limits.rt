@@ -1,15 +1,17 @@
 //! States that are past a limit.
 
-ghost use Rattle.std.specs.Prelude.{◌≡◌, ℕ, ◌<◌, ◌≤◌, All, None, length};
-ghost use Rattle.std.specs.Option.{option_or};
+ghost use Rattle.std.specs.Prelude.{◌≡◌, ℕ, ◌<◌, ◌≤◌, ◌^◌, All, None, true, false, length, pos, ◌≤ℤ◌, IfOk};
 ghost use Rattle.mu_num.specs.Sizes.{IsWithin, passes};
 ghost use Rattle.qss_machine.specs.Machines.{state_count};
-ghost use Rattle.qss_machine.specs.Numbers.{int_at, first_past, tabulate};
+ghost use Rattle.qss_machine.specs.Firing.{flag_at};
+ghost use Rattle.qss_machine.specs.Numbers.{int_at, first_past, tabulate, size};
+ghost use Rattle.qss_order2.specs.Limits.{past_levels, IsCalmLevel, IsCalmBy};
 ghost use Rattle.qss_order2.specs.Worlds.{rise_weight, bend_weight};
 
-use crate::fixed_machine::FixedMachine;
+use crate::fixed_machine::{FixedMachine, copies};
 use crate::sums::{is_steep, weight_of};
-use mu_num::passes;
+use mu_num::{passes, unit};
+use std::alloc::{AllocError, Global};
 
 /// The most bits of a level.
 const LEVEL_BITS: u8 = 49;
@@ -66,13 +68,15 @@ fn bends_past(f: &FixedMachine, row: usize, changes: &[i128]) -> bool
     is_steep(f.rows[row].as_slice(), changes)
 }
 
-/// The least row that changes bend past its limit.
-pub(crate) fn first_steep(f: &FixedMachine, changes: &[i128]) -> Option<u32>
-    requires { length changes.now ≡ state_count f.now.machine }
+/// The least row that changes bend past its limit, where only those of the marked ones may.
+pub(crate) fn first_steep(f: &FixedMachine, changes: &[i128], touched: &[bool]) -> Option<u32>
+    requires changes { length changes.now ≡ state_count f.now.machine }
+    requires touched { length touched.now ≡ state_count f.now.machine }
+    requires others { (j : ℕ) → j < state_count f.now.machine → flag_at touched.now j ≡ false → passes 94 (bend_weight f.now.machine changes.now j) ≡ false }
     ensures { result ≡ first_past 94 (tabulate (state_count f.now.machine) (bend_weight f.now.machine changes.now)) }
 {
     for row in 0..changes.len() {
-        if bends_past(f, row, changes) {
+        if touched[row] && bends_past(f, row, changes) {
             return Some(row as u32);
         }
     }
@@ -82,10 +86,69 @@ pub(crate) fn first_steep(f: &FixedMachine, changes: &[i128]) -> Option<u32>
 /// The least state whose level is past its limit, or if there is none the least row whose weight is.
 pub(crate) fn past_levels(f: &FixedMachine, levels: &[i128]) -> Option<u32>
     requires { length levels.now ≡ state_count f.now.machine }
-    ensures { result ≡ option_or (first_past 49 levels.now) (first_past 94 (tabulate (state_count f.now.machine) (rise_weight f.now.machine levels.now))) }
+    ensures { result ≡ past_levels f.now.machine levels.now }
 {
     if let Some(var) = first_high(levels) {
         return Some(var);
     }
     first_heavy(f, levels)
+}
+
+// Whether a number is more than this in size.
+fn is_above(z: i128, bound: i128) -> bool
+    ensures { result ≡ false → size z ≤ℤ bound }
+{
+    bound < 0 || z.unsigned_abs() > bound as u128
+}
+
+// Whether no level is more than this in size.
+fn are_within(levels: &[i128], bound: i128) -> bool
+    ensures { result ≡ true → (j : ℕ) → j < length levels.now → size (int_at levels.now j) ≤ℤ bound }
+{
+    for j in 0..levels.len() {
+        if is_above(levels[j], bound) {
+            return false;
+        }
+    }
+    true
+}
+
+/// The same, where levels at most this in size are known to be past no limit.
+pub(crate) fn past_calm(f: &FixedMachine, calm: Option<i128>, levels: &[i128]) -> Option<u32>
+    requires levels { length levels.now ≡ state_count f.now.machine }
+    requires calm { IsCalmBy f.now.machine calm }
+    ensures { result ≡ past_levels f.now.machine levels.now }
+{
+    if let Some(calm) = calm {
+        if are_within(levels, calm) {
+            return None;
+        }
+    }
+    past_levels(f, levels)
+}
+
+// Whether levels of at most so many bits are past no limit.
+fn is_calm(alloc: Global, f: &FixedMachine, bits: u8) -> Result<bool, AllocError>
+    requires { bits ≤ 49 }
+    ensures { IfOk result (λ calm. calm ≡ true → IsCalmLevel f.now.machine (pos (2 ^ bits))) }
+{
+    let levels = copies(alloc, unit(bits), f.limits.len())?;
+    match past_levels(f, levels.as_slice()) {
+        Some(_) => Ok(false),
+        None => Ok(true),
+    }
+}
+
+/// The greatest power of two for which levels at most it in size are past no limit, if there is one.
+pub(crate) fn calm_level(alloc: Global, f: &FixedMachine) -> Result<Option<i128>, AllocError>
+    ensures { IfOk result (λ calm. IsCalmBy f.now.machine calm) }
+{
+    let mut bits = LEVEL_BITS + 1;
+    while bits > 0 {
+        bits -= 1;
+        if is_calm(alloc, f, bits)? {
+            return Ok(Some(unit(bits)));
+        }
+    }
+    Ok(None)
 }

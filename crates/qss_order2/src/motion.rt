@@ -24,8 +24,8 @@ pub(crate) struct Motion {
     pub bends: Vec<i128>,
 }
 
-// What a number gains in some ticks, where it gains this in each.
-fn risen(ticks: u64, change: i128) -> i128
+/// What a number gains in some ticks, where it gains this in each.
+pub(crate) fn risen(ticks: u64, change: i128) -> i128
     requires ticks { ticks ≤ 65536 }
     requires change { IsWithin 95 change }
     ensures value { result ≡ pos ticks *ℤ change }
@@ -144,6 +144,7 @@ pub(crate) fn move_on(f: &FixedMachine, ticks: u64, left: &[bool], q: &mut Motio
     ensures states { q.new.states.items ≡ (world2_after f.now.machine (world_of q.old) ticks).states }
     ensures levels { q.new.levels.items ≡ levels_after f.now.machine (world_of q.old) left.now ticks }
     ensures changes { q.new.changes ≡ q.old.changes }
+    ensures kept { (q.new.rises ≡ q.old.rises) × (q.new.bends ≡ q.old.bends) }
     ensures sized { IsSized f.now.machine q.new }
 {
     move_states(

@@ -1,18 +1,19 @@
 //! What follows from new levels: how states rise, and how their levels are to change.
 
-ghost use Rattle.std.specs.Prelude.{◌≡◌, ℕ, ◌<◌, All, None, false, length, ◌*ℤ◌, MatchBool};
+ghost use Rattle.std.specs.Prelude.{◌≡◌, ℕ, ◌<◌, ◌≤◌, All, None, true, false, length, pos, ◌+ℤ◌, ◌*ℤ◌, MatchBool, if◌then◌else◌};
 ghost use Rattle.mu_num.specs.Sizes.{IsWithin, passes};
 ghost use Rattle.qss_machine.specs.Firing.{flag_at};
 ghost use Rattle.qss_machine.specs.Machines.{state_count, level_unit};
 ghost use Rattle.qss_machine.specs.Numbers.{int_at, first_past, tabulate};
 ghost use Rattle.qss_order2.specs.Laws.{bend_at};
 ghost use Rattle.qss_order2.specs.Rules.{IsAnswer, IsRuled2};
-ghost use Rattle.qss_order2.specs.Stores.{IsSized, HasRises, AreAnswers, IsSettled};
-ghost use Rattle.qss_order2.specs.Worlds.{rise_at, bend_weight, past_limit, fine_levels, AreChanges};
+ghost use Rattle.qss_order2.specs.Limits.{IsCalmBy};
+ghost use Rattle.qss_order2.specs.Stores.{IsSized, HasRises, AreAnswers, AreQuiet, IsArrived, IsSettled};
+ghost use Rattle.qss_order2.specs.Worlds.{World2, rise_at, bend_weight, past_limit, fine_levels, AreChanges};
 
 use crate::fixed_machine::FixedMachine;
-use crate::limits::{first_steep, past_levels};
-use crate::motion::Motion;
+use crate::limits::{first_steep, past_calm, past_levels};
+use crate::motion::{Motion, risen};
 use crate::slope_rule::SlopeRule;
 use crate::sums::{change_sum, rise_of};
 
@@ -35,6 +36,55 @@ fn set_rises(f: &FixedMachine, levels: &[i128], rises: &mut [i128])
 {
     for row in 0..rises.len() {
         rises[row] = rise_at(f, row, levels);
+    }
+}
+
+// How much a state rises after some ticks: by its row's sum at the levels there, or along a line.
+fn rise_after(
+    f: &FixedMachine,
+    touched: bool,
+    row: usize,
+    levels: &[i128],
+    rise: i128,
+    bend: i128,
+    ticks: u64,
+) -> i128
+    requires row { row < state_count f.now.machine }
+    requires levels { length levels.now ≡ state_count f.now.machine }
+    requires small { All (IsWithin 50) levels.now }
+    requires rise { IsWithin 94 rise }
+    requires bend { IsWithin 94 bend }
+    requires ticks { ticks ≤ 65536 }
+    ensures { result ≡ (if touched then rise_at f.now.machine row levels.now else rise +ℤ pos ticks *ℤ bend) }
+{
+    if touched {
+        rise_at(f, row, levels)
+    } else {
+        rise + risen(ticks, bend)
+    }
+}
+
+// That of all states: of the marked ones by their rows' sums.
+fn renew_rises(
+    f: &FixedMachine,
+    touched: &[bool],
+    ticks: u64,
+    levels: &[i128],
+    bends: &[i128],
+    rises: &mut [i128],
+)
+    requires touched { length touched.now ≡ state_count f.now.machine }
+    requires levels { length levels.now ≡ state_count f.now.machine }
+    requires bends { length bends.now ≡ state_count f.now.machine }
+    requires rises { length rises.old ≡ state_count f.now.machine }
+    requires small { All (IsWithin 50) levels.now }
+    requires small_rises { All (IsWithin 94) rises.old }
+    requires small_bends { All (IsWithin 94) bends.now }
+    requires ticks { ticks ≤ 65536 }
+    ensures { rises.new ≡ tabulate (state_count f.now.machine) (λ j. if flag_at touched.now j then rise_at f.now.machine j levels.now else int_at rises.old j +ℤ pos ticks *ℤ int_at bends.now j) }
+{
+    for row in 0..rises.len() {
+        rises[row] = rise_after(f, touched[row], row, levels, rises[row], bends[row], ticks);
     }
 }
 
@@ -78,52 +128,73 @@ fn bend_at(f: &FixedMachine, row: usize, changes: &[i128]) -> i128
     change_sum(f.rows[row].as_slice(), changes)
 }
 
-// That of all states.
-fn set_bends(f: &FixedMachine, changes: &[i128], bends: &mut [i128])
+// That of all states, where those that are not marked have it.
+fn set_bends(f: &FixedMachine, changes: &[i128], touched: &[bool], bends: &mut [i128])
     requires changes { length changes.now ≡ state_count f.now.machine }
+    requires touched { length touched.now ≡ state_count f.now.machine }
     requires bends { length bends.old ≡ state_count f.now.machine }
+    requires others { (j : ℕ) → j < state_count f.now.machine → flag_at touched.now j ≡ false → int_at bends.old j ≡ bend_at f.now.machine j changes.now }
     requires within { first_past 94 (tabulate (state_count f.now.machine) (bend_weight f.now.machine changes.now)) ≡ None }
     ensures { bends.new ≡ tabulate (state_count f.now.machine) (λ j. bend_at f.now.machine j changes.now) }
 {
     for row in 0..bends.len() {
-        bends[row] = bend_at(f, row, changes);
+        if touched[row] {
+            bends[row] = bend_at(f, row, changes);
+        }
     }
 }
 
-// That of all states, unless one is past its limit.
-fn bend(f: &FixedMachine, changes: &[i128], bends: &mut [i128]) -> Option<u32>
+// That of all states, unless one is past its limit, where those that are not marked have it and are not.
+fn bend(f: &FixedMachine, changes: &[i128], touched: &[bool], bends: &mut [i128]) -> Option<u32>
     requires changes { length changes.now ≡ state_count f.now.machine }
+    requires touched { length touched.now ≡ state_count f.now.machine }
     requires bends { length bends.old ≡ state_count f.now.machine }
+    requires flat { (j : ℕ) → j < state_count f.now.machine → flag_at touched.now j ≡ false → passes 94 (bend_weight f.now.machine changes.now j) ≡ false }
+    requires others { (j : ℕ) → j < state_count f.now.machine → flag_at touched.now j ≡ false → int_at bends.old j ≡ bend_at f.now.machine j changes.now }
     ensures over { result ≡ first_past 94 (tabulate (state_count f.now.machine) (bend_weight f.now.machine changes.now)) }
     ensures bends { result ≡ None → bends.new ≡ tabulate (state_count f.now.machine) (λ j. bend_at f.now.machine j changes.now) }
 {
-    if let Some(var) = first_steep(f, changes) {
+    if let Some(var) = first_steep(f, changes, touched) {
         return Some(var);
     }
-    set_bends(f, changes, bends);
+    set_bends(f, changes, touched, bends);
     None
 }
 
-/// Rises, changes and bends at new levels, or the least state that is past a limit there.
+/// Rises, changes and bends at new levels, or the least state that is past a limit there. Only the marked states are summed anew.
 pub(crate) fn settle(
     f: &FixedMachine,
     rule: &SlopeRule,
+    calm: Option<i128>,
+    ticks: u64,
     left: &[bool],
+    touched: &[bool],
     q: &mut Motion,
 ) -> Option<u32>
     requires sized { IsSized f.now.machine q.old }
+    requires calm { IsCalmBy f.now.machine calm }
+    requires arrived { (w : World2) × IsArrived f.now.machine w left.now ticks q.old }
+    requires quiet { AreQuiet f.now.machine left.now touched.now }
     requires left { length left.now ≡ state_count f.now.machine }
+    requires touched { length touched.now ≡ state_count f.now.machine }
     requires held { (j : ℕ) → j < state_count f.now.machine → IsWithin 95 (level_unit f.now.machine *ℤ int_at q.old.changes.items j) }
     ensures kept { (q.new.states ≡ q.old.states) × (q.new.levels ≡ q.old.levels) }
     ensures sized { IsSized f.now.machine q.new }
     ensures settled { IsSettled (IsRuled2 rule.now.nearest) f.now.machine (flag_at left.now) q.old q.new result }
 {
-    if let Some(var) = past_levels(f, q.levels.as_slice()) {
+    if let Some(var) = past_calm(f, calm, q.levels.as_slice()) {
         return Some(var);
     }
-    set_rises(f, q.levels.as_slice(), q.rises.as_mut_slice());
+    renew_rises(
+        f,
+        touched,
+        ticks,
+        q.levels.as_slice(),
+        q.bends.as_slice(),
+        q.rises.as_mut_slice(),
+    );
     set_changes(f, rule, q.rises.as_slice(), left, q.changes.as_mut_slice());
-    bend(f, q.changes.as_slice(), q.bends.as_mut_slice())
+    bend(f, q.changes.as_slice(), touched, q.bends.as_mut_slice())
 }
 
 /// The same at the start, where the rule is asked for all states before the limits are looked at.
@@ -135,6 +206,7 @@ pub(crate) fn begin(
 ) -> Option<u32>
     requires sized { IsSized f.now.machine q.old }
     requires left { length left.now ≡ state_count f.now.machine }
+    requires all { (j : ℕ) → j < state_count f.now.machine → flag_at left.now j ≡ true }
     requires start { q.old.levels.items ≡ fine_levels f.now.machine }
     requires held { (j : ℕ) → j < state_count f.now.machine → IsWithin 95 (level_unit f.now.machine *ℤ int_at q.old.changes.items j) }
     ensures kept { (q.new.states ≡ q.old.states) × (q.new.levels ≡ q.old.levels) }
@@ -148,5 +220,5 @@ pub(crate) fn begin(
     if let Some(var) = past_levels(f, q.levels.as_slice()) {
         return Some(var);
     }
-    bend(f, q.changes.as_slice(), q.bends.as_mut_slice())
+    bend(f, q.changes.as_slice(), left, q.bends.as_mut_slice())
 }

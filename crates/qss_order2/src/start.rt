@@ -10,6 +10,7 @@ ghost use Rattle.qss_order2.specs.Stores.{world_of, IsSized, FitsMachine, IsBlan
 ghost use Rattle.qss_order2.specs.Worlds.{fine_states, fine_levels, IsStart2};
 
 use crate::fixed_machine::{FixedMachine, copies};
+use crate::limits::calm_level;
 use crate::motion::Motion;
 use crate::row_lists::{add_discretes, set_left_rows};
 use crate::rows::Kind2;
@@ -80,8 +81,11 @@ fn blank_store(alloc: Global, f: &FixedMachine) -> Result<Store, AllocError>
     let discretes = f.machine.discretes.as_slice().len();
     Ok(Store {
         motion,
+        window: 0,
         dues: copies(alloc, None, states)?,
         left: copies(alloc, true, states)?,
+        touched: copies(alloc, true, states)?,
+        calm: calm_level(alloc, f)?,
         over: None,
         rows: Vec::with_capacity(alloc, states + states + discretes + 1)?,
     })

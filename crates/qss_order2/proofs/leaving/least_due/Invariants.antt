@@ -6,7 +6,7 @@ use Rattle.qss_order2.proofs.leaving.least_due.Given as goal
 -- the least so far
 abbrev pub invariant-loop-j : goal.invariant-loop-j
 invariant-loop-j l = record {
-  at_most : l.least ≤ l.fn.reach;
+  at_most : l.least ≤ l.fn.window;
   none_before : (j d : ℕ) → j < l.j → due_at l.dues j ≡ Some d → l.least ≤ d;
-  reached : l.least < l.fn.reach → (j : ℕ) × (j < l.j) × (due_at l.dues j ≡ Some l.least);
+  reached : l.least < l.fn.window → (j : ℕ) × (j < l.j) × (due_at l.dues j ≡ Some l.least);
 }

@@ -1,31 +1,46 @@
--- So many calm ticks, and one more.
-use Rattle.std.proofs.Common.{◌≡◌, Bool, List, sym, ◌∙◌, ap, subst, arith}
+-- The states that leave are those that are due.
+use Rattle.std.proofs.Common.{◌≡◌, Bool, List, ℤ, sym, ◌∙◌, ap, subst, arith}
+use Rattle.std.proofs.Common.{Vec, Global}
 use Rattle.std.proofs.lemmas.List.{with_items_is}
 use Rattle.std.specs.Vec.{with_items}
-use Rattle.qss_order2.specs.Stores.{world_of, levels_after, IsMovedOn}
-use Rattle.qss_order2.proofs.Looks.{moved_on}
-use Rattle.qss_order2.proofs.Tables.{same_length}
+use Rattle.qss_order2.specs.Stores.{world_of, levels_after, due_at, until, IsNextLook}
 use Rattle.qss_order2.proofs.looking.go_on.Goals as goal
 
-pub returns-clause-moved : goal.returns-clause-moved
-returns-clause-moved c =
+pub next_look-ticks-requires-clause-has_dues : goal.next_look-ticks-requires-clause-has_dues
+next_look-ticks-requires-clause-has_dues c =
+    let m = c.args.f.now.machine in
+    let s = c.args.s.now in
+    (world_of s.motion, rw c.as_slice.ensures.value c.requires.dues)
+
+pub move_on-requires-clause-ticks : goal.move_on-requires-clause-ticks
+move_on-requires-clause-ticks c =
+    let s = c.args.s.now in
+    let next = c.next_look-ticks.ensures (world_of s.motion) (rw c.as_slice.ensures.value c.requires.dues) in
+    omega (arith, next.within, next.is_window.few)
+
+pub returns-clause-next : goal.returns-clause-next
+returns-clause-next c =
+    let m = c.args.f.now.machine in
+    let s = c.args.s.now in
+    let left = c.next_look-ticks.new.left in
+    let is : (with_items s.left left).items ≡ left = with_items_is s.left left (c.next_look-ticks.auto.left ∙ c.as_mut_slice.ensures.len) in
+    let next = c.next_look-ticks.ensures (world_of s.motion) (rw c.as_slice.ensures.value c.requires.dues) in
+    subst (λ l. IsNextLook m c.args.tick (world_of s.motion) (λ j. until c.args.tick (due_at s.dues.items j)) l c.next_look-ticks.result) (sym is) (rw c.as_slice.ensures.value at next)
+
+pub returns-clause-arrived : goal.returns-clause-arrived
+returns-clause-arrived c =
     let m = c.args.f.now.machine in
     let s = c.args.s.now in
     let w = world_of s.motion in
-    let left = c.next_look-ticks.new.left in
-    let q = c.move_on.new.q in
-    let is : (with_items s.left left).items ≡ left = with_items_is s.left left (c.next_look-ticks.auto.left ∙ c.as_mut_slice-2.ensures.len) in
-    let found = moved_on m c.args.tick w c.next_look-ticks.new.dues left c.next_look-ticks.result q.states.items q.levels.items c.next_look-ticks.ensures c.move_on.ensures.states
-    (c.move_on.ensures.levels ∙ ap (λ (l : List Bool). levels_after m w l c.next_look-ticks.result) (c.as_slice.ensures.value ∙ is)) in
-    (found.0, omega (arith, found.1), subst (λ l. IsMovedOn m c.args.tick w found.0 l q.states.items q.levels.items) (sym is) found.2)
-
-pub returns-clause-fits : goal.returns-clause-fits
-returns-clause-fits c =
-    let s = c.args.s.now in
-    let fits = c.requires.stands.fits in
+    let ticks = c.next_look-ticks.result in
+    let next = c.next_look-ticks.ensures w (rw c.as_slice.ensures.value c.requires.dues) in
+    let moved = c.move_on.ensures in
+    let rises = c.requires.moves.has_rises in
     record {
-      sized = c.move_on.ensures.sized;
-      dues = same_length s.dues c.next_look-ticks.new.dues ∙ fits.dues;
-      left = same_length s.left c.next_look-ticks.new.left ∙ fits.left;
-      room = fits.room;
+      within = c.requires.moves.within;
+      few = omega (arith, next.within, next.is_window.few);
+      changes = ap (λ (v : Vec ℤ Global). v.items) moved.changes;
+      levels = moved.levels ∙ ap (λ (l : List Bool). levels_after m w l ticks) c.as_slice-2.ensures.value;
+      rises = ap (λ (v : Vec ℤ Global). v.items) moved.kept.0 ∙ rises.rises;
+      bends = ap (λ (v : Vec ℤ Global). v.items) moved.kept.1 ∙ rises.bends;
     }

@@ -1,5 +1,5 @@
 -- At the start the rule may be asked before the limits are looked at.
-use Rattle.std.proofs.Common.{◌≡◌, ℕ, List, length, ℤ, sym, ◌∙◌, ap, subst, arith}
+use Rattle.std.proofs.Common.{◌≡◌, ℕ, Bool, true, false, List, length, ℤ, sym, ◌∙◌, ap, subst, arith}
 use Rattle.std.proofs.lemmas.List.{with_items_is}
 use Rattle.std.proofs.lemmas.List.FromFn.{length-map-range_with_len}
 use Rattle.std.specs.Prelude.{All, None, MatchBool}
@@ -9,10 +9,11 @@ use Rattle.qss_machine.specs.Firing.{flag_at}
 use Rattle.qss_machine.specs.Machines.{state_count, level_unit}
 use Rattle.qss_machine.specs.Numbers.{int_at, tabulate}
 use Rattle.qss_order2.specs.Laws.{bend_at}
+use Rattle.qss_order2.specs.Limits.{past_levels}
 use Rattle.qss_order2.specs.Rules.{IsAnswer, IsRuled2}
 use Rattle.qss_order2.specs.Worlds.{rise_at, fine_levels, AreChanges}
 use Rattle.qss_order2.proofs.Bounds.{none_of, rise_by_weight}
-use Rattle.qss_order2.proofs.Settlings.{of_levels, are_changes, held_after}
+use Rattle.qss_order2.proofs.Settlings.{are_changes, held_after}
 use Rattle.qss_order2.proofs.Sizes.{start_level_small, start_rise_small}
 use Rattle.qss_order2.proofs.Tables.{at_table, all_of}
 use Rattle.qss_order2.proofs.settling.begin.Goals as goal
@@ -75,7 +76,7 @@ returns-clause-rises g c e =
     let m = c.args.f.now.machine in
     let q = c.args.q.now in
     let n = state_count m in
-    let none : of_levels m q.levels.items ≡ None = ap (of_levels m) (sym c.as_slice-3.ensures.value) ∙ sym c.past_levels.ensures ∙ c.in_default.is in
+    let none : past_levels m q.levels.items ≡ None = ap (past_levels m) (sym c.as_slice-3.ensures.value) ∙ sym c.past_levels.ensures ∙ c.in_default.is in
     record {
       rises = with_items_is q.rises c.set_rises.new.rises (c.set_rises.auto.rises ∙ c.as_mut_slice.ensures.len) ∙ c.set_rises.ensures
           ∙ ap (λ (l : List ℤ). tabulate n (λ j. rise_at m j l)) c.as_slice.ensures.value;
@@ -84,3 +85,12 @@ returns-clause-rises g c e =
       held = held_after c.args.rule.now.nearest m (flag_at c.args.left.now) q.levels.items q.changes.items (with_items q.changes c.set_changes.new.changes).items (returns-clause-changes g c)
           (λ j h. rise_by_weight m q.levels.items (none_of _ _ none).1 j h) c.requires.held;
     }
+
+none_else : {A : Type 0} (b : Bool) → b ≡ true → b ≡ false → A
+none_else b e f = absurd (cc)
+
+pub bend-requires-clause-flat : goal.bend-requires-clause-flat
+bend-requires-clause-flat g c j h not = none_else (flag_at c.args.left.now j) (c.requires.all j h) not
+
+pub bend-requires-clause-others : goal.bend-requires-clause-others
+bend-requires-clause-others g c j h not = none_else (flag_at c.args.left.now j) (c.requires.all j h) not

@@ -10,7 +10,7 @@ use Rattle.qss_order2.specs.Rules.{IsRuled2}
 use Rattle.qss_order2.specs.Runs.{discrete_rows2}
 use Rattle.qss_order2.specs.Stores.{world_of, rows_of_left}
 use Rattle.qss_order2.specs.Worlds.{past_limit, AreChanges}
-use Rattle.qss_order2.proofs.Starts.{start_near, asked_all, rows_of_all}
+use Rattle.qss_order2.proofs.Starts.{start_near, flag_of_all, asked_all, rows_of_all}
 use Rattle.qss_order2.proofs.start.begin_store.Goals as goal
 
 pub returns-clause-start : goal.returns-clause-start
@@ -36,7 +36,7 @@ returns-clause-stands g c =
     let start = returns-clause-start g c in
     let over : past_limit m q2.levels.items q2.changes.items ≡ c.begin-s.result = ap (λ (ls : List ℤ). past_limit m ls q2.changes.items) levels ∙ sym c.begin-s.ensures.over in
     record {
-      fits = record { sized = c.begin-s.ensures.sized; dues = fits.dues; left = fits.left; room = omega (arith, c.set_left_rows.ensures.room, c.add_discretes.ensures.room, fits.room) };
+      fits = record { sized = c.begin-s.ensures.sized; dues = fits.dues; left = fits.left; touched = fits.touched; calm = fits.calm; room = omega (arith, c.set_left_rows.ensures.room, c.add_discretes.ensures.room, fits.room) };
       over = over;
       at_start = λ var e. omega arith;
       moves = λ e. record {
@@ -45,6 +45,7 @@ returns-clause-stands g c =
         within = over ∙ e;
         has_rises = c.begin-s.ensures.rises e;
       };
+      dues = λ e before. absurd (omega (arith, before, c.requires.window));
     }
 
 pub returns-clause-rows : goal.returns-clause-rows
@@ -61,3 +62,7 @@ returns-clause-rows g c =
     ∙ ap (λ (ls : List ℤ). rows_of_left kind.Start 0 (record { states = q2.states.items; levels = ls; changes = c.as_slice-4.result.now }) left (state_count m)) c.as_slice-3.ensures.value
     ∙ ap (λ (cs : List ℤ). rows_of_left kind.Start 0 (record { states = q2.states.items; levels = q2.levels.items; changes = cs }) left (state_count m)) c.as_slice-4.ensures.value in
     c.add_discretes.ensures.rows ∙ ap (λ (r : List Row2). r ++ discrete_rows2 kind.Start 0 m) (rows ∙ rows_of_all m (world_of q2) left c.requires.left)
+
+pub begin-s-requires-clause-all : goal.begin-s-requires-clause-all
+begin-s-requires-clause-all g c j h =
+    ap (λ (l : List Bool). flag_at l j) (c.as_slice.ensures.value ∙ c.requires.left) ∙ flag_of_all (state_count c.args.f.now.machine) j h

@@ -1,5 +1,5 @@
 -- Each term is at most the sum of sizes.
-use Rattle.std.proofs.Common.{◌^◌, false, ℤ, pos, ◌*ℤ◌, arith, sym, ◌∙◌}
+use Rattle.std.proofs.Common.{◌^◌, pos, ◌*ℤ◌, arith, sym, ◌∙◌}
 use Rattle.std.proofs.lemmas.Int.{ints}
 use Rattle.mu_num.specs.Sizes.{IsWithin}
 use Rattle.mu_num.proofs.SizeTests.{passes-within}

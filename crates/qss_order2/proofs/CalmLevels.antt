@@ -1,0 +1,66 @@
+-- Levels at most a calm one in size are past no limit.
+use Rattle.std.proofs.Common.{◌≡◌, ℕ, zero, suc, ◌<◌, ◌≤◌, List, length, ℤ, pos, ◌*ℤ◌, ◌≤ℤ◌, unsigned_abs, refl, sym, subst, arith}
+use Rattle.std.proofs.Math.Nat.{mul-le-mul_left}
+use Rattle.std.proofs.lemmas.Int.{ints, unsigned_abs-mul}
+use Rattle.std.specs.Option.{option_or}
+use Rattle.std.specs.Prelude.{Option, Some, None, replicate}
+use Rattle.mu_num.proofs.SizeTests.{within-passes}
+use Rattle.mu_num.specs.Sizes.{IsWithin, passes}
+use Rattle.qss_machine.specs.declared.system.Machine.{Machine}
+use Rattle.qss_machine.specs.Legitimate.{start_coefficient}
+use Rattle.qss_machine.specs.Machines.{state_count}
+use Rattle.qss_machine.specs.Numbers.{int_at, tabulate, size, sum_below}
+use Rattle.qss_machine.proofs.Ranges.{none_past}
+use Rattle.qss_order2.specs.Limits.{past_levels}
+use Rattle.qss_order2.specs.Worlds.{rise_weight}
+use Rattle.qss_order2.proofs.Bounds.{none_of}
+use Rattle.qss_order2.proofs.Sizes.{sum_from_zero}
+use Rattle.qss_order2.proofs.SizeSums.{size_from_zero}
+use Rattle.qss_order2.proofs.Tables.{at_table, none_is, none_of_table}
+
+at_copies : (n i : ℕ) (z : ℤ) → i < n → int_at (replicate n z) i ≡ z
+at_copies zero i z h = absurd (omega arith)
+at_copies (suc n) zero z h = refl
+at_copies (suc n) (suc i) z h = at_copies n i z (omega arith)
+
+sum_below-le : (n : ℕ) (f g : ℕ → ℤ) → ((i : ℕ) → i < n → f i ≤ℤ g i) → sum_below n f ≤ℤ sum_below n g
+sum_below-le zero f g each = omega (arith, ints)
+sum_below-le (suc n) f g each = omega (arith, ints, sum_below-le n f g (λ i h. each i (omega arith)), each n (omega arith))
+
+size_le : (a x : ℤ) (b : ℕ) → size x ≤ℤ pos b → size (a *ℤ x) ≤ℤ size (a *ℤ pos b)
+size_le a x b small =
+    let low : unsigned_abs x ≤ b = omega (arith, ints, small) in
+    omega (arith, ints, unsigned_abs-mul a x, unsigned_abs-mul a (pos b), mul-le-mul_left (unsigned_abs a) low)
+
+both : (a b : Option ℕ) → a ≡ None → b ≡ None → option_or a b ≡ None
+both None b e f = f
+both (Some var) b e f = absurd (cc)
+
+module _ (m : Machine) (b : ℕ) (none : past_levels m (replicate (state_count m) (pos b)) ≡ None) (levels : List ℤ) (many : length levels ≡ state_count m)
+    (small : (j : ℕ) → j < state_count m → size (int_at levels j) ≤ℤ pos b) where
+  abbrev all : List ℤ
+  all = replicate (state_count m) (pos b)
+
+  term_le : (j i : ℕ) → i < state_count m → size (start_coefficient m j i *ℤ int_at levels i) ≤ℤ size (start_coefficient m j i *ℤ int_at all i)
+  term_le j i h =
+      subst (λ z. size (start_coefficient m j i *ℤ int_at levels i) ≤ℤ size (start_coefficient m j i *ℤ z)) (sym (at_copies (state_count m) i (pos b) h))
+      (size_le (start_coefficient m j i) (int_at levels i) b (small i h))
+
+  weight_le : (j : ℕ) → j < state_count m → IsWithin 94 (rise_weight m levels j)
+  weight_le j h =
+      let n = state_count m in
+      let weights = tabulate n (rise_weight m all) in
+      let own : IsWithin 94 (rise_weight m all j) = subst (IsWithin 94) (at_table n (rise_weight m all) j h) (none_past 94 weights (none_of _ _ none).1 j) in
+      let le = sum_below-le n (λ i. size (start_coefficient m j i *ℤ int_at levels i)) (λ i. size (start_coefficient m j i *ℤ int_at all i)) (term_le j) in
+      let low = sum_from_zero n (λ i. size (start_coefficient m j i *ℤ int_at levels i)) (λ i. size_from_zero (start_coefficient m j i *ℤ int_at levels i)) in
+      omega (arith, ints, own, le, low)
+
+  level_le : (j : ℕ) → j < state_count m → IsWithin 49 (int_at levels j)
+  level_le j h =
+      let own : IsWithin 49 (pos b) = subst (IsWithin 49) (at_copies (state_count m) j (pos b) h) (none_past 49 all (none_of _ _ none).0 j) in
+      omega (arith, ints, own, small j h)
+
+  pub calm : past_levels m levels ≡ None
+  calm =
+      both _ _ (none_is (passes 49) levels (pos 0) (λ k h. within-passes 49 (int_at levels k) (level_le k (omega (arith, h, many)))))
+      (none_of_table (passes 94) (state_count m) (rise_weight m levels) (λ k h. within-passes 94 (rise_weight m levels k) (weight_le k h)))
