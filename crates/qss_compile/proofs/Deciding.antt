@@ -1,7 +1,7 @@
 -- Phases that follow each other.
 use Rattle.std.proofs.Common.{◌≡◌, sym, subst, inl, inr, ◌⊎◌}
 use Rattle.qss_compile.specs.Laws.{AreAlike}
-use Rattle.qss_compile.specs.Meanings.{LeadsTo, IsFirstRefusal}
+use Rattle.qss_compile.specs.Meanings.{Through, IsFirstRefusal}
 use Rattle.qss_compile.specs.declared.fault.Refused.{Refused}
 
 -- a phase gives at most one thing, or refuses for one cause, and not both
@@ -19,10 +19,10 @@ module _ {A B : Type 0} (Refuses : Refused → Type 0) (Gives : A → Type 0) (R
   moved : (s : Single Refuses Gives) (a b : A) (P : A → Type 0) → Gives a → Gives b → P b → P a
   moved s a b P ga gb p = subst P (sym (s.one a b ga gb)) p
 
-  pub then_single : Single Refuses Gives → ((a : A) → Gives a → Single (RefusesLater a) (GivesLater a)) → Single (IsFirstRefusal Refuses Gives RefusesLater) (LeadsTo Gives GivesLater)
+  pub then_single : Single Refuses Gives → ((a : A) → Gives a → Single (RefusesLater a) (GivesLater a)) → Single (IsFirstRefusal Refuses Gives RefusesLater) (Through Gives GivesLater)
   then_single s next = record { one = one; alike = alike; apart = apart }
     where
-      one : (b c : B) → LeadsTo Gives GivesLater b → LeadsTo Gives GivesLater c → b ≡ c
+      one : (b c : B) → Through Gives GivesLater b → Through Gives GivesLater c → b ≡ c
       one b c p q = (next p.0 p.1).one b c p.2 (moved s p.0 q.0 (λ x. GivesLater x c) p.1 q.1 q.2)
 
       alike : (r t : Refused) → IsFirstRefusal Refuses Gives RefusesLater r → IsFirstRefusal Refuses Gives RefusesLater t → AreAlike r t
@@ -31,14 +31,14 @@ module _ {A B : Type 0} (Refuses : Refused → Type 0) (Gives : A → Type 0) (R
       alike r t (inr p) (inl q) = absurd (s.apart p.0 t p.1 q)
       alike r t (inr p) (inr q) = (next p.0 p.1).alike r t p.2 (moved s p.0 q.0 (λ x. RefusesLater x t) p.1 q.1 q.2)
 
-      apart : (b : B) (r : Refused) → LeadsTo Gives GivesLater b → IsFirstRefusal Refuses Gives RefusesLater r → ⊥
+      apart : (b : B) (r : Refused) → Through Gives GivesLater b → IsFirstRefusal Refuses Gives RefusesLater r → ⊥
       apart b r p (inl q) = s.apart p.0 r p.1 q
       apart b r p (inr q) = (next p.0 p.1).apart b r p.2 (moved s p.0 q.0 (λ x. RefusesLater x r) p.1 q.1 q.2)
 
-  pub then_decides : Decides Refuses Gives → ((a : A) → Gives a → Decides (RefusesLater a) (GivesLater a)) → Decides (IsFirstRefusal Refuses Gives RefusesLater) (LeadsTo Gives GivesLater)
+  pub then_decides : Decides Refuses Gives → ((a : A) → Gives a → Decides (RefusesLater a) (GivesLater a)) → Decides (IsFirstRefusal Refuses Gives RefusesLater) (Through Gives GivesLater)
   then_decides (inr refused) next = inr (refused.0, inl refused.1)
   then_decides (inl given) next = by (next given.0 given.1)
     where
-      by : Decides (RefusesLater given.0) (GivesLater given.0) → Decides (IsFirstRefusal Refuses Gives RefusesLater) (LeadsTo Gives GivesLater)
+      by : Decides (RefusesLater given.0) (GivesLater given.0) → Decides (IsFirstRefusal Refuses Gives RefusesLater) (Through Gives GivesLater)
       by (inl later) = inl (later.0, (given.0, given.1, later.1))
       by (inr later) = inr (later.0, inr (given.0, given.1, later.1))

@@ -32,7 +32,7 @@ use Rattle.mu_unroll.specs.Unrolling.{unrolled}
 use Rattle.mu_unroll.specs.declared.fault.UnrollErr.{UnrollErr}
 use Rattle.qss_compile.specs.Causes.{of_lexer, of_parser, of_names, of_unrolling, of_forms, of_rounding, without_names, with_names}
 use Rattle.qss_compile.specs.Laws.{SourcesAreDecided}
-use Rattle.qss_compile.specs.Meanings.{LeadsTo, IsFirstRefusal, FlatSource, IsFlatOf, IsNotFlat, IsUnspelled, SpellsTree, FlatMeans, IsFlatRefused, TreeMeans, IsTreeRefused}
+use Rattle.qss_compile.specs.Meanings.{Through, IsFirstRefusal, FlatSource, IsFlatOf, IsNotFlat, IsUnspelled, SpellsTree, FlatMeans, IsFlatRefused, TreeMeans, IsTreeRefused}
 use Rattle.qss_compile.specs.Phases.{LexerRefuses, Spells, ParserRefuses, AreFaultless, HasOrder, OrderRefuses, FormsRefuse, RoundingRefuses}
 use Rattle.qss_compile.proofs.Bridge.{forms_for}
 use Rattle.qss_compile.proofs.Causal.{order_decides}
@@ -90,7 +90,7 @@ rounding_decides s order forms flat positive are = by (machine_fault forms.forms
 flat_means_decides : (s : FlatSource) → IsFlatModel s.flat → 0 < s.settings.stop.den → Decides (IsFlatRefused s) (FlatMeans s)
 flat_means_decides s flat positive =
     then_decides (OrderRefuses s.flat) (HasOrder s.flat) (λ order. IsFirstRefusal (FormsRefuse s.flat order) (AreForms s.flat order) (RoundingRefuses s.flat s.settings))
-    (λ order. LeadsTo (AreForms s.flat order) (λ forms. IsMachineOf forms.forms s.flat s.settings)) (order_decides s.flat) (λ order has.
+    (λ order. Through (AreForms s.flat order) (λ forms. IsMachineOf forms.forms s.flat s.settings)) (order_decides s.flat) (λ order has.
     then_decides (FormsRefuse s.flat order) (AreForms s.flat order) (RoundingRefuses s.flat s.settings) (λ forms. IsMachineOf forms.forms s.flat s.settings) (forms_decide s.flat order flat) (λ forms are. rounding_decides s order forms flat positive are))
 
 -- a spelled model means a machine or is refused

@@ -38,7 +38,7 @@ use Rattle.mu_tree.specs.declared.flat.Settings.{Settings}
 use Rattle.mu_machine.proofs.OneMachine.{one_machine}
 use Rattle.qss_compile.specs.Causes.{of_lexer, of_parser, of_names, of_unrolling, of_order, of_forms, of_rounding, without_names, with_names}
 use Rattle.qss_compile.specs.Laws.{AreAlike}
-use Rattle.qss_compile.specs.Meanings.{LeadsTo, IsFirstRefusal, FlatSource, IsFlatOf, IsNotFlat, IsUnspelled, SpellsTree, FlatMeans, IsFlatRefused, TreeMeans, IsTreeRefused, Means, IsRefused}
+use Rattle.qss_compile.specs.Meanings.{Through, IsFirstRefusal, FlatSource, IsFlatOf, IsNotFlat, IsUnspelled, SpellsTree, FlatMeans, IsFlatRefused, TreeMeans, IsTreeRefused, Means, IsRefused}
 use Rattle.qss_compile.specs.Phases.{LexerRefuses, Spells, ParserRefuses, NamesRefuse, HasOrder, OrderRefuses, FormsRefuse, RoundingRefuses}
 use Rattle.qss_compile.specs.declared.fault.ModelErr.TheVariants.{Names}
 use Rattle.qss_compile.specs.declared.fault.Refused.{Refused}
@@ -263,7 +263,7 @@ spelled_single bytes = then_single (LexerRefuses bytes) (AreTokens bytes) (Parse
 flat_means_single : (s : FlatSource) → Single (IsFlatRefused s) (FlatMeans s)
 flat_means_single s =
     then_single (OrderRefuses s.flat) (HasOrder s.flat) (λ order. IsFirstRefusal (FormsRefuse s.flat order) (AreForms s.flat order) (RoundingRefuses s.flat s.settings))
-    (λ order. LeadsTo (AreForms s.flat order) (λ forms. IsMachineOf forms.forms s.flat s.settings)) (order_single s.flat) (λ order has.
+    (λ order. Through (AreForms s.flat order) (λ forms. IsMachineOf forms.forms s.flat s.settings)) (order_single s.flat) (λ order has.
     then_single (FormsRefuse s.flat order) (AreForms s.flat order) (RoundingRefuses s.flat s.settings) (λ forms. IsMachineOf forms.forms s.flat s.settings) (forms_single s order) (λ forms are. rounding_single s forms))
 
 tree_single : (tree : ModelTree) → Single (IsTreeRefused tree) (TreeMeans tree)

@@ -1,7 +1,9 @@
+-- what the laws and the top call rest on
 pub mod Causes
 pub mod Phases
 pub mod Meanings
 pub mod Lines
 pub mod Laws
+-- how contracts see the code
 pub mod Fields
 pub mod Flats

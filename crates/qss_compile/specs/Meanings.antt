@@ -13,16 +13,16 @@ use Rattle.qss_compile.specs.declared.fault.Refused.{Refused}
 use Rattle.qss_machine.specs.declared.system.Machine.{Machine}
 
 -- a phase gives something that leads on to b
-abbrev pub LeadsTo : {A B : Type 0} → (A → Type 0) → (A → B → Type 0) → B → Type 0
-LeadsTo {A} Gives Later b = (a : A) × Gives a × Later a b
+abbrev pub Through : {A B : Type 0} → (A → Type 0) → (A → B → Type 0) → B → Type 0
+Through {A} Gives Later b = (a : A) × Gives a × Later a b
 
 -- a phase refuses, or gives something that a later phase refuses
 abbrev pub IsFirstRefusal : {A : Type 0} → (Refused → Type 0) → (A → Type 0) → (A → Refused → Type 0) → Refused → Type 0
-IsFirstRefusal Refuses Gives Later r = Refuses r ⊎ LeadsTo Gives Later r
+IsFirstRefusal Refuses Gives Later r = Refuses r ⊎ Through Gives Later r
 
 -- the tokens of the source spell this model
 abbrev pub SpellsTree : List ℕ → ModelTree → Type 0
-SpellsTree bytes = LeadsTo (AreTokens bytes) (Spells bytes)
+SpellsTree bytes = Through (AreTokens bytes) (Spells bytes)
 
 -- some source spells this model
 abbrev pub IsSpelled : ModelTree → Type 0
@@ -35,7 +35,7 @@ pub record FlatSource : Type 0 where
 
 -- it means the machine
 abbrev pub FlatMeans : FlatSource → Machine → Type 0
-FlatMeans s = LeadsTo (HasOrder s.flat) (λ order. LeadsTo (AreForms s.flat order) (λ forms. IsMachineOf forms.forms s.flat s.settings))
+FlatMeans s = Through (HasOrder s.flat) (λ order. Through (AreForms s.flat order) (λ forms. IsMachineOf forms.forms s.flat s.settings))
 
 -- a model has this flat model with these settings
 abbrev pub IsFlatOf : ModelTree → FlatSource → Type 0
@@ -43,11 +43,11 @@ IsFlatOf tree s = AreFaultless tree × UnrollsTo tree s.flat × (s.settings ≡ 
 
 -- a model means the machine
 abbrev pub TreeMeans : ModelTree → Machine → Type 0
-TreeMeans tree = LeadsTo (IsFlatOf tree) FlatMeans
+TreeMeans tree = Through (IsFlatOf tree) FlatMeans
 
 -- the source means the machine: no phase refuses
 abbrev pub Means : List ℕ → Machine → Type 0
-Means bytes = LeadsTo (SpellsTree bytes) TreeMeans
+Means bytes = Through (SpellsTree bytes) TreeMeans
 
 -- a source spells no model, and this is why
 abbrev pub IsUnspelled : List ℕ → Refused → Type 0

@@ -2,11 +2,11 @@
 use Rattle.std.proofs.Common.{◌≡◌, ℕ, ◌+◌, List, [], ◌∷◌, ◌++◌, map, IfOk, refl, sym, ap, ◌∙◌, subst}
 use Rattle.std.specs.Prelude.{ℤ, Bool, true, false, ◌&&◌, ◌||◌, not, is_some, if◌then◌else◌, bytes_eq, Option, Some, None, Ok, option_to_list, unwrap_or}
 use Rattle.std.proofs.lemmas.List.{map-append}
-use Rattle.mu_names.specs.Declarations.{all_valued, constants_with, declaration_faults, declarations_faults, meaning_after, no_constants, repeated_faults}
+use Rattle.mu_names.specs.Declarations.{all_valued, constants_with, declaration_faults, declarations_faults, is_constant, meaning_after, no_constants, repeated_faults}
 use Rattle.mu_names.specs.Naming.{clause_faults, clauses_faults, branches_faults, branch_faults, equation_faults, equations_faults, expression_faults, is_same, is_wanted, named_faults, range_faults, reference_faults, sides_faults, start_faults, starts_faults, statement_faults, statements_faults, wants_loops}
 use Rattle.mu_names.specs.Roles.{all_known, meaning_in, scope_of, settings_faults, settings_in}
 use Rattle.mu_names.specs.Stands as stands
-use Rattle.mu_names.specs.Stands.{declared_as, derived_in, first_declared, is_among, role_of, standing_in}
+use Rattle.mu_names.specs.Stands.{declared_as, derived_in, first_declared, is_among, role_by, role_of, standing_in}
 use Rattle.mu_names.specs.declared.fault.NameErr.{NameErr}
 use Rattle.mu_names.specs.declared.fault.NameErr.TheVariants.{EndName, Misused}
 use Rattle.mu_names.specs.declared.scope.Known.{Known}
@@ -25,6 +25,8 @@ use Rattle.mu_tree.specs.FlatExpression as flat
 use Rattle.mu_tree.specs.ModelTree.{Declaration, EquationTree, Derivative, Algebraic as PlainEquation, EachEquation, EquationTrees, no_equations, equation_then, StatementTree, Assign, Restart, EachStatement, StatementTrees, no_statements, statement_then, BranchTree, ClauseTree, Branches, EachClause, ClauseTrees, no_clauses, clause_then, equations_of, statements_of, clauses_of}
 use Rattle.mu_tree.specs.declared.flat.FlatRole.{FlatRole}
 use Rattle.mu_tree.specs.declared.flat.FlatRole.TheVariants as flat_role
+use Rattle.mu_tree.specs.declared.tree.Prefix.{Prefix}
+use Rattle.mu_tree.specs.declared.tree.Prefix.TheVariants as prefixes
 use Rattle.mu_unroll.proofs.Stepping.{each_then}
 use Rattle.mu_unroll.specs.Flattening.{constants_in, element_found, flattened, found, index_in, number_of_kind, whole_found}
 use Rattle.mu_unroll.specs.Places.{count_of_kind, first_meant, first_of_kind, kind_of, loop_value, meant_after, meant_in}
@@ -42,30 +44,39 @@ use Rattle.qss_laws.specs.Items.{BranchesGiveOne, ClauseGivesOne, ClausesGiveOne
 -- ---- declarations, and what is known of them
 
 -- one by one they have the same name and role, and both are arrays or neither is
-abbrev AreOfOne : List (List ℕ) → List Declaration → List Known → Type 0
+abbrev pub AreOfOne : List (List ℕ) → List Declaration → List Known → Type 0
 AreOfOne ders [] [] = Unit {0}
 AreOfOne ders [] (k ∷ ks) = ⊥
 AreOfOne ders (d ∷ ds) [] = ⊥
-AreOfOne ders (d ∷ ds) (k ∷ ks) = (k.name ≡ d.name) × (k.role ≡ role_of ders d) × (is_some k.size ≡ is_some d.size) × AreOfOne ders ds ks
+AreOfOne ders (d ∷ ds) (k ∷ ks) =
+    (k.name ≡ d.name) × (k.role ≡ role_of ders d) × (is_some k.size ≡ is_some d.size) × (kind_of (role_of ders d) ≡ None → is_some d.size ≡ false) × AreOfOne ders ds ks
 
-known_of : (quantum : Fraction) (ders : List (List ℕ)) (declared : List ℕ → Standing) (constants : List ℕ → Option (Option Fraction)) (ds : List Declaration) → AreSure constants →
+-- a name that is no variable is declared as a constant
+constant_role : (prefix : Prefix) (derived : Bool) → kind_of (role_by prefix derived) ≡ None → is_constant prefix ≡ true
+constant_role prefixes.Parameter derived e = refl
+constant_role prefixes.Constant derived e = refl
+constant_role prefixes.Discrete derived e = absurd (cc)
+constant_role prefixes.Plain true e = absurd (cc)
+constant_role prefixes.Plain false e = absurd (cc)
+
+pub known_of : (quantum : Fraction) (ders : List (List ℕ)) (declared : List ℕ → Standing) (constants : List ℕ → Option (Option Fraction)) (ds : List Declaration) → AreSure constants →
     declarations_faults declared constants ds ≡ [] → AreOfOne ders ds (all_known quantum ders ds (all_valued declared constants ds))
 known_of quantum ders declared constants [] sure e = tt
 known_of quantum ders declared constants (d ∷ ds) sure e =
     let means = meaning_after constants declared in
     let good = good_parts means d (after_sure constants declared sure) (first_none (declaration_faults means d) _ e) in
-    (refl, refl, good.size, known_of quantum ders declared (constants_with means constants d) ds (with_sure means constants d sure good) (second_none (declaration_faults means d) _ e))
+    (refl, refl, good.size, λ none. good.plain (constant_role d.prefix (is_among ders d.name) none), known_of quantum ders declared (constants_with means constants d) ds (with_sure means constants d sure good) (second_none (declaration_faults means d) _ e))
 
 -- ---- what a name is, and what it stands for
 
 -- a name of a kind stands for variables of this kind, and for many where it is an array
-abbrev FitsKind : Option FlatRole → Bool → Meant → Type 0
-FitsKind None array m = (a : Fraction) × (m ≡ meant.Constant a)
+abbrev pub FitsKind : Option FlatRole → Bool → Meant → Type 0
+FitsKind None array m = (a : Fraction) × (m ≡ meant.Constant a) × (array ≡ false)
 FitsKind (Some kind) array m = (first : ℕ) × (size : Option ℕ) × (m ≡ meant.Variable kind first size) × (is_some size ≡ array)
 
-abbrev Fits : Standing → Meant → Type 0
+abbrev pub Fits : Standing → Meant → Type 0
 Fits Missing m = Unit {0}
-Fits Loop m = Unit {0}
+Fits Loop m = (a : Fraction) × (m ≡ meant.Constant a)
 Fits (Declared role array) m = FitsKind (kind_of role) array m
 
 abbrev MayFit : Option Standing → Option Meant → Type 0
@@ -73,23 +84,23 @@ MayFit (Some s) (Some m) = Fits s m
 MayFit (Some s) None = ⊥
 MayFit None m = Unit {0}
 
-after_fits : (all before : List Known) (k : Known) (role : Role) (array : Bool) → k.role ≡ role → is_some k.size ≡ array → Fits (Declared role array) (meant_after all before k)
-after_fits all before k role array e f = subst (λ (r : Role). FitsKind (kind_of r) array (meant_after all before k)) e (by (kind_of k.role))
+after_fits : (all before : List Known) (k : Known) (role : Role) (array : Bool) → k.role ≡ role → is_some k.size ≡ array → (kind_of role ≡ None → array ≡ false) → Fits (Declared role array) (meant_after all before k)
+after_fits all before k role array e f plain = subst (λ (r : Role). FitsKind (kind_of r) array (meant_after all before k)) e (by (kind_of k.role) (λ none. plain (ap kind_of (sym e) ∙ none)))
   where
-    by : (o : Option FlatRole) → FitsKind o array (elim o as (λ _. Meant) [ None ↦ meant.Constant k.value | Some kind ↦ meant.Variable kind (first_of_kind kind all + count_of_kind kind before) k.size ])
-    by None = (k.value, refl)
-    by (Some kind) = (first_of_kind kind all + count_of_kind kind before, k.size, refl, f)
+    by : (o : Option FlatRole) → (o ≡ None → array ≡ false) → FitsKind o array (elim o as (λ _. Meant) [ None ↦ meant.Constant k.value | Some kind ↦ meant.Variable kind (first_of_kind kind all + count_of_kind kind before) k.size ])
+    by None alone = (k.value, refl, alone refl)
+    by (Some kind) alone = (first_of_kind kind all + count_of_kind kind before, k.size, refl, f)
 
 first_fits : (ders : List (List ℕ)) (ds : List Declaration) (all before ks : List Known) (name : List ℕ) → AreOfOne ders ds ks → MayFit (first_declared ders ds name) (first_meant all before ks name)
 first_fits ders [] all before [] name one = tt
 first_fits ders [] all before (k ∷ ks) name one = absurd one
 first_fits ders (d ∷ ds) all before [] name one = absurd one
-first_fits ders (d ∷ ds) all before (k ∷ ks) name (same, role, array, rest) =
+first_fits ders (d ∷ ds) all before (k ∷ ks) name (same, role, array, plain, rest) =
     by (bytes_eq d.name name) (bytes_eq k.name name) (ap (λ (n : List ℕ). bytes_eq n name) same) (first_fits ders ds all (before ++ k ∷ []) ks name rest)
   where
     by : (a b : Bool) → b ≡ a → MayFit (first_declared ders ds name) (first_meant all (before ++ k ∷ []) ks name) →
         MayFit (if a then Some (Declared (role_of ders d) (is_some d.size)) else first_declared ders ds name) (if b then Some (meant_after all before k) else first_meant all (before ++ k ∷ []) ks name)
-    by true true e later = after_fits all before k (role_of ders d) (is_some d.size) role array
+    by true true e later = after_fits all before k (role_of ders d) (is_some d.size) role array plain
     by true false e later = absurd (cc)
     by false true e later = absurd (cc)
     by false false e later = later
@@ -100,18 +111,18 @@ either_fits (Some s) None fits = absurd fits
 either_fits None m fits = tt
 
 -- of all names
-abbrev AllFit : (List ℕ → Standing) → (List ℕ → Meant) → Type 0
+abbrev pub AllFit : (List ℕ → Standing) → (List ℕ → Meant) → Type 0
 AllFit declared known = (name : List ℕ) → Fits (declared name) (known name)
 
-declared_fit : (ders : List (List ℕ)) (ds : List Declaration) (ks : List Known) → AreOfOne ders ds ks → AllFit (declared_as ders ds) (declared_in ks)
+pub declared_fit : (ders : List (List ℕ)) (ds : List Declaration) (ks : List Known) → AreOfOne ders ds ks → AllFit (declared_as ders ds) (declared_in ks)
 declared_fit ders ds ks one name = either_fits (first_declared ders ds name) (first_meant ks [] ks name) (first_fits ders ds ks [] ks name one)
 
 -- ---- inside loops
 
-abbrev names_of : List LoopVar → List (List ℕ)
+abbrev pub names_of : List LoopVar → List (List ℕ)
 names_of loops = map (λ (l : LoopVar). l.name) loops
 
-inside_fit : (declared : List ℕ → Standing) (known : List ℕ → Meant) (loops : List LoopVar) → AllFit declared known → AllFit (standing_in (names_of loops) declared) (meant_in loops known)
+pub inside_fit : (declared : List ℕ → Standing) (known : List ℕ → Meant) (loops : List LoopVar) → AllFit declared known → AllFit (standing_in (names_of loops) declared) (meant_in loops known)
 inside_fit declared known loops fit name = by (is_among (names_of loops) name) (loop_value loops name) (agree loops)
   where
     agree : (ls : List LoopVar) → is_among (names_of ls) name ≡ is_some (loop_value ls name)
@@ -125,13 +136,14 @@ inside_fit declared known loops fit name = by (is_among (names_of loops) name) (
 
     by : (among : Bool) (value : Option Fraction) → among ≡ is_some value →
         Fits (if among then Loop else declared name) (elim value as (λ _. Meant) [ Some a ↦ meant.Constant a | None ↦ known name ])
-    by true value e = tt
+    by true None e = absurd (cc)
+    by true (Some a) e = (a, refl)
     by false None e = fit name
     by false (Some a) e = absurd (cc)
 
 -- ---- left sides
 
-abbrev HasKind : FlatRole → Found → Type 0
+abbrev pub HasKind : FlatRole → Found → Type 0
 HasKind kind t = (v : ℕ) × (number_of_kind kind t ≡ Some v)
 
 own_kind : (kind : FlatRole) (v : ℕ) → HasKind kind (Numbered kind v)
@@ -140,7 +152,7 @@ own_kind flat_role.Discrete v = (v, refl)
 own_kind flat_role.Algebraic v = (v, refl)
 
 -- a place that wants a role wants a variable of this kind, and no loop variable
-record WantsKind (want : Wanted) (kind : FlatRole) : Type 0 where
+pub record WantsKind (want : Wanted) (kind : FlatRole) : Type 0 where
   pub role : (role : Role) → is_wanted want role ≡ true → kind_of role ≡ Some kind
   pub no_loop : wants_loops want ≡ false
 
@@ -153,7 +165,7 @@ wants_state = record { role = by; no_loop = refl }
     by Algebraic e = absurd (cc)
     by Parameter e = absurd (cc)
 
-wants_discrete : WantsKind wanted.Discrete flat_role.Discrete
+pub wants_discrete : WantsKind wanted.Discrete flat_role.Discrete
 wants_discrete = record { role = by; no_loop = refl }
   where
     by : (role : Role) → is_wanted wanted.Discrete role ≡ true → kind_of role ≡ Some flat_role.Discrete
@@ -178,7 +190,7 @@ record IsVariableOf (kind : FlatRole) (indexed : Bool) (m : Meant) : Type 0 wher
   pub is : m ≡ meant.Variable kind first size
   pub many : is_some size ≡ indexed
 
-same_is : (a b : Bool) → is_same a b ≡ true → a ≡ b
+pub same_is : (a b : Bool) → is_same a b ≡ true → a ≡ b
 same_is true true e = refl
 same_is true false e = absurd (cc)
 same_is false true e = absurd (cc)
@@ -191,7 +203,7 @@ declared_kind kind (Some other) array indexed m e same (first, size, is, many) =
     let k : other ≡ kind = cc in
     record { first = first; size = size; is = subst (λ (x : FlatRole). m ≡ meant.Variable x first size) k is; many = many ∙ same }
 
-no_misuse : (a b : Bool) (f : NameErr) → (if a && b then [] else f ∷ []) ≡ [] → (a ≡ true) × (b ≡ true)
+pub no_misuse : (a b : Bool) (f : NameErr) → (if a && b then [] else f ∷ []) ≡ [] → (a ≡ true) × (b ≡ true)
 no_misuse true true f e = (refl, refl)
 no_misuse true false f e = absurd (cc)
 no_misuse false b f e = absurd (cc)
@@ -218,7 +230,7 @@ element_kind kind known at index first (Some n) e =
     whatever (HasKind kind) (index_in at n i) _ (λ k. own_kind kind (first + k))))
 
 module _ (standing : List ℕ → Standing) (known : List ℕ → Meant) (fit : AllFit standing known) where
-  target_kind : (kind : FlatRole) (want : Wanted) → WantsKind want kind → (target : Reference) → reference_faults want standing target ≡ [] → IfOk (found known target) (HasKind kind)
+  pub target_kind : (kind : FlatRole) (want : Wanted) → WantsKind want kind → (target : Reference) → reference_faults want standing target ≡ [] → IfOk (found known target) (HasKind kind)
   target_kind kind want wants (Whole name at) e =
       let v = kind_named kind want wants false at (standing name) (known name) (fit name) e in
       subst (λ (m : Meant). HasKind kind (whole_found m)) (sym v.is) (whole_kind kind v.first v.size v.many)
@@ -237,7 +249,7 @@ item_one {X} kind known target in_clause e make item is has =
     whatever Q (flattened in_clause known e) (λ f. Ok (option_to_list (make (number_of_kind kind t) f))) (λ f.
     (item kept.0 f, ap (λ (o : Option ℕ). option_to_list (make o f)) kept.1 ∙ ap option_to_list (is kept.0 f))))
 
-names_inside : (loops : List LoopVar) (var : List ℕ) (i : ℤ) → names_of loops ++ var ∷ [] ≡ names_of (inside loops var i)
+pub names_inside : (loops : List LoopVar) (var : List ℕ) (i : ℤ) → names_of loops ++ var ∷ [] ≡ names_of (inside loops var i)
 names_inside loops var i = sym (map-append (λ (l : LoopVar). l.name) loops (record { name = var; value = whole i } ∷ []))
 
 module _ (declared : List ℕ → Standing) (known : List ℕ → Meant) (fit : AllFit declared known) where

@@ -7,3 +7,4 @@ pub mod Certificates
 pub mod Sources
 pub mod Values
 pub mod Kept
+pub mod Expressions

@@ -140,12 +140,20 @@ added_sure constants name v sure sv q o e = by (constants q) (bytes_eq name q) r
 
 -- the parts of a declaration without faults
 pub record AreGood (means : List ℕ → Meaning) (d : Declaration) : Type 0 where
+  pub plain : is_constant d.prefix ≡ true → is_some d.size ≡ false
   pub size : is_some (size_of (optional_value means d.size)) ≡ is_some d.size
   pub binding : is_constant d.prefix ≡ true → Sure (optional_value means d.value)
 
 constant_bound : (constant array bound : Bool) (at : ℕ) → binding_faults constant array bound at ≡ [] → constant ≡ true → bound ≡ true
 constant_bound true array bound at e is = bound_sure array bound at e
 constant_bound false array bound at e is = absurd (cc)
+
+-- and is no array
+constant_plain : (constant array bound : Bool) (at : ℕ) → binding_faults constant array bound at ≡ [] → constant ≡ true → array ≡ false
+constant_plain true true true at e is = absurd (cc)
+constant_plain true true false at e is = absurd (cc)
+constant_plain true false bound at e is = refl
+constant_plain false array bound at e is = absurd (cc)
 
 pub good_parts : (means : List ℕ → Meaning) (d : Declaration) → AllSure means → declaration_faults means d ≡ [] → AreGood means d
 good_parts means d all e =
@@ -156,6 +164,7 @@ good_parts means d all e =
     let after_value = second_none (optional_faults means d.value) _ after_quantum in
     let binding = second_none (whole_faults (is_constant d.prefix && d.whole) d.at (optional_value means d.value)) _ after_value in
     record {
+      plain = constant_plain (is_constant d.prefix) (is_some d.size) (is_some d.value) d.at binding;
       size = size_sure d.at (optional_value means d.size) (first_none (size_faults d.at (optional_value means d.size)) _ after_size)
           ∙ optional_sure means all d.size (first_none (optional_faults means d.size) _ e);
       binding = λ is. optional_sure means all d.value (first_none (optional_faults means d.value) _ after_quantum)

@@ -5,3 +5,4 @@ pub mod Lines
 pub mod Certificates
 pub mod Sources
 pub mod Items
+pub mod Expressions

@@ -3,6 +3,7 @@
 ghost use Rattle.qss_laws.specs.Certificates.{WrittenCertificatesAreShort};
 ghost use Rattle.qss_laws.specs.Listings.{ListingsAreRight};
 ghost use Rattle.qss_laws.specs.Courses.{EventsLeadFreely};
+ghost use Rattle.qss_laws.specs.Expressions.{NamesAreTaken};
 ghost use Rattle.qss_laws.specs.Items.{ItemsAreKept};
 ghost use Rattle.qss_laws.specs.Lines.{LinesAreFields};
 ghost use Rattle.qss_laws.specs.Printed.{PrintedRunsAreFree};
@@ -41,4 +42,10 @@ pub fn sources_are_well_formed()
 /// In a model without faults of names no equation, statement or start value is dropped.
 pub fn items_are_kept()
     ensures { ItemsAreKept }
+{}
+
+/// In a model without faults of names each name inside an expression stands for a value or a variable, unless unrolling refuses
+/// its index, and constant expressions take the values of constants and loop variables alone.
+pub fn names_are_taken()
+    ensures { NamesAreTaken }
 {}

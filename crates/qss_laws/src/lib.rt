@@ -4,6 +4,6 @@
 mod laws;
 
 pub use laws::{
-    events_lead_freely, items_are_kept, lines_are_fields, listings_are_right,
+    events_lead_freely, items_are_kept, lines_are_fields, listings_are_right, names_are_taken,
     printed_runs_are_free, sources_are_well_formed, written_certificates_are_short,
 };

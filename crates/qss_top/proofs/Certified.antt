@@ -11,7 +11,7 @@ use Rattle.qss_compile.specs.Meanings.{IsRefused}
 use Rattle.qss_compile.specs.declared.fault.Refused.{Refused}
 use Rattle.qss_machine.specs.declared.system.Machine.{Machine}
 use Rattle.qss_top.specs.Answers.{Answer, Told, answered, refusal, refused, too_long, certificate_answer, status_of_refusal, IsCertificateAnswer, IsCertifyAnswer, IsSourceRefusal, IsSourceMachine, Says, ReadsThen, Finds, ByMachine, ReadsText, SaysOn}
-use Rattle.qss_top.specs.CertifiedRuns.{AreCertified, CertifiedRunsStayNear}
+use Rattle.qss_top.specs.CertifiedRuns.{AreCertified, AreCertifiedBy, CertifiedRunsStayNear}
 use Rattle.qss_top.specs.declared.status.Status.TheVariants as ends
 
 -- a source that is refused is told so
@@ -34,6 +34,21 @@ said a told answer is replied =
     let same : answered answer ≡ answered a = sym replied ∙ ap (λ (t : Told). t.reply) is in
     cc
 
+-- an answer that certifies what the bytes say, and ends well
+pub certified_by : (share : ℕ) (source text : List ℕ) (m : Machine) → IsSourceMachine share source m → (answer : Answer) → answer.status ≡ ends.Ok → IsCertifyAnswer m text answer
+    → AreCertifiedBy share source text answer.out
+certified_by share source text m means answer ok (Certificates.refused why, is, e) = absurd (refusal_status why (sym (ap (λ (x : Answer). x.status) e) ∙ ok))
+certified_by share source text m means answer ok (Certificates.written out, is, e) =
+    let law = bounds m text out is in record {
+      machine = m;
+      means = means;
+      spelled = law.0;
+      is = law.1;
+      bounds = ap (λ (x : Answer). x.out) e ∙ law.2;
+      promised = law.3;
+      admitted = law.4;
+    }
+
 -- behind a file that is read
 pub replied_behind : (name : List ℕ) (told later : Told) (answer : Answer) → told ≡ record { arrivals = name ∷ later.arrivals; reply = later.reply } → told.reply ≡ answered answer → later.reply ≡ answered answer
 replied_behind name told later answer is replied = sym (ap (λ (t : Told). t.reply) is) ∙ replied
@@ -43,21 +58,8 @@ module _ (model certificate : List ℕ) (share : ℕ) (files : Option Files) (an
   module _ (source : List ℕ) (found : Finds files model (Some source)) (m : Machine) (means : IsSourceMachine share source m) where
     on_answer : (text : List ℕ) → Finds files certificate (Some text) → (such : Certificates.Answer) → Certificates.IsCertification m text such → answer ≡ certificate_answer such
         → AreCertified model certificate share files answer.out
-    on_answer text read (Certificates.refused why) is e = absurd (refusal_status why (sym (ap (λ (x : Answer). x.status) e) ∙ ok))
-    on_answer text read (Certificates.written out) is e =
-        let law = bounds m text out is in record {
-          source = source;
-          found = found;
-          text = text;
-          read = read;
-          machine = m;
-          means = means;
-          spelled = law.0;
-          is = law.1;
-          bounds = ap (λ (x : Answer). x.out) e ∙ law.2;
-          promised = law.3;
-          admitted = law.4;
-        }
+    on_answer text read such is e =
+        record { source = source; found = found; text = text; read = read; certified = certified_by share source text m means answer ok (such, is, e) }
 
     on_text : (told : Told) → told.reply ≡ answered answer → (text : Option (List ℕ)) → Finds files certificate text
         → ReadsThen certificate (λ bytes. Says (IsCertificateAnswer (Certificates.IsCertification m bytes))) text told → AreCertified model certificate share files answer.out

@@ -1,9 +1,8 @@
 -- How a comparison of two runs serves what is told.
-use Rattle.std.proofs.Common.{◌≡◌, ◌≢◌, ◌+◌, ◌<◌, ◌≤◌, ◌⊎◌, Bool, true, ℕ, List, [], ◌∷◌, ◌++◌, length, refl, sym, ap, ◌∙◌, subst, arith, inl, inr, None, Some}
+use Rattle.std.proofs.Common.{◌≡◌, ◌≢◌, ◌+◌, ◌<◌, ◌≤◌, ℕ, List, ◌∷◌, ◌++◌, length, refl, sym, ap, ◌∙◌, subst, arith, inl, inr, None, Some}
 use Rattle.std.specs.declared.option.Option.{Option}
-use Rattle.std.specs.Prelude.{IfSome, IsSomeAnd, Result, Ok, Err, IfOk, IfErr}
-use Rattle.mu_io.specs.Faults.{Rose, OnlyCounts}
-use Rattle.mu_io.specs.Files.{Files, file_of}
+use Rattle.std.specs.Prelude.{Result, Ok, Err, IfOk, IfErr}
+use Rattle.mu_io.specs.Files.{Files}
 use Rattle.qss_machine.specs.declared.system.Machine.{Machine}
 use Rattle.qss_rows.specs.Lines.{name_of}
 use Rattle.cert_check.specs.Scope.{IsInScope}
@@ -18,7 +17,7 @@ use Rattle.trace_answer.specs.declared.stop.Stop.{Stop}
 use Rattle.trace_answer.specs.declared.stop.Stop.TheVariants as stops
 use Rattle.trace_answer.proofs.Sides.{judged-side}
 use Rattle.qss_words.specs.Commands.{Side, first_run, second_run, traced, files_of_side}
-use Rattle.qss_top.specs.Answers.{Answer, Told, answered, incomparable, over, status_of_comparison, stop_answer, Stage, OnRun, OnSide}
+use Rattle.qss_top.specs.Answers.{Told, incomparable, over, status_of_comparison, stop_answer, Stage, OnRun, OnSide}
 use Rattle.qss_top.specs.Comparing.{IsStopOutcome, IsGivenAs, IsHad, IsStopped, IsUnread, IsNotHad}
 use Rattle.qss_top.specs.Outcomes.{IsOutcome, Serves}
 use Rattle.qss_top.specs.declared.outcome.Outcome.{Outcome}
@@ -92,7 +91,7 @@ module _ (m : Machine) (c : Certificate) (run : ℕ) (scope : IsInScope m) (file
   abbrev Side_run : Side → Option Files → Told → Type 0
   Side_run side fs = OnSide fs m c run side (λ t. Leads t fs)
 
-  run_served : (given : Given) (t : Trace) (what : Outcome) (old new : Option (List ℕ)) (out_before out_now : ℕ) (before now : List ℕ → ℕ) → IsSide m c given t
+  pub run_served : (given : Given) (t : Trace) (what : Outcome) (old new : Option (List ℕ)) (out_before out_now : ℕ) (before now : List ℕ → ℕ) → IsSide m c given t
       → Serves files names (Leads t) what old new out_before out_now before now → Serves files names (Given_run given) what old new out_before out_now before now
   run_served given t what old new out_before out_now before now is h =
       stage_served files names m (IsSide m c given) (IsSideless m c run given) (judged-side m c run given scope) Leads t what old new out_before out_now before now is h
@@ -101,7 +100,7 @@ module _ (m : Machine) (c : Certificate) (run : ℕ) (scope : IsInScope m) (file
     replied : (given : Given) → MayReply (Given_run given None)
     replied given = run_reply m c run given (λ t. Leads t None) scope reply
 
-    run_ended : (given : Given) (stop : Stop) (what : Outcome) (old : Option (List ℕ)) (out_before : ℕ) (before : List ℕ → ℕ) → MayStop (IsSideless m c run given) stop → IsStopOutcome m stop what
+    pub run_ended : (given : Given) (stop : Stop) (what : Outcome) (old : Option (List ℕ)) (out_before : ℕ) (before : List ℕ → ℕ) → MayStop (IsSideless m c run given) stop → IsStopOutcome m stop what
         → Serves files names (Given_run given) what old old out_before out_before before before
     run_ended given stop what old out_before before may told =
         stage_ended files names m (IsSide m c given) (IsSideless m c run given) (judged-side m c run given scope) Leads stop what old out_before before may told (replied given)

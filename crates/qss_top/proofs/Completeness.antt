@@ -1,5 +1,5 @@
 -- What comes where nothing fails, and what a certified run of the program means.
-use Rattle.std.proofs.Common.{◌≡◌, ◌≢◌, ◌⊎◌, Bool, true, ℕ, List, [], ◌∷◌, refl, sym, ap, ◌∙◌, subst, inl, inr, Some, None}
+use Rattle.std.proofs.Common.{◌≡◌, ◌≢◌, ◌⊎◌, Bool, true, ℕ, List, refl, sym, ap, subst, inl, inr, Some, None}
 use Rattle.std.specs.declared.option.Option.{Option}
 use Rattle.std.specs.Io.KnownBytes.{Appends}
 use Rattle.mu_io.specs.Files.{Files}
@@ -7,7 +7,7 @@ use Rattle.mu_io.specs.Faults.{Rose}
 use Rattle.mu_io.specs.Sinks.{EndsByFault}
 use Rattle.qss_machine.specs.declared.system.Machine.{Machine}
 use Rattle.qss_words.specs.Commands.{Command, certify_model, command_of}
-use Rattle.qss_top.specs.Answers.{Answer, Told, Reply, IsTold, Defines, LeadsTo, Says, ReadsThen, Reads, Finds, InScope, ByMachine, ReadsText, ReadsBoth, SaysOn, IsCertifyAnswer, answered, absent, untold}
+use Rattle.qss_top.specs.Answers.{Answer, Told, Reply, IsTold, Defines, CommandLeadsTo, Says, ReadsThen, Reads, ByMachine, ReadsText, SaysOn, IsCertifyAnswer, answered, absent}
 use Rattle.qss_top.specs.CertifiedRuns.{AreCertified}
 use Rattle.qss_top.specs.Statuses.{is_defined}
 use Rattle.qss_top.specs.TopCall.{IsReplied}
@@ -54,7 +54,7 @@ reads_known files name Leads known told h = by h.0 h.2
     by None e = inr (ap (λ (t : Told). t.reply) e)
     by (Some bytes) e = subst IsKnown (sym (ap (λ (t : Told). t.reply) e.2)) (known bytes e.0 e.1)
 
-certify_known : (model certificate : List ℕ) (share : ℕ) (files : Files) (told : Told) → LeadsTo (certify_model model certificate share) (Some files) told → IsKnown told.reply
+certify_known : (model certificate : List ℕ) (share : ℕ) (files : Files) (told : Told) → CommandLeadsTo (certify_model model certificate share) (Some files) told → IsKnown told.reply
 certify_known model certificate share files told h = reads_known files model _ on_source told h
   where
     on_scope : (m : Machine) (later : Told) → ReadsText certificate (SaysOn IsCertifyAnswer) m (Some files) later → IsKnown later.reply
@@ -73,11 +73,11 @@ certified_end words files model certificate share old new is replied = by files 
     some : (told : Told) × IsTold words files told
     some = answers_exist words files
 
-    on_answer : (fs : Option Files) (told : Told) (answer : Answer) → LeadsTo (certify_model model certificate share) fs told → told.reply ≡ answered answer → ends.Ok ≡ answer.status → Appends old new answer.out
+    on_answer : (fs : Option Files) (told : Told) (answer : Answer) → CommandLeadsTo (certify_model model certificate share) fs told → told.reply ≡ answered answer → ends.Ok ≡ answer.status → Appends old new answer.out
         → (text : List ℕ) × (Appends old new text × AreCertified model certificate share fs text)
     on_answer fs told answer leads reply ok gains = (answer.out, (gains, certified model certificate share fs told answer leads reply (sym ok)))
 
-    with_files : (fs : Files) (told : Told) → LeadsTo (certify_model model certificate share) (Some fs) told → IsReplied told.reply ends.Ok old new → IsKnown told.reply
+    with_files : (fs : Files) (told : Told) → CommandLeadsTo (certify_model model certificate share) (Some fs) told → IsReplied told.reply ends.Ok old new → IsKnown told.reply
         → (text : List ℕ) × (Appends old new text × AreCertified model certificate share (Some fs) text)
     with_files fs told leads h (inl (answer, reply)) =
         let P : Reply → Type 0 = λ r. IsReplied r ends.Ok old new in
@@ -94,7 +94,7 @@ certified_end words files model certificate share old new is replied = by files 
     by : (fs : Option Files) (told : Told) → IsTold words fs told → IsReplied told.reply ends.Ok old new → (text : List ℕ) × (Appends old new text × AreCertified model certificate share fs text)
     by (Some fs) told h r =
         let P : Option Command → Type 0 = λ found. Defines found (Some fs) told in
-        let leads : LeadsTo (certify_model model certificate share) (Some fs) told = subst P is h in
+        let leads : CommandLeadsTo (certify_model model certificate share) (Some fs) told = subst P is h in
         with_files fs told leads r (certify_known model certificate share fs told leads)
     by None told h r =
         let P : Option Command → Type 0 = λ found. Defines found None told in

@@ -27,7 +27,7 @@ use Rattle.trace_answer.specs.declared.stop.Stop.{Stop}
 use Rattle.propose_answer.proofs.Sameness.{one_proposed}
 use Rattle.qss_generate.specs.Source.{source}
 use Rattle.qss_words.specs.Commands.{RunOptions, Command, run_model, print_model, certify_model, upgrade_model, generate_model, check_model, propose_model, second_model, compare_runs, Side, first_run, second_run, traced, command_of, files_of}
-use Rattle.qss_top.specs.Answers.{Answer, Told, Reply, refusal, printed, printed_text, summed, usage, quiet, too_long, answered, absent, untold, IsSourceRefusal, IsTreeRefusal, IsSourceMachine, IsSourceTree, IsMachineAnswer, IsRunAnswer, IsPrintAnswer, IsGenerationAnswer, uncertifying, certificate_answer, IsCertificateAnswer, IsCertifyAnswer, IsUpgradeAnswer, IsCheckAnswer, trace_answer, IsProposeAnswer, proposal_answer, second_for, IsSecondAnswer, Says, ReadsThen, Finds, Reads, InScope, ByMachine, ReadsText, ReadsBoth, SaysOn, stop_answer, text_answer, Stage, OnRun, OnSide, OnBoth, OnSides, Compares, LeadsTo, Defines}
+use Rattle.qss_top.specs.Answers.{Answer, Told, Reply, refusal, printed, printed_text, summed, usage, quiet, too_long, answered, absent, untold, IsSourceRefusal, IsTreeRefusal, IsSourceMachine, IsSourceTree, IsMachineAnswer, IsRunAnswer, IsPrintAnswer, IsGenerationAnswer, uncertifying, certificate_answer, IsCertificateAnswer, IsCertifyAnswer, IsUpgradeAnswer, IsCheckAnswer, trace_answer, IsProposeAnswer, proposal_answer, second_for, IsSecondAnswer, Says, ReadsThen, Finds, Reads, InScope, ByMachine, ReadsText, ReadsBoth, SaysOn, stop_answer, text_answer, Stage, OnRun, OnSide, OnBoth, OnSides, Compares, OnGiven, ComparesGiven, CommandLeadsTo, Defines}
 use Rattle.qss_top.specs.Laws.{AnswersExist}
 use Rattle.qss_top.specs.TopCall.{Replies}
 use Rattle.qss_top.specs.declared.status.Status.TheVariants as ends
@@ -156,7 +156,7 @@ comparison_told one two files m scope text =
     side_told files m c 2 two (OnBoth m c t1) scope (λ t2.
     stage_told m (IsCompared m c t1 t2) (IsUncompared m c t1 t2) (λ text. Says (λ answer. answer ≡ text_answer text)) (judged-text m c t1 t2) (λ text. says_told (text_answer text)))))
 
-command_told : (command : Command) → HasShare command → (files : Files) → (told : Told) × LeadsTo command (Some files) told
+command_told : (command : Command) → HasShare command → (files : Files) → (told : Told) × CommandLeadsTo command (Some files) told
 command_told (run_model model options) few files = file_told model (IsRunAnswer options) (run_answer options few) files
 command_told (print_model model) few files = file_told model IsPrintAnswer print_answer files
 command_told (certify_model model certificate share) few files = both_told share few model certificate (SaysOn IsCertifyAnswer) (Some files) (answer_told IsCertifyAnswer some_certify (Some files))
@@ -229,6 +229,12 @@ both_reply m c t1 t2 =
 pub sides_reply : (one two : Side) (m : Machine) (c : Certificate) → IsInScope m → MayReply (OnSides one two m c None)
 sides_reply one two m c scope = side_reply m c 1 one (λ t1. OnSide None m c 2 two (OnBoth m c t1)) scope (λ t1. side_reply m c 2 two (OnBoth m c t1) scope (both_reply m c t1))
 
+pub given_reply : (one two : Given) (m : Machine) (c : Certificate) → IsInScope m → MayReply (OnGiven one two m c)
+given_reply one two m c scope = run_reply m c 1 one (λ t1. OnRun m c 2 two (OnBoth m c t1)) scope (λ t1. run_reply m c 2 two (OnBoth m c t1) scope (both_reply m c t1))
+
+pub comparing_reply : (one two : Given) (m : Machine) → IsInScope m → (text : List ℕ) → MayReply (ComparesGiven one two m text)
+comparing_reply one two m scope text = stage_reply m (IsBasis m text) (IsBaseless m text) (OnGiven one two m) (judged-basis m text) (λ c. given_reply one two m c scope)
+
 pub comparison_reply : (one two : Side) (m : Machine) → IsInScope m → (text : List ℕ) → MayReply (Compares one two m text None)
 comparison_reply one two m scope text = stage_reply m (IsBasis m text) (IsBaseless m text) (λ c. OnSides one two m c None) (judged-basis m text) (λ c. sides_reply one two m c scope)
 
@@ -240,7 +246,7 @@ pub longer : (n : ℕ) (bytes : List ℕ) → length bytes ≡ n + 1 → n < len
 longer n bytes e = omega arith
 
 -- each command may be answered: its model may be too long
-refuses_long : (command : Command) (bytes : List ℕ) → 2 ^ 20 < length bytes → MayReply (LeadsTo command None)
+refuses_long : (command : Command) (bytes : List ℕ) → 2 ^ 20 < length bytes → MayReply (CommandLeadsTo command None)
 refuses_long (run_model model options) bytes long =
     bytes_reply model (λ bytes. Says (IsRunAnswer options bytes)) bytes (says_reply (IsRunAnswer options bytes) (refusal ends.ModelRefused too_long, inl (long_for IsRefused bytes long)))
 refuses_long (print_model model) bytes long =

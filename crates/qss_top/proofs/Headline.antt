@@ -1,8 +1,7 @@
--- The headline's statements on `run` and `certify`.
-use Rattle.std.proofs.Common.{◌≡◌, ℕ, List, [], ◌∷◌, refl, sym, ap, ◌∙◌, subst, inl, inr, Some}
+-- The headline's statements on `run`, `run2` and `certify`.
+use Rattle.std.proofs.Common.{◌≡◌, ℕ, List, [], ◌∷◌, length, refl, sym, ap, ◌∙◌, subst, inl, inr, Some}
 use Rattle.std.specs.declared.option.Option.{Option}
-use Rattle.std.specs.Prelude.{◌↔◌}
-use Rattle.mu_io.specs.Files.{Files, file_of}
+use Rattle.mu_io.specs.Files.{Files}
 use Rattle.qss_machine.specs.declared.system.Machine.{Machine}
 use Rattle.qss_machine.proofs.Near.{quanta_positive}
 use Rattle.cert_check.specs.Certificate.{Holds}
@@ -10,7 +9,6 @@ use Rattle.cert_check.specs.Inequality.{AreSumsInRange}
 use Rattle.cert_check.specs.Reading.{claim}
 use Rattle.cert_check.specs.Systems.{system_of}
 use Rattle.cert_check.specs.declared.certificate.Certificate.{Certificate}
-use Rattle.cert_check.specs.declared.verdict.Verdict.{Verdict}
 use Rattle.cert_check.specs.declared.verdict.Verdict.TheVariants as verdict
 use Rattle.cert_check.proofs.Accepted.{accepted-holds}
 use Rattle.cert_check.proofs.Exactly.{accepted-ranges, accepts}
@@ -22,15 +20,15 @@ use Rattle.cert_answer.specs.Answers.{IsRead, IsCertification, certified, writte
 use Rattle.cert_answer.proofs.Sameness.{one_each}
 use Rattle.cert_answer.proofs.Bounds.{accepted_text}
 use Rattle.cert_lines.specs.Bounds.{bounds_text}
-use Rattle.qss_words.specs.Commands.{RunOptions, Command, run_model, certify_model, command_of}
-use Rattle.qss_top.specs.Answers.{Answer, Told, IsTold, LeadsTo, Defines, IsSourceMachine, answered, printed, quiet, certificate_answer}
-use Rattle.qss_top.specs.Headline.{RunPrintsTheRun, CertifyAcceptsExactly}
+use Rattle.qss_words.specs.Commands.{Command, run_model, certify_model, second_model, command_of}
+use Rattle.qss_top.specs.Answers.{Answer, Told, IsTold, CommandLeadsTo, Defines, answered, printed, quiet, certificate_answer, second_for}
+use Rattle.qss_top.specs.Headline.{RunPrintsTheRun, Run2PrintsTheRun, CertifyAcceptsExactly}
 use Rattle.qss_top.specs.declared.status.Status.TheVariants as ends
 use Rattle.qss_top.proofs.Certified.{refusal_status}
 use Rattle.qss_top.proofs.Sameness.{answers_are_unique}
 
 -- what a command leads to is what its words and files define
-defined : (words : List (List ℕ)) (files : Files) (command : Command) (told whole : Told) → IsTold words (Some files) told → command_of words ≡ Some command → LeadsTo command (Some files) whole → told ≡ whole
+defined : (words : List (List ℕ)) (files : Files) (command : Command) (told whole : Told) → IsTold words (Some files) told → command_of words ≡ Some command → CommandLeadsTo command (Some files) whole → told ≡ whole
 defined words files command told whole h is leads =
     let P : Option Command → Type 0 = λ found. Defines found (Some files) whole in
     answers_are_unique words (Some files) told whole h (subst P (sym is) leads)
@@ -41,6 +39,13 @@ run_prints words files told h model options is source there m means =
     let whole : Told = record { arrivals = model ∷ []; reply = answered (printed options m) } in
     defined words files (run_model model options) told whole h is
     (Some source, sym there, (later, (printed options m, inr (m, means, refl), refl), refl))
+
+pub second_prints : Run2PrintsTheRun
+second_prints words files told h model is source there m means =
+    let answer = second_for m (length m.clauses) in
+    let later : Told = record { arrivals = []; reply = answered answer } in
+    let whole : Told = record { arrivals = model ∷ []; reply = answered answer } in
+    defined words files (second_model model) told whole h is (Some source, sym there, (later, (answer, inr (m, means, refl), refl), refl))
 
 module _ (m : Machine) (text : List ℕ) (c : Certificate) (read : IsRead m text c) where
   -- a certificate whose answer is its bounds is accepted

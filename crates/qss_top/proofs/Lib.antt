@@ -8,6 +8,7 @@ pub mod Serving
 pub mod Tellings
 pub mod Generations
 pub mod Jobs
+pub mod ByBytes
 pub mod TopFacts
 pub mod TwoFiles
 pub mod Comparing

@@ -1,5 +1,5 @@
 -- A proposed certificate bounds the runs of the model.
-use Rattle.std.proofs.Common.{◌≡◌, ℕ, List, [], refl, sym, ap, ◌∙◌, subst, inl, inr, None, Some}
+use Rattle.std.proofs.Common.{◌≡◌, ℕ, List, refl, sym, ap, ◌∙◌, subst, inl, inr, None, Some}
 use Rattle.std.specs.declared.option.Option.{Option}
 use Rattle.std.specs.Io.KnownBytes.{Appends}
 use Rattle.mu_io.specs.Files.{Files}
@@ -7,7 +7,7 @@ use Rattle.propose_answer.specs.Answers as Proposals
 use Rattle.propose_answer.proofs.Kept.{kept_texts}
 use Rattle.qss_machine.specs.declared.system.Machine.{Machine}
 use Rattle.qss_words.specs.Commands.{Command, propose_model, command_of}
-use Rattle.qss_top.specs.Answers.{Answer, Told, Reply, answered, absent, unproposed, proposal_answer, refusal, IsSourceMachine, IsMachineAnswer, IsProposeAnswer, IsTold, Defines, LeadsTo, Says, ReadsThen, Finds}
+use Rattle.qss_top.specs.Answers.{Answer, Told, Reply, answered, absent, proposal_answer, IsSourceMachine, IsMachineAnswer, IsProposeAnswer, IsTold, Defines, CommandLeadsTo, Says, ReadsThen, Finds}
 use Rattle.qss_top.specs.ProposedRuns.{AreProposed, ProposedRunsStayNear}
 use Rattle.qss_top.specs.TopCall.{IsReplied}
 use Rattle.qss_top.specs.declared.status.Status.TheVariants as ends
@@ -48,7 +48,7 @@ module _ (model : List ℕ) (files : Option Files) (answer : Answer) (ok : answe
 pub proposed : ProposedRunsStayNear
 proposed model files told answer leads replied ok = on_model model files answer ok told replied leads.0 leads.1 leads.2
 
-propose_known : (model : List ℕ) (files : Files) (told : Told) → LeadsTo (propose_model model) (Some files) told → IsKnown told.reply
+propose_known : (model : List ℕ) (files : Files) (told : Told) → CommandLeadsTo (propose_model model) (Some files) told → IsKnown told.reply
 propose_known model files told h = reads_known files model _ (λ bytes later says. says_known _ later says) told h
 
 -- a command to propose that ends with status 0 has written the text of a certificate that bounds the runs of the model
@@ -59,7 +59,7 @@ proposed_end words files model old new is replied = by files some.0 some.1 (repl
     some : (told : Told) × IsTold words files told
     some = answers_exist words files
 
-    on_answered : (fs : Option Files) (told : Told) (answer : Answer) → LeadsTo (propose_model model) fs told → told.reply ≡ answered answer → ends.Ok ≡ answer.status → Appends old new answer.out
+    on_answered : (fs : Option Files) (told : Told) (answer : Answer) → CommandLeadsTo (propose_model model) fs told → told.reply ≡ answered answer → ends.Ok ≡ answer.status → Appends old new answer.out
         → (text : List ℕ) × (Appends old new text × AreProposed model fs text)
     on_answered fs told answer leads reply ok gains = (answer.out, (gains, proposed model fs told answer leads reply (sym ok)))
 
@@ -67,7 +67,7 @@ proposed_end words files model old new is replied = by files some.0 some.1 (repl
     no_fault (inl e) = absurd (cc)
     no_fault (inr e) = absurd (cc)
 
-    with_files : (fs : Files) (told : Told) → LeadsTo (propose_model model) (Some fs) told → IsReplied told.reply ends.Ok old new → IsKnown told.reply
+    with_files : (fs : Files) (told : Told) → CommandLeadsTo (propose_model model) (Some fs) told → IsReplied told.reply ends.Ok old new → IsKnown told.reply
         → (text : List ℕ) × (Appends old new text × AreProposed model (Some fs) text)
     with_files fs told leads h (inl (answer, reply)) =
         let P : Reply → Type 0 = λ r. IsReplied r ends.Ok old new in
@@ -80,7 +80,7 @@ proposed_end words files model old new is replied = by files some.0 some.1 (repl
     by : (fs : Option Files) (told : Told) → IsTold words fs told → IsReplied told.reply ends.Ok old new → (text : List ℕ) × (Appends old new text × AreProposed model fs text)
     by (Some fs) told h r =
         let P : Option Command → Type 0 = λ found. Defines found (Some fs) told in
-        let leads : LeadsTo (propose_model model) (Some fs) told = subst P is h in
+        let leads : CommandLeadsTo (propose_model model) (Some fs) told = subst P is h in
         with_files fs told leads r (propose_known model fs told leads)
     by None told h r =
         let P : Option Command → Type 0 = λ found. Defines found None told in

@@ -21,6 +21,10 @@ module _ (Refuses : Refused → Type 0) where
   not_usage what (inl memory) = λ e. cc (memory, e)
   not_usage what (inr found) = let is = found.2 in λ e. cc (is, e)
 
+  pub not_done : (what : Outcome) → IsRefusedFor Refuses what → what ≢ outcome.Done
+  not_done what (inl memory) = λ e. cc (memory, e)
+  not_done what (inr found) = let is = found.2 in λ e. cc (is, e)
+
   pub not_read : (what : Outcome) → IsRefusedFor Refuses what → what ≢ outcome.ReadFault
   not_read what (inl memory) = λ e. cc (memory, e)
   not_read what (inr found) = let is = found.2 in λ e. cc (is, e)

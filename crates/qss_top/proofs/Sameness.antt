@@ -22,7 +22,7 @@ use Rattle.propose_answer.proofs.Sameness.{one_proposed}
 use Rattle.qss_machine.specs.declared.system.Machine.{Machine}
 use Rattle.qss_generate.specs.Source.{source}
 use Rattle.qss_words.specs.Commands.{RunOptions, Command, run_model, print_model, certify_model, upgrade_model, generate_model, check_model, propose_model, second_model, compare_runs, Side, first_run, second_run, traced, command_of}
-use Rattle.qss_top.specs.Answers.{Answer, Told, printed, printed_text, summed, IsSourceRefusal, IsTreeRefusal, IsSourceTree, IsMachineAnswer, IsRunAnswer, IsPrintAnswer, IsSummedAnswer, IsGenerationAnswer, answered, uncertifying, certificate_answer, IsCertificateAnswer, IsCertifyAnswer, IsUpgradeAnswer, IsCheckAnswer, trace_answer, IsProposeAnswer, proposal_answer, IsSecondAnswer, Says, ReadsThen, Reads, InScope, ByMachine, ReadsBoth, SaysOn, stop_answer, text_answer, Stage, OnRun, OnSide, OnBoth, OnSides, Compares, LeadsTo, Defines}
+use Rattle.qss_top.specs.Answers.{Answer, Told, printed, printed_text, summed, IsSourceRefusal, IsTreeRefusal, IsSourceTree, IsMachineAnswer, IsRunAnswer, IsPrintAnswer, IsSummedAnswer, IsGenerationAnswer, answered, uncertifying, certificate_answer, IsCertificateAnswer, IsCertifyAnswer, IsUpgradeAnswer, IsCheckAnswer, trace_answer, IsProposeAnswer, proposal_answer, IsSecondAnswer, Says, ReadsThen, Reads, InScope, ByMachine, ReadsBoth, SaysOn, stop_answer, text_answer, Stage, OnRun, OnSide, OnBoth, OnSides, Compares, CommandLeadsTo, Defines}
 use Rattle.qss_top.specs.Laws.{AnswersAreUnique}
 use Rattle.qss_top.proofs.Sources.{one_source_refusal, one_tree_refusal, one_source_machine, one_source_tree, source_fine, tree_fine}
 
@@ -147,7 +147,7 @@ one_comparison one two files m scope text =
     one_side files m c 2 two (OnBoth m c t1) scope (λ t2.
     one_stage m (IsCompared m c t1 t2) (IsUncompared m c t1 t2) (λ text. Says (λ answer. answer ≡ text_answer text)) (judged-text m c t1 t2) (λ text. one_answer_told (text_answer text)))))
 
-one_command : (command : Command) (files : Files) (s t : Told) → LeadsTo command (Some files) s → LeadsTo command (Some files) t → s ≡ t
+one_command : (command : Command) (files : Files) (s t : Told) → CommandLeadsTo command (Some files) s → CommandLeadsTo command (Some files) t → s ≡ t
 one_command (run_model model options) files s t p q =
     one_file model (λ bytes. Says (IsRunAnswer options bytes)) (λ bytes. one_says (IsRunAnswer options bytes) (one_run options bytes)) files s t p q
 one_command (print_model model) files s t p q =

@@ -7,7 +7,7 @@ use Rattle.std.proofs.lemmas.Slice.Eq.{bytes_eq-Decides}
 use Rattle.mu_io.specs.Faults.{Rose, OnlyCounts}
 use Rattle.mu_io.specs.Files.{Files, file_of}
 use Rattle.mu_io.specs.Sinks.{AppendsPrefix}
-use Rattle.qss_top.specs.Answers.{Answer, Told, Reply, answered, absent, untold, Says, ReadsThen, Reads, LeadsTo, LeadsFrom, Defines}
+use Rattle.qss_top.specs.Answers.{Answer, Told, Reply, answered, absent, untold, Says, ReadsThen, Reads, CommandLeadsTo, Defines}
 use Rattle.qss_words.specs.Commands.{Command, files_of}
 use Rattle.qss_top.specs.Outcomes.{IsOutcome, Meets, Serves, status_of}
 use Rattle.qss_top.specs.Statuses.{is_defined}
@@ -64,7 +64,7 @@ untold_memory (untold command) old = λ d. absurd (cc d)
 -- ---- a whole command
 
 pub told_meets : (command : Command) (files : Option Files) (what : Outcome) (old new : Option (List ℕ)) (out_before out_now : ℕ) (before now : List ℕ → ℕ)
-    → Serves files (files_of command) (LeadsTo command) what old new out_before out_now before now → (told : Told) → LeadsFrom command files told → Meets told what old new out_before out_now before now
+    → Serves files (files_of command) (CommandLeadsTo command) what old new out_before out_now before now → (told : Told) → Defines (Some command) files told → Meets told what old new out_before out_now before now
 told_meets command None what old new out_before out_now before now h told leads =
     subst (λ (t : Told). Meets t what old new out_before out_now before now) (sym leads) (record {
       replied = λ e. let p = h.some in let d = p.4.defined e in (p.0, p.1, p.2, p.3, (d.0, d.2));
@@ -79,7 +79,7 @@ told_meets command (Some fs) what old new out_before out_now before now h told l
 
 -- the same for the command of some words
 pub command_meets : (command : Command) (found : Option Command) (files : Option Files) (what : Outcome) (old new : Option (List ℕ)) (out_before out_now : ℕ) (before now : List ℕ → ℕ)
-    → Some command ≡ found → Serves files (files_of command) (LeadsTo command) what old new out_before out_now before now → (told : Told) → Defines found files told → Meets told what old new out_before out_now before now
+    → Some command ≡ found → Serves files (files_of command) (CommandLeadsTo command) what old new out_before out_now before now → (told : Told) → Defines found files told → Meets told what old new out_before out_now before now
 command_meets command found files what old new out_before out_now before now is h told defines =
     told_meets command files what old new out_before out_now before now h told (subst (λ (c : Option Command). Defines c files told) (sym is) defines)
 

@@ -8,7 +8,7 @@ use Rattle.mu_io.specs.Files.{Files, file_of}
 use Rattle.mu_tree.specs.ModelTree.{ModelTree}
 use Rattle.qss_compile.specs.Meanings.{IsUnspelled, IsRefused}
 use Rattle.qss_compile.specs.declared.fault.Refused.{Refused}
-use Rattle.qss_top.specs.Answers.{Answer, Told, Line, Tells, refusal, refused as refused_line, printed_text, too_long, usage, answered, IsRefusalFor, IsTreeRefusal, IsSourceTree, IsPrintAnswer, IsGenerationAnswer, Says, Reads, LeadsTo}
+use Rattle.qss_top.specs.Answers.{Answer, Told, Message, Tells, refusal, refused as refused_line, printed_text, too_long, usage, answered, IsRefusalFor, IsTreeRefusal, IsSourceTree, IsPrintAnswer, IsGenerationAnswer, Says, Reads, CommandLeadsTo}
 use Rattle.qss_words.specs.Commands.{generate_model, files_of}
 use Rattle.qss_words.specs.Requests.{command_with, options_in}
 use Rattle.qss_top.specs.Tasks.{IsTaskAnswer}
@@ -25,7 +25,7 @@ use Rattle.qss_top.proofs.Sources.{one_refusal, long_for, short_for, tree_fine}
 use Rattle.qss_top.proofs.OutcomeFacts.{no_prefix, nothing_outcome}
 
 -- a refusal, where nothing was written
-refusal_outcome : (line : Line) (what : Outcome) (old : Option (List ℕ)) (before : ℕ) → (status_of what ≡ ends.ModelRefused) → Tells line (line_text what) → IsOutcome (refusal ends.ModelRefused line) what old old before before
+pub refusal_outcome : (line : Message) (what : Outcome) (old : Option (List ℕ)) (before : ℕ) → (status_of what ≡ ends.ModelRefused) → Tells line (line_text what) → IsOutcome (refusal ends.ModelRefused line) what old old before before
 refusal_outcome line what old before status said = record { defined = λ e. (status, said, Appends-nil old); prefix = no_prefix old []; short = λ e. inl (Appends-nil old); quiet = λ e. refl }
 
 -- a source that is refused, and the outcome of its refusal
@@ -64,7 +64,7 @@ file_reply task bytes = says_reply (IsTaskAnswer task bytes) (file_answer task b
 
 -- the file of a command on one file
 abbrev OneFile : Task → List ℕ → Option Files → (what : Outcome) (old new : Option (List ℕ)) (out_before out_now : ℕ) (before now : List ℕ → ℕ) → Type 0
-OneFile task name files = Serves files (files_of (command_with task name)) (LeadsTo (command_with task name))
+OneFile task name files = Serves files (files_of (command_with task name)) (CommandLeadsTo (command_with task name))
 
 task_served : (task : Task) (name : List ℕ) (files : Option Files) (what : Outcome) (old new : Option (List ℕ)) (out_before out_now : ℕ) (before now : List ℕ → ℕ)
     → Serves files (name ∷ []) (λ fs. Reads fs name (λ bytes. Says (IsTaskAnswer task bytes))) what old new out_before out_now before now → OneFile task name files what old new out_before out_now before now
@@ -93,7 +93,7 @@ one_task tasks.Print bytes a b p q = one_print bytes a b p q
 one_task tasks.Propose bytes a b p q = one_proposing bytes a b p q
 one_task tasks.Second bytes a b p q = one_second bytes a b p q
 
-too_long_answer : (task : Task) (bytes : List ℕ) (a : Answer) → 2 ^ 20 < length bytes → IsTaskAnswer task bytes a → a ≡ refusal ends.ModelRefused too_long
+pub too_long_answer : (task : Task) (bytes : List ℕ) (a : Answer) → 2 ^ 20 < length bytes → IsTaskAnswer task bytes a → a ≡ refusal ends.ModelRefused too_long
 too_long_answer task bytes a h answers = one_task task bytes a (refusal ends.ModelRefused too_long) answers (long_answered task bytes h)
 
 pub long_model_served : (task : Task) (name : List ℕ) (files : Option Files) (old : Option (List ℕ)) (out_before : ℕ) (before now : List ℕ → ℕ)
@@ -147,6 +147,6 @@ memory_meets told old out_before before = record {
 -- the answer to a command that reads no file
 pub generation_served : (seed cells : ℕ) (files : Option Files) (what : Outcome) (old new : Option (List ℕ)) (out_before out_now : ℕ) (before : List ℕ → ℕ)
     → ((a : Answer) → IsGenerationAnswer seed cells a → IsOutcome a what old new out_before out_now) → what ≢ outcome.ReadFault
-    → Serves files (files_of (generate_model seed cells)) (LeadsTo (generate_model seed cells)) what old new out_before out_now before before
+    → Serves files (files_of (generate_model seed cells)) (CommandLeadsTo (generate_model seed cells)) what old new out_before out_now before before
 generation_served seed cells files what old new out_before out_now before is not_read =
     says_served files (IsGenerationAnswer seed cells) what old new out_before out_now before is (generation_answer seed cells) not_read

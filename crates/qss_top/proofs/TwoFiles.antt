@@ -1,5 +1,5 @@
 -- How a command on a model and a text on it serves what is told.
-use Rattle.std.proofs.Common.{◌≡◌, ◌≢◌, ◌+◌, ◌<◌, ◌≤◌, ◌^◌, Bool, true, false, ℕ, List, [], ◌∷◌, ◌++◌, length, pos, refl, sym, ap, ◌∙◌, subst, arith, inl, inr, None, Some, append-nil}
+use Rattle.std.proofs.Common.{◌≡◌, ◌≢◌, ◌+◌, ◌<◌, ◌≤◌, ◌^◌, Bool, true, false, ℕ, List, [], ◌∷◌, length, pos, refl, sym, ap, ◌∙◌, subst, arith, inl, inr, None, Some, append-nil}
 use Rattle.std.specs.declared.option.Option.{Option}
 use Rattle.std.specs.Prelude.{IfSome, IsSomeAnd, bytes_eq}
 use Rattle.std.specs.Io.KnownBytes.{Appends}
@@ -43,7 +43,7 @@ use Rattle.propose_answer.proofs.Sameness.{one_proposed}
 use Rattle.qss_machine.specs.declared.system.Machine.{Machine}
 use Rattle.qss_compile.specs.Meanings.{IsRefused}
 use Rattle.qss_compile.specs.declared.fault.Refused.{Refused}
-use Rattle.qss_top.specs.Answers.{Answer, Line, Tells, refused, Told, Reply, answered, absent, untold, refusal, too_long, IsSourceRefusal, IsSourceMachine, uncertified, uncertifying, certificate_answer, status_of_refusal, IsCertificateAnswer, IsCertifyAnswer, IsUpgradeAnswer, quiet, untraced, status_of_trace, trace_answer, IsCheckAnswer, unproposed, proposal_answer, IsProposeAnswer, incomparable, stop_answer, Reads, InScope, ByMachine, ReadsText, LeadsTo}
+use Rattle.qss_top.specs.Answers.{Answer, Message, Tells, refused, Told, Reply, answered, absent, untold, refusal, too_long, IsSourceRefusal, IsSourceMachine, uncertified, uncertifying, certificate_answer, status_of_refusal, IsCertificateAnswer, IsCertifyAnswer, IsUpgradeAnswer, quiet, untraced, status_of_trace, trace_answer, IsCheckAnswer, unproposed, proposal_answer, IsProposeAnswer, incomparable, stop_answer, Reads, InScope, ByMachine, ReadsText, CommandLeadsTo}
 use Rattle.qss_top.specs.Certificates.{IsDone, files_behind, limit_in, long_in, outcome_by, outcome_traced, outcome_proposed, share_in}
 use Rattle.qss_words.specs.Commands.{files_of}
 use Rattle.qss_top.specs.Outcomes.{IsOutcome, IsRefusedFor, Meets, Serves, status_of, line_text as outcome_text}
@@ -63,7 +63,7 @@ use Rattle.qss_top.proofs.Sameness.{one_certify, one_upgrade, one_check}
 use Rattle.qss_top.proofs.Serving.{unwritten, uncut, read_served, fault_served, memory_served, long_served}
 
 -- a refusal, where nothing was written
-pub refused_now : (status : Status) (line : Line) (what : Outcome) (old : Option (List ℕ)) (before : ℕ) → status_of what ≡ status → Tells line (outcome_text what) → IsOutcome (refusal status line) what old old before before
+pub refused_now : (status : Status) (line : Message) (what : Outcome) (old : Option (List ℕ)) (before : ℕ) → status_of what ≡ status → Tells line (outcome_text what) → IsOutcome (refusal status line) what old old before before
 refused_now status line what old before is said = record { defined = λ e. (is, said, Appends-nil old); prefix = no_prefix old []; short = λ e. inl (Appends-nil old); quiet = λ e. refl }
 
 -- all that is led to is this answer, and nothing more is read
@@ -220,7 +220,7 @@ module _ {K : Type 0} (known : K → Option (List ℕ)) (faults : K → ℕ) (fa
   wrote text old new whole calm = record { defined = λ e. (refl, refl, whole); prefix = whole_prefix (known old) (known new) text whole; short = λ e. absurd (cc e); quiet = λ e. calm }
 
   -- a refusal is told
-  told_so : (status : Status) (line : Line) (what : Outcome) (old new : K) → new ≡ old → status_of what ≡ status → Tells line (outcome_text what) → Became (refusal status line) what old new
+  told_so : (status : Status) (line : Message) (what : Outcome) (old new : K) → new ≡ old → status_of what ≡ status → Tells line (outcome_text what) → Became (refusal status line) what old new
   told_so status line what old new same is said = kept (refusal status line) what old new same (refused_now status line what (known old) (faults old) is said)
 
   -- a write failed in a text that is not empty
@@ -310,6 +310,12 @@ traced_fault traced.Written e = absurd (cc e)
 traced_fault (traced.Refused why) e = absurd (cc e)
 traced_fault traced.Fault e = refl
 traced_fault traced.Memory e = absurd (cc e)
+
+pub traced_done : (end : TraceEnding) → outcome_traced end ≡ outcome.Done → end ≡ traced.Written
+traced_done traced.Written e = refl
+traced_done (traced.Refused why) e = absurd (cc e)
+traced_done traced.Fault e = absurd (cc e)
+traced_done traced.Memory e = absurd (cc e)
 
 pub traced_read : (end : TraceEnding) → (outcome_traced end ≢ outcome.ReadFault) × (outcome_traced end ≢ outcome.Usage)
 traced_read traced.Written = (λ e. cc e, λ e. cc e)
@@ -462,11 +468,11 @@ module _ (deed : Deed) (model certificate : List ℕ) (files : Option Files) whe
   Behind bytes fs = ByMachine (share_in deed) bytes (λ m. ReadsText certificate (IsDone deed) m fs)
 
   abbrev Both : (what : Outcome) (old new : Option (List ℕ)) (out_before out_now : ℕ) (before now : List ℕ → ℕ) → Type 0
-  Both = Serves files (files_of (command_on deed model certificate)) (LeadsTo (command_on deed model certificate))
+  Both = Serves files (files_of (command_on deed model certificate)) (CommandLeadsTo (command_on deed model certificate))
 
   both_served : (d : Deed) (what : Outcome) (old new : Option (List ℕ)) (out_before out_now : ℕ) (before now : List ℕ → ℕ)
       → Serves files (model ∷ certificate ∷ files_behind d) (λ fs. Reads fs model (λ bytes. ByMachine (share_in d) bytes (λ m. ReadsText certificate (IsDone d) m fs))) what old new out_before out_now before now
-      → Serves files (files_of (command_on d model certificate)) (LeadsTo (command_on d model certificate)) what old new out_before out_now before now
+      → Serves files (files_of (command_on d model certificate)) (CommandLeadsTo (command_on d model certificate)) what old new out_before out_now before now
   both_served (deeds.Certify share) what old new out_before out_now before now h = h
   both_served deeds.Upgrade what old new out_before out_now before now h = h
   both_served deeds.Check what old new out_before out_now before now h = h

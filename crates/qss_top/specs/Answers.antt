@@ -47,16 +47,16 @@ use Rattle.qss_top.specs.declared.status.Status.{Status}
 use Rattle.qss_top.specs.declared.status.Status.TheVariants as ends
 
 -- what the line on err says of an answer
-pub data Line : Type 0 where
-  quiet : Line
-  usage : Line
-  too_long : Line
-  refused : (bytes : List ℕ) → Line
-  uncertified : CertificateRefusal → Line
-  untraced : TraceRefusal → Line
-  unproposed : ProposalRefusal → Line
-  incomparable : ComparisonRefusal → Line
-  over : (name : List ℕ) → (tick : ℕ) → Line
+pub data Message : Type 0 where
+  quiet : Message
+  usage : Message
+  too_long : Message
+  refused : (bytes : List ℕ) → Message
+  uncertified : CertificateRefusal → Message
+  untraced : TraceRefusal → Message
+  unproposed : ProposalRefusal → Message
+  incomparable : ComparisonRefusal → Message
+  over : (name : List ℕ) → (tick : ℕ) → Message
 
 -- the line on how words are a command
 abbrev pub usage_line : List ℕ
@@ -77,7 +77,7 @@ pub record TellsRefusal (bytes text : List ℕ) : Type 0 where
   pub same : text ≡ Refusals.line_of refusal
 
 -- the text says that
-abbrev pub Tells : Line → List ℕ → Type 0
+abbrev pub Tells : Message → List ℕ → Type 0
 Tells quiet text = text ≡ []
 Tells usage text = text ≡ usage_line
 Tells too_long text = text ≡ too_long_line
@@ -92,10 +92,10 @@ Tells (over name tick) text = text ≡ overflow_line name tick
 pub record Answer : Type 0 where
   pub status : Status
   pub out : List ℕ
-  pub line : Line
+  pub line : Message
 
 -- an answer that leaves out as it is
-abbrev pub refusal : Status → Line → Answer
+abbrev pub refusal : Status → Message → Answer
 refusal status line = record { status = status; out = []; line = line }
 
 -- how the program ends on a run, and what the line then says
@@ -106,10 +106,10 @@ status_of_run run = status_by run.overflow
     status_by None = ends.Ok
     status_by (Some var) = ends.Overflow
 
-abbrev pub line_of_run : Machine → Run → Line
+abbrev pub line_of_run : Machine → Run → Message
 line_of_run m run = line_by run.overflow
   where
-    line_by : Option ℕ → Line
+    line_by : Option ℕ → Message
     line_by None = quiet
     line_by (Some var) = over (name_of m var) (length run.worlds + 1)
 
@@ -266,10 +266,10 @@ status_of_run2 run = status_by run.overflow
     status_by None = ends.Ok
     status_by (Some past) = ends.Overflow
 
-abbrev pub line_of_run2 : Machine → Run2 → Line
+abbrev pub line_of_run2 : Machine → Run2 → Message
 line_of_run2 m run = line_by run.overflow
   where
-    line_by : Option Past → Line
+    line_by : Option Past → Message
     line_by None = quiet
     line_by (Some past) = over (name_of m past.var) past.tick
 
@@ -365,31 +365,38 @@ OnSides one two m c files told = OnSide files m c 1 one (λ t1. OnSide files m c
 abbrev pub Compares : (one two : Side) → Machine → List ℕ → Option Files → Told → Type 0
 Compares one two m text files told = Stage m (IsBasis m text) (IsBaseless m text) (λ c. OnSides one two m c files) told
 
+-- the same where both runs are given
+abbrev pub OnGiven : (one two : Given) → Machine → Certificate → Told → Type 0
+OnGiven one two m c told = OnRun m c 1 one (λ t1. OnRun m c 2 two (OnBoth m c t1)) told
+
+abbrev pub ComparesGiven : (one two : Given) → Machine → List ℕ → Told → Type 0
+ComparesGiven one two m text told = Stage m (IsBasis m text) (IsBaseless m text) (OnGiven one two m) told
+
+-- the answer to `compare` for a machine, the bytes of a certificate, and two runs that are given
+abbrev pub IsCompareAnswer : (one two : Given) → Machine → List ℕ → Answer → Type 0
+IsCompareAnswer one two m text answer = InScope m (ComparesGiven one two m text) (record { arrivals = []; reply = answered answer })
+
 -- a command leads to what is told, or may lead to it where no files are told
-abbrev pub LeadsTo : Command → Option Files → Told → Type 0
-LeadsTo (run_model model options) files told = Reads files model (λ bytes. Says (IsRunAnswer options bytes)) told
-LeadsTo (print_model model) files told = Reads files model (λ bytes. Says (IsPrintAnswer bytes)) told
-LeadsTo (certify_model model certificate share) files told = ReadsBoth share model certificate (SaysOn IsCertifyAnswer) files told
-LeadsTo (upgrade_model model certificate) files told = ReadsBoth 0 model certificate (SaysOn IsUpgradeAnswer) files told
-LeadsTo (check_model model trace) files told = ReadsBoth 0 model trace (SaysOn IsCheckAnswer) files told
-LeadsTo (propose_model model) files told = Reads files model (λ bytes. Says (IsMachineAnswer 0 IsProposeAnswer bytes)) told
-LeadsTo (second_model model) files told = Reads files model (λ bytes. Says (IsMachineAnswer 0 IsSecondAnswer bytes)) told
-LeadsTo (compare_runs model certificate one two) files told = ReadsBoth 0 model certificate (Compares one two) files told
-LeadsTo (generate_model seed cells) files told = Says (IsGenerationAnswer seed cells) told
+abbrev pub CommandLeadsTo : Command → Option Files → Told → Type 0
+CommandLeadsTo (run_model model options) files told = Reads files model (λ bytes. Says (IsRunAnswer options bytes)) told
+CommandLeadsTo (print_model model) files told = Reads files model (λ bytes. Says (IsPrintAnswer bytes)) told
+CommandLeadsTo (certify_model model certificate share) files told = ReadsBoth share model certificate (SaysOn IsCertifyAnswer) files told
+CommandLeadsTo (upgrade_model model certificate) files told = ReadsBoth 0 model certificate (SaysOn IsUpgradeAnswer) files told
+CommandLeadsTo (check_model model trace) files told = ReadsBoth 0 model trace (SaysOn IsCheckAnswer) files told
+CommandLeadsTo (propose_model model) files told = Reads files model (λ bytes. Says (IsMachineAnswer 0 IsProposeAnswer bytes)) told
+CommandLeadsTo (second_model model) files told = Reads files model (λ bytes. Says (IsMachineAnswer 0 IsSecondAnswer bytes)) told
+CommandLeadsTo (compare_runs model certificate one two) files told = ReadsBoth 0 model certificate (Compares one two) files told
+CommandLeadsTo (generate_model seed cells) files told = Says (IsGenerationAnswer seed cells) told
 
 -- for some bytes that the command reads, the answer to it is such a one
 abbrev pub MayAnswer : Command → (Answer → Type 0) → Type 0
-MayAnswer command IsSuch = (told : Told) × (answer : Answer) × LeadsTo command None told × (told.reply ≡ answered answer) × IsSuch answer
+MayAnswer command IsSuch = (told : Told) × (answer : Answer) × CommandLeadsTo command None told × (told.reply ≡ answered answer) × IsSuch answer
 
--- what the command leads to where the shelf may not tell its files
-abbrev pub LeadsFrom : Command → Option Files → Told → Type 0
-LeadsFrom command None told = told ≡ record { arrivals = files_of command; reply = untold command }
-LeadsFrom command (Some files) told = LeadsTo command (Some files) told
-
--- what words and files define: words that are no command are answered so, whatever the files are
+-- what words and files define: words that are no command are answered so, whatever the files are, and where files are not told no answer to a command is
 abbrev pub Defines : Option Command → Option Files → Told → Type 0
 Defines None files told = Says (λ answer. answer ≡ refusal ends.Usage usage) told
-Defines (Some command) files told = LeadsFrom command files told
+Defines (Some command) None told = told ≡ record { arrivals = files_of command; reply = untold command }
+Defines (Some command) (Some files) told = CommandLeadsTo command (Some files) told
 
 abbrev pub IsTold : List (List ℕ) → Option Files → Told → Type 0
 IsTold words files told = Defines (command_of words) files told

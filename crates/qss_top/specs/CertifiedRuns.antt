@@ -6,17 +6,14 @@ use Rattle.cert_check.specs.declared.certificate.Certificate.{Certificate}
 use Rattle.cert_lines.specs.Bounds.{bounds_text}
 use Rattle.cert_text.specs.Texts.{IsTextOf}
 use Rattle.qss_machine.specs.declared.system.Machine.{Machine}
-use Rattle.qss_top.specs.Answers.{Answer, Told, answered, Finds, IsSourceMachine, LeadsTo}
+use Rattle.qss_top.specs.Answers.{Answer, Told, answered, Finds, IsSourceMachine, CommandLeadsTo}
 use Rattle.qss_words.specs.Commands.{certify_model}
 use Rattle.qss_top.specs.declared.status.Status.TheVariants as ends
 
--- for the bytes of both files, the machine that the model means and the certificate that is spelled: the text is the certificate's bounds, any two
--- legitimate runs of the machine from the certificate's starts lie within them, and the machine's own runs are among these
-pub record AreCertified (model certificate : List ℕ) (share : ℕ) (files : Option Files) (out : List ℕ) : Type 0 where
-  pub source : List ℕ
-  pub found : Finds files model (Some source)
-  pub text : List ℕ
-  pub read : Finds files certificate (Some text)
+-- for these bytes of a model and of a certificate, the machine that is meant and the certificate that is spelled: what is written are the
+-- certificate's bounds, any two legitimate runs of the machine from the certificate's starts lie within them, and the machine's own runs are
+-- among these where its start is one of the two
+pub record AreCertifiedBy (share : ℕ) (source text out : List ℕ) : Type 0 where
   pub machine : Machine
   pub means : IsSourceMachine share source machine
   pub spelled : Certificate
@@ -25,9 +22,17 @@ pub record AreCertified (model certificate : List ℕ) (share : ℕ) (files : Op
   pub promised : IsPromised machine spelled
   pub admitted : AdmitsRuns machine spelled
 
+-- that, for the bytes of both files
+pub record AreCertified (model certificate : List ℕ) (share : ℕ) (files : Option Files) (out : List ℕ) : Type 0 where
+  pub source : List ℕ
+  pub found : Finds files model (Some source)
+  pub text : List ℕ
+  pub read : Finds files certificate (Some text)
+  pub certified : AreCertifiedBy share source text out
+
 -- where the answer to a certificate and a model is that all went well, the runs of the model are certified
 abbrev pub CertifiedRunsStayNear : Type 0
 CertifiedRunsStayNear =
     (model certificate : List ℕ) (share : ℕ) (files : Option Files) (told : Told) (answer : Answer) →
-    LeadsTo (certify_model model certificate share) files told → told.reply ≡ answered answer → answer.status ≡ ends.Ok →
+    CommandLeadsTo (certify_model model certificate share) files told → told.reply ≡ answered answer → answer.status ≡ ends.Ok →
     AreCertified model certificate share files answer.out

@@ -7,7 +7,7 @@ use Rattle.qss_trace.specs.declared.trace.Trace.{Trace}
 use Rattle.trace_answer.specs.Comparisons.{IsBasis}
 use Rattle.trace_answer.specs.Laws.{AreNear}
 use Rattle.qss_words.specs.Commands.{Side, compare_runs}
-use Rattle.qss_top.specs.Answers.{Answer, Told, answered, Finds, IsSourceMachine, LeadsTo}
+use Rattle.qss_top.specs.Answers.{Answer, Told, answered, Finds, IsSourceMachine, CommandLeadsTo}
 use Rattle.qss_top.specs.declared.status.Status.TheVariants as ends
 
 -- for the bytes of both files, the machine that the model means and the certificate that is spelled, which is accepted and has the machine's start: the text
@@ -29,5 +29,5 @@ pub record AreCompared (model certificate : List ℕ) (files : Option Files) (ou
 abbrev pub ComparedRunsStayNear : Type 0
 ComparedRunsStayNear =
     (model certificate : List ℕ) (one two : Side) (files : Option Files) (told : Told) (answer : Answer) →
-    LeadsTo (compare_runs model certificate one two) files told → told.reply ≡ answered answer → answer.status ≡ ends.Ok →
+    CommandLeadsTo (compare_runs model certificate one two) files told → told.reply ≡ answered answer → answer.status ≡ ends.Ok →
     AreCompared model certificate files answer.out

@@ -1,5 +1,5 @@
--- The headline: what `run` prints, when `certify` accepts, and what that means for the runs of a model.
-use Rattle.std.specs.Prelude.{◌≡◌, ℕ, List, [], ◌∷◌, Some, ◌↔◌}
+-- The headline: what `run` and `run2` print, and when `certify` accepts.
+use Rattle.std.specs.Prelude.{◌≡◌, ℕ, List, [], ◌∷◌, length, Some, ◌↔◌}
 use Rattle.mu_io.specs.Files.{Files, file_of}
 use Rattle.qss_machine.specs.declared.system.Machine.{Machine}
 use Rattle.cert_check.specs.Certificate.{Holds}
@@ -9,8 +9,8 @@ use Rattle.cert_check.specs.Systems.{system_of}
 use Rattle.cert_check.specs.declared.certificate.Certificate.{Certificate}
 use Rattle.cert_answer.specs.Answers.{IsRead}
 use Rattle.cert_lines.specs.Bounds.{bounds_text}
-use Rattle.qss_words.specs.Commands.{RunOptions, run_model, certify_model, command_of}
-use Rattle.qss_top.specs.Answers.{Told, IsTold, IsSourceMachine, answered, printed, quiet}
+use Rattle.qss_words.specs.Commands.{RunOptions, run_model, certify_model, second_model, command_of}
+use Rattle.qss_top.specs.Answers.{Told, IsTold, IsSourceMachine, answered, printed, quiet, second_for}
 use Rattle.qss_top.specs.declared.status.Status.TheVariants as ends
 
 -- `run` answers with the header and the rows of the run of the machine that the file's bytes mean, with status 0, or 6 where that run overflows
@@ -20,6 +20,15 @@ RunPrintsTheRun =
     (model : List ℕ) (options : RunOptions) → command_of words ≡ Some (run_model model options) →
     (source : List ℕ) → file_of files model ≡ Some source → (m : Machine) → IsSourceMachine options.share source m →
     told ≡ record { arrivals = model ∷ []; reply = answered (printed options m) }
+
+-- `run2` answers with the header and the rows of the second-order run of the machine that the file's bytes mean, with status 0, or 6 where that run overflows;
+-- a machine with clauses is refused with status 1, and it is told how many they are
+abbrev pub Run2PrintsTheRun : Type 0
+Run2PrintsTheRun =
+    (words : List (List ℕ)) (files : Files) (told : Told) → IsTold words (Some files) told →
+    (model : List ℕ) → command_of words ≡ Some (second_model model) →
+    (source : List ℕ) → file_of files model ≡ Some source → (m : Machine) → IsSourceMachine 0 source m →
+    told ≡ record { arrivals = model ∷ []; reply = answered (second_for m (length m.clauses)) }
 
 -- `certify` answers with status 0 and the bounds exactly where the thirteen inequalities hold of the certificate that the bytes spell, and all their sums are in range
 abbrev pub CertifyAcceptsExactly : Type 0

@@ -1,6 +1,6 @@
+-- what the laws and the top call rest on
 pub mod Shares
 pub mod Tasks
-pub mod Certificates
 pub mod Answers
 pub mod Statuses
 pub mod TopCall
@@ -9,5 +9,7 @@ pub mod Outcomes
 pub mod CertifiedRuns
 pub mod Headline
 pub mod ProposedRuns
-pub mod Comparing
 pub mod ComparedRuns
+-- how contracts see the code
+pub mod Certificates
+pub mod Comparing

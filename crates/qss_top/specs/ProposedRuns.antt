@@ -4,7 +4,7 @@ use Rattle.mu_io.specs.Files.{Files}
 use Rattle.cert_check.specs.declared.certificate.Certificate.{Certificate}
 use Rattle.propose_answer.specs.Laws.{IsKeptText}
 use Rattle.qss_machine.specs.declared.system.Machine.{Machine}
-use Rattle.qss_top.specs.Answers.{Answer, Told, answered, Finds, IsSourceMachine, LeadsTo}
+use Rattle.qss_top.specs.Answers.{Answer, Told, answered, Finds, IsSourceMachine, CommandLeadsTo}
 use Rattle.qss_words.specs.Commands.{propose_model}
 use Rattle.qss_top.specs.declared.status.Status.TheVariants as ends
 
@@ -22,4 +22,4 @@ pub record AreProposed (model : List ℕ) (files : Option Files) (out : List ℕ
 abbrev pub ProposedRunsStayNear : Type 0
 ProposedRunsStayNear =
     (model : List ℕ) (files : Option Files) (told : Told) (answer : Answer) →
-    LeadsTo (propose_model model) files told → told.reply ≡ answered answer → answer.status ≡ ends.Ok → AreProposed model files answer.out
+    CommandLeadsTo (propose_model model) files told → told.reply ≡ answered answer → answer.status ≡ ends.Ok → AreProposed model files answer.out

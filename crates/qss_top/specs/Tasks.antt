@@ -5,6 +5,9 @@ use Rattle.qss_words.specs.Requests.{options_in}
 use Rattle.qss_words.specs.declared.request.Task.{Task}
 use Rattle.qss_words.specs.declared.request.Task.TheVariants as task
 use Rattle.qss_top.specs.Answers.{Answer, printed, summed, IsMachineAnswer, IsRunAnswer, IsPrintAnswer, IsProposeAnswer, IsSecondAnswer}
+use Rattle.trace_answer.specs.Comparisons.{Given, first_order, second_order, traced}
+use Rattle.qss_top.specs.declared.given.Given.{Given as GivenRun}
+use Rattle.qss_top.specs.declared.given.Given.TheVariants as given
 use Rattle.qss_top.specs.declared.machine.Job.{Job}
 use Rattle.qss_top.specs.declared.machine.Job.TheVariants as jobs
 
@@ -38,3 +41,9 @@ IsTaskAnswer (task.Run options) bytes answer = IsRunAnswer (options_in options) 
 IsTaskAnswer task.Print bytes answer = IsPrintAnswer bytes answer
 IsTaskAnswer task.Propose bytes answer = IsMachineAnswer 0 IsProposeAnswer bytes answer
 IsTaskAnswer task.Second bytes answer = IsMachineAnswer 0 IsSecondAnswer bytes answer
+
+-- a run that is compared
+abbrev pub given_in : GivenRun → Given
+given_in given.First = first_order
+given_in given.Second = second_order
+given_in (given.Traced bytes) = traced bytes.now

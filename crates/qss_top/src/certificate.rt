@@ -2,24 +2,25 @@
 ghost use Rattle.std.specs.Prelude.{length, ◌≡◌, ◌≢◌, ◌≤◌, ◌^◌, [], ◌∷◌, true, false, ℕ, List};
 ghost use Rattle.mu_io.specs.Sinks.{EndsByFault};
 ghost use Rattle.cert_check.specs.Scope.{IsInScope};
-ghost use Rattle.qss_top.specs.Answers.{ByMachine, ReadsText, Reads, LeadsTo};
-ghost use Rattle.qss_top.specs.Certificates.{IsDone, files_behind, limit_in, long_in, outcome_by, outcome_traced, share_in};
+ghost use Rattle.qss_top.specs.Answers.{ByMachine, ReadsText, Reads, CommandLeadsTo};
+ghost use Rattle.qss_top.specs.Certificates.{IsDone, files_behind, limit_in, long_in, share_in};
 ghost use Rattle.qss_words.specs.Commands.{files_of};
 ghost use Rattle.qss_top.specs.Outcomes.{Serves, status_of};
 ghost use Rattle.qss_top.specs.Statuses.{leaves_out};
 ghost use Rattle.qss_words.specs.Requests.{command_on};
 
+use crate::bytes::{certify_machine, check_machine, upgrade_machine};
 use crate::command::MODEL_LIMIT;
 use crate::comparison::compare_runs;
 use crate::outcome::Outcome;
 use crate::source::machine_of;
-use cert_answer::{CertificateRefusal, Ending, certify, upgrade};
+use cert_answer::CertificateRefusal;
 use cert_check::scope;
 use mu_io::{ReadErr, Shelf, Sink, read_all};
 use qss_machine::Machine;
 use qss_words::{Deed, Share};
 use std::alloc::Global;
-use trace_answer::{ComparisonRefusal, Ending as TraceEnding, TraceRefusal, check_trace_text};
+use trace_answer::{ComparisonRefusal, TraceRefusal};
 
 // The longest certificate that is read, in bytes.
 const CERTIFICATE_LIMIT: usize = 1 << 18;
@@ -36,7 +37,7 @@ pub(crate) fn on_certificate<S: Shelf, O: Sink>(
     shelf: &mut S,
     out: &mut O,
 ) -> Outcome
-    ensures serves { Serves (S.files shelf.old) (files_of (command_on deed.entry model.now certificate.now)) (LeadsTo (command_on deed.entry model.now certificate.now)) result (O.written out.old) (O.written out.new) (O.faults out.old) (O.faults out.new) (S.faults shelf.old) (S.faults shelf.new) }
+    ensures serves { Serves (S.files shelf.old) (files_of (command_on deed.entry model.now certificate.now)) (CommandLeadsTo (command_on deed.entry model.now certificate.now)) result (O.written out.old) (O.written out.new) (O.faults out.old) (O.faults out.new) (S.faults shelf.old) (S.faults shelf.new) }
     ensures not_usage { result ≢ Outcome.Usage }
     ensures untouched { leaves_out false (status_of result) ≡ true → out.new ≡ out.old }
     ensures calm { result ≢ Outcome.WriteFault → O.faults out.new ≡ O.faults out.old }
@@ -186,33 +187,9 @@ fn on_text<S: Shelf, O: Sink>(
     ensures unharmed { result ≢ Outcome.ReadFault → (name : List ℕ) → S.faults shelf.new name ≡ S.faults shelf.old name }
 {
     match deed {
-        Deed::Certify(_) => outcome_of(certify(alloc, m, text, out)),
-        Deed::Upgrade => outcome_of(upgrade(alloc, m, text, out)),
-        Deed::Check => traced_outcome(check_trace_text(alloc, m, text, out)),
+        Deed::Certify(_) => certify_machine(alloc, m, text, out),
+        Deed::Upgrade => upgrade_machine(alloc, m, text, out),
+        Deed::Check => check_machine(alloc, m, text, out),
         Deed::Compare(sides) => compare_runs(alloc, sides, m, text, shelf, out),
-    }
-}
-
-// What became of a command whose answer to a certificate ended so.
-fn outcome_of(ending: Ending) -> Outcome
-    ensures { result ≡ outcome_by ending }
-{
-    match ending {
-        Ending::Written => Outcome::Done,
-        Ending::Refused(why) => Outcome::Uncertified(why),
-        Ending::Fault => Outcome::WriteFault,
-        Ending::Memory => Outcome::Memory,
-    }
-}
-
-// What became of a command whose answer to a trace ended so.
-fn traced_outcome(ending: TraceEnding) -> Outcome
-    ensures { result ≡ outcome_traced ending }
-{
-    match ending {
-        TraceEnding::Written => Outcome::Done,
-        TraceEnding::Refused(why) => Outcome::Untraced(why),
-        TraceEnding::Fault => Outcome::WriteFault,
-        TraceEnding::Memory => Outcome::Memory,
     }
 }

@@ -3,13 +3,14 @@ ghost use Rattle.std.specs.Prelude.{length, ◌≡◌, ◌≢◌, ◌≤◌, ◌
 ghost use Rattle.mu_io.specs.Faults.{OnlyCounts};
 ghost use Rattle.mu_io.specs.Sinks.{EndsByFault};
 ghost use Rattle.mu_tree.specs.ModelTree.{model};
-ghost use Rattle.qss_top.specs.Answers.{Answer, Told, IsPrintAnswer, printed_text, LeadsTo, LeadsFrom, IsTold};
+ghost use Rattle.qss_top.specs.Answers.{Answer, Told, IsPrintAnswer, printed_text, CommandLeadsTo, Defines, IsTold};
 ghost use Rattle.qss_words.specs.Commands.{command_of, files_of, writes_as_it_goes};
 ghost use Rattle.qss_top.specs.Outcomes.{IsOutcome, Meets, Serves, status_of};
 ghost use Rattle.qss_top.specs.Statuses.{leaves_out};
 ghost use Rattle.qss_words.specs.Requests.{command_in, command_with};
 ghost use Rattle.qss_top.specs.Tasks.{task_goes, IsTaskAnswer};
 
+use crate::bytes::answer_source;
 use crate::certificate::on_certificate;
 use crate::generation::on_generation;
 use crate::machine::{Job, by_machine};
@@ -55,7 +56,7 @@ fn on_request<S: Shelf, O: Sink>(
     shelf: &mut S,
     out: &mut O,
 ) -> Outcome
-    ensures meets { (told : Told) → LeadsFrom (command_in request.entry) (S.files shelf.old) told → Meets told result (O.written out.old) (O.written out.new) (O.faults out.old) (O.faults out.new) (S.faults shelf.old) (S.faults shelf.new) }
+    ensures meets { (told : Told) → Defines (Some (command_in request.entry)) (S.files shelf.old) told → Meets told result (O.written out.old) (O.written out.new) (O.faults out.old) (O.faults out.new) (S.faults shelf.old) (S.faults shelf.new) }
     ensures not_usage { result ≢ Outcome.Usage }
     ensures untouched { leaves_out (writes_as_it_goes (Some (command_in request.entry))) (status_of result) ≡ true → out.new ≡ out.old }
     ensures calm { result ≢ Outcome.WriteFault → O.faults out.new ≡ O.faults out.old }
@@ -83,7 +84,7 @@ fn on_file<S: Shelf, O: Sink>(
     shelf: &mut S,
     out: &mut O,
 ) -> Outcome
-    ensures serves { Serves (S.files shelf.old) (files_of (command_with task.entry model.now)) (LeadsTo (command_with task.entry model.now)) result (O.written out.old) (O.written out.new) (O.faults out.old) (O.faults out.new) (S.faults shelf.old) (S.faults shelf.new) }
+    ensures serves { Serves (S.files shelf.old) (files_of (command_with task.entry model.now)) (CommandLeadsTo (command_with task.entry model.now)) result (O.written out.old) (O.written out.new) (O.faults out.old) (O.faults out.new) (S.faults shelf.old) (S.faults shelf.new) }
     ensures not_usage { result ≢ Outcome.Usage }
     ensures untouched { leaves_out (task_goes task.entry) (status_of result) ≡ true → out.new ≡ out.old }
     ensures calm { result ≢ Outcome.WriteFault → O.faults out.new ≡ O.faults out.old }
@@ -93,15 +94,15 @@ fn on_file<S: Shelf, O: Sink>(
     ensures unharmed { result ≢ Outcome.ReadFault → (name : List ℕ) → S.faults shelf.new name ≡ S.faults shelf.old name }
 {
     match read_all(alloc, shelf, model, MODEL_LIMIT) {
-        Ok(bytes) => on_source(alloc, task, &bytes, out),
+        Ok(bytes) => answer_source(alloc, task, &bytes, out),
         Err(ReadErr::TooLong) => Outcome::TooLong,
         Err(ReadErr::Fault) => Outcome::ReadFault,
         Err(ReadErr::Memory) => Outcome::Memory,
     }
 }
 
-// Does this with the model that a source spells, or with the machine that it means.
-fn on_source<O: Sink>(alloc: Global, task: Task, bytes: &[u8], out: &mut O) -> Outcome
+/// Does this with the model that a source spells, or with the machine that it means.
+pub(crate) fn on_source<O: Sink>(alloc: Global, task: Task, bytes: &[u8], out: &mut O) -> Outcome
     requires { length bytes.now ≤ 2 ^ 20 }
     ensures outcome { (answer : Answer) → IsTaskAnswer task.entry bytes.now answer → IsOutcome answer result (O.written out.old) (O.written out.new) (O.faults out.old) (O.faults out.new) }
     ensures not_usage { result ≢ Outcome.Usage }

@@ -107,8 +107,8 @@ fn with_second<S: Shelf, O: Sink>(
     }
 }
 
-// Writes the text of two runs side by side.
-fn with_both<O: Sink>(
+/// Writes the text of two runs side by side.
+pub(crate) fn with_both<O: Sink>(
     alloc: Global,
     m: &Machine,
     c: &Certificate,
@@ -206,8 +206,8 @@ fn or_stopped(alloc: Global, m: &Machine, side: Result<Trace, Stop>) -> Result<T
     }
 }
 
-// What became of a comparison that was stopped.
-fn stopped(alloc: Global, m: &Machine, stop: Stop) -> Outcome
+/// What became of a comparison that was stopped.
+pub(crate) fn stopped(alloc: Global, m: &Machine, stop: Stop) -> Outcome
     ensures told { IsStopOutcome m.now stop result }
     ensures not_usage { result ≢ Outcome.Usage }
     ensures not_read { result ≢ Outcome.ReadFault }

@@ -1,7 +1,7 @@
 // Laws on what is told.
 ghost use Rattle.qss_top.specs.CertifiedRuns.{CertifiedRunsStayNear};
 ghost use Rattle.qss_top.specs.ComparedRuns.{ComparedRunsStayNear};
-ghost use Rattle.qss_top.specs.Headline.{RunPrintsTheRun, CertifyAcceptsExactly};
+ghost use Rattle.qss_top.specs.Headline.{RunPrintsTheRun, Run2PrintsTheRun, CertifyAcceptsExactly};
 ghost use Rattle.qss_top.specs.Laws.{AnswersAreUnique, AnswersExist};
 ghost use Rattle.qss_top.specs.ProposedRuns.{ProposedRunsStayNear};
 
@@ -20,6 +20,12 @@ pub fn run_prints_the_run()
     ensures { RunPrintsTheRun }
 {}
 
+/// Law: `run2` answers with the header and the rows of the second-order run of the machine that the file's bytes mean, and
+/// refuses a machine with clauses.
+pub fn run2_prints_the_run()
+    ensures { Run2PrintsTheRun }
+{}
+
 /// Law: `certify` answers with status 0 and the bounds exactly where the inequalities hold of the certificate, and all their
 /// sums are in range.
 pub fn certify_accepts_exactly()
@@ -27,7 +33,7 @@ pub fn certify_accepts_exactly()
 {}
 
 /// Law: where a certificate is accepted, any two legitimate runs of the machine that the model means, from the certificate's
-/// starts, lie within the bounds that are printed, and the machine's own runs are among these.
+/// starts, lie within the bounds that are printed, and the machine's own runs are among these where its start is one of them.
 pub fn certified_runs_stay_near()
     ensures { CertifiedRunsStayNear }
 {}

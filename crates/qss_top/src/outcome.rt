@@ -44,7 +44,7 @@ impl From<Refused> for Outcome {
 }
 
 /// Writes the line of an outcome. Where the memory for it is not found, that is told in its place.
-pub(crate) fn report<E: Sink>(alloc: Global, outcome: &Outcome, err: &mut E) -> Status
+pub fn report<E: Sink>(alloc: Global, outcome: &Outcome, err: &mut E) -> Status
     ensures status { (result ≡ Spec.status_of outcome.now) ⊎ ((result ≡ Status.Memory) × (Spec.takes_memory outcome.now ≡ true)) }
     ensures silent { outcome.now ≡ Outcome.Done → err.new ≡ err.old }
     ensures line { (line : List ℕ) × Spec.IsReported result outcome.now line × WritesLine line (E.written err.old) (E.written err.new) (E.faults err.old) (E.faults err.new) }

@@ -4,9 +4,9 @@ use Rattle.qss_top.proofs.command.on_file.Goals as goal
 
 pub returns-in-Ok-clause-serves : goal.returns-in-Ok-clause-serves
 returns-in-Ok-clause-serves g c =
-    source_served c.args.task c.args.model.now (g.S.Shelf.files c.args.shelf.now) c.in-Ok.bytes.items c.on_source.result (g.O.Sink.written c.args.out.now) (g.O.Sink.written c.on_source.new.out)
-    (g.O.Sink.faults c.args.out.now) (g.O.Sink.faults c.on_source.new.out) (g.S.Shelf.faults c.args.shelf.now) (g.S.Shelf.faults c.read_all.new.shelf)
-    c.in-Ok.ensures.counts (c.in-Ok.ensures.calm (λ e. cc e)) c.in-Ok.ensures.bytes c.on_source.ensures.not_read (rw c.deref.ensures.value at c.on_source.ensures.outcome)
+    source_served c.args.task c.args.model.now (g.S.Shelf.files c.args.shelf.now) c.in-Ok.bytes.items c.answer_source.result (g.O.Sink.written c.args.out.now) (g.O.Sink.written c.answer_source.new.out)
+    (g.O.Sink.faults c.args.out.now) (g.O.Sink.faults c.answer_source.new.out) (g.S.Shelf.faults c.args.shelf.now) (g.S.Shelf.faults c.read_all.new.shelf)
+    c.in-Ok.ensures.counts (c.in-Ok.ensures.calm (λ e. cc e)) c.in-Ok.ensures.bytes c.answer_source.ensures.not_read (rw c.deref.ensures.value at c.answer_source.ensures.outcome)
 
 pub returns-in-Err-TooLong-clause-serves : goal.returns-in-Err-TooLong-clause-serves
 returns-in-Err-TooLong-clause-serves g c =

@@ -1,4 +1,4 @@
-use Rattle.std.proofs.Common.{List, ℕ, [], arith, ◌∙◌, subst, append-nil}
+use Rattle.std.proofs.Common.{List, ℕ, [], subst, append-nil}
 use Rattle.trace_answer.proofs.Compared.{given-size}
 use Rattle.qss_words.specs.Commands.{files_of_side}
 use Rattle.qss_words.specs.Requests.{side_in}

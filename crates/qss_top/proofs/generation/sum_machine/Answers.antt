@@ -1,4 +1,4 @@
-use Rattle.std.proofs.Common.{◌≡◌, ℕ, ℤ, List, ap₂, ◌∙◌, subst, rules}
+use Rattle.std.proofs.Common.{ℕ, ℤ, List, ap₂, ◌∙◌, subst, rules}
 use Rattle.std.proofs.lemmas.Int.{to_z-of_z}
 use Rattle.std.specs.Int.RustNames.{FitsSigned}
 use Rattle.std.specs.Io.KnownBytes.{Appends}

@@ -1,13 +1,11 @@
 use Rattle.std.proofs.Common.{subst}
 use Rattle.std.specs.Prelude.{map}
 use Rattle.qss_words.specs.Commands.{command_of, writes_as_it_goes}
-use Rattle.qss_top.proofs.TopFacts.{replied, defined_of, leaves_of, read_of, write_of, done_of, usage_of, status_by, no_write, no_read, short_of, line_is, usage_or_memory}
+use Rattle.qss_top.proofs.TopFacts.{replied, defined_of, leaves_of, read_of, write_of, done_of, usage_of, no_write, no_read, short_of, line_is, usage_or_memory}
 use Rattle.qss_top.proofs.Completeness.{whole_answer, rose_by, certified_end}
 use Rattle.qss_top.proofs.Proposed.{proposed_end}
-use Rattle.qss_top.specs.Answers.{Told, IsTold}
 use Rattle.qss_top.specs.TopCall.{IsReplied}
 use Rattle.qss_top.specs.declared.status.Status.{Status}
-use Rattle.qss_top.specs.declared.status.Status.TheVariants as ends
 use Rattle.qss_top.proofs.top.qss_main.Goals as goal
 
 pub returns-clause-replied : goal.returns-clause-replied

@@ -1,0 +1,147 @@
+// The comparison of two runs that are given.
+ghost use Rattle.std.specs.Prelude.{◌≡◌, ◌≢◌, [], true, false, ℕ, List, Option, IfOk, IfErr};
+ghost use Rattle.mu_io.specs.Files.{Files};
+ghost use Rattle.mu_io.specs.Sinks.{EndsByFault};
+ghost use Rattle.qss_machine.specs.Machines.{state_count};
+ghost use Rattle.cert_check.specs.Scope.{IsInScope};
+ghost use Rattle.trace_answer.specs.Comparisons.{IsSide, IsSideless, MayStop};
+ghost use Rattle.qss_top.specs.Answers.{Answer, ComparesGiven, IsCompareAnswer, OnBoth, OnGiven, OnRun};
+ghost use Rattle.qss_top.specs.Outcomes.{IsOutcome, Serves, status_of};
+ghost use Rattle.qss_top.specs.Statuses.{leaves_out};
+ghost use Rattle.qss_top.specs.Tasks.{given_in};
+
+use crate::comparison::{stopped, with_both};
+use crate::outcome::Outcome;
+use cert_answer::CertificateRefusal;
+use cert_check::{Certificate, scope};
+use mu_io::Sink;
+use qss_machine::Machine;
+use qss_trace::Trace;
+use std::alloc::Global;
+use trace_answer::{Stop, basis_of, first_side, second_side, traced_side};
+
+/// One of two runs that are compared: the run by the rule `floor`, the second-order run, or that of the bytes of a trace.
+#[derive(Clone, Copy, Debug)]
+pub enum Given<'a> {
+    First,
+    Second,
+    Traced(&'a [u8]),
+}
+
+/// Two runs that are compared.
+#[derive(Clone, Copy, Debug)]
+pub struct GivenRuns<'a> {
+    pub one: Given<'a>,
+    pub two: Given<'a>,
+}
+
+/// Compares two runs of a machine by the bytes of a certificate.
+pub(crate) fn compare_machine<O: Sink>(
+    alloc: Global,
+    m: &Machine,
+    text: &[u8],
+    runs: GivenRuns,
+    out: &mut O,
+) -> Outcome
+    ensures outcome { (answer : Answer) → IsCompareAnswer (given_in runs.entry.one) (given_in runs.entry.two) m.now text.now answer → IsOutcome answer result (O.written out.old) (O.written out.new) (O.faults out.old) (O.faults out.new) }
+    ensures not_usage { result ≢ Outcome.Usage }
+    ensures not_read { result ≢ Outcome.ReadFault }
+    ensures untouched { leaves_out false (status_of result) ≡ true → out.new ≡ out.old }
+    ensures calm { result ≢ Outcome.WriteFault → O.faults out.new ≡ O.faults out.old }
+    ensures last { result ≡ Outcome.WriteFault → EndsByFault O.faults O.failed out.old out.new }
+{
+    match scope(m) {
+        Ok(_states) => compare_by(alloc, m, text, runs, out),
+        Err(why) => Outcome::Uncertified(CertificateRefusal::Outside(why)),
+    }
+}
+
+// Goes on where certificates can speak of the machine.
+fn compare_by<O: Sink>(
+    alloc: Global,
+    m: &Machine,
+    text: &[u8],
+    runs: GivenRuns,
+    out: &mut O,
+) -> Outcome
+    requires { IsInScope m.now }
+    ensures serves { (files : Option Files) (before : List ℕ → ℕ) → Serves files [] (λ fs. ComparesGiven (given_in runs.entry.one) (given_in runs.entry.two) m.now text.now) result (O.written out.old) (O.written out.new) (O.faults out.old) (O.faults out.new) before before }
+    ensures not_usage { result ≢ Outcome.Usage }
+    ensures not_read { result ≢ Outcome.ReadFault }
+    ensures untouched { leaves_out false (status_of result) ≡ true → out.new ≡ out.old }
+    ensures calm { result ≢ Outcome.WriteFault → O.faults out.new ≡ O.faults out.old }
+    ensures last { result ≡ Outcome.WriteFault → EndsByFault O.faults O.failed out.old out.new }
+{
+    match basis_of(alloc, m, text) {
+        Ok(c) => with_one(alloc, m, &c, runs, out),
+        Err(stop) => stopped(alloc, m, stop),
+    }
+}
+
+// Goes on with the first run.
+fn with_one<O: Sink>(
+    alloc: Global,
+    m: &Machine,
+    c: &Certificate,
+    runs: GivenRuns,
+    out: &mut O,
+) -> Outcome
+    requires scope { IsInScope m.now }
+    requires size { c.now.n ≡ state_count m.now }
+    ensures serves { (files : Option Files) (before : List ℕ → ℕ) → Serves files [] (λ fs. OnGiven (given_in runs.entry.one) (given_in runs.entry.two) m.now c.now) result (O.written out.old) (O.written out.new) (O.faults out.old) (O.faults out.new) before before }
+    ensures not_usage { result ≢ Outcome.Usage }
+    ensures not_read { result ≢ Outcome.ReadFault }
+    ensures untouched { leaves_out false (status_of result) ≡ true → out.new ≡ out.old }
+    ensures calm { result ≢ Outcome.WriteFault → O.faults out.new ≡ O.faults out.old }
+    ensures last { result ≡ Outcome.WriteFault → EndsByFault O.faults O.failed out.old out.new }
+{
+    match given_side(alloc, m, c, 1, runs.one) {
+        Ok(t1) => with_two(alloc, m, c, &t1, runs.two, out),
+        Err(stop) => stopped(alloc, m, stop),
+    }
+}
+
+// Goes on with the second run.
+fn with_two<O: Sink>(
+    alloc: Global,
+    m: &Machine,
+    c: &Certificate,
+    t1: &Trace,
+    given: Given,
+    out: &mut O,
+) -> Outcome
+    requires scope { IsInScope m.now }
+    requires size { c.now.n ≡ state_count m.now }
+    requires first { t1.now.n ≡ state_count m.now }
+    ensures serves { (files : Option Files) (before : List ℕ → ℕ) → Serves files [] (λ fs. OnRun m.now c.now 2 (given_in given.entry) (OnBoth m.now c.now t1.now)) result (O.written out.old) (O.written out.new) (O.faults out.old) (O.faults out.new) before before }
+    ensures not_usage { result ≢ Outcome.Usage }
+    ensures not_read { result ≢ Outcome.ReadFault }
+    ensures untouched { leaves_out false (status_of result) ≡ true → out.new ≡ out.old }
+    ensures calm { result ≢ Outcome.WriteFault → O.faults out.new ≡ O.faults out.old }
+    ensures last { result ≡ Outcome.WriteFault → EndsByFault O.faults O.failed out.old out.new }
+{
+    match given_side(alloc, m, c, 2, given) {
+        Ok(t2) => with_both(alloc, m, c, t1, &t2, out),
+        Err(stop) => stopped(alloc, m, stop),
+    }
+}
+
+// The trace of a run that is given, or what stops a comparison that cannot have it.
+fn given_side(
+    alloc: Global,
+    m: &Machine,
+    c: &Certificate,
+    run: u32,
+    given: Given,
+) -> Result<Trace, Stop>
+    requires scope { IsInScope m.now }
+    requires size { c.now.n ≡ state_count m.now }
+    ensures side { IfOk result (IsSide m.now c.now (given_in given.entry)) }
+    ensures stopped { IfErr result (MayStop (IsSideless m.now c.now run (given_in given.entry))) }
+{
+    match given {
+        Given::First => first_side(alloc, m, c, run),
+        Given::Second => second_side(alloc, m, c, run),
+        Given::Traced(bytes) => traced_side(alloc, m, c, run, bytes),
+    }
+}
