@@ -1,5 +1,5 @@
 -- Two runs that are compared have one text, or none for one reason; they are near each other.
-use Rattle.std.proofs.Common.{◌≡◌, ℕ, ◌<◌, ◌⊎◌, inl, inr, List, [], ℤ, ◌≤ℤ◌, refl, sym, ap, subst, ◌∙◌, arith}
+use Rattle.std.proofs.Common.{◌≡◌, ℕ, ◌⊎◌, inl, inr, List, [], ℤ, refl, sym, ap, ◌∙◌, arith}
 use Rattle.qss_machine.proofs.Near.{quanta_positive}
 use Rattle.qss_machine.specs.Machines.{state_count, level_unit}
 use Rattle.qss_machine.specs.declared.system.Machine.{Machine}
@@ -17,7 +17,7 @@ use Rattle.qss_trace.specs.declared.trace.Trace.{Trace}
 use Rattle.qss_trace.proofs.Certified.{certified, bounded}
 use Rattle.qss_trace.proofs.Greatests.{greatests}
 use Rattle.run_trace.proofs.OwnTraces.{first-legitimate, second-legitimate}
-use Rattle.trace_answer.specs.Comparisons.{Given, first_order, second_order, traced, IsGivenRun, HasQuanta, IsSide, IsBasis, IsCompared, IsUncompared, comparison_text}
+use Rattle.trace_answer.specs.Comparisons.{Given, first_order, second_order, traced, IsGivenRun, IsSide, IsBasis, IsCompared, IsUncompared, comparison_text}
 use Rattle.trace_answer.specs.Laws.{IsJudged, ComparedRunsAreNear}
 use Rattle.trace_answer.specs.declared.stop.ComparisonRefusal.TheVariants as why
 use Rattle.trace_answer.specs.declared.stop.Stop.{Stop}
@@ -51,12 +51,16 @@ module _ (m : Machine) (c : Certificate) (t1 t2 : Trace) where
   cause-of (stops.Over tick var) p = absurd p
   cause-of stops.Memory p = absurd p
 
+  -- where the form is greatest, there is a text
+  pub found-compared : (common place1 place2 : ℕ) (value bound : ℤ) → Is (Found common place1 place2 value bound) → (text : List ℕ) × IsCompared m c t1 t2 text
+  found-compared common place1 place2 value bound is =
+      (comparison_text common place1 place2 value bound, record { common = common; place1 = place1; place2 = place2; value = value; bound = bound; found = is; told = refl })
+
   some-text : ((text : List ℕ) × IsCompared m c t1 t2 text) ⊎ ((stop : Stop) × IsUncompared m c t1 t2 stop)
   some-text = let found = greatests.some c.pm c.cc (level_unit m) t1 t2 in by found.0 found.1
     where
       by : (g : Greatest) → Is g → ((text : List ℕ) × IsCompared m c t1 t2 text) ⊎ ((stop : Stop) × IsUncompared m c t1 t2 stop)
-      by (Found common place1 place2 value bound) is =
-          inl (comparison_text common place1 place2 value bound, record { common = common; place1 = place1; place2 = place2; value = value; bound = bound; found = is; told = refl })
+      by (Found common place1 place2 value bound) is = inl (found-compared common place1 place2 value bound is)
       by (Range place1 place2) is = inr (stops.Refused (why.Range place1 place2), is)
 
   one-text : (a b : List ℕ) → IsCompared m c t1 t2 a → IsCompared m c t1 t2 b → a ≡ b

@@ -1,5 +1,5 @@
 -- A run that is given has one trace that a certificate allows, or none for one reason.
-use Rattle.std.proofs.Common.{◌≡◌, ℕ, zero, suc, ◌+◌, ◌<◌, ◌≤◌, ◌⊎◌, inl, inr, Bool, true, false, List, ℤ, ◌≤ℤ◌, ◌<ℤ◌, refl, sym, ap, ap₂, subst, ◌∙◌, arith, below_more}
+use Rattle.std.proofs.Common.{◌≡◌, ℕ, length, zero, suc, ◌+◌, ◌<◌, ◌≤◌, ◌⊎◌, inl, inr, Bool, true, false, List, ◌≤ℤ◌, refl, sym, ap, ap₂, subst, ◌∙◌, arith, below_more}
 use Rattle.std.proofs.lemmas.Bool.{cases_lt}
 use Rattle.std.proofs.lemmas.Int.{ints}
 use Rattle.std.specs.Prelude.{int_lt, Result, Ok, Err, IfErr}
@@ -15,9 +15,12 @@ use Rattle.run_trace.specs.FirstRuns.{IsFirstTrace, IsFirstRefusal}
 use Rattle.run_trace.specs.SecondRuns.{IsSecondTrace, IsSecondRefusal}
 use Rattle.run_trace.specs.declared.trace_over.TraceOver.TheVariants as overs
 use Rattle.run_trace.proofs.OwnTraces.{some-first, one-first, first-apart, one-first-over, some-second, one-second, second-apart, one-second-over}
-use Rattle.trace_answer.specs.Answers.{Answer, IsRefusal, IsAccepted, IsChecked}
-use Rattle.trace_answer.specs.Comparisons.{Given, first_order, second_order, traced, longest, IsGivenRun, HasQuanta, IsFirstAbove, IsSide, IsOwn, Overflows, IsTextRefused, IsSideless, MayStop}
+use Rattle.trace_answer.specs.Answers.{Answer, limit, IsChecked}
+use Rattle.trace_answer.specs.Comparisons.{Given, first_order, second_order, traced, longest, IsGivenRun, HasQuanta, IsFirstAbove, IsSide, IsOwn, Overflows, IsTextRefused, IsSideless, MayStop, IfMemory}
+use Rattle.trace_answer.specs.Endings.{RefusesBy}
 use Rattle.trace_answer.specs.Laws.{IsJudged}
+use Rattle.trace_answer.specs.declared.ending.Ending.{Ending}
+use Rattle.trace_answer.specs.declared.ending.Ending.TheVariants as ending
 use Rattle.trace_answer.specs.declared.ending.TraceRefusal.{TraceRefusal}
 use Rattle.trace_answer.specs.declared.stop.ComparisonRefusal.TheVariants as why
 use Rattle.trace_answer.specs.declared.stop.Stop.{Stop}
@@ -189,3 +192,13 @@ pub allowed-stopped : (m : Machine) (c : Certificate) (run : ℕ) (given : Given
     → IfErr result (λ stop. (state : ℕ) × IsFirstAbove c t state × (stop ≡ stops.Refused (why.Quantum run state))) → IfErr result (MayStop (IsSideless m c run given))
 allowed-stopped m c run given t (Ok u) is h = tt
 allowed-stopped m c run given t (Err stop) is (state, above, told) = inr (subst (IsSideless m c run given) (sym told) (t, refl, is, above))
+
+-- where this holds, it holds where memory is wanted
+pub taken-so : {T : Type 0} (Holds : Type 0) (result : Result T Stop) → Holds → IfErr result (IfMemory Holds)
+taken-so Holds (Ok t) h = tt
+taken-so Holds (Err stop) h = λ told. h
+
+-- a reading that ends for want of memory has begun
+pub reading-begun : (m : Machine) (bytes : List ℕ) (end : Ending) → end ≡ ending.Memory → RefusesBy m bytes end → IsInScope m × (length bytes ≤ limit)
+reading-begun m bytes end is (inl (told, scope, short)) = (scope, short)
+reading-begun m bytes end is (inr (cause, p, told)) = absurd (let e : ending.Refused cause ≡ ending.Memory = sym told ∙ is in cc)

@@ -1,10 +1,11 @@
 -- Two runs of a machine side by side, by a certificate: what is given of each, and why they are not compared.
-use Rattle.std.specs.Prelude.{◌≡◌, ℕ, ◌+◌, ◌<◌, ◌≤◌, ◌⊎◌, List, [], ◌∷◌, ℤ, ◌≤ℤ◌, ◌<ℤ◌, codes, decimal}
+use Rattle.std.specs.Prelude.{◌≡◌, ℕ, ◌+◌, ◌<◌, ◌≤◌, ◌⊎◌, List, [], ◌∷◌, length, ℤ, ◌≤ℤ◌, ◌<ℤ◌, codes, decimal}
 use Rattle.std.specs.Fmt.{signed_decimal}
 use Rattle.std.specs.List.{concat}
 use Rattle.qss_machine.specs.declared.system.Machine.{Machine}
 use Rattle.qss_machine.specs.Numbers.{int_at}
 use Rattle.qss_machine.specs.Machines.{level_unit, start_states}
+use Rattle.cert_check.specs.Scope.{IsInScope}
 use Rattle.cert_check.specs.declared.certificate.Certificate.{Certificate}
 use Rattle.cert_answer.specs.Answers as Certificates
 use Rattle.cert_answer.specs.Answers.{IsCertification}
@@ -15,7 +16,7 @@ use Rattle.qss_trace.specs.declared.trace.Trace.{Trace}
 use Rattle.run_trace.specs.FirstRuns.{IsFirstTrace, IsFirstRefusal}
 use Rattle.run_trace.specs.SecondRuns.{IsSecondTrace, IsSecondRefusal}
 use Rattle.run_trace.specs.declared.trace_over.TraceOver.TheVariants as overs
-use Rattle.trace_answer.specs.Answers.{IsRefusal, IsAccepted}
+use Rattle.trace_answer.specs.Answers.{limit, IsRefusal, IsAccepted}
 use Rattle.trace_answer.specs.declared.ending.TraceRefusal.{TraceRefusal}
 use Rattle.trace_answer.specs.Endings.{refusal_line}
 use Rattle.trace_answer.specs.declared.stop.ComparisonRefusal.{ComparisonRefusal}
@@ -101,6 +102,12 @@ IsSideless m c run given (stops.Refused (why.Long last)) = IsOwn given × (last 
 IsSideless m c run given (stops.Over tick var) = (m.last ≤ longest) × Overflows m given tick var
 IsSideless m c run given _ = ⊥
 
+-- the run that is given takes memory: one of the machine's own that is not too long, or bytes that are not too many of a machine in scope
+abbrev pub TakesMemory : Machine → Given → Type 0
+TakesMemory m first_order = m.last ≤ longest
+TakesMemory m second_order = m.last ≤ longest
+TakesMemory m (traced bytes) = IsInScope m × (length bytes ≤ limit)
+
 -- ---- both runs
 
 -- a header, and a line with how many ticks both runs have, the first places at which the form of their difference is greatest, the form there, and the bound
@@ -129,6 +136,10 @@ IsUncompared m c t1 t2 _ = ⊥
 -- a call may stop so: for such a reason, or for want of memory
 abbrev pub MayStop : (Stop → Type 0) → Stop → Type 0
 MayStop IsSuch stop = (stop ≡ stops.Memory) ⊎ IsSuch stop
+
+-- where it stops for want of memory, this holds
+abbrev pub IfMemory : Type 0 → Stop → Type 0
+IfMemory Holds stop = stop ≡ stops.Memory → Holds
 
 -- the line that tells why two runs are not compared
 abbrev pub comparison_line : ComparisonRefusal → List ℕ

@@ -1,10 +1,10 @@
 //! Two runs side by side.
 
-ghost use Rattle.std.specs.Prelude.{◌≡◌, IfOk, IfErr, ℤ};
+ghost use Rattle.std.specs.Prelude.{◌≡◌, IfOk, IfErr, List, ℕ, ℤ};
 ghost use Rattle.qss_machine.specs.Machines.{state_count};
 ghost use Rattle.cert_check.specs.Scope.{IsInScope};
 ghost use Rattle.trace_answer.specs.Comparisons as Spec;
-ghost use Rattle.trace_answer.specs.Comparisons.{IsCompared, IsUncompared, MayStop};
+ghost use Rattle.trace_answer.specs.Comparisons.{IfMemory, IsCompared, IsUncompared, MayStop};
 
 use crate::stop::{ComparisonRefusal, Stop};
 use cert_check::{Certificate, affine_system};
@@ -27,6 +27,9 @@ pub fn comparison_text(
     requires second { t2.now.n ≡ state_count m.now }
     ensures compared { IfOk result (λ text. IsCompared m.now c.now t1.now t2.now text.items) }
     ensures stopped { IfErr result (MayStop (IsUncompared m.now c.now t1.now t2.now)) }
+
+    // Memory is wanted for a text alone.
+    ensures memory { IfErr result (IfMemory ((text : List ℕ) × IsCompared m.now c.now t1.now t2.now text)) }
 {
     let unit = affine_system(m).unit;
     match compare(&c.pm, c.cc, unit, t1, t2) {

@@ -3,7 +3,7 @@
 ghost use Rattle.std.specs.Prelude.{◌≡◌, ℕ, IfOk, IfErr};
 ghost use Rattle.qss_machine.specs.Machines.{state_count};
 ghost use Rattle.cert_check.specs.Scope.{IsInScope};
-ghost use Rattle.trace_answer.specs.Comparisons.{first_order, second_order, traced, HasQuanta, IsFirstAbove, IsSide, IsSideless, MayStop};
+ghost use Rattle.trace_answer.specs.Comparisons.{first_order, second_order, traced, HasQuanta, IfMemory, IsFirstAbove, IsSide, IsSideless, MayStop, TakesMemory};
 
 use crate::ending::Ending;
 use crate::reading::read_run;
@@ -23,6 +23,7 @@ pub fn first_side(alloc: Global, m: &Machine, c: &Certificate, run: u32) -> Resu
     requires size { c.now.n ≡ state_count m.now }
     ensures side { IfOk result (IsSide m.now c.now first_order) }
     ensures stopped { IfErr result (MayStop (IsSideless m.now c.now run first_order)) }
+    ensures memory { IfErr result (IfMemory (TakesMemory m.now first_order)) }
 {
     if m.last > LONGEST {
         return Err(Stop::Refused(ComparisonRefusal::Long { last: m.last }));
@@ -39,6 +40,7 @@ pub fn second_side(alloc: Global, m: &Machine, c: &Certificate, run: u32) -> Res
     requires size { c.now.n ≡ state_count m.now }
     ensures side { IfOk result (IsSide m.now c.now second_order) }
     ensures stopped { IfErr result (MayStop (IsSideless m.now c.now run second_order)) }
+    ensures memory { IfErr result (IfMemory (TakesMemory m.now second_order)) }
 {
     if m.last > LONGEST {
         return Err(Stop::Refused(ComparisonRefusal::Long { last: m.last }));
@@ -60,6 +62,7 @@ pub fn traced_side(
     requires { c.now.n ≡ state_count m.now }
     ensures side { IfOk result (IsSide m.now c.now (traced bytes.now)) }
     ensures stopped { IfErr result (MayStop (IsSideless m.now c.now run (traced bytes.now))) }
+    ensures memory { IfErr result (IfMemory (TakesMemory m.now (traced bytes.now))) }
 {
     match read_run(alloc, m, bytes) {
         Ok(t) => allowed(c, t, run),
