@@ -7,7 +7,8 @@ use Rattle.mu_num.specs.Sizes.{IsWithin}
 use Rattle.qss_machine.specs.Firing.{flag_at}
 use Rattle.qss_machine.specs.Machines.{state_count}
 use Rattle.qss_order2.proofs.Bounds.{none_of, rise_by_weight}
-use Rattle.qss_order2.proofs.Settlings.{of_levels, of_changes, past_first, past_then, near_are, held_after}
+use Rattle.qss_order2.specs.Limits.{past_levels}
+use Rattle.qss_order2.proofs.Settlings.{of_changes, past_first, past_then, near_are, held_after}
 use Rattle.run_trace.specs.SecondPlaces.{AreHeld, changed}
 use Rattle.run_trace.proofs.FirstRuns.{wider}
 use Rattle.run_trace.proofs.FirstSteps.{none_small}
@@ -17,14 +18,14 @@ pub returns-in-Some-clause-over : goal.returns-in-Some-clause-over
 returns-in-Some-clause-over c =
     let m = c.args.m.now in
     let p = c.args.self.now in
-    let past : of_levels m p.levels.items ≡ Some c.in-Some.var = ap (of_levels m) (sym c.as_slice.ensures.value) ∙ sym c.past_levels.ensures ∙ c.in-Some.is in
+    let past : past_levels m p.levels.items ≡ Some c.in-Some.var = ap (past_levels m) (sym c.as_slice.ensures.value) ∙ sym c.past_levels.ensures ∙ c.in-Some.is in
     sym (past_first m p.levels.items (changed m p.left.items p.levels.items p.changes.items) c.in-Some.var past)
 
 pub set_changes-requires-clause-small : goal.set_changes-requires-clause-small
 set_changes-requires-clause-small c =
     let m = c.args.m.now in
     let p = c.args.self.now in
-    let none : of_levels m p.levels.items ≡ None = ap (of_levels m) (sym c.as_slice.ensures.value) ∙ sym c.past_levels.ensures ∙ c.in_default.is in
+    let none : past_levels m p.levels.items ≡ None = ap (past_levels m) (sym c.as_slice.ensures.value) ∙ sym c.past_levels.ensures ∙ c.in_default.is in
     subst (All (IsWithin 64)) (sym c.as_slice-3.ensures.value)
     (wider 49 64 p.levels.items (omega arith) (none_small 49 p.levels.items (state_count m) c.requires.sized.levels (none_of _ _ none).0))
 
@@ -32,7 +33,7 @@ pub returns-clause-over : goal.returns-clause-over
 returns-clause-over c =
     let m = c.args.m.now in
     let p = c.args.self.now in
-    let none : of_levels m p.levels.items ≡ None = ap (of_levels m) (sym c.as_slice.ensures.value) ∙ sym c.past_levels.ensures ∙ c.in_default.is in
+    let none : past_levels m p.levels.items ≡ None = ap (past_levels m) (sym c.as_slice.ensures.value) ∙ sym c.past_levels.ensures ∙ c.in_default.is in
     let taken : (with_items p.changes c.set_changes.new.changes).items ≡ changed m p.left.items p.levels.items p.changes.items =
     with_items_is p.changes c.set_changes.new.changes (c.set_changes.auto.changes ∙ c.as_mut_slice.ensures.len) ∙ c.set_changes.ensures
     ∙ ap (λ (l : List Bool). changed m l c.as_slice-3.result.now c.as_mut_slice.result.now) c.as_slice-2.ensures.value
@@ -53,7 +54,7 @@ pub returns-clause-held : goal.returns-clause-held
 returns-clause-held c = λ e.
     let m = c.args.m.now in
     let p = c.args.self.now in
-    let none : of_levels m p.levels.items ≡ None = ap (of_levels m) (sym c.as_slice.ensures.value) ∙ sym c.past_levels.ensures ∙ c.in_default.is in
+    let none : past_levels m p.levels.items ≡ None = ap (past_levels m) (sym c.as_slice.ensures.value) ∙ sym c.past_levels.ensures ∙ c.in_default.is in
     subst (AreHeld m) (sym (returns-clause-changes c e))
     (held_after true m (flag_at p.left.items) p.levels.items p.changes.items (changed m p.left.items p.levels.items p.changes.items)
     (near_are true m (flag_at p.left.items) p.levels.items p.changes.items) (λ j h. rise_by_weight m p.levels.items (none_of _ _ none).1 j h) c.requires.held)
