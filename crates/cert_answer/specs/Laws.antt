@@ -15,7 +15,7 @@ pub record AnswersAreOne : Type 0 where
   pub one_upgrade : (m : Machine) (bytes : List ℕ) (answer other : Answer) → IsUpgrade m bytes answer → IsUpgrade m bytes other → answer ≡ other
 
 -- where a certification has a text, it is the bounds of the certificate that the bytes spell: any two legitimate runs from the certificate's starts
--- lie within them, and the machine's own runs are among these
+-- lie within them, and the machine's own runs are among these where its start is one of the two
 abbrev pub BoundsHold : Type 0
 BoundsHold =
     (m : Machine) (bytes text : List ℕ) → IsCertification m bytes (written text) →

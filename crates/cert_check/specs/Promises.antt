@@ -55,7 +55,7 @@ pub record IsPromised (m : Machine) (c : Certificate) : Type 0 where
       size (apart s xs i s' xs' i' j) ≤ℤ (common_unit m s s' *ℤ vector c.e j)
 
 -- the machine's own runs, under whichever rule and with quanta relative to their levels, are legitimate with the certificate's quanta
--- where it has the machine's start
+-- where one of its starts is the machine's
 abbrev pub AdmitsRuns : Machine → Certificate → Type 0
 AdmitsRuns m c =
     (start_states m ≡ c.start1) ⊎ (start_states m ≡ c.start2) → (worlds : List World) → LeadsFreely m 0 (start_world m) worlds →

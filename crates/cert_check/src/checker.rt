@@ -204,7 +204,8 @@ pub fn check(m: &Machine, c: &Certificate) -> Verdict
     // Accepted exactly where all inequalities hold and all sums by which they are taken are in range.
     ensures accepted { (result ≡ Verdict.Accepted) ↔ (Holds (system_of m.now) (claim c.now) × AreSumsInRange (system_of m.now) (claim c.now)) }
 
-    // Then every two legitimate runs from the certificate's starts stay within its bounds, and the machine's own runs are among them.
+    // Then every two legitimate runs from the certificate's starts stay within its bounds, and the machine's own runs are
+    // among them where its start is one of the two.
     ensures promised { result ≡ Verdict.Accepted → IsPromised m.now c.now }
     ensures admitted { result ≡ Verdict.Accepted → AdmitsRuns m.now c.now }
 {

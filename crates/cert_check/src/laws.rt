@@ -2,7 +2,8 @@
 
 ghost use Rattle.cert_check.specs.Promises.{PromisesAreKept, SmallerQuantaAreLegitimate};
 
-/// Where a certificate's inequalities hold, it keeps what it promises, and it admits the machine's own runs.
+/// Where a certificate's inequalities hold, it keeps what it promises, and it admits the machine's own runs where one of its
+/// starts is the machine's.
 pub fn promises_are_kept()
     ensures { PromisesAreKept }
 {}

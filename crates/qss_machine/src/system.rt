@@ -148,7 +148,7 @@ impl Machine {
         add_three(own, time, 0)
     }
 
-    /// The same machine with quanta of at least this share of their levels, in 4096ths.
+    /// The same machine with quanta of at least this share of their levels, in 4096ths and rounded down.
     pub fn with_relative(self, n: u16) -> Machine
         requires { n ≤ 2048 }
         ensures relative { result.relative ≡ n }

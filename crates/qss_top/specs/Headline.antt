@@ -13,7 +13,8 @@ use Rattle.qss_words.specs.Commands.{RunOptions, run_model, certify_model, secon
 use Rattle.qss_top.specs.Answers.{Told, IsTold, IsSourceMachine, answered, printed, quiet, second_for}
 use Rattle.qss_top.specs.declared.status.Status.TheVariants as ends
 
--- `run` answers with the header and the rows of the run of the machine that the file's bytes mean, with status 0, or 6 where that run overflows
+-- `run` answers with the header and the rows of the run of the machine that the file's bytes mean, by the rule that the words name, as far as the words' filter passes
+-- them, with status 0, or 6 where that run overflows
 abbrev pub RunPrintsTheRun : Type 0
 RunPrintsTheRun =
     (words : List (List ℕ)) (files : Files) (told : Told) → IsTold words (Some files) told →

@@ -2,7 +2,7 @@
 use Rattle.std.specs.Prelude.{◌≡◌, ℕ}
 use Rattle.qss_machine.specs.declared.system.Machine.{Machine}
 
--- m is the plain machine, but with quanta of at least this share of their levels, in 4096ths
+-- m is the plain machine, but with quanta of at least this share of their levels, in 4096ths and rounded down
 pub record IsShared (share : ℕ) (plain m : Machine) : Type 0 where
   pub coef_bits : m.p ≡ plain.p
   pub tick_bits : m.k ≡ plain.k

@@ -40,7 +40,7 @@ pub record StopsAtLine (old new : Option (List ℕ)) (text : List ℕ) : Type 0 
 abbrev pub IsCutShort : Option (List ℕ) → Option (List ℕ) → Answer → Type 0
 IsCutShort old new answer = Appends old new [] ⊎ (StopsAtLine old new answer.out ⊎ ((answer.status ≡ ends.Overflow) × Appends old new answer.out))
 
--- of some of these names the count of faults has risen
+-- of some of these names the count of faults has risen by one, or stands at its last value
 abbrev pub SomeRose : List (List ℕ) → (List ℕ → ℕ) → (List ℕ → ℕ) → Type 0
 SomeRose names before now = (name : List ℕ) × Contains names name × Rose (before name) (now name)
 
@@ -58,11 +58,11 @@ IsLineOf ends.WriteFault reply old new line = line ≡ codes "write fault\n"
 IsLineOf ends.Memory reply old new line = line ≡ codes "out of memory\n"
 IsLineOf status reply old new line = IsReplyLine reply status old new line
 
--- a line is written, or a prefix of it and the count of faults has risen
+-- a line is written, or a prefix of it and the count of faults has risen by one or stands at its last value
 abbrev pub WritesLine : List ℕ → Option (List ℕ) → Option (List ℕ) → ℕ → ℕ → Type 0
 WritesLine line old new before now = Appends old new line ⊎ (AppendsPrefix old new line × Rose before now)
 
--- the line of a status is written, or a prefix of it and the count of faults has risen
+-- the line of a status is written, or a prefix of it and the count of faults has risen by one or stands at its last value
 pub record ReportsStatus (status : Status) (reply : Reply) (out_old out_new err_old err_new : Option (List ℕ)) (before now : ℕ) : Type 0 where
   pub line : List ℕ
   pub own : IsLineOf status reply out_old out_new line

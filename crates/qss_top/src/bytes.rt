@@ -40,7 +40,7 @@ pub fn answer_source<O: Sink>(alloc: Global, task: Task, source: &[u8], out: &mu
     on_source(alloc, task, source, out)
 }
 
-/// Certifies a source by the bytes of a certificate, with quanta of at least this share of their levels.
+/// Certifies a source by the bytes of a certificate, with quanta of at least this share of their levels (rounded down).
 /// What becomes of it, and what is written, is the answer to these bytes.
 pub fn answer_certificate<O: Sink>(
     alloc: Global,

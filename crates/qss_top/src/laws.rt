@@ -15,7 +15,8 @@ pub fn answers_exist()
     ensures { AnswersExist }
 {}
 
-/// Law: `run` answers with the header and the rows of the run of the machine that the file's bytes mean.
+/// Law: `run` answers with the header and the rows of the run of the machine that the file's bytes mean, by the rule that the
+/// words name, as far as their filter passes them.
 pub fn run_prints_the_run()
     ensures { RunPrintsTheRun }
 {}

@@ -12,8 +12,8 @@ use qss_compile::{Refused, compile, read_model};
 use qss_machine::Machine;
 use std::alloc::Global;
 
-/// The machine that a source means, with quanta of at least this share of their levels in 4096ths; or what becomes of a
-/// source that means none.
+/// The machine that a source means, with quanta of at least this share of their levels, in 4096ths
+/// and rounded down; or what becomes of a source that means none.
 pub(crate) fn machine_of(alloc: Global, share: u16, bytes: &[u8]) -> Result<Machine, Outcome>
     requires share { share ≤ 2048 }
     requires short { length bytes.now ≤ 2 ^ 20 }
