@@ -1,1 +1,2 @@
 pub mod AfterStatements
+pub mod Turns

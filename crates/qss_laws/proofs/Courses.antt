@@ -11,8 +11,9 @@ use Rattle.qss_machine.proofs.Fired.{branches_fire_when_due}
 use Rattle.qss_machine.proofs.Near.{runs_stay_near}
 use Rattle.qss_play.specs.Ahead.{first}
 use Rattle.qss_quant.specs.declared.rule.Rule.{Rule}
-use Rattle.qss_run.specs.Events.{LeadsSilently, IsNext}
-use Rattle.qss_run.specs.Rules.{IsRuled}
+use Rattle.qss_quiet.specs.Silent.{LeadsSilently}
+use Rattle.qss_run.specs.Events.{IsNext}
+use Rattle.qss_quiet.specs.Rules.{IsRuled}
 use Rattle.qss_run.specs.Standings.{Standing}
 use Rattle.qss_run.specs.declared.outcome.Outcome.{Outcome}
 use Rattle.qss_run.specs.declared.outcome.Outcome.TheVariants.{Events, Done, Over}

@@ -10,7 +10,7 @@ use Rattle.qss_machine.specs.Ticks.{World, StepBy, IsFreeLevel, start_world}
 use Rattle.qss_play.specs.Ahead.{first}
 use Rattle.qss_quant.specs.declared.rule.Rule.{Rule}
 use Rattle.qss_run.specs.Events.{IsNext}
-use Rattle.qss_run.specs.Rules.{IsRuled}
+use Rattle.qss_quiet.specs.Rules.{IsRuled}
 use Rattle.qss_run.specs.Standings.{Standing}
 use Rattle.qss_run.specs.declared.outcome.Outcome.{Outcome}
 use Rattle.qss_run.specs.declared.outcome.Outcome.TheVariants.{Events, Done, Over}

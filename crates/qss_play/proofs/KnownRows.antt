@@ -28,9 +28,9 @@ use Rattle.qss_machine.specs.Machines.{state_count, discrete_count, level_unit, 
 use Rattle.qss_machine.specs.Handlers.{Handling, due_flags, truths, assigned_value, assign, run_action, fire_row, run_first_due, run_clauses}
 use Rattle.qss_machine.specs.Ticks.{World, start_world, moved_states, handling_at, is_near, is_overweight, world_unless, settle, next_levels, step}
 use Rattle.qss_machine.specs.Runs.{Run, run_with, run_from, run_by, state_rows, discrete_rows, world_rows, level_rows, tick_rows, rows_after, run_rows}
-use Rattle.qss_run.specs.Skips.{rows_from}
-use Rattle.qss_run.proofs.EndRows.{state_row, discrete_row}
-use Rattle.qss_run.proofs.LevelRows.{level_row}
+use Rattle.qss_quiet.specs.Skips.{rows_from}
+use Rattle.qss_quiet.proofs.EndRows.{state_row, discrete_row}
+use Rattle.qss_quiet.proofs.LevelRows.{level_row}
 use Rattle.qss_rows.specs.Lines.{HasVariable}
 
 abbrev pub count : Machine → ℕ

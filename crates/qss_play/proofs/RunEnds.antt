@@ -8,11 +8,12 @@ use Rattle.qss_quant.specs.declared.rule.Rule.{Rule}
 use Rattle.qss_quant.specs.Rules.{level_by}
 use Rattle.qss_run.specs.declared.outcome.Outcome.{Outcome}
 use Rattle.qss_run.specs.declared.outcome.Outcome.TheVariants.{Events, Done, Over}
-use Rattle.qss_run.specs.Events.{LeadsSilently, IsNext, unless_ended, rows_left}
-use Rattle.qss_run.specs.Rules.{IsRuled}
-use Rattle.qss_run.specs.Skips.{rows_from}
+use Rattle.qss_quiet.specs.Silent.{LeadsSilently}
+use Rattle.qss_run.specs.Events.{IsNext, unless_ended, rows_left}
+use Rattle.qss_quiet.specs.Rules.{IsRuled}
+use Rattle.qss_quiet.specs.Skips.{rows_from}
 use Rattle.qss_run.specs.Standings.{Standing}
-use Rattle.qss_run.proofs.Silences.{named_step}
+use Rattle.qss_quiet.proofs.Silences.{named_step}
 use Rattle.qss_play.specs.Ahead.{run_ahead, EndsFrom}
 
 -- the last tick of a run's worlds, and the variable that then overflowed

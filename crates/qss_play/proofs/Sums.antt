@@ -18,8 +18,8 @@ use Rattle.qss_machine.specs.Numbers.{int_at}
 use Rattle.qss_machine.specs.Handlers.{Handling, assigned_value, assign, run_action, fire_row, run_first_due, run_clauses}
 use Rattle.qss_machine.specs.Ticks.{World, handling_at}
 use Rattle.qss_machine.specs.Runs.{state_rows, discrete_rows, world_rows, level_rows, tick_rows}
-use Rattle.qss_run.proofs.EndRows.{state_row, discrete_row}
-use Rattle.qss_run.proofs.LevelRows.{level_row}
+use Rattle.qss_quiet.proofs.EndRows.{state_row, discrete_row}
+use Rattle.qss_quiet.proofs.LevelRows.{level_row}
 use Rattle.qss_play.specs.Tallies.{is_level, level_count, end_level, end_sum}
 
 pub level_count-append : (xs ys : List Row) → level_count (xs ++ ys) ≡ level_count xs + level_count ys

@@ -16,15 +16,15 @@ use Rattle.qss_quant.specs.Lines.{Line, state_at}
 use Rattle.qss_cross.specs.Crossing.{Watch}
 use Rattle.qss_sched.specs.Ranks.{due_at}
 use Rattle.qss_run.specs.Handlings.{AreAssigned, states_with, AreWatchedUpTo}
-use Rattle.qss_run.specs.Moves.{is_among, IsOff}
+use Rattle.qss_quiet.specs.Among.{is_among, IsOff}
 use Rattle.qss_run.specs.Places.{line_at, watch_at, IsWatched}
-use Rattle.qss_run.specs.Sims.{condition_at}
+use Rattle.qss_quiet.specs.Sims.{condition_at}
 use Rattle.qss_run.specs.Speeds.{reads_moved}
 use Rattle.qss_run.specs.Stores.{states_at}
 use Rattle.qss_run.proofs.DueLevels.{length-states_at, int_at-states_at}
-use Rattle.qss_run.proofs.Quiet.{int_at-tabulate, tabulate-same}
-use Rattle.qss_run.proofs.SameSlopes.{slope_same}
-use Rattle.qss_run.proofs.Unread.{unread_at}
+use Rattle.qss_quiet.proofs.Quiet.{int_at-tabulate, tabulate-same}
+use Rattle.qss_quiet.proofs.SameSlopes.{slope_same}
+use Rattle.qss_quiet.proofs.Unread.{unread_at}
 
 -- states with those of the moved ones, by number
 pub length-states_with : (lines : List Line) (t : ℕ) (moved : List ℕ) (x : List ℤ) → length (states_with lines t moved x) ≡ length lines

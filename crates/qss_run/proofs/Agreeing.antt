@@ -28,14 +28,14 @@ use Rattle.qss_machine.specs.Uses.{has_entry}
 use Rattle.qss_hand.specs.Works.{branch_at}
 use Rattle.qss_run.specs.declared.conditions.BranchPlace.{BranchPlace}
 use Rattle.qss_run.specs.Handlings.{flags_of, handling_of_fired, is_reinitialized}
-use Rattle.qss_run.specs.Moves.{AreNumbers}
+use Rattle.qss_quiet.specs.Among.{AreNumbers}
 use Rattle.qss_run.specs.Places.{AreBranches}
 use Rattle.qss_run.specs.Reads.{action_reads, branch_reads, fired_reads, AreArrived}
 use Rattle.qss_run.proofs.Branches.{place_at}
 use Rattle.qss_run.proofs.Firings.{no_clause, no_branch, one_place, set_inside, flag_among}
 use Rattle.qss_run.proofs.Reported.{reinits_of}
-use Rattle.qss_run.proofs.Writes.{index_of}
-use Rattle.qss_run.proofs.Unread.{no_coefficient}
+use Rattle.qss_quiet.proofs.Writes.{index_of}
+use Rattle.qss_quiet.proofs.Unread.{no_coefficient}
 
 -- a form's value depends on a state only where the form has an entry of it
 pub value_agrees : (m : Machine) (form : Form) (x y discretes before : List ℤ) (tick : ℕ) → length x ≡ length y →

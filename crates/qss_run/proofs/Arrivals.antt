@@ -17,20 +17,20 @@ use Rattle.qss_quant.specs.Lines.{Line, state_at}
 use Rattle.qss_hand.specs.Values.{Values}
 use Rattle.qss_hand.specs.Works.{AreValuesOf, row_room}
 use Rattle.qss_run.specs.Handlings.{flags_of, handling_of_fired, is_reinitialized, states_with, IsHandled}
-use Rattle.qss_run.specs.Logs.{assigned_of}
-use Rattle.qss_run.specs.Moves.{is_among, AreNumbers}
+use Rattle.qss_quiet.specs.Logs.{assigned_of}
+use Rattle.qss_quiet.specs.Among.{is_among, AreNumbers}
 use Rattle.qss_run.specs.Places.{line_at}
-use Rattle.qss_run.specs.Sims.{condition_at}
+use Rattle.qss_quiet.specs.Sims.{condition_at}
 use Rattle.qss_run.specs.Stores.{states_at, handling_from}
-use Rattle.qss_run.specs.Writes.{IsWritten}
+use Rattle.qss_quiet.specs.Writes.{IsWritten}
 use Rattle.qss_run.proofs.Reported.{AreLogged, among_assigned, logged, small_after}
 use Rattle.qss_run.proofs.DueLevels.{int_at-states_at}
-use Rattle.qss_run.proofs.Firsts.{same_lists}
-use Rattle.qss_run.proofs.Flags.{due_flags_are, truths_are}
+use Rattle.qss_quiet.proofs.Firsts.{same_lists}
+use Rattle.qss_quiet.proofs.Flags.{due_flags_are, truths_are}
 use Rattle.qss_run.proofs.Handled.{all_within}
-use Rattle.qss_run.proofs.Quiet.{int_at-tabulate}
-use Rattle.qss_run.proofs.Turns.{rows_clauses}
-use Rattle.qss_run.proofs.Writes.{among_at}
+use Rattle.qss_quiet.proofs.Quiet.{int_at-tabulate}
+use Rattle.qss_hand.proofs.Turns.{rows_clauses}
+use Rattle.qss_quiet.proofs.Writes.{among_at}
 
 -- a flag that is known at once
 known_flag : (looked holds settled : Bool) → (looked ≡ false → holds ≡ settled) → (if looked then holds else settled) ≡ holds

@@ -13,10 +13,10 @@ use Rattle.qss_machine.specs.Slopes.{mode_coefficient, mode_fits}
 use Rattle.qss_machine.specs.Ticks.{is_overweight}
 use Rattle.qss_machine.specs.Uses.{row_reads}
 use Rattle.qss_run.specs.Handlings.{AreAssigned}
-use Rattle.qss_run.specs.Moves.{is_among}
+use Rattle.qss_quiet.specs.Among.{is_among}
 use Rattle.qss_run.specs.Speeds.{reads_moved}
-use Rattle.qss_run.proofs.SameSlopes.{mode_same, slope_same, weight_same}
-use Rattle.qss_run.proofs.Unread.{unread_at}
+use Rattle.qss_quiet.proofs.SameSlopes.{mode_same, slope_same, weight_same}
+use Rattle.qss_quiet.proofs.Unread.{unread_at}
 
 module _ (m : Machine) (levels pre d : List ℤ) (assigned : List ℕ) (many : length levels ≡ state_count m) (many_pre : length pre ≡ discrete_count m) (many_d : length d ≡ discrete_count m)
     (are : AreAssigned m assigned pre d) (j : ℕ) (known : j < state_count m) (unread : reads_moved m assigned j ≡ false) where

@@ -14,8 +14,8 @@ use Rattle.qss_machine.specs.declared.system.Machine.{Machine}
 use Rattle.qss_hand.specs.Works.{clause_at}
 use Rattle.qss_run.specs.declared.conditions.BranchPlace.{BranchPlace}
 use Rattle.qss_run.specs.Places.{IsBranchOf}
-use Rattle.qss_run.specs.Sims.{condition_at}
-use Rattle.qss_run.proofs.Turns.{length-conditions, conditions_few}
+use Rattle.qss_quiet.specs.Sims.{condition_at}
+use Rattle.qss_hand.proofs.Turns.{length-conditions, conditions_few}
 
 abbrev pub place_of : ℕ → ℕ → BranchPlace
 place_of clause branch = record { clause = clause; branch = branch }

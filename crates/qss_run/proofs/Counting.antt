@@ -5,7 +5,7 @@ use Rattle.std.proofs.lemmas.List.Sums.{sum_by-append, sum_by-cons}
 use Rattle.std.specs.List.{range_with_len}
 use Rattle.std.specs.Prelude.{if◌then◌else◌}
 use Rattle.mu_num.proofs.Tests.{if-false}
-use Rattle.qss_run.proofs.LevelRows.{range_more}
+use Rattle.qss_quiet.proofs.LevelRows.{range_more}
 
 -- one for a test that passes
 abbrev pub one_if : Bool → ℕ

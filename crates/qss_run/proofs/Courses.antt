@@ -12,14 +12,14 @@ use Rattle.qss_machine.specs.Numbers.{int_at, tabulate}
 use Rattle.qss_machine.specs.Uses.{reading_rows}
 use Rattle.qss_quant.specs.Lines.{Line, state_at, IsNear}
 use Rattle.qss_sched.specs.Ranks.{due_at}
-use Rattle.qss_run.specs.Moves.{is_among}
+use Rattle.qss_quiet.specs.Among.{is_among}
 use Rattle.qss_run.specs.Places.{line_at, IsTurned}
 use Rattle.qss_run.specs.Renewals.{goes_at}
 use Rattle.qss_run.specs.RowSums.{AreSumsBefore}
-use Rattle.qss_run.specs.Sims.{IsDue}
+use Rattle.qss_quiet.specs.Sims.{IsDue}
 use Rattle.qss_run.specs.Turnings.{MayTurn, GoesOn, Courses, AreTurned}
-use Rattle.qss_run.proofs.Among.{among_readers}
-use Rattle.qss_run.proofs.Unread.{unread_at, unread_slope}
+use Rattle.qss_quiet.proofs.Among.{among_readers}
+use Rattle.qss_quiet.proofs.Unread.{unread_at, unread_slope}
 use Rattle.qss_run.specs.declared.shifts.RowSum.TheVariants.{Slope}
 
 -- ---- one state

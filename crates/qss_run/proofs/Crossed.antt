@@ -21,21 +21,23 @@ use Rattle.qss_run.specs.RowSums.{AreSumsBefore}
 use Rattle.qss_run.specs.declared.shifts.RowSum.TheVariants.{Slope}
 use Rattle.qss_run.specs.declared.store.Store.{Store}
 use Rattle.qss_run.specs.Handlings.{states_with, is_reinitialized, IsHandled, AreMovedTo}
-use Rattle.qss_run.specs.Moves.{is_among, became_true, IsOff, IsWithout}
+use Rattle.qss_quiet.specs.Among.{is_among, IsOff}
+use Rattle.qss_run.specs.Moves.{became_true, IsWithout}
 use Rattle.qss_run.specs.Places.{line_at, watch_at, IsWatched}
-use Rattle.qss_run.specs.Rules.{IsRuled}
-use Rattle.qss_run.specs.Sims.{condition_at, IsDue, IsChange, StandsFor, HasNothingBefore}
+use Rattle.qss_quiet.specs.Rules.{IsRuled}
+use Rattle.qss_quiet.specs.Sims.{condition_at, IsDue, IsChange, StandsFor, HasNothingBefore}
 use Rattle.qss_run.specs.Stores.{states_at, handling_from, world_of, IsTaken}
 use Rattle.qss_run.proofs.AfterHandlers.{length-states_with, int_at-states_with, other_state}
 use Rattle.qss_run.proofs.Handled.{over_early}
 use Rattle.qss_run.proofs.Jumps.{dues_later}
-use Rattle.qss_run.proofs.Quiet.{moved_is}
+use Rattle.qss_quiet.proofs.Quiet.{moved_is}
 use Rattle.qss_run.proofs.QuietTick.{value_small, condition_bounded}
 use Rattle.qss_run.proofs.QuietVisits.{rest_near, arrived}
 use Rattle.qss_run.proofs.Takes.{not_among}
-use Rattle.qss_run.proofs.Silence.{from_later, watch_value_at, flag_still}
-use Rattle.qss_run.proofs.Visits.{due_stays, next_is_near}
-use Rattle.qss_run.proofs.Writes.{index_of}
+use Rattle.qss_quiet.proofs.Silence.{from_later, watch_value_at, flag_still}
+use Rattle.qss_run.proofs.Visits.{due_stays}
+use Rattle.qss_quiet.proofs.Writes.{index_of}
+use Rattle.qss_quiet.proofs.NextLevels.{next_is_near}
 
 -- where handlers overflow nowhere, no state passed its limit on arrival
 pub none_early : (m : Machine) (tick : ℕ) (x d : List ℤ) (arrived settled : List Bool) → (handling_from m tick x d arrived settled).overflow ≡ None → first_past 88 x ≡ None
@@ -49,10 +51,10 @@ module _ (m : Machine) (tick : ℕ) (agenda : List (Option ℕ)) (s : Store) (ta
   abbrev before : Store
   before = record s { agenda = agenda }
 
-  for : StandsFor m tick (world_of tick s) (line_at s.lines.items) (watch_at s.watches.items) agenda
+  for : StandsFor m tick (world_of tick s) (line_at s.lines.items) (watch_at s.watches.items) (due_at agenda)
   for = taken.stands.stands_for
 
-  nothing : HasNothingBefore (tick + 1) agenda
+  nothing : HasNothingBefore (tick + 1) (due_at agenda)
   nothing place t e = omega (arith, dues_later m tick before taken.stands place t e)
 
   in_limit : tick + 1 ≤ tick_limit
@@ -108,7 +110,7 @@ module _ (m : Machine) (tick : ℕ) (agenda : List (Option ℕ)) (s : Store) (ta
   held_then : (place : ℕ) → place < length (conditions m) →
       value_at (watch_at s.watches.items place) (tick + 1) ≡ value_of m (condition_at m place).form (states_at s.lines.items (tick + 1)) s.work.d s.work.d (tick + 1)
   held_then place h =
-      watch_value_at m tick (world_of tick s) (line_at s.lines.items) (watch_at s.watches.items) agenda for place 1 h
+      watch_value_at m tick (world_of tick s) (line_at s.lines.items) (watch_at s.watches.items) (due_at agenda) for place 1 h
       ∙ ap (λ x. value_of m (condition_at m place).form x s.work.d s.work.d (tick + 1)) (sym (arrived m tick agenda s taken in_time ∙ moved_is m (world_of tick s)))
 
   -- one that does not change is as after the last handlers
@@ -116,7 +118,7 @@ module _ (m : Machine) (tick : ℕ) (agenda : List (Option ℕ)) (s : Store) (ta
       truth m (condition_at m place) (states_at s.lines.items (tick + 1)) s.work.d (tick + 1) ≡ flag_at s.settled.items place
   flag_same place h none =
       ap (λ x. truth m (condition_at m place) x s.work.d (tick + 1)) (arrived m tick agenda s taken in_time ∙ moved_is m (world_of tick s))
-      ∙ flag_still m tick (world_of tick s) (line_at s.lines.items) (watch_at s.watches.items) agenda (tick + 1) 1 place for (omega arith) (omega arith) in_limit h (later_change place h none)
+      ∙ flag_still m tick (world_of tick s) (line_at s.lines.items) (watch_at s.watches.items) (due_at agenda) (tick + 1) 1 place for (omega arith) (omega arith) in_limit h (later_change place h none)
 
   -- and one that is not looked at did not become true through them
   pub rest_as_before : (place : ℕ) → place < length (conditions m) → is_among s.changed.items place ≡ false →

@@ -17,15 +17,15 @@ use Rattle.qss_machine.specs.Ticks.{is_near, IsNextLevel, AreNextLevels}
 use Rattle.qss_machine.specs.Runs.{level_rows}
 use Rattle.qss_quant.specs.Lines.{Line, state_at}
 use Rattle.qss_run.specs.Handlings.{AreMovedTo}
-use Rattle.qss_run.specs.Moves.{is_among, AreNumbers, IsOff}
+use Rattle.qss_quiet.specs.Among.{is_among, AreNumbers, IsOff}
 use Rattle.qss_run.specs.Places.{line_at}
 use Rattle.qss_run.specs.Stores.{states_at}
-use Rattle.qss_run.specs.Writes.{IsFirstOf, IsWritten}
-use Rattle.qss_run.proofs.LevelRows.{row_of, level_row}
-use Rattle.qss_run.proofs.Quiet.{int_at-tabulate}
-use Rattle.qss_run.proofs.DueFirsts.{first_of_all}
-use Rattle.qss_run.proofs.DueRows.{rows_among}
-use Rattle.qss_run.proofs.Writes.{index_of, among_head, among_rest}
+use Rattle.qss_quiet.specs.Writes.{IsFirstOf, IsWritten}
+use Rattle.qss_quiet.proofs.LevelRows.{row_of, level_row}
+use Rattle.qss_quiet.proofs.Quiet.{int_at-tabulate}
+use Rattle.qss_quiet.proofs.DueFirsts.{first_of_all}
+use Rattle.qss_quiet.proofs.DueRows.{rows_among}
+use Rattle.qss_quiet.proofs.Writes.{index_of, among_head, among_rest}
 
 -- the states at a tick by number
 pub length-states_at : (lines : List Line) (tick : ℕ) → length (states_at lines tick) ≡ length lines

@@ -7,8 +7,9 @@ use Rattle.std.specs.List.{All}
 use Rattle.std.specs.List.Sorted.{IsStrictlyIncreasing}
 use Rattle.std.specs.Prelude.{Option, Some, None}
 use Rattle.qss_sched.specs.Ranks.{due_at, IsLeast}
-use Rattle.qss_run.specs.Moves.{is_among, AreNumbers, AreChanging, IsTakenAfter}
-use Rattle.qss_run.proofs.Writes.{among_push}
+use Rattle.qss_quiet.specs.Among.{is_among, AreNumbers}
+use Rattle.qss_run.specs.Moves.{AreChanging, IsTakenAfter}
+use Rattle.qss_quiet.proofs.Writes.{among_push}
 
 -- of n places after the first ones some are taken that are due at a tick: those that are left come later, and are `count` or more after the first ones
 pub record AreTaken (first n count tick : ℕ) (old new : List (Option ℕ)) (found : List ℕ) : Type 0 where

@@ -18,10 +18,10 @@ use Rattle.qss_hand.specs.Works.{clause_at, branch_at, row_room}
 use Rattle.qss_run.specs.Handlings.{flags_of}
 use Rattle.qss_run.specs.declared.conditions.BranchPlace.{BranchPlace}
 use Rattle.qss_run.specs.Places.{IsBranchOf, AreBranches}
-use Rattle.qss_run.specs.Moves.{is_among, AreNumbers}
-use Rattle.qss_run.specs.Rooms.{clause_room}
-use Rattle.qss_run.proofs.Turns.{next_turn, none_due, first_fires, room-drop}
-use Rattle.qss_run.proofs.Writes.{index_of, among_at}
+use Rattle.qss_quiet.specs.Among.{is_among, AreNumbers}
+use Rattle.qss_hand.specs.Rooms.{clause_room}
+use Rattle.qss_hand.proofs.Turns.{next_turn, none_due, first_fires, room-drop}
+use Rattle.qss_quiet.proofs.Writes.{index_of, among_at}
 use Rattle.qss_run.proofs.Branches.{place_at, width_of}
 
 abbrev pub no_clause : ClauseInfo

@@ -11,8 +11,8 @@ use Rattle.qss_machine.specs.Handlers.{Handling, truths, due_flags, run_clauses}
 use Rattle.qss_hand.specs.Values.{Values}
 use Rattle.qss_hand.specs.Works.{handling_of, row_room}
 use Rattle.qss_run.specs.Stores.{handling_from}
-use Rattle.qss_run.proofs.Ranges.{none_passes}
-use Rattle.qss_run.proofs.Turns.{clauses_stay, rows_clauses}
+use Rattle.qss_quiet.proofs.Ranges.{none_passes}
+use Rattle.qss_hand.proofs.Turns.{clauses_stay, rows_clauses}
 
 module _ (m : Machine) (tick : ℕ) (x d : List ℤ) (arrived settled : List Bool) where
   -- a state that passed its limit on arrival

@@ -17,14 +17,14 @@ use Rattle.qss_quant.specs.Lines.{state_at}
 use Rattle.qss_sched.specs.Ranks.{due_at}
 use Rattle.qss_run.specs.declared.store.Store.{Store}
 use Rattle.qss_run.specs.Places.{line_at, watch_at}
-use Rattle.qss_run.specs.Sims.{StandsFor, rises}
-use Rattle.qss_run.specs.Skips.{states_after, world_after}
+use Rattle.qss_quiet.specs.Sims.{StandsFor, rises}
+use Rattle.qss_quiet.specs.Skips.{states_after, world_after}
 use Rattle.qss_run.specs.Stores.{states_at, world_of, FitsMachine, Stands}
-use Rattle.qss_run.specs.Events.{AreSilent}
-use Rattle.qss_run.proofs.Quiet.{int_at-tabulate, tabulate-same}
-use Rattle.qss_run.proofs.Silence.{line_state_at, none_rises, silence, stands_still}
-use Rattle.qss_run.proofs.Silences.{quiet_worlds, quiet_leads}
-use Rattle.qss_run.proofs.Skipped.{settled_twice}
+use Rattle.qss_quiet.specs.Silent.{AreSilent}
+use Rattle.qss_quiet.proofs.Quiet.{int_at-tabulate, tabulate-same}
+use Rattle.qss_quiet.proofs.Silence.{line_state_at, none_rises, silence, stands_still}
+use Rattle.qss_quiet.proofs.Silences.{quiet_worlds, quiet_leads}
+use Rattle.qss_quiet.proofs.Skipped.{settled_twice}
 
 pub later_of : (P : ℕ → Type 0) (from t : ℕ) (found : Option ℕ) → FirstAfter P from found → found ≡ Some t → from < t
 later_of P from t None first e = absurd (cc)
@@ -41,7 +41,7 @@ dues_later m tick s stands place t e = elim (cases_lt place n) [ inl below ↦ l
     n : ℕ
     n = state_count m
 
-    for : StandsFor m tick (world_of tick s) (line_at s.lines.items) (watch_at s.watches.items) s.agenda
+    for : StandsFor m tick (world_of tick s) (line_at s.lines.items) (watch_at s.watches.items) (due_at s.agenda)
     for = stands.stands_for
 
     count : ℕ
@@ -76,7 +76,7 @@ states_later m tick s stands k =
     ap (λ n. tabulate n (λ j. state_at (line_at s.lines.items j) (tick + k))) stands.fits.lines
     ∙ tabulate-same (pos 0) (state_count m) _ _
     (λ j h.
-    line_state_at m tick (world_of tick s) (line_at s.lines.items) (watch_at s.watches.items) s.agenda stands.stands_for j k h
+    line_state_at m tick (world_of tick s) (line_at s.lines.items) (watch_at s.watches.items) (due_at s.agenda) stands.stands_for j k h
     ∙ int_at-tabulate (state_count m) (λ i. int_at (world_of tick s).states i +ℤ pos k *ℤ slope_at m i s.levels.items s.work.d) j h)
 
 -- the truths on arrival by then
@@ -126,7 +126,7 @@ pub stands_then : (m : Machine) (tick ticks : ℕ) (s : Store) (arrived : Vec Bo
     (calm ≡ true → arrived.items ≡ s.settled.items) → Stands m (tick + ticks) (record s { arrived = arrived; calm = calm })
 stands_then m tick ticks s arrived calm stands before nothing is as_settled = record {
   fits = fits_then m s arrived calm stands.fits (ap length is ∙ many ticks);
-  stands_for = subst (λ v. StandsFor m (tick + ticks) v (line_at s.lines.items) (watch_at s.watches.items) s.agenda) (sym (world_then m tick ticks s arrived calm stands is)) (still ticks before nothing);
+  stands_for = subst (λ v. StandsFor m (tick + ticks) v (line_at s.lines.items) (watch_at s.watches.items) (due_at s.agenda)) (sym (world_then m tick ticks s arrived calm stands is)) (still ticks before nothing);
   fresh_levels = stands.fresh_levels;
   own_slopes = stands.own_slopes;
   own_weights = stands.own_weights;
@@ -145,7 +145,7 @@ stands_then m tick ticks s arrived calm stands before nothing is as_settled = re
     none_risen : (k : ℕ) → tick + suc k < m.last → ((place t : ℕ) → due_at s.agenda place ≡ Some t → tick + suc k + 1 ≤ t) → s.rising ≡ false
     none_risen k before nothing =
         stands.rising
-        ∙ none_rises m tick (world_of tick s) (line_at s.lines.items) (watch_at s.watches.items) s.agenda (tick + suc k) stands.stands_for (omega arith)
+        ∙ none_rises m tick (world_of tick s) (line_at s.lines.items) (watch_at s.watches.items) (due_at s.agenda) (tick + suc k) stands.stands_for (omega arith)
         (λ t e. omega (arith, nothing _ t e))
 
     risen : (k : ℕ) → tick + k < m.last → ((place t : ℕ) → due_at s.agenda place ≡ Some t → tick + k + 1 ≤ t) → arrived.items ≡ arrived_then k s.arrived.items s.settled.items →
@@ -155,12 +155,12 @@ stands_then m tick ticks s arrived calm stands before nothing is as_settled = re
         none_risen k before nothing ∙ sym (ap (λ a. list_any (λ flag. flag) (due_flags s.settled.items a s.settled.items)) is ∙ settled_twice s.settled.items)
 
     still : (k : ℕ) → tick + k < m.last → ((place t : ℕ) → due_at s.agenda place ≡ Some t → tick + k + 1 ≤ t) →
-        StandsFor m (tick + k) (world_after m (world_of tick s) k) (line_at s.lines.items) (watch_at s.watches.items) s.agenda
+        StandsFor m (tick + k) (world_after m (world_of tick s) k) (line_at s.lines.items) (watch_at s.watches.items) (due_at s.agenda)
     still zero before nothing =
         let e : tick ≡ tick + 0 = omega arith in
-        subst (λ t. StandsFor m t (world_of tick s) (line_at s.lines.items) (watch_at s.watches.items) s.agenda) e stands.stands_for
+        subst (λ t. StandsFor m t (world_of tick s) (line_at s.lines.items) (watch_at s.watches.items) (due_at s.agenda)) e stands.stands_for
     still (suc k) before nothing =
-        stands_still m tick (world_of tick s) (line_at s.lines.items) (watch_at s.watches.items) s.agenda (tick + suc k) (suc k) stands.stands_for (omega arith)
+        stands_still m tick (world_of tick s) (line_at s.lines.items) (watch_at s.watches.items) (due_at s.agenda) (tick + suc k) (suc k) stands.stands_for (omega arith)
         (omega (arith, before, m.has_units.last_tick)) (λ place t e. omega (arith, nothing place t e)) (omega arith)
 
 pub silent_then : (Rule : ℤ → ℤ → ℤ → ℤ → Type 0) (m : Machine) (tick ticks : ℕ) (s : Store) → Stands m tick s → tick + ticks < m.last →
@@ -168,7 +168,7 @@ pub silent_then : (Rule : ℤ → ℤ → ℤ → ℤ → Type 0) (m : Machine) 
     AreSilent Rule m tick (world_of tick s) (quiet_worlds m (world_of tick s) ticks) (tick + ticks) (world_after m (world_of tick s) ticks)
 silent_then Rule m tick zero s stands before nothing = record { leads = tt; as_many = refl; reached = refl }
 silent_then Rule m tick (suc k) s stands before nothing =
-    let quiet = silence m tick (world_of tick s) (line_at s.lines.items) (watch_at s.watches.items) s.agenda (tick + suc k) stands.stands_for (omega arith)
+    let quiet = silence m tick (world_of tick s) (line_at s.lines.items) (watch_at s.watches.items) (due_at s.agenda) (tick + suc k) stands.stands_for (omega arith)
     (omega (arith, before, m.has_units.last_tick)) (λ place t e. omega (arith, nothing place t e)) in
     quiet_leads Rule m tick (world_of tick s) (suc k) stands.stands_for.left quiet.0 (λ t positive below. quiet.1 t positive (omega (arith, below)))
 

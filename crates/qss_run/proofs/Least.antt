@@ -10,10 +10,10 @@ use Rattle.qss_machine.specs.Machines.{state_count, row_at, weight_at}
 use Rattle.qss_machine.specs.Numbers.{int_at}
 use Rattle.qss_machine.specs.Slopes.{mode_fits}
 use Rattle.qss_machine.specs.Ticks.{is_overweight}
-use Rattle.qss_run.specs.Moves.{is_among}
+use Rattle.qss_quiet.specs.Among.{is_among}
 use Rattle.qss_run.specs.Overweights.{comes_before, IsLeastPast}
-use Rattle.qss_run.proofs.Firsts.{first_is, less_yes}
-use Rattle.qss_run.proofs.Ranges.{position-none}
+use Rattle.qss_quiet.proofs.Firsts.{first_is, less_yes}
+use Rattle.qss_quiet.proofs.Ranges.{position-none}
 
 -- nothing was looked at
 pub least_none : (weights : List ℤ) → IsLeastPast weights [] None

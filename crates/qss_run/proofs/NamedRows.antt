@@ -10,12 +10,13 @@ use Rattle.qss_quant.specs.declared.rule.Rule.{Rule}
 use Rattle.qss_quant.specs.Rules.{level_by}
 use Rattle.qss_run.specs.declared.outcome.Outcome.{Outcome}
 use Rattle.qss_run.specs.declared.outcome.Outcome.TheVariants.{Events, Done, Over}
-use Rattle.qss_run.specs.Rules.{IsRuled}
-use Rattle.qss_run.specs.Skips.{rows_from}
+use Rattle.qss_quiet.specs.Rules.{IsRuled}
+use Rattle.qss_quiet.specs.Skips.{rows_from}
 use Rattle.qss_run.specs.Standings.{Standing}
-use Rattle.qss_run.specs.Events.{LeadsSilently, IsNext, unless_ended, rows_left}
-use Rattle.qss_run.proofs.Silences.{silent_rows, named_step}
-use Rattle.qss_run.proofs.Skipped.{rows_of_visits}
+use Rattle.qss_quiet.specs.Silent.{LeadsSilently}
+use Rattle.qss_run.specs.Events.{IsNext, unless_ended, rows_left}
+use Rattle.qss_quiet.proofs.Silences.{silent_rows, named_step}
+use Rattle.qss_quiet.proofs.Skipped.{rows_of_visits}
 
 abbrev pub at : Machine → ℕ → World → List Row → Option Outcome → Standing
 at m tick w rows end = record { machine = m; tick = tick; world = w; rows = rows; end = end }

@@ -29,13 +29,13 @@ use Rattle.qss_cross.specs.Crossing.{Watch, IsSmall, value_at, holds_at}
 use Rattle.qss_sched.specs.Ranks.{due_at}
 use Rattle.qss_run.specs.declared.conditions.BranchPlace.{BranchPlace}
 use Rattle.qss_run.specs.Places.{AreBranches, IsWatched}
-use Rattle.qss_run.specs.Skips.{NoneRises}
-use Rattle.qss_run.specs.Sims.{slopes_of, condition_at, rises, IsChange, StandsFor}
+use Rattle.qss_quiet.specs.Skips.{NoneRises}
+use Rattle.qss_quiet.specs.Sims.{slopes_of, condition_at, rises, IsChange, StandsFor}
 use Rattle.qss_run.proofs.Branches.{place_at}
-use Rattle.qss_run.proofs.Quiet.{clauses-idle, moved_is}
-use Rattle.qss_run.proofs.Flags.{truths_are}
-use Rattle.qss_run.proofs.Silence.{from_later, watch_value_at, flag_still}
-use Rattle.qss_run.proofs.Skipped.{settled_twice}
+use Rattle.qss_quiet.proofs.Quiet.{clauses-idle, moved_is}
+use Rattle.qss_quiet.proofs.Flags.{truths_are}
+use Rattle.qss_quiet.proofs.Silence.{from_later, watch_value_at, flag_still}
+use Rattle.qss_quiet.proofs.Skipped.{settled_twice}
 
 -- no condition changes at the next tick
 abbrev pub NoneChanges : Machine → ℕ → List (Option ℕ) → Type 0
@@ -49,18 +49,18 @@ none_rises_then w next arrived settled =
     ∙ settled_twice w.settled
 
 module _ (m : Machine) (tick : ℕ) (w : World) (line : ℕ → Line) (watch : ℕ → Watch) (due : List (Option ℕ))
-    (s : StandsFor m tick w line watch due) (calm : NoneRises w) (none : NoneChanges m tick due) (in_time : tick + 1 ≤ tick_limit) where
+    (s : StandsFor m tick w line watch (due_at due)) (calm : NoneRises w) (none : NoneChanges m tick due) (in_time : tick + 1 ≤ tick_limit) where
   pub none_risen : due_at due (state_count m + length (conditions m)) ≡ None
   none_risen = s.rising ∙ ap (λ b. if b then Some (tick + 1) else None) calm
 
   value_then : (place : ℕ) → place < length (conditions m) → value_at (watch place) (tick + 1) ≡ value_of m (condition_at m place).form (moved_states m w) w.discretes w.discretes (tick + 1)
   value_then place h =
-      watch_value_at m tick w line watch due s place 1 h ∙ ap (λ x. value_of m (condition_at m place).form x w.discretes w.discretes (tick + 1)) (sym (moved_is m w))
+      watch_value_at m tick w line watch (due_at due) s place 1 h ∙ ap (λ x. value_of m (condition_at m place).form x w.discretes w.discretes (tick + 1)) (sym (moved_is m w))
 
   flag_then : (place : ℕ) → place < length (conditions m) → truth m (condition_at m place) (moved_states m w) w.discretes (tick + 1) ≡ flag_at w.settled place
   flag_then place h =
       ap (λ x. truth m (condition_at m place) x w.discretes (tick + 1)) (moved_is m w)
-      ∙ flag_still m tick w line watch due (tick + 1) 1 place s (omega arith) (omega arith) in_time h (λ later e. none place later h e)
+      ∙ flag_still m tick w line watch (due_at due) (tick + 1) 1 place s (omega arith) (omega arith) in_time h (λ later e. none place later h e)
 
   -- the conditions are as after the last handlers
   pub quiet_truths : truths m (moved_states m w) w.discretes (tick + 1) ≡ w.settled

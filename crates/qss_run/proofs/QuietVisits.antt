@@ -18,21 +18,23 @@ use Rattle.qss_sched.specs.Ranks.{due_at}
 use Rattle.qss_run.specs.RowSums.{AreSumsBefore}
 use Rattle.qss_run.specs.declared.shifts.RowSum.TheVariants.{Slope}
 use Rattle.qss_run.specs.declared.store.Store.{Store}
-use Rattle.qss_run.specs.Moves.{is_among, became_true, IsOff}
-use Rattle.qss_run.specs.Skips.{NoneRises}
+use Rattle.qss_quiet.specs.Among.{is_among, IsOff}
+use Rattle.qss_run.specs.Moves.{became_true}
+use Rattle.qss_quiet.specs.Skips.{NoneRises}
 use Rattle.qss_run.specs.Places.{line_at, watch_at, IsWatched}
-use Rattle.qss_run.specs.Rules.{IsRuled}
-use Rattle.qss_run.specs.Sims.{IsDue, StandsFor, HasNothingBefore}
+use Rattle.qss_quiet.specs.Rules.{IsRuled}
+use Rattle.qss_quiet.specs.Sims.{IsDue, StandsFor, HasNothingBefore}
 use Rattle.qss_run.specs.Speeds.{reads_moved}
 use Rattle.qss_run.specs.Stores.{states_at, world_of, IsTaken}
 use Rattle.qss_run.proofs.Called.{none_due}
-use Rattle.qss_run.proofs.Quiet.{int_at-tabulate}
-use Rattle.qss_run.proofs.Silence.{line_state_at, still_near}
-use Rattle.qss_run.proofs.NextVisit.{only_due_states_pass}
+use Rattle.qss_quiet.proofs.Quiet.{int_at-tabulate}
+use Rattle.qss_quiet.proofs.Silence.{line_state_at, still_near}
+use Rattle.qss_quiet.proofs.NextVisit.{only_due_states_pass}
 use Rattle.qss_run.proofs.Jumps.{dues_later, later_of}
 use Rattle.qss_run.proofs.QuietTick.{NoneChanges, only_moves, quiet_truths, watched_then}
-use Rattle.qss_run.proofs.Unread.{unread_at, unread_slope}
-use Rattle.qss_run.proofs.Visits.{arrives, due_stays, next_is_near, end_of}
+use Rattle.qss_quiet.proofs.Unread.{unread_at, unread_slope}
+use Rattle.qss_quiet.proofs.NextLevels.{next_is_near}
+use Rattle.qss_run.proofs.Visits.{arrives, due_stays, end_of}
 
 -- a step, where its overflow is known, and without one the world
 pub steps_or : (Rule : ℤ → ℤ → ℤ → ℤ → Type 0) (m : Machine) (tick : ℕ) (w next : World) (h : Handling) (levels : List ℤ) (o : Option ℕ) →
@@ -54,10 +56,10 @@ module _ (m : Machine) (tick : ℕ) (agenda : List (Option ℕ)) (s : Store) (ta
   abbrev before : Store
   before = record s { agenda = agenda }
 
-  for : StandsFor m tick (world_of tick s) (line_at s.lines.items) (watch_at s.watches.items) agenda
+  for : StandsFor m tick (world_of tick s) (line_at s.lines.items) (watch_at s.watches.items) (due_at agenda)
   for = taken.stands.stands_for
 
-  nothing : HasNothingBefore (tick + 1) agenda
+  nothing : HasNothingBefore (tick + 1) (due_at agenda)
   nothing place t e = omega (arith, dues_later m tick before taken.stands place t e)
 
   not_due : (j : ℕ) → j < state_count m → is_among s.moved.items j ≡ false → due_at agenda j ≢ Some (tick + 1)
@@ -78,14 +80,14 @@ module _ (m : Machine) (tick : ℕ) (agenda : List (Option ℕ)) (s : Store) (ta
   -- states that were not due are within the limit on arrival, and near their levels
   pub rest_small : (j : ℕ) → j < state_count m → is_among s.moved.items j ≡ false → IsWithin 88 (state_at (line_at s.lines.items j) (tick + 1))
   rest_small j h none =
-      subst (IsWithin 88) (sym (line_state_at m tick (world_of tick s) (line_at s.lines.items) (watch_at s.watches.items) agenda for j 1 h))
-      (only_due_states_pass m tick (world_of tick s) (line_at s.lines.items) (watch_at s.watches.items) agenda (tick + 1) 1 j for (omega arith) (omega arith) (omega (arith, in_time)) nothing h
+      subst (IsWithin 88) (sym (line_state_at m tick (world_of tick s) (line_at s.lines.items) (watch_at s.watches.items) (due_at agenda) for j 1 h))
+      (only_due_states_pass m tick (world_of tick s) (line_at s.lines.items) (watch_at s.watches.items) (due_at agenda) (tick + 1) 1 j for (omega arith) (omega arith) (omega (arith, in_time)) nothing h
       (not_due j h none))
 
   pub rest_near : (j : ℕ) → j < state_count m → is_among s.moved.items j ≡ false → is_near m j (state_at (line_at s.lines.items j) (tick + 1)) (int_at s.levels.items j) ≡ true
   rest_near j h none =
-      subst (λ x. is_near m j x (int_at s.levels.items j) ≡ true) (sym (line_state_at m tick (world_of tick s) (line_at s.lines.items) (watch_at s.watches.items) agenda for j 1 h))
-      (still_near m tick (world_of tick s) (line_at s.lines.items) (watch_at s.watches.items) agenda (tick + 1) 1 j for (omega arith) (omega arith) in_limit h (later_due j h none))
+      subst (λ x. is_near m j x (int_at s.levels.items j) ≡ true) (sym (line_state_at m tick (world_of tick s) (line_at s.lines.items) (watch_at s.watches.items) (due_at agenda) for j 1 h))
+      (still_near m tick (world_of tick s) (line_at s.lines.items) (watch_at s.watches.items) (due_at agenda) (tick + 1) 1 j for (omega arith) (omega arith) in_limit h (later_due j h none))
 
   -- lines come from an earlier tick, at the slopes that are kept
   pub earlier : (j : ℕ) → j < state_count m → (line_at s.lines.items j).tick < tick + 1

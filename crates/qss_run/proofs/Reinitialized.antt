@@ -10,9 +10,10 @@ use Rattle.qss_machine.specs.Counts.{is_reinit}
 use Rattle.qss_machine.specs.declared.rows.Row.{Row}
 use Rattle.qss_sched.specs.Ranks.{due_at}
 use Rattle.qss_run.specs.Handlings.{is_reinitialized}
-use Rattle.qss_run.specs.Logs.{reinitialized_of}
-use Rattle.qss_run.specs.Moves.{is_among, AreNumbers, AreDue, IsWithout}
-use Rattle.qss_run.proofs.Writes.{index_of}
+use Rattle.qss_quiet.specs.Logs.{reinitialized_of}
+use Rattle.qss_quiet.specs.Among.{is_among, AreNumbers}
+use Rattle.qss_run.specs.Moves.{AreDue, IsWithout}
+use Rattle.qss_quiet.proofs.Writes.{index_of}
 
 -- the states of these rows are due at a tick, and all else is due as before
 pub record AreGiven (tick : ℕ) (log : List Row) (old new : List (Option ℕ)) : Type 0 where

@@ -21,9 +21,9 @@ use Rattle.qss_machine.specs.Limits.{IsAction, has_target}
 use Rattle.qss_machine.specs.Machines.{state_count, discrete_count}
 use Rattle.qss_machine.specs.Numbers.{int_at}
 use Rattle.qss_run.specs.Handlings.{is_reinitialized}
-use Rattle.qss_run.specs.Moves.{is_among}
-use Rattle.qss_run.specs.Logs.{is_set, assigned_of}
-use Rattle.qss_run.proofs.Kept.{after_clauses}
+use Rattle.qss_quiet.specs.Among.{is_among}
+use Rattle.qss_quiet.specs.Logs.{is_set, assigned_of}
+use Rattle.qss_quiet.proofs.Kept.{after_clauses}
 
 -- whether rows say that this variable was assigned
 abbrev pub is_assigned : List Row → ℕ → Bool

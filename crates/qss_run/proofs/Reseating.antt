@@ -13,20 +13,20 @@ use Rattle.qss_machine.specs.Uses.{reading_rows}
 use Rattle.qss_quant.specs.Lines.{Line, state_at, IsNear}
 use Rattle.qss_sched.specs.Ranks.{due_at}
 use Rattle.qss_run.specs.Handlings.{AreAssigned, states_with}
-use Rattle.qss_run.specs.Moves.{is_among}
+use Rattle.qss_quiet.specs.Among.{is_among}
 use Rattle.qss_run.specs.Places.{line_at, IsTurned}
 use Rattle.qss_run.specs.Renewals.{goes_at, goes_from, renewals, renewals_from}
 use Rattle.qss_run.specs.RowSums.{AreSumsBefore}
-use Rattle.qss_run.specs.Sims.{IsDue}
+use Rattle.qss_quiet.specs.Sims.{IsDue}
 use Rattle.qss_run.specs.Turnings.{MayTurn, Courses, AreTurned}
 use Rattle.qss_run.proofs.Assigned.{slope_stays}
 use Rattle.qss_run.proofs.Counting.{count_same}
 use Rattle.qss_run.proofs.Courses.{still_turned, turned_then}
-use Rattle.qss_run.proofs.Quiet.{int_at-tabulate}
+use Rattle.qss_quiet.proofs.Quiet.{int_at-tabulate}
 use Rattle.qss_run.proofs.Renewed.{from_here}
 use Rattle.qss_run.proofs.Seats.{AreSeated, still_begun}
-use Rattle.qss_run.proofs.Unread.{unread_at, unread_slope}
-use Rattle.qss_run.proofs.Among.{among_readers}
+use Rattle.qss_quiet.proofs.Unread.{unread_at, unread_slope}
+use Rattle.qss_quiet.proofs.Among.{among_readers}
 use Rattle.qss_run.specs.declared.shifts.RowSum.TheVariants.{Slope}
 
 -- ---- the states

@@ -12,9 +12,9 @@ use Rattle.qss_machine.specs.Firing.{flag_at}
 use Rattle.qss_machine.specs.Numbers.{tabulate}
 use Rattle.qss_cross.specs.Crossing.{Watch}
 use Rattle.qss_sched.specs.Ranks.{due_at}
-use Rattle.qss_run.specs.Moves.{is_among}
+use Rattle.qss_quiet.specs.Among.{is_among}
 use Rattle.qss_run.specs.Places.{watch_at, IsWatched}
-use Rattle.qss_run.specs.Sims.{condition_at, IsChange}
+use Rattle.qss_quiet.specs.Sims.{condition_at, IsChange}
 use Rattle.qss_run.specs.Rewatchings.{Watchings, IsKept, IsSettled, AreSettled}
 use Rattle.qss_run.proofs.Turning.{no_watch}
 

@@ -12,15 +12,15 @@ use Rattle.qss_machine.specs.Machines.{level_unit, quantum_of}
 use Rattle.qss_machine.specs.Numbers.{int_at}
 use Rattle.qss_quant.specs.Lines.{Line, state_at, IsAway}
 use Rattle.qss_sched.specs.Ranks.{due_at}
-use Rattle.qss_run.specs.Moves.{is_among}
+use Rattle.qss_quiet.specs.Among.{is_among}
 use Rattle.qss_run.specs.Places.{line_at, IsTurned}
 use Rattle.qss_run.specs.Renewals.{goes_from, renewals_from}
-use Rattle.qss_run.specs.Sims.{IsDue}
+use Rattle.qss_quiet.specs.Sims.{IsDue}
 use Rattle.qss_run.specs.Turnings.{Courses}
 use Rattle.qss_run.proofs.Counting.{one_if, count_one}
 use Rattle.qss_run.proofs.Renewed.{goes_so, from_here}
 use Rattle.qss_run.proofs.Turning.{no_line}
-use Rattle.qss_run.proofs.Writes.{among_more}
+use Rattle.qss_quiet.proofs.Writes.{among_more}
 
 -- ---- one line
 

@@ -12,11 +12,11 @@ use Rattle.qss_machine.specs.declared.system.Machine.{Machine}
 use Rattle.qss_machine.specs.Machines.{discrete_count}
 use Rattle.qss_machine.specs.Handlers.{conditions}
 use Rattle.qss_machine.specs.Uses.{condition_reads, reading_rows, reading_conditions}
-use Rattle.qss_run.specs.Moves.{is_among}
+use Rattle.qss_quiet.specs.Among.{is_among}
 use Rattle.qss_run.specs.Reads.{AreArrived}
 use Rattle.qss_run.specs.Rewatchings.{readers_of, touched_of, touched_by, readers_before, touched_after, depends_on, settles_after, one_reads}
-use Rattle.qss_run.specs.Sims.{condition_at}
-use Rattle.qss_run.proofs.Among.{place_among}
+use Rattle.qss_quiet.specs.Sims.{condition_at}
+use Rattle.qss_quiet.proofs.Among.{place_among}
 use Rattle.qss_run.proofs.Arrived.{arrived_then}
 
 in_two : (xs ys : List ℕ) (place : ℕ) → is_among (xs ++ ys) place ≡ (is_among xs place || is_among ys place)

@@ -15,17 +15,17 @@ use Rattle.qss_machine.specs.Ticks.{is_overweight}
 use Rattle.qss_machine.specs.Uses.{row_reads, places_from, reading_rows}
 use Rattle.qss_run.specs.declared.shifts.RowSum.{RowSum}
 use Rattle.qss_run.specs.declared.shifts.RowSum.TheVariants.{Slope, Weight}
-use Rattle.qss_run.specs.Moves.{is_among, AreNumbers, IsOff}
+use Rattle.qss_quiet.specs.Among.{is_among, AreNumbers, IsOff}
 use Rattle.qss_run.specs.RowSums.{taken_by, sum_at, HasFollowed}
-use Rattle.qss_run.specs.Writes.{IsWritten}
-use Rattle.qss_run.proofs.Among.{among_rows, before_first}
-use Rattle.qss_run.proofs.Changes.{slopes_follow_levels}
-use Rattle.qss_run.proofs.Firsts.{same_lists}
-use Rattle.qss_run.proofs.Quiet.{int_at-tabulate}
-use Rattle.qss_run.proofs.KeptReaders.{rows_known}
+use Rattle.qss_quiet.specs.Writes.{IsWritten}
+use Rattle.qss_quiet.proofs.Among.{among_rows, before_first}
+use Rattle.qss_quiet.proofs.Changes.{slopes_follow_levels}
+use Rattle.qss_quiet.proofs.Firsts.{same_lists}
+use Rattle.qss_quiet.proofs.Quiet.{int_at-tabulate}
+use Rattle.qss_quiet.proofs.KeptReaders.{rows_known}
 use Rattle.qss_run.proofs.Turning.{row_is_light}
-use Rattle.qss_run.proofs.Unread.{unread_slope, unread_weight}
-use Rattle.qss_run.proofs.Writes.{among_at}
+use Rattle.qss_quiet.proofs.Unread.{unread_slope, unread_weight}
+use Rattle.qss_quiet.proofs.Writes.{among_at}
 
 -- ---- the rows that read a state rise
 

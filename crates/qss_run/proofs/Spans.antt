@@ -5,9 +5,9 @@ use Rattle.qss_machine.specs.Counts.{touches_after}
 use Rattle.qss_machine.specs.declared.system.Machine.{Machine}
 use Rattle.qss_machine.specs.Runs.{last_world}
 use Rattle.qss_machine.specs.Ticks.{World}
-use Rattle.qss_run.specs.Events.{AreSilent, IsVisit}
+use Rattle.qss_quiet.specs.Silent.{AreSilent, IsVisit}
 use Rattle.qss_run.specs.Touches.{touches_at}
-use Rattle.qss_run.proofs.Goings.{more_last}
+use Rattle.qss_quiet.proofs.Goings.{more_last}
 
 -- more ticks touch no fewer states
 touches_less : (m : Machine) (tick : ℕ) (w : World) (xs ys : List World) → touches_after m tick w xs None ≤ touches_after m tick w (xs ++ ys) None

@@ -24,11 +24,11 @@ use Rattle.qss_machine.specs.Uses.{row_reads, condition_reads, places_from, read
 use Rattle.qss_machine.proofs.SumLaws.{weighted_sum-entries}
 use Rattle.qss_cross.specs.Crossing.{Watch, value_at, holds_at}
 use Rattle.qss_sched.specs.Ranks.{due_at}
-use Rattle.qss_run.specs.Sims.{condition_at, IsChange}
+use Rattle.qss_quiet.specs.Sims.{condition_at, IsChange}
 use Rattle.qss_run.specs.Places.{watch_at, IsWatched}
-use Rattle.qss_run.specs.Moves.{AreNumbers}
+use Rattle.qss_quiet.specs.Among.{AreNumbers}
 use Rattle.qss_run.specs.Speeds.{reads_moved, AreSlopesBefore, HasSpeed, GoesOn, AreGoingOn}
-use Rattle.qss_run.proofs.KeptReaders.{rows_kept, conditions_kept, conditions_below}
+use Rattle.qss_quiet.proofs.KeptReaders.{rows_kept, conditions_kept, conditions_below}
 use Rattle.qss_run.proofs.Turning.{no_watch}
 
 -- ---- places of elements that pass a test

@@ -14,9 +14,9 @@ use Rattle.qss_run.specs.Places.{line_at}
 use Rattle.qss_run.specs.Renewals.{goes_at, goes_from, renewals, renewals_from}
 use Rattle.qss_run.specs.Touches.{touches_at}
 use Rattle.qss_run.proofs.Counting.{count_less}
-use Rattle.qss_run.proofs.Quiet.{int_at-tabulate}
+use Rattle.qss_quiet.proofs.Quiet.{int_at-tabulate}
 use Rattle.qss_run.proofs.Renewed.{goes_so}
-use Rattle.qss_run.proofs.SameSlopes.{level_stays, same_slope}
+use Rattle.qss_quiet.proofs.SameSlopes.{level_stays, same_slope}
 
 -- a state that a tick does not touch
 record IsUntouched (m : Machine) (t : ℕ) (w next : World) (j : ℕ) : Type 0 where

@@ -5,8 +5,7 @@ use Rattle.std.proofs.lemmas.Int.{ints}
 use Rattle.std.proofs.lemmas.List.{get_or-set_other, get_or-set_same}
 use Rattle.std.proofs.lemmas.List.FromFn.{length-map-range_with_len, get_or-map-range_with_len}
 use Rattle.std.specs.Bool.{IsTrue}
-use Rattle.std.specs.Prelude.{Option, None, position, ◌||◌, All, MatchBool}
-use Rattle.mu_num.proofs.Tests.{int_lt-true, int_lt-false}
+use Rattle.std.specs.Prelude.{Option, None, position, ◌||◌, All}
 use Rattle.mu_num.specs.Sizes.{IsWithin}
 use Rattle.mu_num.specs.Ticks.{FirstAfter}
 use Rattle.mu_num.proofs.SizeTests.{passes-within}
@@ -17,17 +16,14 @@ use Rattle.qss_machine.specs.declared.system.Machine.{Machine}
 use Rattle.qss_machine.specs.Numbers.{int_at, tabulate}
 use Rattle.qss_machine.specs.Slopes.{mode_fits, weight_of}
 use Rattle.qss_machine.specs.Machines.{state_count, level_unit, quantum_of, row_at, slope_at, weight_at, value_of, speed_of, compares, truth}
-use Rattle.qss_machine.specs.Ticks.{is_near, is_overweight, IsNextLevel}
-use Rattle.qss_quant.specs.declared.rule.Rule.{Rule}
-use Rattle.qss_quant.specs.Rules.{IsAnswer}
-use Rattle.qss_quant.specs.Lines.{Line, state_at, IsNear, IsAway}
+use Rattle.qss_machine.specs.Ticks.{is_overweight}
+use Rattle.qss_quant.specs.Lines.{Line, state_at, IsNear}
 use Rattle.qss_cross.specs.Crossing.{Watch, value_at, holds_at}
 use Rattle.qss_sched.specs.Ranks.{due_at}
 use Rattle.qss_run.specs.Places.{line_at, IsTurned, IsWatched}
-use Rattle.qss_run.specs.Rules.{IsRuled}
-use Rattle.qss_run.specs.Sims.{condition_at, IsDue}
-use Rattle.qss_run.proofs.Ranges.{none_passes}
-use Rattle.qss_run.proofs.SlopeSizes.{slope-size}
+use Rattle.qss_quiet.specs.Sims.{condition_at}
+use Rattle.qss_quiet.proofs.Ranges.{none_passes}
+use Rattle.qss_quiet.proofs.SlopeSizes.{slope-size}
 
 abbrev pub no_line : Line
 no_line = record { tick = 0; x = pos 0; slope = pos 0; level = pos 0 }
@@ -40,16 +36,6 @@ pub line_here : (tick : ℕ) (x slope level : ℤ) → state_at (record { tick =
 line_here tick x slope level =
     let e : tick - tick ≡ 0 = omega arith in
     ap (λ (n : ℕ). x +ℤ pos n *ℤ slope) e ∙ omega (arith, ints, zero-*ℤ slope)
-
--- the tick that was found for a line from its tick on
-pub due_here : (m : Machine) (tick j : ℕ) (line : Line) (x slope level unit quantum : ℤ) (found : Option ℕ) →
-    line ≡ record { tick = tick; x = x; slope = slope; level = level } → unit ≡ level_unit m → quantum ≡ quantum_of m j level →
-    FirstAfter (λ t. IsAway unit (state_at line t) line.level quantum) line.tick found → IsDue m tick j line found
-due_here m tick j line x slope level unit quantum found is one own first =
-    let own' : quantum ≡ quantum_of m j line.level = own ∙ ap (λ (l : Line). quantum_of m j l.level) (sym is) in
-    subst (λ t. FirstAfter (λ n. IsAway (level_unit m) (state_at line n) line.level (quantum_of m j line.level)) t found) (ap (λ (l : Line). l.tick) is)
-    (subst (λ q. FirstAfter (λ n. IsAway (level_unit m) (state_at line n) line.level q) line.tick found) own'
-    (subst (λ u. FirstAfter (λ n. IsAway u (state_at line n) line.level quantum) line.tick found) one first))
 
 -- what a light row keeps
 pub record IsLight (m : Machine) (levels discretes : List ℤ) (j : ℕ) : Type 0 where
@@ -96,15 +82,6 @@ slopes_small m levels d e slopes light same is k z h =
     let here : get_or slopes k z ≡ slope_at m k levels d =
     ap (λ xs. get_or xs k z) is ∙ get_or-map-range_with_len (λ j. slope_at m j levels e) 0 (state_count m) k k z inside (omega arith) ∙ ap (slope_at m k levels) same in
     subst (IsWithin 88) (sym here) (row_is_light m levels d light k inside).slope
-
--- the level that a quantizer gives may come next
-pub next_by : (name : Option Rule) (m : Machine) (j : ℕ) (state old new : ℤ) → (IsNear (level_unit m) state old (quantum_of m j old) → new ≡ old) →
-    (IsAway (level_unit m) state old (quantum_of m j old) → IsAnswer name state old (level_unit m) new) → IsNextLevel (IsRuled name) m j state old new
-next_by name m j state old new kept taken = by_near (is_near m j state old) refl
-  where
-    by_near : (b : Bool) → is_near m j state old ≡ b → MatchBool b (new ≡ old) (IsRuled name (level_unit m) state old new)
-    by_near true e = kept (int_lt-true _ _ e)
-    by_near false e = taken (int_lt-false _ _ e)
 
 -- a watch of a condition, and the first tick at which it changes
 pub watch_is : (m : Machine) (tick : ℕ) (x d slopes : List ℤ) (place : ℕ) (condition : Condition) (watch : Watch) (found : Option ℕ) →

@@ -18,12 +18,12 @@ use Rattle.qss_machine.specs.Uses.{row_reads, condition_reads, reading_rows, rea
 use Rattle.qss_cross.specs.Crossing.{Watch}
 use Rattle.qss_sched.specs.Ranks.{due_at}
 use Rattle.qss_run.specs.Handlings.{AreWatchedUpTo}
-use Rattle.qss_run.specs.Moves.{is_among}
+use Rattle.qss_quiet.specs.Among.{is_among}
 use Rattle.qss_run.specs.Places.{watch_at, IsWatched}
-use Rattle.qss_run.specs.Sims.{condition_at}
+use Rattle.qss_quiet.specs.Sims.{condition_at}
 use Rattle.qss_run.specs.Speeds.{reads_moved, AreSlopesBefore}
 use Rattle.qss_run.specs.Rewatchings.{Watchings, AreSettled, readers_of, touched_of, touched_by, readers_before, touched_after}
-use Rattle.qss_run.proofs.Among.{among_rows}
+use Rattle.qss_quiet.proofs.Among.{among_rows}
 use Rattle.qss_run.proofs.Rewatching.{watched_as}
 use Rattle.qss_run.proofs.Speeds.{of_place, speeds_same}
 

@@ -1,14 +1,13 @@
 -- A store after one tick.
-use Rattle.std.proofs.Common.{◌≡◌, ◌≢◌, ℕ, suc, ◌+◌, ◌<◌, Bool, true, false, List, [], length, ℤ, pos, ◌+ℤ◌, ◌*ℤ◌, ◌≤ℤ◌, zero, negsuc, ◌^◌, refl, sym, ◌∙◌, ap, subst, arith}
+use Rattle.std.proofs.Common.{◌≡◌, ◌≢◌, ℕ, ◌+◌, ◌<◌, Bool, true, false, List, [], length, ℤ, pos, ◌+ℤ◌, ◌*ℤ◌, refl, sym, ◌∙◌, ap, subst, arith}
 use Rattle.std.proofs.lemmas.Int.{ints}
 use Rattle.std.proofs.lemmas.List.{get_or-map, get_or_default}
 use Rattle.std.proofs.lemmas.List.FromFn.{length-map-range_with_len}
 use Rattle.std.proofs.Common.{Vec, Global}
 use Rattle.std.specs.Vec.{with_items}
 use Rattle.std.specs.Option.{option_or}
-use Rattle.std.specs.Prelude.{Option, Some, None, Ok, All, MatchBool, is_some, position, vec_capacity, if◌then◌else◌}
+use Rattle.std.specs.Prelude.{Option, Some, None, Ok, All, is_some, position, vec_capacity, if◌then◌else◌}
 use Rattle.mu_num.specs.Sizes.{IsWithin}
-use Rattle.mu_num.proofs.Tests.{int_lt-true}
 use Rattle.qss_machine.specs.declared.parts.Condition.{Condition}
 use Rattle.qss_machine.specs.declared.parts.Rel.TheVariants.{Less}
 use Rattle.qss_machine.specs.declared.system.Machine.{Machine}
@@ -16,18 +15,16 @@ use Rattle.qss_machine.specs.Numbers.{int_at, tabulate, first_past}
 use Rattle.qss_machine.specs.Machines.{state_count, level_unit, slope_at, quantum_of, value_of, speed_of, truth}
 use Rattle.qss_machine.specs.Handlers.{Handling, conditions, truths}
 use Rattle.qss_machine.specs.Firing.{flag_at}
-use Rattle.qss_machine.specs.Ticks.{World, moved_states, handling_at, is_near, is_overweight, IsNextLevel, AreNextLevels, world_unless, settle, Step}
-use Rattle.qss_machine.proofs.Near.{quantum_positive}
+use Rattle.qss_machine.specs.Ticks.{World, moved_states, handling_at, is_overweight, AreNextLevels, world_unless, settle, Step}
 use Rattle.qss_quant.specs.declared.rule.Rule.{Rule}
 use Rattle.qss_quant.specs.Lines.{Line, state_at, IsNear, IsAway}
 use Rattle.qss_sched.specs.Ranks.{due_at}
 use Rattle.qss_run.specs.declared.store.Store.{Store}
 use Rattle.qss_run.specs.Places.{line_at, watch_at, IsTurned, IsWatched}
-use Rattle.qss_run.specs.Rules.{IsRuled}
-use Rattle.qss_run.specs.Sims.{slopes_of, weights_at, condition_at, IsDue, IsChange, rises, StandsFor}
+use Rattle.qss_quiet.specs.Sims.{slopes_of, weights_at, condition_at, IsDue, IsChange, rises, StandsFor}
 use Rattle.qss_run.specs.Stores.{states_at, handling_from, world_of, FitsMachine, Stands}
-use Rattle.qss_run.proofs.Quiet.{int_at-tabulate, tabulate-same, tabulate-int_at, moved_is}
-use Rattle.qss_run.proofs.Silence.{from_later, line_state_at}
+use Rattle.qss_quiet.proofs.Quiet.{int_at-tabulate, tabulate-same, tabulate-int_at, moved_is}
+use Rattle.qss_quiet.proofs.Silence.{from_later, line_state_at}
 
 -- ---- on arrival
 
@@ -38,7 +35,7 @@ module _ (m : Machine) (tick : ℕ) (s : Store) (stands : Stands m tick s) where
       ap (λ n. tabulate n (λ j. state_at (line_at s.lines.items j) (tick + 1))) stands.fits.lines
       ∙ tabulate-same (pos 0) (state_count m) _ _
       (λ j h.
-      line_state_at m tick (world_of tick s) (line_at s.lines.items) (watch_at s.watches.items) s.agenda stands.stands_for j 1 h
+      line_state_at m tick (world_of tick s) (line_at s.lines.items) (watch_at s.watches.items) (due_at s.agenda) stands.stands_for j 1 h
       ∙ int_at-tabulate (state_count m) (λ i. int_at (world_of tick s).states i +ℤ pos 1 *ℤ slope_at m i s.levels.items s.work.d) j h
       ∙ sym (int_at-tabulate (state_count m) (λ i. int_at (world_of tick s).states i +ℤ pos 1 *ℤ slope_at m i s.levels.items s.work.d) j h)
       ∙ ap (λ xs. int_at xs j) (sym (moved_is m (world_of tick s)))
@@ -78,22 +75,6 @@ module _ (m : Machine) (tick : ℕ) (s : Store) (stands : Stands m tick s) where
           let away = subst (λ t. IsAway (level_unit m) (state_at (line_at s.lines.items j) t) (line_at s.lines.items j).level (quantum_of m j (line_at s.lines.items j).level)) q first.holds in
           omega (arith, ints, away, still) in
           omega (arith, first.later, same, ne)
-
--- ---- new levels
-
--- a level that may come next is near its state
-pub next_is_near : (name : Option Rule) (m : Machine) (j : ℕ) (state old new : ℤ) → j < state_count m → IsNextLevel (IsRuled name) m j state old new →
-    IsNear (level_unit m) state new (quantum_of m j new)
-next_is_near name m j state old new h next = by_near (is_near m j state old) refl next
-  where
-    above : (k : ℕ) (q : ℤ) → pos 1 ≤ℤ q → pos k ≤ℤ (pos k *ℤ q)
-    above k (pos zero) low = absurd (omega (arith, ints))
-    above k (pos (suc n)) low = omega (arith, ints)
-    above k (negsuc n) low = absurd (omega (arith, ints))
-
-    by_near : (b : Bool) → is_near m j state old ≡ b → MatchBool b (new ≡ old) (IsRuled name (level_unit m) state old new) → IsNear (level_unit m) state new (quantum_of m j new)
-    by_near true e same = subst (λ l. IsNear (level_unit m) state l (quantum_of m j l)) (sym same) (int_lt-true _ _ e)
-    by_near false e ruled = omega (arith, ints, ruled.close, above (2 ^ (m.p + m.k)) (quantum_of m j new) (quantum_positive m j new h))
 
 -- ---- the store stands again
 
@@ -136,7 +117,7 @@ stands_again m t s x many fits small light slopes weights turned settled watched
         let test = λ (c : Condition). truth m c x s.work.d t in
         sym (ap (λ flags. flag_at flags place) settled ∙ get_or-map test (conditions m) place none false h)
 
-    for : StandsFor m t (world_of t s) (line_at s.lines.items) (watch_at s.watches.items) s.agenda
+    for : StandsFor m t (world_of t s) (line_at s.lines.items) (watch_at s.watches.items) (due_at s.agenda)
     for = record {
       left = record { one_each = fits.levels; small_levels = small; light = light };
       states = length-map-range_with_len (λ j. state_at (line_at s.lines.items j) t) 0 (length s.lines.items) ∙ fits.lines;

@@ -14,16 +14,16 @@ use Rattle.qss_machine.specs.Slopes.{mode_fits}
 use Rattle.qss_machine.specs.Ticks.{is_overweight}
 use Rattle.qss_machine.specs.Uses.{reading_rows}
 use Rattle.qss_run.specs.Handlings.{AreAssigned}
-use Rattle.qss_run.specs.Moves.{is_among, IsOff}
+use Rattle.qss_quiet.specs.Among.{is_among, IsOff}
 use Rattle.qss_run.specs.Overweights.{IsWeighed}
-use Rattle.qss_run.specs.Sims.{weights_at}
-use Rattle.qss_run.specs.Writes.{IsWritten}
-use Rattle.qss_run.proofs.Among.{among_readers}
+use Rattle.qss_quiet.specs.Sims.{weights_at}
+use Rattle.qss_quiet.specs.Writes.{IsWritten}
+use Rattle.qss_quiet.proofs.Among.{among_readers}
 use Rattle.qss_run.proofs.Assigned.{modes_stay, weight_stays, overweight_stays}
-use Rattle.qss_run.proofs.Quiet.{int_at-tabulate}
-use Rattle.qss_run.proofs.Ranges.{none_passes}
+use Rattle.qss_quiet.proofs.Quiet.{int_at-tabulate}
+use Rattle.qss_quiet.proofs.Ranges.{none_passes}
 use Rattle.qss_run.proofs.Turning.{row_is_light}
-use Rattle.qss_run.proofs.Unread.{unread_at, unread_overweight}
+use Rattle.qss_quiet.proofs.Unread.{unread_at, unread_overweight}
 
 by_modes : (b : Bool) (z weight : ℤ) → MatchBool b (z ≡ weight) (passes 88 z ≡ true) → passes 88 z ≡ (not b || passes 88 weight)
 by_modes true z weight e = ap (passes 88) e

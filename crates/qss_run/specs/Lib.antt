@@ -1,15 +1,9 @@
-pub mod Skips
-pub mod Sims
-pub mod Changes
 pub mod Places
-pub mod Rules
 pub mod Stores
-pub mod Rooms
 pub mod Standings
 pub mod Events
 pub mod Calls
 pub mod Moves
-pub mod Writes
 pub mod Speeds
 pub mod Overweights
 pub mod Turnings
@@ -19,4 +13,3 @@ pub mod Renewals
 pub mod Handlings
 pub mod Rewatchings
 pub mod Reads
-pub mod Logs

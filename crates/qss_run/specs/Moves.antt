@@ -6,15 +6,7 @@ use Rattle.qss_machine.specs.Numbers.{int_at}
 use Rattle.qss_machine.specs.Firing.{flag_at}
 use Rattle.qss_machine.specs.Ticks.{World}
 use Rattle.qss_sched.specs.Ranks.{due_at}
-
--- whether a number stands in a list
-abbrev pub is_among : List ℕ → ℕ → Bool
-is_among numbers j = list_any (λ i. i == j) numbers
-
--- rising numbers below n
-pub record AreNumbers (n : ℕ) (numbers : List ℕ) : Type 0 where
-  pub rising : IsStrictlyIncreasing numbers
-  pub below : All (λ j. j < n) numbers
+use Rattle.qss_quiet.specs.Among.{is_among, AreNumbers}
 
 -- the states, of n, that are due at a tick, rising
 pub record AreDue (n tick : ℕ) (due : List (Option ℕ)) (moved : List ℕ) : Type 0 where
@@ -73,8 +65,3 @@ pub record IsTakenOut (n count : ℕ) (moved changed : List ℕ) (old new : List
   pub other_states : (j : ℕ) → j < n → is_among moved j ≡ false → due_at new j ≡ due_at old j
   pub other_conditions : (place : ℕ) → place < count → is_among changed place ≡ false → due_at new (n + place) ≡ due_at old (n + place)
   pub behind : due_at new (n + count) ≡ None
-
--- levels that are the same but for those of the moved states
-pub record IsOff (moved : List ℕ) (old new : List ℤ) : Type 0 where
-  pub as_many : length new ≡ length old
-  pub others : (j : ℕ) → is_among moved j ≡ false → int_at new j ≡ int_at old j

@@ -5,7 +5,7 @@ use Rattle.qss_machine.specs.declared.system.Machine.{Machine}
 use Rattle.qss_machine.specs.Machines.{state_count, row_at, weight_at}
 use Rattle.qss_machine.specs.Numbers.{int_at}
 use Rattle.qss_machine.specs.Slopes.{mode_fits}
-use Rattle.qss_run.specs.Moves.{is_among}
+use Rattle.qss_quiet.specs.Among.{is_among}
 
 -- whether a row comes before the one that was found, if one was
 abbrev pub comes_before : Option ℕ → ℕ → Bool

@@ -9,7 +9,7 @@ use Rattle.qss_hand.specs.Works.{clause_at, branch_at}
 use Rattle.qss_quant.specs.Lines.{Line, state_at}
 use Rattle.qss_cross.specs.Crossing.{Watch, value_at}
 use Rattle.qss_run.specs.declared.conditions.BranchPlace.{BranchPlace}
-use Rattle.qss_run.specs.Sims.{condition_at, IsDue, IsChange}
+use Rattle.qss_quiet.specs.Sims.{condition_at, IsDue, IsChange}
 
 -- the line of a state
 abbrev pub line_at : List Line → ℕ → Line

@@ -8,7 +8,7 @@ use Rattle.qss_machine.specs.Ticks.{is_overweight}
 use Rattle.qss_quant.specs.Lines.{Line}
 use Rattle.qss_run.specs.declared.shifts.RowSum.{RowSum}
 use Rattle.qss_run.specs.declared.shifts.RowSum.TheVariants.{Slope, Weight}
-use Rattle.qss_run.specs.Moves.{IsOff}
+use Rattle.qss_quiet.specs.Among.{IsOff}
 use Rattle.qss_run.specs.Places.{line_at}
 
 -- a number as a sum takes it

@@ -7,7 +7,7 @@ use Rattle.qss_machine.specs.Machines.{state_count, row_at, speed_of}
 use Rattle.qss_machine.specs.Uses.{row_reads, condition_reads}
 use Rattle.qss_cross.specs.Crossing.{Watch, value_at, holds_at}
 use Rattle.qss_sched.specs.Ranks.{due_at}
-use Rattle.qss_run.specs.Sims.{condition_at, IsChange}
+use Rattle.qss_quiet.specs.Sims.{condition_at, IsChange}
 use Rattle.qss_run.specs.Places.{watch_at}
 
 -- whether a state's row reads one of the moved states

@@ -10,12 +10,12 @@ use Rattle.qss_machine.specs.Ticks.{World}
 use Rattle.qss_machine.specs.Uses.{uses_of}
 use Rattle.qss_quant.specs.Lines.{Line, state_at}
 use Rattle.qss_hand.specs.Works.{row_room}
-use Rattle.qss_sched.specs.Ranks.{HasNone}
+use Rattle.qss_sched.specs.Ranks.{due_at, HasNone}
 use Rattle.qss_run.specs.declared.outcome.Outcome.{Outcome}
 use Rattle.qss_run.specs.declared.store.Store.{Store}
 use Rattle.qss_run.specs.Places.{line_at, watch_at, AreBranches}
 use Rattle.qss_run.specs.Moves.{AreDue, AreLookedAt, IsTakenOut}
-use Rattle.qss_run.specs.Sims.{slopes_of, weights_at, rises, StandsFor}
+use Rattle.qss_quiet.specs.Sims.{slopes_of, weights_at, rises, StandsFor}
 
 -- the states to which lines lead at a tick
 abbrev pub states_at : List Line → ℕ → List ℤ
@@ -67,7 +67,7 @@ pub record FitsMachine (m : Machine) (s : Store) : Type 0 where
 -- a store stands for its world at a tick: it keeps the slopes and the weights there, each level twice, and whether a condition became true through the handlers; while it is calm no condition is on arrival other than after the handlers
 pub record Stands (m : Machine) (tick : ℕ) (s : Store) : Type 0 where
   pub fits : FitsMachine m s
-  pub stands_for : StandsFor m tick (world_of tick s) (line_at s.lines.items) (watch_at s.watches.items) s.agenda
+  pub stands_for : StandsFor m tick (world_of tick s) (line_at s.lines.items) (watch_at s.watches.items) (due_at s.agenda)
   pub fresh_levels : s.fresh.items ≡ s.levels.items
   pub own_slopes : s.slopes.items ≡ slopes_of m (world_of tick s)
   pub own_weights : s.weights.items ≡ weights_at m s.levels.items s.work.d

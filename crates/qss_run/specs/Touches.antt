@@ -8,7 +8,7 @@ use Rattle.qss_machine.specs.Runs.{run_from}
 use Rattle.qss_machine.specs.Ticks.{World}
 use Rattle.qss_run.specs.declared.outcome.Outcome.{Outcome}
 use Rattle.qss_run.specs.declared.outcome.Outcome.TheVariants.{Events, Done, Over}
-use Rattle.qss_run.specs.Events.{AreSilent, IsVisit}
+use Rattle.qss_quiet.specs.Silent.{AreSilent, IsVisit}
 use Rattle.qss_run.specs.Standings.{Standing}
 
 -- how many states a tick touches that has this result; at an overflow all are

@@ -6,10 +6,10 @@ use Rattle.qss_machine.specs.Machines.{state_count, level_unit, quantum_of}
 use Rattle.qss_machine.specs.Numbers.{int_at}
 use Rattle.qss_quant.specs.Lines.{Line, state_at, IsNear}
 use Rattle.qss_sched.specs.Ranks.{due_at}
-use Rattle.qss_run.specs.Moves.{is_among}
+use Rattle.qss_quiet.specs.Among.{is_among}
 use Rattle.qss_run.specs.Places.{line_at, IsTurned}
 use Rattle.qss_run.specs.Renewals.{goes_at}
-use Rattle.qss_run.specs.Sims.{IsDue}
+use Rattle.qss_quiet.specs.Sims.{IsDue}
 
 -- a line that may go on from a tick at this level and slope: it is near the level, and its due tick holds where its level stays
 pub record MayTurn (m : Machine) (tick : ℕ) (level slope : ℤ) (j : ℕ) (line : Line) (found : Option ℕ) : Type 0 where

@@ -1,7 +1,7 @@
 //! The next event.
 
 ghost use Rattle.std.specs.Prelude.{◌≡◌, ◌-◌, ◌<◌, ◌≤◌, None};
-ghost use Rattle.qss_run.specs.Rules.{IsRuled};
+ghost use Rattle.qss_quiet.specs.Rules.{IsRuled};
 ghost use Rattle.qss_machine.specs.declared.rows.RowKind.TheVariants as kind;
 ghost use Rattle.qss_machine.specs.Runs.{world_rows};
 ghost use Rattle.qss_run.specs.Stores.{world_of, Stands};

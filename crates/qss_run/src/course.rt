@@ -42,7 +42,7 @@ impl Course {
     ghost use Rattle.qss_quant.specs.declared.rule.Rule.{Rule};
     ghost use Rattle.qss_quant.specs.Rules.{level_by};
     ghost use Rattle.qss_run.specs.declared.outcome.Outcome.{Outcome};
-    ghost use Rattle.qss_run.specs.Rules.{IsRuled};
+    ghost use Rattle.qss_quiet.specs.Rules.{IsRuled};
     ghost use Rattle.qss_run.specs.Events.{IsNext, rows_left};
     ghost use Rattle.qss_run.specs.Touches.{MovesTouched, touches_left};
 

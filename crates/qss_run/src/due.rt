@@ -2,7 +2,8 @@
 
 ghost use Rattle.std.specs.Prelude.{◌≡◌, ◌≢◌, ℕ, ◌+◌, ◌<◌, ◌≤◌, ◌^◌, [], All, MatchOption, None, Some, length, true, false, vec_capacity};
 ghost use Rattle.qss_sched.specs.Ranks.{due_at, IsLeast};
-ghost use Rattle.qss_run.specs.Moves.{is_among, AreDue, AreChanging, IsTakenAfter, IsWithout};
+ghost use Rattle.qss_quiet.specs.Among.{is_among};
+ghost use Rattle.qss_run.specs.Moves.{AreDue, AreChanging, IsTakenAfter, IsWithout};
 
 use qss_sched::Agenda;
 

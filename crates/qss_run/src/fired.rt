@@ -11,7 +11,7 @@ ghost use Rattle.qss_machine.specs.Machines.{state_count, discrete_count};
 ghost use Rattle.qss_machine.specs.Handlers.{run_clauses};
 ghost use Rattle.qss_hand.specs.Works.{AreValuesOf, handling_of, values_after, overflow_of, row_room};
 ghost use Rattle.qss_run.specs.Handlings.{flags_of, handling_of_fired, is_reinitialized};
-ghost use Rattle.qss_run.specs.Moves.{AreNumbers};
+ghost use Rattle.qss_quiet.specs.Among.{AreNumbers};
 ghost use Rattle.qss_run.specs.Places.{AreBranches, line_at};
 ghost use Rattle.qss_run.specs.Reads.{action_reads, fired_reads, AreArrived};
 ghost use Rattle.qss_run.specs.Stores.{states_at};

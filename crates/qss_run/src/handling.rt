@@ -11,11 +11,12 @@ ghost use Rattle.qss_sched.specs.Ranks.{due_at};
 ghost use Rattle.qss_hand.specs.Works.{row_room};
 ghost use Rattle.qss_cross.specs.Crossing.{IsSmall, value_at, holds_at};
 ghost use Rattle.qss_run.specs.Handlings.{IsHandled};
-ghost use Rattle.qss_run.specs.Moves.{is_among, AreNumbers, IsTakenFrom, IsWithout};
+ghost use Rattle.qss_quiet.specs.Among.{is_among, AreNumbers};
+ghost use Rattle.qss_run.specs.Moves.{IsTakenFrom, IsWithout};
 ghost use Rattle.qss_run.specs.Places.{AreBranches, line_at, watch_at};
-ghost use Rattle.qss_run.specs.Sims.{condition_at};
+ghost use Rattle.qss_quiet.specs.Sims.{condition_at};
 ghost use Rattle.qss_run.specs.Stores.{states_at, handling_from};
-ghost use Rattle.qss_run.specs.Writes.{IsWritten};
+ghost use Rattle.qss_quiet.specs.Writes.{IsWritten};
 
 use crate::conditions::BranchPlace;
 use crate::fired::handle_fired;

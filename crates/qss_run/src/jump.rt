@@ -5,9 +5,9 @@ ghost use Rattle.qss_machine.specs.Ticks.{World, world_unless};
 ghost use Rattle.qss_machine.specs.Runs.{last_world, tick_rows};
 ghost use Rattle.qss_quant.specs.declared.rule.Rule.{Rule};
 ghost use Rattle.qss_sched.specs.Ranks.{due_at};
-ghost use Rattle.qss_run.specs.Rules.{IsRuled};
+ghost use Rattle.qss_quiet.specs.Rules.{IsRuled};
 ghost use Rattle.qss_run.specs.Stores.{world_of, Stands};
-ghost use Rattle.qss_run.specs.Events.{AreSilent, IsVisit};
+ghost use Rattle.qss_quiet.specs.Silent.{AreSilent, IsVisit};
 ghost use Rattle.qss_run.specs.Touches.{touches_at};
 
 use crate::calm::catch_up;

@@ -12,7 +12,6 @@ mod fired;
 mod handling;
 mod held;
 mod jump;
-mod laws;
 mod levels;
 mod logged;
 mod outcome;
@@ -37,10 +36,5 @@ mod watching;
 mod weighing;
 
 pub use course::Course;
-pub use laws::{
-    goes_to_next_visit, leaving_changes_level, only_due_states_pass, quiet_tick_is_forced,
-    rows_of_visits, silence_until_due, skipping_is_right, slopes_follow_discretes,
-    slopes_follow_levels, stands_still_until_due,
-};
 pub use outcome::Outcome;
 pub use sim::Sim;

@@ -5,8 +5,9 @@ ghost use Rattle.std.specs.List.{list_any};
 ghost use Rattle.qss_machine.specs.Counts.{is_reinit};
 ghost use Rattle.qss_sched.specs.Ranks.{due_at};
 ghost use Rattle.qss_run.specs.Handlings.{is_reinitialized};
-ghost use Rattle.qss_run.specs.Logs.{is_set, assigned_of};
-ghost use Rattle.qss_run.specs.Moves.{is_among, AreNumbers, IsTakenFrom, IsWithout};
+ghost use Rattle.qss_quiet.specs.Logs.{is_set, assigned_of};
+ghost use Rattle.qss_quiet.specs.Among.{is_among, AreNumbers};
+ghost use Rattle.qss_run.specs.Moves.{IsTakenFrom, IsWithout};
 
 use crate::due::{give_back, take_due};
 use qss_machine::{Row, RowKind};

@@ -5,9 +5,9 @@ ghost use Rattle.std.specs.List.{filter};
 ghost use Rattle.mu_num.specs.Ticks.{tick_limit};
 ghost use Rattle.qss_machine.specs.Firing.{flag_at};
 ghost use Rattle.qss_cross.specs.Crossing.{IsSmall, value_at, holds_at};
-ghost use Rattle.qss_run.specs.Moves.{AreNumbers};
+ghost use Rattle.qss_quiet.specs.Among.{AreNumbers};
 ghost use Rattle.qss_run.specs.Places.{watch_at};
-ghost use Rattle.qss_run.specs.Writes.{IsWritten};
+ghost use Rattle.qss_quiet.specs.Writes.{IsWritten};
 
 use qss_cross::Detector;
 

@@ -13,16 +13,17 @@ ghost use Rattle.qss_machine.specs.Ticks.{is_near, IsNextLevel, AreNextLevels};
 ghost use Rattle.qss_machine.specs.Runs.{level_rows};
 ghost use Rattle.qss_quant.specs.Lines.{state_at};
 ghost use Rattle.qss_run.specs.Handlings.{AreMovedTo};
-ghost use Rattle.qss_run.specs.Moves.{is_among, AreNumbers, IsOff};
+ghost use Rattle.qss_quiet.specs.Among.{is_among, AreNumbers, IsOff};
 ghost use Rattle.qss_run.specs.Places.{line_at};
-ghost use Rattle.qss_run.specs.Rules.{IsRuled};
+ghost use Rattle.qss_quiet.specs.Rules.{IsRuled};
 ghost use Rattle.qss_run.specs.Stores.{states_at};
-ghost use Rattle.qss_run.specs.Writes.{IsFirstOf, IsWritten};
+ghost use Rattle.qss_quiet.specs.Writes.{IsFirstOf, IsWritten};
 
-use crate::levels::{next_level, take_level};
+use crate::levels::take_level;
 use mu_num::passes;
 use qss_machine::{Machine, Row};
 use qss_quant::{Integrator, Quantizer};
+use qss_quiet::next_level;
 
 // The moved states at a tick, along their lines.
 fn arrive_due(lines: &[Integrator], tick: u64, moved: &[u32], x: &mut [i128])

@@ -10,10 +10,10 @@ ghost use Rattle.qss_machine.specs.Ticks.{AreNextLevels, is_overweight};
 ghost use Rattle.qss_machine.specs.Uses.{uses_of};
 ghost use Rattle.qss_hand.specs.Works.{AreValuesOf};
 ghost use Rattle.qss_run.specs.Handlings.{AreDiscretes, AreAssigned, AreMovedTo};
-ghost use Rattle.qss_run.specs.Moves.{AreNumbers, IsOff};
+ghost use Rattle.qss_quiet.specs.Among.{AreNumbers, IsOff};
 ghost use Rattle.qss_run.specs.Places.{line_at};
-ghost use Rattle.qss_run.specs.Rules.{IsRuled};
-ghost use Rattle.qss_run.specs.Sims.{weights_at};
+ghost use Rattle.qss_quiet.specs.Rules.{IsRuled};
+ghost use Rattle.qss_quiet.specs.Sims.{weights_at};
 
 use crate::relevel::requantize_states;
 use crate::weighing::reweigh_handled;

@@ -10,19 +10,20 @@ ghost use Rattle.qss_machine.specs.Uses.{reading_rows, uses_of};
 ghost use Rattle.qss_quant.specs.Lines.{state_at, IsNear};
 ghost use Rattle.qss_sched.specs.Ranks.{due_at};
 ghost use Rattle.qss_run.specs.Handlings.{AreDiscretes, AreAssigned, states_with};
-ghost use Rattle.qss_run.specs.Moves.{is_among, AreNumbers};
+ghost use Rattle.qss_quiet.specs.Among.{is_among, AreNumbers};
 ghost use Rattle.qss_run.specs.Places.{line_at, IsTurned};
 ghost use Rattle.qss_run.specs.Renewals.{goes_from, renewals_from};
-ghost use Rattle.qss_run.specs.Sims.{IsDue};
-ghost use Rattle.qss_run.specs.Writes.{IsWritten};
+ghost use Rattle.qss_quiet.specs.Sims.{IsDue};
+ghost use Rattle.qss_quiet.specs.Writes.{IsWritten};
 ghost use Rattle.qss_run.specs.declared.shifts.RowSum.TheVariants as sum;
 ghost use Rattle.qss_run.specs.RowSums.{AreSumsBefore};
 
 use crate::shifts::shift_slopes;
-use crate::slopes::{leaving, renew};
+use crate::slopes::renew;
 use crate::turned::turn_readers;
 use qss_machine::{Machine, Uses};
 use qss_quant::{Integrator, Steps};
+use qss_quiet::leaving;
 use qss_sched::Agenda;
 use std::sync::ledger::Ledger;
 

@@ -8,12 +8,12 @@ ghost use Rattle.qss_machine.specs.Numbers.{int_at};
 ghost use Rattle.qss_machine.specs.Uses.{condition_reads, uses_of};
 ghost use Rattle.qss_sched.specs.Ranks.{due_at};
 ghost use Rattle.qss_run.specs.Handlings.{AreDiscretes, AreWatchedUpTo, is_reinitialized};
-ghost use Rattle.qss_run.specs.Logs.{reinitialized_of};
-ghost use Rattle.qss_run.specs.Moves.{AreNumbers};
+ghost use Rattle.qss_quiet.specs.Logs.{reinitialized_of};
+ghost use Rattle.qss_quiet.specs.Among.{AreNumbers};
 ghost use Rattle.qss_run.specs.Places.{AreBranches, line_at, watch_at, IsWatched};
 ghost use Rattle.qss_run.specs.Reads.{AreArrived};
 ghost use Rattle.qss_run.specs.Rewatchings.{IsKept, AreSettled, readers_of, touched_of, touched_by, readers_before, touched_after, settles_after, one_reads};
-ghost use Rattle.qss_run.specs.Sims.{condition_at};
+ghost use Rattle.qss_quiet.specs.Sims.{condition_at};
 ghost use Rattle.qss_run.specs.Stores.{states_at};
 
 use crate::conditions::{BranchPlace, condition_of};

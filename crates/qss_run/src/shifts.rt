@@ -6,9 +6,9 @@ ghost use Rattle.qss_machine.specs.Numbers.{int_at, tabulate};
 ghost use Rattle.qss_machine.specs.Slopes.{mode_fits};
 ghost use Rattle.qss_machine.specs.Machines.{state_count, discrete_count, row_at, mode_coefficient_at, slope_at};
 ghost use Rattle.qss_machine.specs.Uses.{uses_of};
-ghost use Rattle.qss_run.specs.Moves.{AreNumbers};
+ghost use Rattle.qss_quiet.specs.Among.{AreNumbers};
 ghost use Rattle.qss_run.specs.RowSums.{taken_by, sum_at, AreSumsBefore, HasFollowed};
-ghost use Rattle.qss_run.specs.Writes.{IsWritten};
+ghost use Rattle.qss_quiet.specs.Writes.{IsWritten};
 ghost use Rattle.qss_run.specs.declared.shifts.RowSum.TheVariants as sum;
 
 use qss_machine::{Machine, Uses};

@@ -6,11 +6,12 @@ ghost use Rattle.mu_num.specs.Ticks.{tick_limit};
 ghost use Rattle.qss_machine.specs.Machines.{state_count, level_unit, quantum_of};
 ghost use Rattle.qss_quant.specs.Lines.{state_at, IsNear};
 ghost use Rattle.qss_sched.specs.Ranks.{due_at};
-ghost use Rattle.qss_run.specs.Sims.{IsDue};
+ghost use Rattle.qss_quiet.specs.Sims.{IsDue};
 ghost use Rattle.qss_run.specs.Renewals.{goes_from};
 
 use qss_machine::Machine;
 use qss_quant::{Integrator, Steps};
+use qss_quiet::leaving;
 use qss_sched::Agenda;
 use std::sync::ledger::Ledger;
 
@@ -44,16 +45,6 @@ pub(crate) fn renew<L: Ledger>(
         level,
     };
     true
-}
-
-/// The first tick after its own at which a state's line leaves the quantum of its level.
-pub(crate) fn leaving(m: &Machine, j: u32, line: &Integrator) -> Option<u64>
-    requires state { j < state_count m.now }
-    requires near { IsNear (level_unit m.now) line.now.x line.now.level (quantum_of m.now j line.now.level) }
-    ensures { IsDue m.now line.now.tick j line.now result }
-{
-    let quantum = m.quantum_at(j, line.level);
-    line.due(quantum, m.level_unit())
 }
 
 /// State j goes on from a tick at its slope, and the agenda has the tick at which it then leaves its quantum. A line that

@@ -13,7 +13,7 @@ ghost use Rattle.qss_machine.specs.Runs.{state_rows, discrete_rows, world_rows};
 ghost use Rattle.qss_quant.specs.Lines.{IsNear};
 ghost use Rattle.qss_sched.specs.Ranks.{due_at, HasNone};
 ghost use Rattle.qss_run.specs.Places.{AreBranches, line_at, watch_at, IsTurned, IsWatched};
-ghost use Rattle.qss_run.specs.Sims.{weights_at, IsDue};
+ghost use Rattle.qss_quiet.specs.Sims.{weights_at, IsDue};
 ghost use Rattle.qss_run.specs.Stores.{world_of, FitsMachine, Stands, IsBlank};
 
 use crate::conditions::BranchPlace;

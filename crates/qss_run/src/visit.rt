@@ -3,7 +3,7 @@
 ghost use Rattle.std.specs.Prelude.{◌≡◌, ◌+◌, ◌<◌, ◌≤◌, None, vec_capacity};
 ghost use Rattle.qss_machine.specs.Ticks.{world_unless, Step};
 ghost use Rattle.qss_machine.specs.Runs.{tick_rows};
-ghost use Rattle.qss_run.specs.Rules.{IsRuled};
+ghost use Rattle.qss_quiet.specs.Rules.{IsRuled};
 ghost use Rattle.qss_run.specs.Stores.{world_of, Stands};
 ghost use Rattle.qss_run.specs.Touches.{touches_at};
 

@@ -8,7 +8,7 @@ ghost use Rattle.qss_machine.specs.Uses.{uses_of};
 ghost use Rattle.qss_cross.specs.Crossing.{IsSmall, value_at};
 ghost use Rattle.qss_sched.specs.Ranks.{due_at};
 ghost use Rattle.qss_run.specs.Places.{AreBranches, watch_at, IsWatched};
-ghost use Rattle.qss_run.specs.Moves.{AreNumbers};
+ghost use Rattle.qss_quiet.specs.Among.{AreNumbers};
 ghost use Rattle.qss_run.specs.Speeds.{AreSlopesBefore, HasSpeed, GoesOn, AreGoingOn};
 
 use crate::conditions::{BranchPlace, condition_of};

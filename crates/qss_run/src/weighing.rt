@@ -6,12 +6,12 @@ ghost use Rattle.qss_machine.specs.Machines.{state_count, discrete_count};
 ghost use Rattle.qss_machine.specs.Ticks.{is_overweight};
 ghost use Rattle.qss_machine.specs.Uses.{reading_rows, uses_of};
 ghost use Rattle.qss_run.specs.Handlings.{AreAssigned, AreDiscretes};
-ghost use Rattle.qss_run.specs.Moves.{AreNumbers};
+ghost use Rattle.qss_quiet.specs.Among.{AreNumbers};
 ghost use Rattle.qss_run.specs.Overweights.{IsWeighed};
 ghost use Rattle.qss_run.specs.RowSums.{AreSumsBefore};
-ghost use Rattle.qss_run.specs.Sims.{weights_at};
+ghost use Rattle.qss_quiet.specs.Sims.{weights_at};
 ghost use Rattle.qss_run.specs.declared.shifts.RowSum.TheVariants as sum;
-ghost use Rattle.qss_run.specs.Writes.{IsWritten};
+ghost use Rattle.qss_quiet.specs.Writes.{IsWritten};
 
 use crate::readers::least_reader;
 use crate::shifts::{RowSum, shift_sums};

@@ -6,11 +6,11 @@ use Rattle.mu_num.proofs.Tests.{eqb-true, eqb-false}
 use Rattle.qss_machine.specs.declared.rows.Row.{Row}
 use Rattle.qss_machine.specs.Ticks.{Step, world_unless}
 use Rattle.qss_machine.specs.Runs.{last_world}
-use Rattle.qss_run.specs.Rules.{IsRuled}
+use Rattle.qss_quiet.specs.Rules.{IsRuled}
 use Rattle.qss_run.specs.Stores.{world_of, Stands}
-use Rattle.qss_run.specs.Events.{AreSilent, IsVisit}
+use Rattle.qss_quiet.specs.Silent.{AreSilent, IsVisit}
 use Rattle.qss_run.specs.Touches.{touches_at}
-use Rattle.qss_run.proofs.Goings.{visit_on, rows_on, silent_visit}
+use Rattle.qss_quiet.proofs.Goings.{visit_on, rows_on, silent_visit}
 use Rattle.qss_run.proofs.Spans.{touches_on, touches_end}
 use Rattle.qss_run.proofs.advance.advance.Goals as goal
 

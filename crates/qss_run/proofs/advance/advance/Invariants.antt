@@ -2,9 +2,9 @@ use Rattle.std.proofs.Common.{◌+◌, ◌-◌, ◌≤◌, List}
 use Rattle.std.specs.Prelude.{None}
 use Rattle.qss_machine.specs.Counts.{touches_after}
 use Rattle.qss_machine.specs.Ticks.{World}
-use Rattle.qss_run.specs.Rules.{IsRuled}
+use Rattle.qss_quiet.specs.Rules.{IsRuled}
 use Rattle.qss_run.specs.Stores.{world_of, Stands}
-use Rattle.qss_run.specs.Events.{AreSilent}
+use Rattle.qss_quiet.specs.Silent.{AreSilent}
 use Rattle.qss_run.proofs.advance.advance.Given as goal
 
 -- the store stands at the tick, and the ticks up to it had no rows and touched a state for each move

@@ -13,15 +13,15 @@ use Rattle.qss_sched.specs.Ranks.{due_at}
 use Rattle.qss_hand.specs.Values.{Values}
 use Rattle.qss_run.specs.declared.store.Store.{Store}
 use Rattle.qss_run.specs.Handlings.{states_with, AreWatchedUpTo}
-use Rattle.qss_run.specs.Logs.{reinitialized_of}
+use Rattle.qss_quiet.specs.Logs.{reinitialized_of}
 use Rattle.qss_run.specs.Places.{line_at, watch_at, IsTurned, IsWatched}
 use Rattle.qss_run.specs.Renewals.{renewals_from}
-use Rattle.qss_run.specs.Sims.{weights_at}
+use Rattle.qss_quiet.specs.Sims.{weights_at}
 use Rattle.qss_run.specs.Stores.{states_at, world_of, FitsMachine, Stands}
 use Rattle.qss_run.proofs.AfterHandlers.{length-states_with, same_states, same_slopes, same_worlds, lead_to, watched_up_to}
 use Rattle.qss_run.proofs.Reinitialized.{among_reinitialized}
 use Rattle.qss_run.proofs.Turning.{slopes_small}
-use Rattle.qss_run.proofs.Turns.{conditions_few}
+use Rattle.qss_hand.proofs.Turns.{conditions_few}
 use Rattle.qss_run.proofs.Visits.{state_small, stands_again, same_length}
 use Rattle.qss_run.proofs.crossings.go_on_handled.Goals as goal
 

@@ -1,6 +1,6 @@
 use Rattle.std.proofs.Common.{◌≡◌, take}
 use Rattle.std.specs.Prelude.{Some, None}
-use Rattle.qss_run.specs.Writes.{IsWritten}
+use Rattle.qss_quiet.specs.Writes.{IsWritten}
 use Rattle.qss_run.proofs.due.give_back.Given as goal
 
 -- the states put back so far

@@ -11,7 +11,7 @@ use Rattle.qss_hand.proofs.AfterStatements.{whole, from_start, all_done}
 use Rattle.qss_run.specs.declared.conditions.BranchPlace.{BranchPlace}
 use Rattle.qss_run.specs.Handlings.{flags_of}
 use Rattle.qss_run.proofs.Branches.{place_at}
-use Rattle.qss_run.proofs.Turns.{clauses_stay, clauses_few, rows_branch}
+use Rattle.qss_hand.proofs.Turns.{clauses_stay, clauses_few, rows_branch}
 use Rattle.qss_run.proofs.Firings.{clauses_from, fires_here, passed_on, fires_no_more, no_flag, room_for, is_of}
 use Rattle.qss_run.proofs.fired.run_fired.Goals as goal
 use Rattle.qss_run.proofs.fired.run_fired.Goals.{then-at-next+in_ok-fire, else-at-next}

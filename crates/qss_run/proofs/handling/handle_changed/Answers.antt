@@ -8,11 +8,11 @@ use Rattle.qss_quant.specs.Lines.{state_at}
 use Rattle.qss_cross.specs.Crossing.{holds_at}
 use Rattle.qss_hand.specs.Values.{Values}
 use Rattle.qss_run.specs.Handlings.{handling_of_fired, is_reinitialized, IsHandled}
-use Rattle.qss_run.specs.Logs.{assigned_of}
-use Rattle.qss_run.specs.Moves.{is_among, AreNumbers}
+use Rattle.qss_quiet.specs.Logs.{assigned_of}
+use Rattle.qss_quiet.specs.Among.{is_among, AreNumbers}
 use Rattle.qss_run.specs.Places.{line_at, watch_at}
 use Rattle.qss_run.specs.Stores.{states_at, handling_from}
-use Rattle.qss_run.specs.Writes.{IsWritten}
+use Rattle.qss_quiet.specs.Writes.{IsWritten}
 use Rattle.qss_run.proofs.Arrivals.{fired_numbers, truths_on_arrival, fired_handling, rows_fired, known_states, is_handled}
 use Rattle.qss_run.proofs.Handled.{all_within, not_some, over_early}
 use Rattle.qss_run.proofs.handling.handle_changed.Goals as goal

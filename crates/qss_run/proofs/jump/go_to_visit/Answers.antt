@@ -2,7 +2,7 @@
 use Rattle.std.proofs.Common.{◌+◌, ◌≤◌, sym, ◌∙◌, ap, subst}
 use Rattle.qss_machine.specs.Ticks.{world_unless, Step}
 use Rattle.qss_machine.specs.Runs.{tick_rows}
-use Rattle.qss_run.specs.Rules.{IsRuled}
+use Rattle.qss_quiet.specs.Rules.{IsRuled}
 use Rattle.qss_run.specs.Stores.{world_of}
 use Rattle.qss_run.specs.Touches.{touches_at}
 use Rattle.qss_run.proofs.jump.go_to_visit.Goals as goal

@@ -6,11 +6,11 @@ use Rattle.std.specs.Prelude.{Some, nat_lt, if◌then◌else◌}
 use Rattle.qss_sched.specs.Ranks.{due_at}
 use Rattle.std.specs.Vec.{with_items}
 use Rattle.qss_run.specs.declared.store.Store.{Store}
-use Rattle.qss_run.specs.Rules.{IsRuled}
+use Rattle.qss_quiet.specs.Rules.{IsRuled}
 use Rattle.qss_run.specs.Stores.{world_of, Stands}
-use Rattle.qss_run.specs.Events.{AreSilent}
+use Rattle.qss_quiet.specs.Silent.{AreSilent}
 use Rattle.qss_run.proofs.Jumps.{next_later, arrived_then, arrived_if, world_then, stands_then, silent_then}
-use Rattle.qss_run.proofs.Silences.{quiet_worlds}
+use Rattle.qss_quiet.proofs.Silences.{quiet_worlds}
 use Rattle.qss_run.proofs.jump.jump.Goals as goal
 
 pub overflow_sub-result : goal.overflow_sub-result

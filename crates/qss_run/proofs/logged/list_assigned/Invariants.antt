@@ -1,6 +1,6 @@
 use Rattle.std.proofs.Common.{◌≡◌, ◌≤◌, take}
 use Rattle.std.specs.Prelude.{vec_len, vec_capacity}
-use Rattle.qss_run.specs.Logs.{assigned_of}
+use Rattle.qss_quiet.specs.Logs.{assigned_of}
 use Rattle.qss_run.proofs.logged.list_assigned.Given as goal
 
 -- the variables so far

@@ -3,7 +3,7 @@ use Rattle.std.proofs.Common.{◌≡◌, ℕ, ◌+◌, ◌<◌, ◌++◌, List, 
 use Rattle.std.proofs.lemmas.List.{take_all}
 use Rattle.std.specs.Prelude.{All, flat_map}
 use Rattle.qss_run.specs.Overweights.{IsLeastPast}
-use Rattle.qss_run.proofs.Among.{lists_more}
+use Rattle.qss_quiet.proofs.Among.{lists_more}
 use Rattle.qss_run.proofs.readers.least_reader.Goals as goal
 
 pub loop-var-init : goal.loop-var-init

@@ -1,7 +1,7 @@
 use Rattle.std.proofs.Common.{◌≡◌, take, pos}
 use Rattle.qss_quant.specs.Lines.{state_at}
 use Rattle.qss_run.specs.Places.{line_at}
-use Rattle.qss_run.specs.Writes.{IsWritten}
+use Rattle.qss_quiet.specs.Writes.{IsWritten}
 use Rattle.qss_run.proofs.relevel.arrive_due.Given as goal
 
 -- the states so far

@@ -2,7 +2,7 @@
 use Rattle.std.proofs.Common.{subst}
 use Rattle.mu_num.specs.Sizes.{passes}
 use Rattle.qss_machine.specs.Numbers.{int_at}
-use Rattle.qss_run.specs.Writes.{IsFirstOf}
+use Rattle.qss_quiet.specs.Writes.{IsFirstOf}
 use Rattle.qss_run.proofs.DueLevels.{states_over, arrived_small}
 use Rattle.qss_run.proofs.relevel.arrive_within.Goals as goal
 

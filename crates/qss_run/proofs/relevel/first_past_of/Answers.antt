@@ -4,7 +4,7 @@ use Rattle.std.proofs.lemmas.Int.{ints, to_z-of_z}
 use Rattle.std.specs.Int.RustNames.{FitsSigned}
 use Rattle.mu_num.specs.Sizes.{passes}
 use Rattle.qss_machine.specs.Numbers.{int_at}
-use Rattle.qss_run.proofs.DueFirsts.{first_of, none_of}
+use Rattle.qss_quiet.proofs.DueFirsts.{first_of, none_of}
 use Rattle.qss_run.proofs.relevel.first_past_of.Goals as goal
 use mir.Syntax.{w128}
 

@@ -6,8 +6,8 @@ use Rattle.mu_num.specs.Sizes.{IsWithin}
 use Rattle.qss_machine.specs.Numbers.{int_at}
 use Rattle.qss_machine.specs.Machines.{state_count}
 use Rattle.qss_machine.specs.Ticks.{IsNextLevel}
-use Rattle.qss_run.specs.Rules.{IsRuled}
-use Rattle.qss_run.proofs.Writes.{among_at, written_more}
+use Rattle.qss_quiet.specs.Rules.{IsRuled}
+use Rattle.qss_quiet.proofs.Writes.{among_at, written_more}
 use Rattle.qss_run.proofs.relevel.relevel_due.Goals as goal
 use mir.Syntax.{w64, w128}
 

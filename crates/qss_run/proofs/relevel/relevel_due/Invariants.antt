@@ -1,8 +1,8 @@
 use Rattle.std.proofs.Common.{take, pos}
 use Rattle.qss_machine.specs.Numbers.{int_at}
 use Rattle.qss_machine.specs.Ticks.{IsNextLevel}
-use Rattle.qss_run.specs.Rules.{IsRuled}
-use Rattle.qss_run.specs.Writes.{IsWritten}
+use Rattle.qss_quiet.specs.Rules.{IsRuled}
+use Rattle.qss_quiet.specs.Writes.{IsWritten}
 use Rattle.qss_run.proofs.relevel.relevel_due.Given as goal
 
 -- the new levels so far

@@ -2,7 +2,7 @@
 use Rattle.std.proofs.Common.{◌++◌, sym, ◌∙◌, ap, subst}
 use Rattle.qss_machine.specs.Numbers.{first_past}
 use Rattle.qss_machine.specs.Runs.{level_rows}
-use Rattle.qss_run.specs.Moves.{AreNumbers}
+use Rattle.qss_quiet.specs.Among.{AreNumbers}
 use Rattle.qss_run.specs.Stores.{states_at}
 use Rattle.qss_run.proofs.DueLevels.{arrived_at}
 use Rattle.qss_run.proofs.Handled.{not_some, clash, over_first, over_second}

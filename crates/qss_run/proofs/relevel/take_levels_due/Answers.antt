@@ -5,10 +5,10 @@ use Rattle.std.specs.Int.RustNames.{FitsSigned}
 use Rattle.std.specs.List.{flat_map}
 use Rattle.mu_num.specs.Sizes.{IsWithin}
 use Rattle.qss_machine.specs.Numbers.{int_at}
-use Rattle.qss_run.proofs.LevelRows.{row_of, level_row}
-use Rattle.qss_run.proofs.Writes.{among_at, written_more}
-use Rattle.qss_run.proofs.DueRows.{due_rows_more}
-use Rattle.qss_run.proofs.DueFirsts.{not_before}
+use Rattle.qss_quiet.proofs.LevelRows.{row_of, level_row}
+use Rattle.qss_quiet.proofs.Writes.{among_at, written_more}
+use Rattle.qss_quiet.proofs.DueRows.{due_rows_more}
+use Rattle.qss_quiet.proofs.DueFirsts.{not_before}
 use Rattle.qss_run.proofs.relevel.take_levels_due.Goals as goal
 use mir.Syntax.{w128}
 

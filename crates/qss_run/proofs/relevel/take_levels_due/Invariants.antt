@@ -2,8 +2,8 @@ use Rattle.std.proofs.Common.{◌≡◌, ◌+◌, ◌≤◌, ◌++◌, take, pos
 use Rattle.std.specs.List.{flat_map}
 use Rattle.std.specs.Prelude.{vec_len, vec_capacity}
 use Rattle.qss_machine.specs.Numbers.{int_at}
-use Rattle.qss_run.specs.Writes.{IsWritten}
-use Rattle.qss_run.proofs.LevelRows.{level_row}
+use Rattle.qss_quiet.specs.Writes.{IsWritten}
+use Rattle.qss_quiet.proofs.LevelRows.{level_row}
 use Rattle.qss_run.proofs.relevel.take_levels_due.Given as goal
 
 -- the levels and the rows so far

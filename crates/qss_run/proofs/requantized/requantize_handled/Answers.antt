@@ -4,8 +4,8 @@ use Rattle.std.specs.List.{position}
 use Rattle.std.specs.Prelude.{None}
 use Rattle.qss_hand.specs.Values.{Values}
 use Rattle.qss_machine.specs.Ticks.{is_overweight}
-use Rattle.qss_run.specs.Moves.{IsOff}
-use Rattle.qss_run.specs.Sims.{weights_at}
+use Rattle.qss_quiet.specs.Among.{IsOff}
+use Rattle.qss_quiet.specs.Sims.{weights_at}
 use Rattle.qss_run.proofs.Handled.{not_some}
 use Rattle.qss_run.proofs.requantized.requantize_handled.Goals as goal
 

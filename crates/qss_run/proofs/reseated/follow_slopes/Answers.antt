@@ -5,10 +5,10 @@ use Rattle.std.proofs.lemmas.List.FromFn.{fill_by_all, length-map-range_with_len
 use Rattle.qss_machine.specs.Machines.{state_count, slope_at}
 use Rattle.qss_machine.specs.Numbers.{int_at}
 use Rattle.qss_machine.specs.Uses.{reading_rows}
-use Rattle.qss_run.specs.Moves.{is_among}
+use Rattle.qss_quiet.specs.Among.{is_among}
 use Rattle.qss_run.proofs.Assigned.{slope_stays}
-use Rattle.qss_run.proofs.Quiet.{int_at-tabulate}
-use Rattle.qss_run.proofs.Among.{among_readers}
+use Rattle.qss_quiet.proofs.Quiet.{int_at-tabulate}
+use Rattle.qss_quiet.proofs.Among.{among_readers}
 use Rattle.qss_run.proofs.reseated.follow_slopes.Goals as goal
 
 pub slope_readers-requires-clause-variables : goal.slope_readers-requires-clause-variables

@@ -6,17 +6,17 @@ use Rattle.qss_machine.specs.Numbers.{int_at}
 use Rattle.qss_quant.specs.Lines.{Line, IsNear}
 use Rattle.qss_sched.specs.Ranks.{due_at}
 use Rattle.qss_run.specs.Handlings.{states_with}
-use Rattle.qss_run.specs.Moves.{is_among}
+use Rattle.qss_quiet.specs.Among.{is_among}
 use Rattle.qss_run.specs.Places.{line_at}
 use Rattle.qss_run.specs.Renewals.{goes_at, renewals}
 use Rattle.qss_run.specs.Turnings.{MayTurn, Courses}
 use Rattle.qss_run.proofs.Courses.{may_turn_again}
-use Rattle.qss_run.proofs.Quiet.{int_at-tabulate}
+use Rattle.qss_quiet.proofs.Quiet.{int_at-tabulate}
 use Rattle.qss_run.proofs.Renewed.{none_left}
 use Rattle.qss_run.proofs.Reseating.{moved_state, left_seated, may_turn_seated, renewals_seated, reseated}
 use Rattle.qss_run.proofs.Seats.{AreSeated}
 use Rattle.qss_run.proofs.Turning.{slopes_small}
-use Rattle.qss_run.proofs.Writes.{index_of}
+use Rattle.qss_quiet.proofs.Writes.{index_of}
 use Rattle.qss_run.proofs.reseated.reslope_handled.Goals as goal
 
 pub seat_each-requires-clause-small_slopes : goal.seat_each-requires-clause-small_slopes

@@ -6,7 +6,7 @@ use Rattle.qss_machine.specs.Machines.{state_count}
 use Rattle.qss_machine.specs.Numbers.{int_at}
 use Rattle.qss_run.specs.Turnings.{Courses}
 use Rattle.qss_run.proofs.Seats.{AreSeated, none_seated, seated_more, still_begun, still_small}
-use Rattle.qss_run.proofs.Writes.{among_at}
+use Rattle.qss_quiet.proofs.Writes.{among_at}
 use Rattle.qss_run.proofs.reseated.seat_each.Goals as goal
 
 pub loop-j-init : goal.loop-j-init

@@ -1,7 +1,7 @@
 use Rattle.std.proofs.Common.{◌≡◌, ◌+◌, ℕ, ℤ, List, length, take, true}
 use Rattle.qss_machine.specs.Machines.{state_count}
 use Rattle.qss_machine.specs.Numbers.{int_at}
-use Rattle.qss_run.specs.Moves.{is_among}
+use Rattle.qss_quiet.specs.Among.{is_among}
 use Rattle.qss_run.specs.Renewals.{renewals_from}
 use Rattle.qss_run.proofs.Seats.{AreSeated}
 use Rattle.qss_run.proofs.reseated.seat_each.Given as goal

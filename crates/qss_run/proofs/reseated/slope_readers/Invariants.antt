@@ -1,7 +1,7 @@
 use Rattle.std.proofs.Common.{◌≡◌, length, take, pos, flat_map}
 use Rattle.qss_machine.specs.Machines.{state_count, slope_at}
 use Rattle.qss_machine.specs.Uses.{reading_rows}
-use Rattle.qss_run.specs.Writes.{IsWritten}
+use Rattle.qss_quiet.specs.Writes.{IsWritten}
 use Rattle.qss_run.proofs.reseated.slope_readers.Given as goal
 
 -- the variables so far

@@ -1,6 +1,6 @@
 use Rattle.std.proofs.Common.{◌≡◌, length, take, pos}
 use Rattle.qss_machine.specs.Machines.{state_count, slope_at}
-use Rattle.qss_run.specs.Writes.{IsWritten}
+use Rattle.qss_quiet.specs.Writes.{IsWritten}
 use Rattle.qss_run.proofs.reseated.slope_rows.Given as goal
 
 -- the rows so far

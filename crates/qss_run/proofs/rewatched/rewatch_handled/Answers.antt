@@ -7,11 +7,11 @@ use Rattle.qss_machine.specs.Handlers.{conditions}
 use Rattle.qss_cross.specs.Crossing.{IsSmall, Watch}
 use Rattle.qss_hand.specs.Values.{Values}
 use Rattle.qss_run.specs.Handlings.{is_reinitialized}
-use Rattle.qss_run.specs.Logs.{reinitialized_of}
+use Rattle.qss_quiet.specs.Logs.{reinitialized_of}
 use Rattle.qss_run.specs.Rewatchings.{settles_after}
-use Rattle.qss_run.specs.Sims.{condition_at}
+use Rattle.qss_quiet.specs.Sims.{condition_at}
 use Rattle.qss_run.specs.Stores.{states_at}
-use Rattle.qss_run.proofs.Flags.{truths_are}
+use Rattle.qss_quiet.proofs.Flags.{truths_are}
 use Rattle.qss_run.proofs.QuietTick.{value_small, condition_bounded}
 use Rattle.qss_run.proofs.Settling.{among_settling, unread_by}
 use Rattle.qss_run.proofs.Untouched.{all_watched}

@@ -3,7 +3,7 @@ use Rattle.std.proofs.Common.{◌≡◌, List, length, ℤ, sym, ◌∙◌, ap}
 use Rattle.qss_machine.specs.declared.parts.Condition.{Condition}
 use Rattle.qss_machine.specs.Machines.{value_of}
 use Rattle.qss_machine.specs.Uses.{has_entry}
-use Rattle.qss_run.specs.Sims.{condition_at}
+use Rattle.qss_quiet.specs.Sims.{condition_at}
 use Rattle.qss_run.specs.Stores.{states_at}
 use Rattle.qss_run.proofs.Agreeing.{value_agrees}
 use Rattle.qss_run.proofs.Arrived.{arrived_small}

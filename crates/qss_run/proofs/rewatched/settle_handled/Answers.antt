@@ -1,6 +1,6 @@
 -- The conditions settle list by list.
 use Rattle.std.proofs.Common.{◌++◌, ℕ, List, ℤ}
-use Rattle.qss_run.specs.Logs.{reinitialized_of}
+use Rattle.qss_quiet.specs.Logs.{reinitialized_of}
 use Rattle.qss_run.specs.Rewatchings.{Watchings, touched_by, readers_before}
 use Rattle.qss_run.specs.Stores.{states_at}
 use Rattle.qss_run.proofs.Rewatching.{settled_then}

@@ -6,8 +6,8 @@ use Rattle.std.specs.Prelude.{All}
 use Rattle.qss_run.specs.Reads.{AreArrived}
 use Rattle.qss_run.specs.Rewatchings.{Watchings, AreSettled, readers_of, one_reads}
 use Rattle.qss_run.specs.Stores.{states_at}
-use Rattle.qss_run.proofs.Among.{lists_more}
-use Rattle.qss_run.proofs.KeptReaders.{conditions_many, conditions_kept, conditions_below}
+use Rattle.qss_quiet.proofs.Among.{lists_more}
+use Rattle.qss_quiet.proofs.KeptReaders.{conditions_many, conditions_kept, conditions_below}
 use Rattle.qss_run.proofs.Rewatching.{none_settled, settled_then}
 use Rattle.qss_run.proofs.Settling.{none_arrived, arrived_on}
 use Rattle.qss_run.proofs.rewatched.settle_readers.Goals as goal

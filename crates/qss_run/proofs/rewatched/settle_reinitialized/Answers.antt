@@ -6,7 +6,7 @@ use Rattle.mu_num.specs.Sizes.{IsWithin}
 use Rattle.qss_machine.specs.declared.rows.Row.{Row}
 use Rattle.qss_machine.specs.declared.rows.RowKind.TheVariants as kind
 use Rattle.qss_cross.specs.Crossing.{Watch}
-use Rattle.qss_run.specs.Logs.{reinitialized_of}
+use Rattle.qss_quiet.specs.Logs.{reinitialized_of}
 use Rattle.qss_run.specs.Reads.{AreArrived}
 use Rattle.qss_run.specs.Rewatchings.{Watchings, AreSettled, touched_of, touched_by, one_reads}
 use Rattle.qss_run.specs.Stores.{states_at}

@@ -1,7 +1,7 @@
 use Rattle.std.proofs.Common.{take}
 use Rattle.std.specs.Prelude.{All}
 use Rattle.mu_num.specs.Sizes.{IsWithin}
-use Rattle.qss_run.specs.Logs.{reinitialized_of}
+use Rattle.qss_quiet.specs.Logs.{reinitialized_of}
 use Rattle.qss_run.specs.Reads.{AreArrived}
 use Rattle.qss_run.specs.Rewatchings.{AreSettled, touched_by, one_reads}
 use Rattle.qss_run.specs.Stores.{states_at}

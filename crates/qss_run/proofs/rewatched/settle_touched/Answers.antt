@@ -4,7 +4,7 @@ use Rattle.std.proofs.lemmas.List.{take_all}
 use Rattle.qss_run.specs.Reads.{AreArrived}
 use Rattle.qss_run.specs.Rewatchings.{Watchings, AreSettled, touched_of, touched_by, one_reads}
 use Rattle.qss_run.specs.Stores.{states_at}
-use Rattle.qss_run.proofs.Among.{lists_more}
+use Rattle.qss_quiet.proofs.Among.{lists_more}
 use Rattle.qss_run.proofs.Rewatching.{none_settled, settled_then}
 use Rattle.qss_run.proofs.Settling.{none_arrived, arrived_on}
 use Rattle.qss_run.proofs.rewatched.settle_touched.Goals as goal

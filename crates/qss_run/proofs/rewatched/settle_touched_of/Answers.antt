@@ -6,7 +6,7 @@ use Rattle.qss_machine.specs.Uses.{reading_rows, reading_conditions}
 use Rattle.qss_run.specs.Reads.{AreArrived}
 use Rattle.qss_run.specs.Rewatchings.{Watchings, AreSettled, readers_of, one_reads}
 use Rattle.qss_run.specs.Stores.{states_at}
-use Rattle.qss_run.proofs.KeptReaders.{rows_many, rows_kept, rows_below, conditions_many, conditions_kept, conditions_below}
+use Rattle.qss_quiet.proofs.KeptReaders.{rows_many, rows_kept, rows_below, conditions_many, conditions_kept, conditions_below}
 use Rattle.qss_run.proofs.Rewatching.{settled_then}
 use Rattle.qss_run.proofs.Settling.{arrived_on}
 use Rattle.qss_run.proofs.rewatched.settle_touched_of.Goals as goal

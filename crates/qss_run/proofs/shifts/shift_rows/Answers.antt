@@ -7,9 +7,9 @@ use Rattle.mu_num.specs.Sizes.{IsWithin}
 use Rattle.qss_machine.specs.Machines.{state_count, mode_coefficient_at}
 use Rattle.qss_machine.specs.Numbers.{int_at}
 use Rattle.qss_run.specs.RowSums.{taken_by, HasFollowed}
-use Rattle.qss_run.specs.Writes.{IsWritten}
-use Rattle.qss_run.proofs.DueFirsts.{not_before}
-use Rattle.qss_run.proofs.Writes.{written_more, written_all}
+use Rattle.qss_quiet.specs.Writes.{IsWritten}
+use Rattle.qss_quiet.proofs.DueFirsts.{not_before}
+use Rattle.qss_quiet.proofs.Writes.{written_more, written_all}
 use Rattle.qss_run.proofs.shifts.shift_rows.Goals as goal
 use mir.Syntax.{w64, w128}
 use mir.Val.{to_z, of_z}

@@ -5,7 +5,7 @@ use Rattle.qss_machine.specs.Machines.{state_count, slope_at}
 use Rattle.qss_cross.specs.Crossing.{IsSmall}
 use Rattle.qss_hand.specs.Values.{Values}
 use Rattle.qss_run.specs.Places.{watch_at, IsWatched}
-use Rattle.qss_run.specs.Sims.{condition_at}
+use Rattle.qss_quiet.specs.Sims.{condition_at}
 use Rattle.qss_run.specs.Speeds.{AreSlopesBefore}
 use Rattle.qss_run.specs.Stores.{states_at}
 use Rattle.qss_run.proofs.QuietTick.{value_small, condition_bounded}

@@ -14,10 +14,10 @@ use Rattle.qss_machine.specs.Runs.{state_rows, discrete_rows}
 use Rattle.qss_sched.specs.Ranks.{due_at}
 use Rattle.qss_run.specs.declared.store.Store.{Store}
 use Rattle.qss_run.specs.Places.{line_at, watch_at, IsTurned, IsWatched}
-use Rattle.qss_run.specs.Sims.{weights_at}
+use Rattle.qss_quiet.specs.Sims.{weights_at}
 use Rattle.qss_run.specs.Stores.{states_at, FitsMachine}
-use Rattle.qss_run.proofs.Skipped.{settled_twice}
-use Rattle.qss_run.proofs.Starts.{levels_at_start, levels_start, light_at, count_start}
+use Rattle.qss_quiet.proofs.Skipped.{settled_twice}
+use Rattle.qss_quiet.proofs.Starts.{levels_at_start, levels_start, light_at, count_start}
 use Rattle.qss_run.proofs.Visits.{same_length, stands_again}
 use Rattle.qss_run.proofs.start.begin.Goals as goal
 

@@ -10,9 +10,9 @@ use Rattle.qss_machine.specs.Machines.{state_count, level_unit, quantum_of, star
 use Rattle.qss_machine.proofs.Near.{start_near}
 use Rattle.qss_quant.specs.Lines.{IsNear}
 use Rattle.qss_hand.specs.Values.{Values}
-use Rattle.qss_run.proofs.Turns.{conditions_few}
+use Rattle.qss_hand.proofs.Turns.{conditions_few}
 use Rattle.qss_run.proofs.Turning.{slopes_small}
-use Rattle.qss_run.proofs.Starts.{states_start, discretes_start, levels_start, light_at, count_start}
+use Rattle.qss_quiet.proofs.Starts.{states_start, discretes_start, levels_start, light_at, count_start}
 use Rattle.qss_run.proofs.start.set_out.Goals as goal
 
 pub start_lines-requires-clause-states : goal.start_lines-requires-clause-states

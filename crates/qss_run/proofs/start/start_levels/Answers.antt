@@ -6,7 +6,7 @@ use Rattle.mu_num.specs.Sizes.{IsWithin}
 use Rattle.qss_machine.specs.declared.parts.StateInfo.{StateInfo}
 use Rattle.qss_machine.specs.Limits.{level_below}
 use Rattle.qss_machine.specs.Machines.{level_unit}
-use Rattle.qss_run.proofs.Starts.{levels_more, levels_all}
+use Rattle.qss_quiet.proofs.Starts.{levels_more, levels_all}
 use Rattle.qss_run.proofs.start.start_levels.Goals as goal
 use mir.Syntax.{w64, w128}
 

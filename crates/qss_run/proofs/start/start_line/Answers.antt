@@ -7,9 +7,9 @@ use Rattle.std.specs.Prelude.{None}
 use Rattle.mu_num.specs.Sizes.{IsPositiveWithin}
 use Rattle.qss_quant.specs.Lines.{Line}
 use Rattle.qss_sched.specs.Ranks.{due_at}
-use Rattle.qss_run.specs.Sims.{IsDue}
-use Rattle.qss_run.proofs.Ranges.{quantum_fits, unit_fits}
-use Rattle.qss_run.proofs.Turning.{due_here}
+use Rattle.qss_quiet.specs.Sims.{IsDue}
+use Rattle.qss_quiet.proofs.Ranges.{quantum_fits, unit_fits}
+use Rattle.qss_quiet.proofs.NextLevels.{due_here}
 use Rattle.qss_run.proofs.start.start_line.Goals as goal
 use mir.Syntax.{w64, w128}
 

@@ -8,7 +8,7 @@ use Rattle.qss_run.specs.Places.{line_at}
 use Rattle.qss_run.specs.Renewals.{goes_at, renewals}
 use Rattle.qss_run.specs.Turnings.{Courses}
 use Rattle.qss_run.proofs.Courses.{may_turn, may_turn_again, turned_then, turned_all}
-use Rattle.qss_run.proofs.Quiet.{int_at-tabulate}
+use Rattle.qss_quiet.proofs.Quiet.{int_at-tabulate}
 use Rattle.qss_run.proofs.Renewed.{none_left}
 use Rattle.qss_run.proofs.Turning.{slopes_small}
 use Rattle.qss_run.proofs.turned.reslope_of.Goals as goal

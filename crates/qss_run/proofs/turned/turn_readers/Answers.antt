@@ -8,9 +8,9 @@ use Rattle.qss_machine.specs.Uses.{reading_rows}
 use Rattle.qss_sched.specs.Ranks.{due_at}
 use Rattle.qss_run.specs.Places.{line_at}
 use Rattle.qss_run.specs.Turnings.{Courses, AreTurned}
-use Rattle.qss_run.proofs.Among.{lists_more}
+use Rattle.qss_quiet.proofs.Among.{lists_more}
 use Rattle.qss_run.proofs.Courses.{may_turn_again, turned_then}
-use Rattle.qss_run.proofs.KeptReaders.{rows_many, rows_kept, rows_below}
+use Rattle.qss_quiet.proofs.KeptReaders.{rows_many, rows_kept, rows_below}
 use Rattle.qss_run.proofs.turned.turn_readers.Goals as goal
 
 pub rows_of-readers-requires : goal.rows_of-readers-requires

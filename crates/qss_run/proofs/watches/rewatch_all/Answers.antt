@@ -1,7 +1,7 @@
 -- One more condition is settled.
 use Rattle.std.proofs.Common.{◌∷◌, [], ℕ, List, sym, ◌∙◌, subst, arith}
 use Rattle.qss_run.specs.Rewatchings.{Watchings, AreSettled}
-use Rattle.qss_run.proofs.Flags.{truths_are}
+use Rattle.qss_quiet.proofs.Flags.{truths_are}
 use Rattle.qss_run.proofs.Rewatching.{all_below, all_below-more, among_below, none_settled, settled_then}
 use Rattle.qss_run.proofs.watches.rewatch_all.Goals as goal
 

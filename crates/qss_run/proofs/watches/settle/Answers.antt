@@ -3,7 +3,7 @@ use Rattle.std.proofs.Common.{◌≡◌, ◌+◌, set, refl, ◌∙◌, ap, arit
 use Rattle.qss_machine.specs.declared.parts.Condition.{Condition}
 use Rattle.qss_machine.specs.Machines.{state_count, compares, truth}
 use Rattle.qss_cross.specs.Crossing.{Watch}
-use Rattle.qss_run.specs.Sims.{condition_at}
+use Rattle.qss_quiet.specs.Sims.{condition_at}
 use Rattle.qss_run.proofs.Rewatching.{one_settled}
 use Rattle.qss_run.proofs.Turning.{watch_is}
 use Rattle.qss_run.proofs.watches.settle.Goals as goal

@@ -8,7 +8,7 @@ use Rattle.qss_machine.specs.Machines.{state_count, speed_of}
 use Rattle.qss_cross.specs.Crossing.{Watch}
 use Rattle.qss_sched.specs.Ranks.{due_at}
 use Rattle.qss_run.specs.Places.{watch_at}
-use Rattle.qss_run.specs.Sims.{condition_at}
+use Rattle.qss_quiet.specs.Sims.{condition_at}
 use Rattle.qss_run.specs.Speeds.{GoesOn}
 use Rattle.qss_run.proofs.Speeds.{going_on_at}
 use Rattle.qss_run.proofs.Turning.{no_watch}

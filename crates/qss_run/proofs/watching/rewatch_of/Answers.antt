@@ -5,7 +5,7 @@ use Rattle.std.specs.Prelude.{All, slice_index_or}
 use Rattle.qss_machine.specs.Machines.{state_count}
 use Rattle.qss_machine.specs.Handlers.{conditions}
 use Rattle.qss_run.specs.Speeds.{HasSpeed}
-use Rattle.qss_run.proofs.KeptReaders.{rows_many, rows_below}
+use Rattle.qss_quiet.proofs.KeptReaders.{rows_many, rows_below}
 use Rattle.qss_run.proofs.Speeds.{going_on_more, speeds_kept, watched_again}
 use Rattle.qss_run.proofs.watching.rewatch_of.Goals as goal
 

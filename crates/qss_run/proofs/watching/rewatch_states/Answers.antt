@@ -4,7 +4,7 @@ use Rattle.std.proofs.lemmas.List.Elements.{All-from_get_or}
 use Rattle.std.specs.Prelude.{All, slice_index_or}
 use Rattle.qss_machine.specs.Handlers.{conditions}
 use Rattle.qss_run.specs.Speeds.{HasSpeed}
-use Rattle.qss_run.proofs.KeptReaders.{conditions_many, conditions_below}
+use Rattle.qss_quiet.proofs.KeptReaders.{conditions_many, conditions_below}
 use Rattle.qss_run.proofs.Speeds.{going_on_more, speeds_kept}
 use Rattle.qss_run.proofs.watching.rewatch_states.Goals as goal
 

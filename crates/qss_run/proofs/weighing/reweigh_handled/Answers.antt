@@ -8,7 +8,7 @@ use Rattle.qss_machine.specs.Ticks.{is_overweight}
 use Rattle.qss_machine.specs.Uses.{reading_rows}
 use Rattle.qss_run.specs.Overweights.{IsLeastPast}
 use Rattle.qss_run.proofs.Least.{least_none, least_is}
-use Rattle.qss_run.proofs.KeptReaders.{rows_many, rows_below, rows_kept_all}
+use Rattle.qss_quiet.proofs.KeptReaders.{rows_many, rows_below, rows_kept_all}
 use Rattle.qss_run.proofs.Weighed.{many_after, weighed_passes, others_light, all_weighed}
 use Rattle.qss_run.proofs.weighing.reweigh_handled.Goals as goal
 

@@ -5,10 +5,10 @@ use Rattle.std.specs.Prelude.{All, flat_map}
 use Rattle.qss_machine.specs.Machines.{state_count, discrete_count}
 use Rattle.qss_machine.specs.Uses.{reading_rows}
 use Rattle.qss_run.specs.Overweights.{IsWeighed}
-use Rattle.qss_run.specs.Writes.{IsWritten}
-use Rattle.qss_run.proofs.Among.{lists_more}
-use Rattle.qss_run.proofs.KeptReaders.{rows_many, rows_kept, rows_below}
-use Rattle.qss_run.proofs.Writes.{written_on}
+use Rattle.qss_quiet.specs.Writes.{IsWritten}
+use Rattle.qss_quiet.proofs.Among.{lists_more}
+use Rattle.qss_quiet.proofs.KeptReaders.{rows_many, rows_kept, rows_below}
+use Rattle.qss_quiet.proofs.Writes.{written_on}
 use Rattle.qss_run.proofs.weighing.weigh_readers.Goals as goal
 
 pub rows_of-requires : goal.rows_of-requires

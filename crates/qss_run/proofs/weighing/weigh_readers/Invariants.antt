@@ -2,7 +2,7 @@ use Rattle.std.proofs.Common.{take, pos}
 use Rattle.std.specs.Prelude.{flat_map}
 use Rattle.qss_machine.specs.Uses.{reading_rows}
 use Rattle.qss_run.specs.Overweights.{IsWeighed}
-use Rattle.qss_run.specs.Writes.{IsWritten}
+use Rattle.qss_quiet.specs.Writes.{IsWritten}
 use Rattle.qss_run.proofs.weighing.weigh_readers.Given as goal
 
 -- the weights of the rows that read one of the variables so far

@@ -4,7 +4,7 @@ use Rattle.std.proofs.lemmas.Int.{to_z-of_z}
 use Rattle.std.specs.Int.RustNames.{FitsSigned}
 use Rattle.qss_machine.specs.Machines.{state_count}
 use Rattle.qss_run.specs.Overweights.{IsWeighed}
-use Rattle.qss_run.proofs.Writes.{written_more}
+use Rattle.qss_quiet.proofs.Writes.{written_more}
 use Rattle.qss_run.proofs.weighing.weigh_rows.Goals as goal
 use mir.Syntax.{w128}
 

@@ -1,6 +1,6 @@
 use Rattle.std.proofs.Common.{take, pos}
 use Rattle.qss_run.specs.Overweights.{IsWeighed}
-use Rattle.qss_run.specs.Writes.{IsWritten}
+use Rattle.qss_quiet.specs.Writes.{IsWritten}
 use Rattle.qss_run.proofs.weighing.weigh_rows.Given as goal
 
 -- the weights of the rows so far

@@ -5,7 +5,7 @@ use Rattle.qss_machine.specs.declared.system.Machine.{Machine}
 use Rattle.qss_quant.specs.Rules.{level_by}
 use Rattle.qss_run.specs.declared.outcome.Outcome.{Outcome}
 use Rattle.qss_run.specs.declared.store.Store.{Store}
-use Rattle.qss_run.specs.Rules.{IsRuled}
+use Rattle.qss_quiet.specs.Rules.{IsRuled}
 use Rattle.qss_run.specs.Stores.{world_of}
 use Rattle.qss_run.specs.Standings.{Standing}
 use Rattle.qss_run.specs.Calls.{standing_of, tick_of, end_of}

@@ -1,0 +1,12 @@
+//! Ticks at which nothing happens, for simulators that skip them, and how a state takes its levels.
+#![tactic(auto)]
+
+mod laws;
+mod levels;
+
+pub use laws::{
+    goes_to_next_visit, leaving_changes_level, only_due_states_pass, quiet_tick_is_forced,
+    rows_of_visits, silence_until_due, skipping_is_right, slopes_follow_discretes,
+    slopes_follow_levels, stands_still_until_due,
+};
+pub use levels::{leaving, next_level};
