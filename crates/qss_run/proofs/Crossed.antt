@@ -51,7 +51,7 @@ module _ (m : Machine) (tick : ℕ) (agenda : List (Option ℕ)) (s : Store) (ta
   abbrev before : Store
   before = record s { agenda = agenda }
 
-  for : StandsFor m tick (world_of tick s) (line_at s.lines.items) (watch_at s.watches.items) (due_at agenda)
+  for : StandsFor m tick (world_of tick s) (line_at s.lines.items) (watch_at s.conditions.watches.items) (due_at agenda)
   for = taken.stands.stands_for
 
   nothing : HasNothingBefore (tick + 1) (due_at agenda)
@@ -108,24 +108,24 @@ module _ (m : Machine) (tick : ℕ) (agenda : List (Option ℕ)) (s : Store) (ta
   -- ---- conditions on arrival
 
   held_then : (place : ℕ) → place < length (conditions m) →
-      value_at (watch_at s.watches.items place) (tick + 1) ≡ value_of m (condition_at m place).form (states_at s.lines.items (tick + 1)) s.work.d s.work.d (tick + 1)
+      value_at (watch_at s.conditions.watches.items place) (tick + 1) ≡ value_of m (condition_at m place).form (states_at s.lines.items (tick + 1)) s.work.d s.work.d (tick + 1)
   held_then place h =
-      watch_value_at m tick (world_of tick s) (line_at s.lines.items) (watch_at s.watches.items) (due_at agenda) for place 1 h
+      watch_value_at m tick (world_of tick s) (line_at s.lines.items) (watch_at s.conditions.watches.items) (due_at agenda) for place 1 h
       ∙ ap (λ x. value_of m (condition_at m place).form x s.work.d s.work.d (tick + 1)) (sym (arrived m tick agenda s taken in_time ∙ moved_is m (world_of tick s)))
 
   -- one that does not change is as after the last handlers
   pub flag_same : (place : ℕ) → place < length (conditions m) → is_among s.changed.items place ≡ false →
-      truth m (condition_at m place) (states_at s.lines.items (tick + 1)) s.work.d (tick + 1) ≡ flag_at s.settled.items place
+      truth m (condition_at m place) (states_at s.lines.items (tick + 1)) s.work.d (tick + 1) ≡ flag_at s.conditions.settled.items place
   flag_same place h none =
       ap (λ x. truth m (condition_at m place) x s.work.d (tick + 1)) (arrived m tick agenda s taken in_time ∙ moved_is m (world_of tick s))
-      ∙ flag_still m tick (world_of tick s) (line_at s.lines.items) (watch_at s.watches.items) (due_at agenda) (tick + 1) 1 place for (omega arith) (omega arith) in_limit h (later_change place h none)
+      ∙ flag_still m tick (world_of tick s) (line_at s.lines.items) (watch_at s.conditions.watches.items) (due_at agenda) (tick + 1) 1 place for (omega arith) (omega arith) in_limit h (later_change place h none)
 
   -- and one that is not looked at did not become true through them
   pub rest_as_before : (place : ℕ) → place < length (conditions m) → is_among s.changed.items place ≡ false →
-      (truth m (condition_at m place) (states_at s.lines.items (tick + 1)) s.work.d (tick + 1) ≡ flag_at s.settled.items place) × (became_true s.arrived.items s.settled.items place ≡ false)
+      (truth m (condition_at m place) (states_at s.lines.items (tick + 1)) s.work.d (tick + 1) ≡ flag_at s.conditions.settled.items place) × (became_true s.conditions.arrived.items s.conditions.settled.items place ≡ false)
   rest_as_before place h none = (
     flag_same place h none,
-    elim (cases_Bool (became_true s.arrived.items s.settled.items place)) [
+    elim (cases_Bool (became_true s.conditions.arrived.items s.conditions.settled.items place)) [
       | inl risen ↦ (let some = taken.changing.risen place h risen in absurd (cc))
       | inr not ↦ not
     ],
@@ -133,33 +133,33 @@ module _ (m : Machine) (tick : ℕ) (agenda : List (Option ℕ)) (s : Store) (ta
 
   -- each watch has its condition's truth on arrival, and a small value where no state passed its limit
   pub watched_then : (place : ℕ) → place < length (conditions m) →
-      ((watch_at s.watches.items place).tick ≤ tick + 1)
-      × (All (IsWithin 88) (states_at s.lines.items (tick + 1)) → IsSmall (value_at (watch_at s.watches.items place) (tick + 1)))
-      × (holds_at (watch_at s.watches.items place) (tick + 1) ≡ truth m (condition_at m place) (states_at s.lines.items (tick + 1)) s.work.d (tick + 1))
+      ((watch_at s.conditions.watches.items place).tick ≤ tick + 1)
+      × (All (IsWithin 88) (states_at s.lines.items (tick + 1)) → IsSmall (value_at (watch_at s.conditions.watches.items place) (tick + 1)))
+      × (holds_at (watch_at s.conditions.watches.items place) (tick + 1) ≡ truth m (condition_at m place) (states_at s.lines.items (tick + 1)) s.work.d (tick + 1))
   watched_then place h = (
     omega (arith, (for.watches place h).not_later),
     λ small. subst IsSmall (sym (held_then place h))
         (value_small m (condition_at m place).form (states_at s.lines.items (tick + 1)) s.work.d (tick + 1)
-        (condition_bounded m s.branches.items taken.stands.fits.branches place (omega (arith, h, taken.stands.fits.branches.as_many))) small taken.stands.fits.small_discretes
+        (condition_bounded m s.conditions.branches.items taken.stands.fits.own_conditions.branches place (omega (arith, h, taken.stands.fits.own_conditions.branches.as_many))) small taken.stands.fits.small_discretes
         (omega (arith, in_time, m.has_units.last_tick))),
-    ap (λ r. compares r (value_at (watch_at s.watches.items place) (tick + 1))) (for.watches place h).own_rel ∙ ap (compares (condition_at m place).rel) (held_then place h),
+    ap (λ r. compares r (value_at (watch_at s.conditions.watches.items place) (tick + 1))) (for.watches place h).own_rel ∙ ap (compares (condition_at m place).rel) (held_then place h),
   )
 
   -- one that does not change is watched as before, at the states on arrival
   pub watched_still : (place : ℕ) → place < length (conditions m) → is_among s.changed.items place ≡ false →
-      IsWatched m (tick + 1) (states_at s.lines.items (tick + 1)) s.work.d s.slopes.items place (watch_at s.watches.items place) (due_at s.agenda (state_count m + place))
+      IsWatched m (tick + 1) (states_at s.lines.items (tick + 1)) s.work.d s.slopes.items place (watch_at s.conditions.watches.items place) (due_at s.agenda (state_count m + place))
   watched_still place h none =
       let v = for.watches place h in
-      let change : IsChange (tick + 1) (flag_at s.settled.items place) (watch_at s.watches.items place) (due_at agenda (state_count m + place)) =
-      from_later (λ t. holds_at (watch_at s.watches.items place) t ≢ flag_at s.settled.items place) tick (tick + 1) (due_at agenda (state_count m + place)) (omega arith)
+      let change : IsChange (tick + 1) (flag_at s.conditions.settled.items place) (watch_at s.conditions.watches.items place) (due_at agenda (state_count m + place)) =
+      from_later (λ t. holds_at (watch_at s.conditions.watches.items place) t ≢ flag_at s.conditions.settled.items place) tick (tick + 1) (due_at agenda (state_count m + place)) (omega arith)
       (later_change place h none) (for.changes place h) in
       record {
         not_later = omega (arith, v.not_later);
         here = held_then place h;
-        own_speed = subst (λ xs. (watch_at s.watches.items place).speed ≡ speed_of m (condition_at m place).form xs) (sym taken.stands.own_slopes) v.own_speed;
+        own_speed = subst (λ xs. (watch_at s.conditions.watches.items place).speed ≡ speed_of m (condition_at m place).form xs) (sym taken.stands.own_slopes) v.own_speed;
         own_rel = v.own_rel;
-        is_change = subst (λ b. IsChange (tick + 1) b (watch_at s.watches.items place) (due_at s.agenda (state_count m + place))) (sym (flag_same place h none))
-            (subst (IsChange (tick + 1) (flag_at s.settled.items place) (watch_at s.watches.items place)) (sym (taken.without.other_conditions place h none)) change);
+        is_change = subst (λ b. IsChange (tick + 1) b (watch_at s.conditions.watches.items place) (due_at s.agenda (state_count m + place))) (sym (flag_same place h none))
+            (subst (IsChange (tick + 1) (flag_at s.conditions.settled.items place) (watch_at s.conditions.watches.items place)) (sym (taken.without.other_conditions place h none)) change);
       }
 
   -- ---- after the handlers

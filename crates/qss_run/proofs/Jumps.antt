@@ -21,6 +21,7 @@ use Rattle.qss_quiet.specs.Sims.{StandsFor, rises}
 use Rattle.qss_quiet.specs.Skips.{states_after, world_after}
 use Rattle.qss_run.specs.Stores.{states_at, world_of, FitsMachine, Stands}
 use Rattle.qss_quiet.specs.Silent.{AreSilent}
+use Rattle.qss_run.proofs.OwnConditions.{arrived_anew}
 use Rattle.qss_quiet.proofs.Quiet.{int_at-tabulate, tabulate-same}
 use Rattle.qss_quiet.proofs.Silence.{line_state_at, none_rises, silence, stands_still}
 use Rattle.qss_quiet.proofs.Silences.{quiet_worlds, quiet_leads}
@@ -41,7 +42,7 @@ dues_later m tick s stands place t e = elim (cases_lt place n) [ inl below ↦ l
     n : ℕ
     n = state_count m
 
-    for : StandsFor m tick (world_of tick s) (line_at s.lines.items) (watch_at s.watches.items) (due_at s.agenda)
+    for : StandsFor m tick (world_of tick s) (line_at s.lines.items) (watch_at s.conditions.watches.items) (due_at s.agenda)
     for = stands.stands_for
 
     count : ℕ
@@ -76,7 +77,7 @@ states_later m tick s stands k =
     ap (λ n. tabulate n (λ j. state_at (line_at s.lines.items j) (tick + k))) stands.fits.lines
     ∙ tabulate-same (pos 0) (state_count m) _ _
     (λ j h.
-    line_state_at m tick (world_of tick s) (line_at s.lines.items) (watch_at s.watches.items) (due_at s.agenda) stands.stands_for j k h
+    line_state_at m tick (world_of tick s) (line_at s.lines.items) (watch_at s.conditions.watches.items) (due_at s.agenda) stands.stands_for j k h
     ∙ int_at-tabulate (state_count m) (λ i. int_at (world_of tick s).states i +ℤ pos k *ℤ slope_at m i s.levels.items s.work.d) j h)
 
 -- the truths on arrival by then
@@ -84,20 +85,24 @@ abbrev pub arrived_then : ℕ → List Bool → List Bool → List Bool
 arrived_then zero arrived settled = arrived
 arrived_then (suc ticks) arrived settled = settled
 
-pub world_then : (m : Machine) (tick ticks : ℕ) (s : Store) (arrived : Vec Bool Global) (calm : Bool) → Stands m tick s → arrived.items ≡ arrived_then ticks s.arrived.items s.settled.items →
-    world_of (tick + ticks) (record s { arrived = arrived; calm = calm }) ≡ world_after m (world_of tick s) ticks
+-- a store with other truths on arrival
+abbrev pub with_arrived : Store → Vec Bool Global → Bool → Store
+with_arrived s arrived calm = record s { conditions = record s.conditions { arrived = arrived }; calm = calm }
+
+pub world_then : (m : Machine) (tick ticks : ℕ) (s : Store) (arrived : Vec Bool Global) (calm : Bool) → Stands m tick s → arrived.items ≡ arrived_then ticks s.conditions.arrived.items s.conditions.settled.items →
+    world_of (tick + ticks) (with_arrived s arrived calm) ≡ world_after m (world_of tick s) ticks
 world_then m tick zero s arrived calm stands is =
     let e : tick + 0 ≡ tick = omega arith in
-    ap (λ t. world_of t (record s { arrived = arrived; calm = calm })) e
-    ∙ ap (λ (a : List Bool). record { states = states_at s.lines.items tick; levels = s.levels.items; discretes = s.work.d; arrived = a; settled = s.settled.items }) is
+    ap (λ t. world_of t (with_arrived s arrived calm)) e
+    ∙ ap (λ (a : List Bool). record { states = states_at s.lines.items tick; levels = s.levels.items; discretes = s.work.d; arrived = a; settled = s.conditions.settled.items }) is
 world_then m tick (suc ticks) s arrived calm stands is =
-    ap (λ (x : List ℤ). record { states = x; levels = s.levels.items; discretes = s.work.d; arrived = arrived.items; settled = s.settled.items }) (states_later m tick s stands (suc ticks))
-    ∙ ap (λ (a : List Bool). record { states = states_after m (world_of tick s) (suc ticks); levels = s.levels.items; discretes = s.work.d; arrived = a; settled = s.settled.items }) is
+    ap (λ (x : List ℤ). record { states = x; levels = s.levels.items; discretes = s.work.d; arrived = arrived.items; settled = s.conditions.settled.items }) (states_later m tick s stands (suc ticks))
+    ∙ ap (λ (a : List Bool). record { states = states_after m (world_of tick s) (suc ticks); levels = s.levels.items; discretes = s.work.d; arrived = a; settled = s.conditions.settled.items }) is
 
 pub fits_then : (m : Machine) (s : Store) (arrived : Vec Bool Global) (calm : Bool) → FitsMachine m s → length arrived.items ≡ length (conditions m) →
-    FitsMachine m (record s { arrived = arrived; calm = calm })
+    FitsMachine m (with_arrived s arrived calm)
 fits_then m s arrived calm fits many = record {
-  branches = fits.branches;
+  own_conditions = arrived_anew m s.conditions arrived fits.own_conditions many;
   uses = fits.uses;
   lines = fits.lines;
   levels = fits.levels;
@@ -108,9 +113,6 @@ fits_then m s arrived calm fits many = record {
   changed_room = fits.changed_room;
   fired_room = fits.fired_room;
   assigned_room = fits.assigned_room;
-  watches = fits.watches;
-  arrived = many;
-  settled = fits.settled;
   places = fits.places;
   states = fits.states;
   discretes = fits.discretes;
@@ -122,11 +124,11 @@ fits_then m s arrived calm fits many = record {
 }
 
 pub stands_then : (m : Machine) (tick ticks : ℕ) (s : Store) (arrived : Vec Bool Global) (calm : Bool) → Stands m tick s → tick + ticks < m.last →
-    ((place t : ℕ) → due_at s.agenda place ≡ Some t → tick + ticks + 1 ≤ t) → arrived.items ≡ arrived_then ticks s.arrived.items s.settled.items →
-    (calm ≡ true → arrived.items ≡ s.settled.items) → Stands m (tick + ticks) (record s { arrived = arrived; calm = calm })
+    ((place t : ℕ) → due_at s.agenda place ≡ Some t → tick + ticks + 1 ≤ t) → arrived.items ≡ arrived_then ticks s.conditions.arrived.items s.conditions.settled.items →
+    (calm ≡ true → arrived.items ≡ s.conditions.settled.items) → Stands m (tick + ticks) (with_arrived s arrived calm)
 stands_then m tick ticks s arrived calm stands before nothing is as_settled = record {
   fits = fits_then m s arrived calm stands.fits (ap length is ∙ many ticks);
-  stands_for = subst (λ v. StandsFor m (tick + ticks) v (line_at s.lines.items) (watch_at s.watches.items) (due_at s.agenda)) (sym (world_then m tick ticks s arrived calm stands is)) (still ticks before nothing);
+  stands_for = subst (λ v. StandsFor m (tick + ticks) v (line_at s.lines.items) (watch_at s.conditions.watches.items) (due_at s.agenda)) (sym (world_then m tick ticks s arrived calm stands is)) (still ticks before nothing);
   fresh_levels = stands.fresh_levels;
   own_slopes = stands.own_slopes;
   own_weights = stands.own_weights;
@@ -134,33 +136,33 @@ stands_then m tick ticks s arrived calm stands before nothing is as_settled = re
   calm = as_settled;
 }
   where
-    many : (k : ℕ) → length (arrived_then k s.arrived.items s.settled.items) ≡ length (conditions m)
-    many zero = stands.fits.arrived
-    many (suc k) = stands.fits.settled
+    many : (k : ℕ) → length (arrived_then k s.conditions.arrived.items s.conditions.settled.items) ≡ length (conditions m)
+    many zero = stands.fits.own_conditions.arrived
+    many (suc k) = stands.fits.own_conditions.settled
 
     w : ℕ → World
-    w t = world_of t (record s { arrived = arrived; calm = calm })
+    w t = world_of t (with_arrived s arrived calm)
 
     -- after a quiet tick no condition has become true through the handlers
     none_risen : (k : ℕ) → tick + suc k < m.last → ((place t : ℕ) → due_at s.agenda place ≡ Some t → tick + suc k + 1 ≤ t) → s.rising ≡ false
     none_risen k before nothing =
         stands.rising
-        ∙ none_rises m tick (world_of tick s) (line_at s.lines.items) (watch_at s.watches.items) (due_at s.agenda) (tick + suc k) stands.stands_for (omega arith)
+        ∙ none_rises m tick (world_of tick s) (line_at s.lines.items) (watch_at s.conditions.watches.items) (due_at s.agenda) (tick + suc k) stands.stands_for (omega arith)
         (λ t e. omega (arith, nothing _ t e))
 
-    risen : (k : ℕ) → tick + k < m.last → ((place t : ℕ) → due_at s.agenda place ≡ Some t → tick + k + 1 ≤ t) → arrived.items ≡ arrived_then k s.arrived.items s.settled.items →
+    risen : (k : ℕ) → tick + k < m.last → ((place t : ℕ) → due_at s.agenda place ≡ Some t → tick + k + 1 ≤ t) → arrived.items ≡ arrived_then k s.conditions.arrived.items s.conditions.settled.items →
         s.rising ≡ rises (w (tick + k))
-    risen zero before nothing is = stands.rising ∙ ap (λ a. list_any (λ flag. flag) (due_flags s.settled.items a s.settled.items)) (sym is)
+    risen zero before nothing is = stands.rising ∙ ap (λ a. list_any (λ flag. flag) (due_flags s.conditions.settled.items a s.conditions.settled.items)) (sym is)
     risen (suc k) before nothing is =
-        none_risen k before nothing ∙ sym (ap (λ a. list_any (λ flag. flag) (due_flags s.settled.items a s.settled.items)) is ∙ settled_twice s.settled.items)
+        none_risen k before nothing ∙ sym (ap (λ a. list_any (λ flag. flag) (due_flags s.conditions.settled.items a s.conditions.settled.items)) is ∙ settled_twice s.conditions.settled.items)
 
     still : (k : ℕ) → tick + k < m.last → ((place t : ℕ) → due_at s.agenda place ≡ Some t → tick + k + 1 ≤ t) →
-        StandsFor m (tick + k) (world_after m (world_of tick s) k) (line_at s.lines.items) (watch_at s.watches.items) (due_at s.agenda)
+        StandsFor m (tick + k) (world_after m (world_of tick s) k) (line_at s.lines.items) (watch_at s.conditions.watches.items) (due_at s.agenda)
     still zero before nothing =
         let e : tick ≡ tick + 0 = omega arith in
-        subst (λ t. StandsFor m t (world_of tick s) (line_at s.lines.items) (watch_at s.watches.items) (due_at s.agenda)) e stands.stands_for
+        subst (λ t. StandsFor m t (world_of tick s) (line_at s.lines.items) (watch_at s.conditions.watches.items) (due_at s.agenda)) e stands.stands_for
     still (suc k) before nothing =
-        stands_still m tick (world_of tick s) (line_at s.lines.items) (watch_at s.watches.items) (due_at s.agenda) (tick + suc k) (suc k) stands.stands_for (omega arith)
+        stands_still m tick (world_of tick s) (line_at s.lines.items) (watch_at s.conditions.watches.items) (due_at s.agenda) (tick + suc k) (suc k) stands.stands_for (omega arith)
         (omega (arith, before, m.has_units.last_tick)) (λ place t e. omega (arith, nothing place t e)) (omega arith)
 
 pub silent_then : (Rule : ℤ → ℤ → ℤ → ℤ → Type 0) (m : Machine) (tick ticks : ℕ) (s : Store) → Stands m tick s → tick + ticks < m.last →
@@ -168,7 +170,7 @@ pub silent_then : (Rule : ℤ → ℤ → ℤ → ℤ → Type 0) (m : Machine) 
     AreSilent Rule m tick (world_of tick s) (quiet_worlds m (world_of tick s) ticks) (tick + ticks) (world_after m (world_of tick s) ticks)
 silent_then Rule m tick zero s stands before nothing = record { leads = tt; as_many = refl; reached = refl }
 silent_then Rule m tick (suc k) s stands before nothing =
-    let quiet = silence m tick (world_of tick s) (line_at s.lines.items) (watch_at s.watches.items) (due_at s.agenda) (tick + suc k) stands.stands_for (omega arith)
+    let quiet = silence m tick (world_of tick s) (line_at s.lines.items) (watch_at s.conditions.watches.items) (due_at s.agenda) (tick + suc k) stands.stands_for (omega arith)
     (omega (arith, before, m.has_units.last_tick)) (λ place t e. omega (arith, nothing place t e)) in
     quiet_leads Rule m tick (world_of tick s) (suc k) stands.stands_for.left quiet.0 (λ t positive below. quiet.1 t positive (omega (arith, below)))
 

@@ -35,3 +35,4 @@ pub mod Weighed
 pub mod Reinitialized
 pub mod Reinits
 pub mod Arrivals
+mod OwnConditions

@@ -56,7 +56,7 @@ module _ (m : Machine) (tick : ℕ) (agenda : List (Option ℕ)) (s : Store) (ta
   abbrev before : Store
   before = record s { agenda = agenda }
 
-  for : StandsFor m tick (world_of tick s) (line_at s.lines.items) (watch_at s.watches.items) (due_at agenda)
+  for : StandsFor m tick (world_of tick s) (line_at s.lines.items) (watch_at s.conditions.watches.items) (due_at agenda)
   for = taken.stands.stands_for
 
   nothing : HasNothingBefore (tick + 1) (due_at agenda)
@@ -80,14 +80,14 @@ module _ (m : Machine) (tick : ℕ) (agenda : List (Option ℕ)) (s : Store) (ta
   -- states that were not due are within the limit on arrival, and near their levels
   pub rest_small : (j : ℕ) → j < state_count m → is_among s.moved.items j ≡ false → IsWithin 88 (state_at (line_at s.lines.items j) (tick + 1))
   rest_small j h none =
-      subst (IsWithin 88) (sym (line_state_at m tick (world_of tick s) (line_at s.lines.items) (watch_at s.watches.items) (due_at agenda) for j 1 h))
-      (only_due_states_pass m tick (world_of tick s) (line_at s.lines.items) (watch_at s.watches.items) (due_at agenda) (tick + 1) 1 j for (omega arith) (omega arith) (omega (arith, in_time)) nothing h
+      subst (IsWithin 88) (sym (line_state_at m tick (world_of tick s) (line_at s.lines.items) (watch_at s.conditions.watches.items) (due_at agenda) for j 1 h))
+      (only_due_states_pass m tick (world_of tick s) (line_at s.lines.items) (watch_at s.conditions.watches.items) (due_at agenda) (tick + 1) 1 j for (omega arith) (omega arith) (omega (arith, in_time)) nothing h
       (not_due j h none))
 
   pub rest_near : (j : ℕ) → j < state_count m → is_among s.moved.items j ≡ false → is_near m j (state_at (line_at s.lines.items j) (tick + 1)) (int_at s.levels.items j) ≡ true
   rest_near j h none =
-      subst (λ x. is_near m j x (int_at s.levels.items j) ≡ true) (sym (line_state_at m tick (world_of tick s) (line_at s.lines.items) (watch_at s.watches.items) (due_at agenda) for j 1 h))
-      (still_near m tick (world_of tick s) (line_at s.lines.items) (watch_at s.watches.items) (due_at agenda) (tick + 1) 1 j for (omega arith) (omega arith) in_limit h (later_due j h none))
+      subst (λ x. is_near m j x (int_at s.levels.items j) ≡ true) (sym (line_state_at m tick (world_of tick s) (line_at s.lines.items) (watch_at s.conditions.watches.items) (due_at agenda) for j 1 h))
+      (still_near m tick (world_of tick s) (line_at s.lines.items) (watch_at s.conditions.watches.items) (due_at agenda) (tick + 1) 1 j for (omega arith) (omega arith) in_limit h (later_due j h none))
 
   -- lines come from an earlier tick, at the slopes that are kept
   pub earlier : (j : ℕ) → j < state_count m → (line_at s.lines.items j).tick < tick + 1
@@ -145,10 +145,10 @@ module _ (m : Machine) (tick : ℕ) (agenda : List (Option ℕ)) (s : Store) (ta
         omega (arith, nothing (state_count m + place) t e, ne)
 
     none_rises : NoneRises (world_of tick s)
-    none_rises = none_due s.arrived.items s.settled.items (taken.stands.fits.arrived ∙ sym taken.stands.fits.settled) (λ place h.
-        elim (cases_Bool (became_true s.arrived.items s.settled.items place)) [
+    none_rises = none_due s.conditions.arrived.items s.conditions.settled.items (taken.stands.fits.own_conditions.arrived ∙ sym taken.stands.fits.own_conditions.settled) (λ place h.
+        elim (cases_Bool (became_true s.conditions.arrived.items s.conditions.settled.items place)) [
           | inl risen ↦
-              let among : true ≡ false = sym (taken.changing.risen place (omega (arith, h, taken.stands.fits.settled)) risen) ∙ unchanged place in
+              let among : true ≡ false = sym (taken.changing.risen place (omega (arith, h, taken.stands.fits.own_conditions.settled)) risen) ∙ unchanged place in
               absurd (cc)
           | inr not ↦ not
         ])
@@ -160,23 +160,23 @@ module _ (m : Machine) (tick : ℕ) (agenda : List (Option ℕ)) (s : Store) (ta
     pub handled : handling_at m (tick + 1) (world_of tick s)
         ≡ record { states = states_at s.lines.items (tick + 1); discretes = s.work.d; rows = []; overflow = first_past 88 (states_at s.lines.items (tick + 1)) }
     handled =
-        only_moves m tick (world_of tick s) (line_at s.lines.items) (watch_at s.watches.items) agenda for none_rises none_changes in_limit
+        only_moves m tick (world_of tick s) (line_at s.lines.items) (watch_at s.conditions.watches.items) agenda for none_rises none_changes in_limit
         ∙ ap (λ (x : List ℤ). record { states = x; discretes = s.work.d; rows = []; overflow = first_past 88 x }) (sym arrived)
 
     -- the conditions are as after the last handlers
-    pub same_truths : s.settled.items ≡ truths m (states_at s.lines.items (tick + 1)) s.work.d (tick + 1)
+    pub same_truths : s.conditions.settled.items ≡ truths m (states_at s.lines.items (tick + 1)) s.work.d (tick + 1)
     same_truths =
-        sym (quiet_truths m tick (world_of tick s) (line_at s.lines.items) (watch_at s.watches.items) agenda for none_rises none_changes in_limit)
+        sym (quiet_truths m tick (world_of tick s) (line_at s.lines.items) (watch_at s.conditions.watches.items) agenda for none_rises none_changes in_limit)
         ∙ ap (λ x. truths m x s.work.d (tick + 1)) (sym arrived)
 
     -- they are watched as before, at the states on arrival
     pub watched : (place : ℕ) → place < length (conditions m) →
-        IsWatched m (tick + 1) (states_at s.lines.items (tick + 1)) s.work.d s.slopes.items place (watch_at s.watches.items place) (due_at s.agenda (state_count m + place))
+        IsWatched m (tick + 1) (states_at s.lines.items (tick + 1)) s.work.d s.slopes.items place (watch_at s.conditions.watches.items place) (due_at s.agenda (state_count m + place))
     watched place h =
-        subst (IsWatched m (tick + 1) (states_at s.lines.items (tick + 1)) s.work.d s.slopes.items place (watch_at s.watches.items place)) (sym (beyond place h))
-        (subst (λ x. IsWatched m (tick + 1) x s.work.d s.slopes.items place (watch_at s.watches.items place) (due_at agenda (state_count m + place))) (sym arrived)
-        (subst (λ v. IsWatched m (tick + 1) (moved_states m (world_of tick s)) s.work.d v place (watch_at s.watches.items place) (due_at agenda (state_count m + place))) (sym taken.stands.own_slopes)
-        (watched_then m tick (world_of tick s) (line_at s.lines.items) (watch_at s.watches.items) agenda for none_rises none_changes in_limit place h)))
+        subst (IsWatched m (tick + 1) (states_at s.lines.items (tick + 1)) s.work.d s.slopes.items place (watch_at s.conditions.watches.items place)) (sym (beyond place h))
+        (subst (λ x. IsWatched m (tick + 1) x s.work.d s.slopes.items place (watch_at s.conditions.watches.items place) (due_at agenda (state_count m + place))) (sym arrived)
+        (subst (λ v. IsWatched m (tick + 1) (moved_states m (world_of tick s)) s.work.d v place (watch_at s.conditions.watches.items place) (due_at agenda (state_count m + place))) (sym taken.stands.own_slopes)
+        (watched_then m tick (world_of tick s) (line_at s.lines.items) (watch_at s.conditions.watches.items) agenda for none_rises none_changes in_limit place h)))
 
     -- and none became true through the handlers
     pub not_rising : s.rising ≡ false

@@ -128,7 +128,7 @@ module _ (n tick : ℕ) (arrived settled : List Bool) (old called : List (Option
 
 -- what is to be looked at at the next tick was taken out of the agenda of a store
 pub is_taken : (m : Machine) (tick : ℕ) (s : Store) (states count : ℕ) (arrived settled : List Bool) (moved changed : Vec ℕ Global) (called left new : List (Option ℕ)) → Stands m tick s →
-    states ≡ state_count m → count ≡ length (conditions m) → arrived ≡ s.arrived.items → settled ≡ s.settled.items →
+    states ≡ state_count m → count ≡ length (conditions m) → arrived ≡ s.conditions.arrived.items → settled ≡ s.conditions.settled.items →
     IsCalled states (tick + 1) arrived settled s.agenda called → AreDue states (tick + 1) called moved.items → IsWithout moved.items called left →
     AreChanging states count (tick + 1) left changed.items → IsTakenAfter states changed.items left new →
     vec_capacity moved ≡ vec_capacity s.moved → vec_capacity changed ≡ vec_capacity s.changed →
@@ -136,7 +136,7 @@ pub is_taken : (m : Machine) (tick : ℕ) (s : Store) (states count : ℕ) (arri
 is_taken m tick s states count arrived settled moved changed called left new stands of_states of_count of_arrived of_settled is due without changing out moved_room changed_room =
     let n = state_count m in
     let t = tick + 1 in
-    let all : length settled ≡ length (conditions m) = ap length of_settled ∙ stands.fits.settled in
+    let all : length settled ≡ length (conditions m) = ap length of_settled ∙ stands.fits.own_conditions.settled in
     let own = subst (λ k. IsCalled k t arrived settled s.agenda called) of_states is in
     let own_due = subst (λ k. AreDue k t called moved.items) of_states due in
     let own_changing = subst (λ k. AreChanging n k t left changed.items) (of_count ∙ sym all) (subst (λ k. AreChanging k count t left changed.items) of_states changing) in
@@ -151,8 +151,8 @@ is_taken m tick s states count arrived settled moved changed called left new sta
     }
 
 -- where a store does not say that a condition became true through the handlers, none did, and the place behind the conditions has none
-pub none_to_call : (m : Machine) (tick : ℕ) (s : Store) → Stands m tick s → s.rising ≡ false → (place : ℕ) → became_true s.arrived.items s.settled.items place ≡ false
-none_to_call m tick s stands calm = none_became s.arrived.items s.settled.items (stands.fits.arrived ∙ sym stands.fits.settled) (sym stands.rising ∙ calm)
+pub none_to_call : (m : Machine) (tick : ℕ) (s : Store) → Stands m tick s → s.rising ≡ false → (place : ℕ) → became_true s.conditions.arrived.items s.conditions.settled.items place ≡ false
+none_to_call m tick s stands calm = none_became s.conditions.arrived.items s.conditions.settled.items (stands.fits.own_conditions.arrived ∙ sym stands.fits.own_conditions.settled) (sym stands.rising ∙ calm)
 
 pub none_behind : (m : Machine) (tick : ℕ) (s : Store) → Stands m tick s → s.rising ≡ false → due_at s.agenda (state_count m + length (conditions m)) ≡ None
 none_behind m tick s stands calm = stands.stands_for.rising ∙ ap (λ b. if b then Some (tick + 1) else None) (sym stands.rising ∙ calm)

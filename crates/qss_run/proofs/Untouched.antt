@@ -191,19 +191,10 @@ module _ (m : Machine) (tick : ℕ) (moved reinitialized assigned changed : List
     kept_truth = (are.kept place none).truth ∙ upto.settled_so place h not_changed ∙ ap (compares (condition_at m place).rel) same_value
 
   -- each condition is watched at its value, and has its truth; it is at its speed where it settled
-  each_watched : (place : ℕ) → place < length (conditions m) → IsWatchedThere m tick moved states d slopes place new
+  pub each_watched : (place : ℕ) → place < length (conditions m) → IsWatchedThere m tick moved states d slopes place new
   each_watched place h = elim (cases_Bool (is_among (touched_after m reinitialized assigned changed) place)) [
     | inl touched ↦
         let own = are.own place touched in
         record { before = slopes; slopes_before = record { as_many = upto.many_slopes.1; others = λ j below reads still. refl }; watched = own.watched; own_truth = own.own_truth }
     | inr none ↦ record { before = before; slopes_before = slopes_before place h none; watched = kept_watch place h none; own_truth = kept_truth place h none }
   ]
-
--- where the touched conditions are settled, all are watched at their values
-pub all_watched : (m : Machine) (tick : ℕ) (moved reinitialized listed assigned changed : List ℕ) (x states pre d now before slopes : List ℤ) (old new : Watchings) →
-    AreWatchedUpTo m tick moved reinitialized assigned changed x states pre d before slopes old.settled old.watches old.dues → now ≡ d → listed ≡ reinitialized →
-    AreSettled m tick states now slopes (touched_after m listed assigned changed) old new → (place : ℕ) → place < length (conditions m) → IsWatchedThere m tick moved states d slopes place new
-all_watched m tick moved reinitialized listed assigned changed x states pre d now before slopes old new upto same as_listed are place h =
-    each_watched m tick moved reinitialized assigned changed x states pre d before slopes old new upto
-    (subst (λ (e : List ℤ). AreSettled m tick states e slopes (touched_after m reinitialized assigned changed) old new) same
-    (subst (λ (r : List ℕ). AreSettled m tick states now slopes (touched_after m r assigned changed) old new) as_listed are)) place h

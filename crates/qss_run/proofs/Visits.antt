@@ -35,23 +35,23 @@ module _ (m : Machine) (tick : ℕ) (s : Store) (stands : Stands m tick s) where
       ap (λ n. tabulate n (λ j. state_at (line_at s.lines.items j) (tick + 1))) stands.fits.lines
       ∙ tabulate-same (pos 0) (state_count m) _ _
       (λ j h.
-      line_state_at m tick (world_of tick s) (line_at s.lines.items) (watch_at s.watches.items) (due_at s.agenda) stands.stands_for j 1 h
+      line_state_at m tick (world_of tick s) (line_at s.lines.items) (watch_at s.conditions.watches.items) (due_at s.agenda) stands.stands_for j 1 h
       ∙ int_at-tabulate (state_count m) (λ i. int_at (world_of tick s).states i +ℤ pos 1 *ℤ slope_at m i s.levels.items s.work.d) j h
       ∙ sym (int_at-tabulate (state_count m) (λ i. int_at (world_of tick s).states i +ℤ pos 1 *ℤ slope_at m i s.levels.items s.work.d) j h)
       ∙ ap (λ xs. int_at xs j) (sym (moved_is m (world_of tick s)))
       ∙ int_at-tabulate (state_count m) (λ i. int_at (world_of tick s).states i +ℤ slope_at m i s.levels.items s.work.d) j h)
 
   -- and the handlers then do what they do at that tick
-  pub handles : handling_from m (tick + 1) (states_at s.lines.items (tick + 1)) s.work.d s.arrived.items s.settled.items ≡ handling_at m (tick + 1) (world_of tick s)
-  handles = ap (λ x. handling_from m (tick + 1) x s.work.d s.arrived.items s.settled.items) arrives
+  pub handles : handling_from m (tick + 1) (states_at s.lines.items (tick + 1)) s.work.d s.conditions.arrived.items s.conditions.settled.items ≡ handling_at m (tick + 1) (world_of tick s)
+  handles = ap (λ x. handling_from m (tick + 1) x s.work.d s.conditions.arrived.items s.conditions.settled.items) arrives
 
   -- from slices of what the store keeps too
-  pub handles_from : (lines : List Line) (arrived settled : List Bool) → lines ≡ s.lines.items → arrived ≡ s.arrived.items → settled ≡ s.settled.items →
+  pub handles_from : (lines : List Line) (arrived settled : List Bool) → lines ≡ s.lines.items → arrived ≡ s.conditions.arrived.items → settled ≡ s.conditions.settled.items →
       handling_from m (tick + 1) (states_at lines (tick + 1)) s.work.d arrived settled ≡ handling_at m (tick + 1) (world_of tick s)
   handles_from lines arrived settled of_lines of_arrived of_settled =
       ap (λ l. handling_from m (tick + 1) (states_at l (tick + 1)) s.work.d arrived settled) of_lines
       ∙ ap (λ a. handling_from m (tick + 1) (states_at s.lines.items (tick + 1)) s.work.d a settled) of_arrived
-      ∙ ap (λ b. handling_from m (tick + 1) (states_at s.lines.items (tick + 1)) s.work.d s.arrived.items b) of_settled
+      ∙ ap (λ b. handling_from m (tick + 1) (states_at s.lines.items (tick + 1)) s.work.d s.conditions.arrived.items b) of_settled
       ∙ handles
 
   -- a line that goes on as before keeps its due tick, since its state is near its level
@@ -83,11 +83,11 @@ pub stands_again : (m : Machine) (t : ℕ) (s : Store) (x : List ℤ) → length
     s.slopes.items ≡ slopes_of m (world_of t s) →
     s.weights.items ≡ weights_at m s.levels.items s.work.d →
     ((j : ℕ) → j < state_count m → IsTurned m t (int_at x j) (int_at s.levels.items j) (slope_at m j s.levels.items s.work.d) j (line_at s.lines.items j) (due_at s.agenda j)) →
-    s.settled.items ≡ truths m x s.work.d t →
-    ((place : ℕ) → place < length (conditions m) → IsWatched m t x s.work.d s.slopes.items place (watch_at s.watches.items place) (due_at s.agenda (state_count m + place))) →
+    s.conditions.settled.items ≡ truths m x s.work.d t →
+    ((place : ℕ) → place < length (conditions m) → IsWatched m t x s.work.d s.slopes.items place (watch_at s.conditions.watches.items place) (due_at s.agenda (state_count m + place))) →
     s.rising ≡ rises (world_of t s) →
     due_at s.agenda (state_count m + length (conditions m)) ≡ (if s.rising then Some (t + 1) else None) →
-    s.fresh.items ≡ s.levels.items → (s.calm ≡ true → s.arrived.items ≡ s.settled.items) →
+    s.fresh.items ≡ s.levels.items → (s.calm ≡ true → s.conditions.arrived.items ≡ s.conditions.settled.items) →
     (states_at s.lines.items t ≡ x) × Stands m t s
 stands_again m t s x many fits small light slopes weights turned settled watched risen rising twice calm = (
   states,
@@ -111,13 +111,13 @@ stands_again m t s x many fits small light slopes weights turned settled watched
     state : (j : ℕ) → int_at x j ≡ int_at (world_of t s).states j
     state j = ap (λ xs. int_at xs j) (sym states)
 
-    flag : (place : ℕ) → place < length (conditions m) → truth m (condition_at m place) x s.work.d t ≡ flag_at s.settled.items place
+    flag : (place : ℕ) → place < length (conditions m) → truth m (condition_at m place) x s.work.d t ≡ flag_at s.conditions.settled.items place
     flag place h =
         let none : Condition = record { form = record { entries = []; time = pos 0; gamma = pos 0 }; rel = Less } in
         let test = λ (c : Condition). truth m c x s.work.d t in
         sym (ap (λ flags. flag_at flags place) settled ∙ get_or-map test (conditions m) place none false h)
 
-    for : StandsFor m t (world_of t s) (line_at s.lines.items) (watch_at s.watches.items) (due_at s.agenda)
+    for : StandsFor m t (world_of t s) (line_at s.lines.items) (watch_at s.conditions.watches.items) (due_at s.agenda)
     for = record {
       left = record { one_each = fits.levels; small_levels = small; light = light };
       states = length-map-range_with_len (λ j. state_at (line_at s.lines.items j) t) 0 (length s.lines.items) ∙ fits.lines;
@@ -135,7 +135,7 @@ stands_again m t s x many fits small light slopes weights turned settled watched
         own_speed = (watched place h).own_speed ∙ ap (speed_of m (condition_at m place).form) slopes;
         own_rel = (watched place h).own_rel;
       };
-      changes = λ place h. subst (λ b. IsChange t b (watch_at s.watches.items place) (due_at s.agenda (state_count m + place))) (flag place h) (watched place h).is_change;
+      changes = λ place h. subst (λ b. IsChange t b (watch_at s.conditions.watches.items place) (due_at s.agenda (state_count m + place))) (flag place h) (watched place h).is_change;
       rising = rising ∙ ap (λ b. if b then Some (t + 1) else None) risen;
     }
 
@@ -146,7 +146,7 @@ stands_with m tick s moved changed stands moved_room changed_room =
     let fits = stands.fits in
     record {
       fits = record {
-        branches = fits.branches;
+        own_conditions = fits.own_conditions;
         uses = fits.uses;
         lines = fits.lines;
         levels = fits.levels;
@@ -157,9 +157,6 @@ stands_with m tick s moved changed stands moved_room changed_room =
         changed_room = omega (arith, changed_room, fits.changed_room);
         fired_room = fits.fired_room;
         assigned_room = fits.assigned_room;
-        watches = fits.watches;
-        arrived = fits.arrived;
-        settled = fits.settled;
         places = fits.places;
         states = fits.states;
         discretes = fits.discretes;

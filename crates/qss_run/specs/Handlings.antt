@@ -41,6 +41,10 @@ is_reinitialized rows j = list_any (λ row. is_reinit row.kind && row.var == j) 
 abbrev pub states_with : List Line → ℕ → List ℕ → List ℤ → List ℤ
 states_with lines tick moved x = tabulate (length lines) (λ j. if is_among moved j then int_at x j else state_at (line_at lines j) tick)
 
+-- numbers of states and discrete variables
+abbrev pub AreVariablesOf : Machine → List ℕ → Type 0
+AreVariablesOf m vars = All (λ var. var < state_count m + discrete_count m) vars
+
 -- numbers of discrete variables
 abbrev pub AreDiscretes : Machine → List ℕ → Type 0
 AreDiscretes m assigned = All (λ var. (state_count m ≤ var) × (var < state_count m + discrete_count m)) assigned

@@ -1,8 +1,5 @@
 -- States that are due at one tick, and what else has to be looked at then.
-use Rattle.std.specs.Prelude.{◌≡◌, ℕ, ◌+◌, ◌<◌, ◌⊎◌, Bool, true, false, not, ◌&&◌, List, length, ℤ, Option, Some, None, All, ◌==◌}
-use Rattle.std.specs.List.{list_any}
-use Rattle.std.specs.List.Sorted.{IsStrictlyIncreasing}
-use Rattle.qss_machine.specs.Numbers.{int_at}
+use Rattle.std.specs.Prelude.{◌≡◌, ℕ, ◌+◌, ◌<◌, ◌⊎◌, Bool, true, false, not, ◌&&◌, List, length, Option, Some, None}
 use Rattle.qss_machine.specs.Firing.{flag_at}
 use Rattle.qss_machine.specs.Ticks.{World}
 use Rattle.qss_sched.specs.Ranks.{due_at}

@@ -2,13 +2,15 @@
 use Rattle.std.specs.Prelude.{◌≡◌, ℕ, ◌+◌, ◌<◌, ◌≤◌, List, length, ℤ, pos, Option, slice_index_or}
 use Rattle.qss_machine.specs.declared.parts.Rel.TheVariants.{Less}
 use Rattle.qss_machine.specs.declared.system.Machine.{Machine}
-use Rattle.qss_machine.specs.Machines.{value_of, speed_of, truth}
+use Rattle.qss_machine.specs.Machines.{state_count, value_of, speed_of, truth}
 use Rattle.qss_machine.specs.Firing.{first_place}
 use Rattle.qss_machine.specs.Handlers.{conditions}
 use Rattle.qss_hand.specs.Works.{clause_at, branch_at}
 use Rattle.qss_quant.specs.Lines.{Line, state_at}
 use Rattle.qss_cross.specs.Crossing.{Watch, value_at}
+use Rattle.qss_sched.specs.Ranks.{due_at}
 use Rattle.qss_run.specs.declared.conditions.BranchPlace.{BranchPlace}
+use Rattle.qss_run.specs.declared.conditions.Conditions.{Conditions}
 use Rattle.qss_quiet.specs.Sims.{condition_at, IsDue, IsChange}
 
 -- the line of a state
@@ -31,6 +33,17 @@ pub record AreBranches (m : Machine) (branches : List BranchPlace) : Type 0 wher
   pub as_many : length branches ≡ length (conditions m)
   pub each : (place : ℕ) → place < length branches → IsBranchOf m (slice_index_or branches place (record { clause = 0; branch = 0 })) place
 
+-- the conditions of a machine in source order: of each its branch, its watch, and its truths on arrival and after the handlers
+pub record AreConditionsOf (m : Machine) (all : Conditions) : Type 0 where
+  pub branches : AreBranches m all.branches.items
+  pub watches : length all.watches.items ≡ length (conditions m)
+  pub arrived : length all.arrived.items ≡ length (conditions m)
+  pub settled : length all.settled.items ≡ length (conditions m)
+
+-- an agenda has a place for each state, and then one for each condition
+abbrev pub HasPlaces : Machine → List (Option ℕ) → Type 0
+HasPlaces m due = state_count m + length (conditions m) ≤ length due
+
 -- a state's line is at this state at a tick and goes on at this slope and level, and this is the tick at which it then leaves its quantum
 pub record IsTurned (m : Machine) (tick : ℕ) (state level slope : ℤ) (j : ℕ) (line : Line) (due : Option ℕ) : Type 0 where
   pub not_later : line.tick ≤ tick
@@ -46,3 +59,8 @@ pub record IsWatched (m : Machine) (tick : ℕ) (x d slopes : List ℤ) (place :
   pub own_speed : watch.speed ≡ speed_of m (condition_at m place).form slopes
   pub own_rel : watch.rel ≡ (condition_at m place).rel
   pub is_change : IsChange tick (truth m (condition_at m place) x d tick) watch due
+
+-- each condition of a machine is watched so
+abbrev pub AreWatched : Machine → ℕ → List ℤ → List ℤ → List ℤ → List Watch → List (Option ℕ) → Type 0
+AreWatched m tick x d slopes watches due =
+    (place : ℕ) → place < length (conditions m) → IsWatched m tick x d slopes place (watch_at watches place) (due_at due (state_count m + place))

@@ -1,22 +1,33 @@
 -- Conditions of which some settle at a tick, and the others stay as they were.
-use Rattle.std.specs.Prelude.{◌≡◌, ℕ, ◌+◌, ◌<◌, ◌≤◌, Bool, true, false, ◌||◌, List, ◌++◌, length, ℤ, Option, flat_map}
+use Rattle.std.specs.Prelude.{◌≡◌, ℕ, ◌+◌, ◌<◌, ◌≤◌, Bool, true, false, ◌||◌, List, ◌++◌, length, All, ℤ, Option, flat_map}
 use Rattle.std.specs.List.{list_any}
+use Rattle.mu_num.specs.Sizes.{IsWithin}
 use Rattle.qss_machine.specs.declared.parts.Condition.{Condition}
 use Rattle.qss_machine.specs.declared.system.Machine.{Machine}
-use Rattle.qss_machine.specs.Machines.{state_count, discrete_count, truth}
+use Rattle.qss_machine.specs.Machines.{state_count, discrete_count, speed_of, truth}
+use Rattle.qss_machine.specs.Handlers.{conditions}
+use Rattle.qss_machine.specs.Numbers.{int_at}
 use Rattle.qss_machine.specs.Firing.{flag_at}
 use Rattle.qss_machine.specs.Uses.{condition_reads, reading_rows, reading_conditions}
 use Rattle.qss_cross.specs.Crossing.{Watch}
 use Rattle.qss_sched.specs.Ranks.{due_at}
+use Rattle.qss_run.specs.declared.conditions.Conditions.{Conditions}
+use Rattle.qss_run.specs.declared.moment.Moment.{Moment}
 use Rattle.qss_quiet.specs.Among.{is_among}
 use Rattle.qss_run.specs.Places.{watch_at, IsWatched}
+use Rattle.qss_run.specs.Reads.{AreArrived}
 use Rattle.qss_quiet.specs.Sims.{condition_at}
+use Rattle.qss_run.specs.Stores.{states_at}
 
 -- watches of conditions, their truths after the handlers, and due ticks
 pub record Watchings : Type 0 where
   pub watches : List Watch
   pub settled : List Bool
   pub dues : List (Option ℕ)
+
+-- those of a machine's conditions
+abbrev pub watchings_of : Conditions → List (Option ℕ) → Watchings
+watchings_of all dues = record { watches = all.watches.items; settled = all.settled.items; dues = dues }
 
 -- a condition's watch, truth and due tick are as they were
 pub record IsKept (m : Machine) (place : ℕ) (old new : Watchings) : Type 0 where
@@ -72,3 +83,23 @@ settles_after m reinitialized assigned changed place =
 -- whether one of these conditions reads a state
 abbrev pub one_reads : Machine → List ℕ → ℕ → Bool
 one_reads m places j = list_any (λ place. condition_reads j (condition_at m place)) places
+
+-- these conditions settle at a moment under discrete values, and nothing else of them changes; of the values only the states that they read are written, and none passes its limit
+pub record AreSettledAlong (at : Moment) (d : List ℤ) (places : List ℕ) (old new : Conditions) (old_dues new_dues : List (Option ℕ)) (x y : List ℤ) : Type 0 where
+  pub settled : AreSettled at.machine.now at.tick (states_at at.lines.now at.tick) d at.slopes.now places (watchings_of old old_dues) (watchings_of new new_dues)
+  pub rest : new ≡ record old { watches = new.watches; settled = new.settled }
+  pub arrived : AreArrived (one_reads at.machine.now places) (states_at at.lines.now at.tick) x y
+  pub small : All (IsWithin 88) y
+
+-- a condition that does not settle after handlers, and has its speed at these slopes, is as it was
+abbrev pub OthersAreKept : Machine → List ℕ → List ℕ → List ℕ → List ℤ → Watchings → Watchings → Type 0
+OthersAreKept m reinitialized assigned changed slopes old new =
+    (place : ℕ) → place < length (conditions m) → settles_after m reinitialized assigned changed place ≡ false →
+    (watch_at old.watches place).speed ≡ speed_of m (condition_at m place).form slopes → IsKept m place old new
+
+-- a state that no condition reads which settles after handlers is as it was
+abbrev pub OthersAreUnread : Machine → List ℕ → List ℕ → List ℕ → List ℤ → List ℤ → Type 0
+OthersAreUnread m reinitialized assigned changed x y =
+    (j : ℕ) →
+    ((place : ℕ) → place < length (conditions m) → settles_after m reinitialized assigned changed place ≡ true → condition_reads j (condition_at m place) ≡ false) →
+    int_at y j ≡ int_at x j

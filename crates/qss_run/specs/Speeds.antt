@@ -4,11 +4,12 @@ use Rattle.std.specs.List.{list_any}
 use Rattle.qss_machine.specs.declared.system.Machine.{Machine}
 use Rattle.qss_machine.specs.Numbers.{int_at}
 use Rattle.qss_machine.specs.Machines.{state_count, row_at, speed_of}
+use Rattle.qss_machine.specs.Handlers.{conditions}
 use Rattle.qss_machine.specs.Uses.{row_reads, condition_reads}
 use Rattle.qss_cross.specs.Crossing.{Watch, value_at, holds_at}
 use Rattle.qss_sched.specs.Ranks.{due_at}
 use Rattle.qss_quiet.specs.Sims.{condition_at, IsChange}
-use Rattle.qss_run.specs.Places.{watch_at}
+use Rattle.qss_run.specs.Places.{watch_at, IsWatched}
 
 -- whether a state's row reads one of the moved states
 abbrev pub reads_moved : Machine → List ℕ → ℕ → Bool
@@ -39,3 +40,10 @@ pub record AreGoingOn (m : Machine) (tick : ℕ) (slopes : List ℤ) (old new : 
       GoesOn tick (speed_of m (condition_at m place).form slopes) (watch_at old place) (watch_at new place) (due_at old_due (state_count m + place)) (due_at new_due (state_count m + place))
   pub others : (place : ℕ) → place < state_count m → due_at new_due place ≡ due_at old_due place
   pub beyond : (place : ℕ) → state_count m + length old ≤ place → due_at new_due place ≡ due_at old_due place
+
+-- each condition that was watched at the slopes before, but for the moved states' readers, is watched at these
+abbrev pub AreWatchedOn : Machine → ℕ → List ℕ → List ℤ → List Watch → List Watch → List (Option ℕ) → List (Option ℕ) → Type 0
+AreWatchedOn m tick moved slopes old new old_due new_due =
+    (x d before : List ℤ) (place : ℕ) → place < length (conditions m) → AreSlopesBefore m moved before slopes place →
+    IsWatched m tick x d before place (watch_at old place) (due_at old_due (state_count m + place)) →
+    IsWatched m tick x d slopes place (watch_at new place) (due_at new_due (state_count m + place))

@@ -13,7 +13,7 @@ use Rattle.qss_hand.specs.Works.{row_room}
 use Rattle.qss_sched.specs.Ranks.{due_at, HasNone}
 use Rattle.qss_run.specs.declared.outcome.Outcome.{Outcome}
 use Rattle.qss_run.specs.declared.store.Store.{Store}
-use Rattle.qss_run.specs.Places.{line_at, watch_at, AreBranches}
+use Rattle.qss_run.specs.Places.{line_at, watch_at, AreConditionsOf}
 use Rattle.qss_run.specs.Moves.{AreDue, AreLookedAt, IsTakenOut}
 use Rattle.qss_quiet.specs.Sims.{slopes_of, weights_at, rises, StandsFor}
 
@@ -35,13 +35,13 @@ world_of tick s = record {
   states = states_at s.lines.items tick;
   levels = s.levels.items;
   discretes = s.work.d;
-  arrived = s.arrived.items;
-  settled = s.settled.items;
+  arrived = s.conditions.arrived.items;
+  settled = s.conditions.settled.items;
 }
 
 -- lists of the machine's lengths, values within the limits, and memory for all rows of a tick
 pub record FitsMachine (m : Machine) (s : Store) : Type 0 where
-  pub branches : AreBranches m s.branches.items
+  pub own_conditions : AreConditionsOf m s.conditions
   pub uses : s.uses ≡ uses_of m
   pub lines : length s.lines.items ≡ state_count m
   pub levels : length s.levels.items ≡ state_count m
@@ -52,9 +52,6 @@ pub record FitsMachine (m : Machine) (s : Store) : Type 0 where
   pub changed_room : length (conditions m) ≤ vec_capacity s.changed
   pub fired_room : length (conditions m) ≤ vec_capacity s.fired
   pub assigned_room : row_room m.clauses ≤ vec_capacity s.assigned
-  pub watches : length s.watches.items ≡ length (conditions m)
-  pub arrived : length s.arrived.items ≡ length (conditions m)
-  pub settled : length s.settled.items ≡ length (conditions m)
   pub places : length s.agenda ≡ state_count m + length (conditions m) + 1
   pub states : length s.work.x ≡ state_count m
   pub discretes : length s.work.d ≡ discrete_count m
@@ -67,12 +64,12 @@ pub record FitsMachine (m : Machine) (s : Store) : Type 0 where
 -- a store stands for its world at a tick: it keeps the slopes and the weights there, each level twice, and whether a condition became true through the handlers; while it is calm no condition is on arrival other than after the handlers
 pub record Stands (m : Machine) (tick : ℕ) (s : Store) : Type 0 where
   pub fits : FitsMachine m s
-  pub stands_for : StandsFor m tick (world_of tick s) (line_at s.lines.items) (watch_at s.watches.items) (due_at s.agenda)
+  pub stands_for : StandsFor m tick (world_of tick s) (line_at s.lines.items) (watch_at s.conditions.watches.items) (due_at s.agenda)
   pub fresh_levels : s.fresh.items ≡ s.levels.items
   pub own_slopes : s.slopes.items ≡ slopes_of m (world_of tick s)
   pub own_weights : s.weights.items ≡ weights_at m s.levels.items s.work.d
   pub rising : s.rising ≡ rises (world_of tick s)
-  pub calm : s.calm ≡ true → s.arrived.items ≡ s.settled.items
+  pub calm : s.calm ≡ true → s.conditions.arrived.items ≡ s.conditions.settled.items
 
 -- a store stood at a tick with this agenda; what is to be looked at at the next one, these states and conditions, was taken out
 pub record IsTaken (m : Machine) (tick : ℕ) (agenda : List (Option ℕ)) (s : Store) : Type 0 where

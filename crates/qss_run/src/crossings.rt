@@ -34,19 +34,19 @@ use std::sync::ledger::Ledger;
 
 // The store knows whether a condition became true through the handlers of a tick, and its agenda has the next tick then.
 fn note_rising(tick: u64, s: &mut Store)
-    requires arrived { length s.old.arrived.items ≡ length s.old.settled.items }
-    requires places { length s.old.agenda ≡ length s.old.lines.items + length s.old.branches.items + 1 }
-    requires few { length s.old.lines.items + length s.old.branches.items < 2 ^ 32 }
+    requires arrived { length s.old.conditions.arrived.items ≡ length s.old.conditions.settled.items }
+    requires places { length s.old.agenda ≡ length s.old.lines.items + length s.old.conditions.branches.items + 1 }
+    requires few { length s.old.lines.items + length s.old.conditions.branches.items < 2 ^ 32 }
     requires in_time { tick < 2 ^ 32 }
-    ensures rising { s.new.rising ≡ list_any (λ flag. flag) (due_flags s.old.settled.items s.old.arrived.items s.old.settled.items) }
-    ensures own { due_at s.new.agenda (length s.old.lines.items + length s.old.branches.items) ≡ (if s.new.rising then Some (tick + 1) else None) }
-    ensures others { (place : ℕ) → place < length s.old.lines.items + length s.old.branches.items → due_at s.new.agenda place ≡ due_at s.old.agenda place }
+    ensures rising { s.new.rising ≡ list_any (λ flag. flag) (due_flags s.old.conditions.settled.items s.old.conditions.arrived.items s.old.conditions.settled.items) }
+    ensures own { due_at s.new.agenda (length s.old.lines.items + length s.old.conditions.branches.items) ≡ (if s.new.rising then Some (tick + 1) else None) }
+    ensures others { (place : ℕ) → place < length s.old.lines.items + length s.old.conditions.branches.items → due_at s.new.agenda place ≡ due_at s.old.agenda place }
     ensures as_many { length s.new.agenda ≡ length s.old.agenda }
     ensures same { s.new ≡ record s.old { rising = s.new.rising; calm = false; agenda = s.new.agenda } }
 {
-    let place = (s.lines.len() + s.branches.len()) as u32;
-    let arrived = s.arrived.as_slice();
-    let settled = s.settled.as_slice();
+    let place = (s.lines.len() + s.conditions.branches.len()) as u32;
+    let arrived = s.conditions.arrived.as_slice();
+    let settled = s.conditions.settled.as_slice();
     s.rising = rise(tick, arrived, settled, place, &mut s.agenda);
     s.calm = false;
 }
@@ -73,10 +73,10 @@ fn go_on_handled<L: Ledger>(m: &Machine, tick: u64, s: &mut Store, steps: &mut S
     requires before { (old : List ℤ) × AreSumsBefore sum.Slope m.now s.old.moved.items s.old.levels.items s.old.work.pre s.old.slopes.items s.old.lines.items old }
     requires own_slope { (j : ℕ) → j < state_count m.now → (line_at s.old.lines.items j).slope ≡ int_at s.old.slopes.items j }
     requires due { (j : ℕ) → j < state_count m.now → is_among s.old.moved.items j ≡ false → (line_at s.old.lines.items j).level ≡ int_at s.old.levels.items j → IsDue m.now tick j (line_at s.old.lines.items j) (due_at s.old.agenda j) }
-    requires watched { (place : ℕ) → place < length (conditions m.now) → is_among s.old.changed.items place ≡ false → IsWatched m.now tick (states_at s.old.lines.items tick) s.old.work.pre s.old.slopes.items place (watch_at s.old.watches.items place) (due_at s.old.agenda (state_count m.now + place)) }
-    requires settled { (place : ℕ) → place < length (conditions m.now) → is_among s.old.changed.items place ≡ false → flag_at s.old.settled.items place ≡ truth m.now (condition_at m.now place) (states_at s.old.lines.items tick) s.old.work.pre tick }
+    requires watched { (place : ℕ) → place < length (conditions m.now) → is_among s.old.changed.items place ≡ false → IsWatched m.now tick (states_at s.old.lines.items tick) s.old.work.pre s.old.slopes.items place (watch_at s.old.conditions.watches.items place) (due_at s.old.agenda (state_count m.now + place)) }
+    requires settled { (place : ℕ) → place < length (conditions m.now) → is_among s.old.changed.items place ≡ false → flag_at s.old.conditions.settled.items place ≡ truth m.now (condition_at m.now place) (states_at s.old.lines.items tick) s.old.work.pre tick }
     ensures stands { Stands m.now tick s.new }
-    ensures world { world_of tick s.new ≡ record { states = states_with s.old.lines.items tick s.old.moved.items s.old.work.x; levels = s.old.levels.items; discretes = s.old.work.d; arrived = s.old.arrived.items; settled = truths m.now (states_with s.old.lines.items tick s.old.moved.items s.old.work.x) s.old.work.d tick } }
+    ensures world { world_of tick s.new ≡ record { states = states_with s.old.lines.items tick s.old.moved.items s.old.work.x; levels = s.old.levels.items; discretes = s.old.work.d; arrived = s.old.conditions.arrived.items; settled = truths m.now (states_with s.old.lines.items tick s.old.moved.items s.old.work.x) s.old.work.d tick } }
     ensures rows { s.new.rows ≡ s.old.rows }
     ensures counted { steps.new ≡ steps.old + renewals_from (state_count m.now) tick (states_with s.old.lines.items tick s.old.moved.items s.old.work.x) s.old.levels.items (tabulate (state_count m.now) (λ j. slope_at m.now j s.old.levels.items s.old.work.d)) s.old.lines.items }
 {
@@ -96,21 +96,7 @@ fn go_on_handled<L: Ledger>(m: &Machine, tick: u64, s: &mut Store, steps: &mut S
         &mut s.agenda,
         steps,
     );
-    rewatch_handled(
-        m,
-        &s.uses,
-        s.branches.as_slice(),
-        tick,
-        s.moved.as_slice(),
-        s.assigned.as_slice(),
-        s.changed.as_slice(),
-        s.lines.as_slice(),
-        s.slopes.as_slice(),
-        &mut s.work,
-        s.watches.as_mut_slice(),
-        s.settled.as_mut_slice(),
-        &mut s.agenda,
-    );
+    rewatch_handled(m, tick, s);
     note_rising(tick, s);
 }
 
@@ -135,13 +121,13 @@ pub(crate) fn visit_changed<L: Ledger>(
     let next = tick + 1;
     let over = handle_changed(
         m,
-        s.branches.as_slice(),
+        s.conditions.branches.as_slice(),
         next,
         s.lines.as_slice(),
         s.changed.as_slice(),
-        s.watches.as_slice(),
-        s.settled.as_slice(),
-        s.arrived.as_mut_slice(),
+        s.conditions.watches.as_slice(),
+        s.conditions.settled.as_slice(),
+        s.conditions.arrived.as_mut_slice(),
         &mut s.fired,
         &mut s.moved,
         &mut s.assigned,

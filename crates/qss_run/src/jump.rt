@@ -32,8 +32,8 @@ fn jump(m: &Machine, tick: u64, s: &mut Store) -> u64
     let next = next_visit(&s.agenda, m.last);
     catch_up(
         tick + 1 < next,
-        s.settled.as_slice(),
-        s.arrived.as_mut_slice(),
+        s.conditions.settled.as_slice(),
+        s.conditions.arrived.as_mut_slice(),
         &mut s.calm,
     );
     next - 1

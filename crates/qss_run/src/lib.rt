@@ -14,6 +14,7 @@ mod held;
 mod jump;
 mod levels;
 mod logged;
+mod moment;
 mod outcome;
 mod readers;
 mod reading;

@@ -1,446 +1,232 @@
 //! Conditions after handlers.
 
-ghost use Rattle.std.specs.Prelude.{◌≡◌, ℕ, ◌+◌, ◌<◌, ◌≤◌, ◌^◌, ◌∷◌, [], List, ℤ, All, length, true, false};
-ghost use Rattle.mu_num.specs.Sizes.{IsWithin};
-ghost use Rattle.qss_machine.specs.Handlers.{truths};
-ghost use Rattle.qss_machine.specs.Machines.{state_count, discrete_count, speed_of};
-ghost use Rattle.qss_machine.specs.Numbers.{int_at};
-ghost use Rattle.qss_machine.specs.Uses.{condition_reads, uses_of};
+ghost use Rattle.std.specs.Prelude.{◌≡◌, ℕ, ◌+◌, ◌<◌, ◌≤◌, ◌∷◌, [], All, length, true};
+ghost use Rattle.qss_machine.specs.Handlers.{conditions, truths};
+ghost use Rattle.qss_machine.specs.Machines.{state_count, discrete_count};
 ghost use Rattle.qss_sched.specs.Ranks.{due_at};
-ghost use Rattle.qss_run.specs.Handlings.{AreDiscretes, AreWatchedUpTo, is_reinitialized};
+ghost use Rattle.qss_run.specs.Handlings.{AreDiscretes, AreVariablesOf, is_reinitialized};
 ghost use Rattle.qss_quiet.specs.Logs.{reinitialized_of};
+ghost use Rattle.qss_run.specs.Moments.{AreLinesAt, AreSlopesOf, CanSettle, WereWatched, IsRewatchedFrom};
 ghost use Rattle.qss_quiet.specs.Among.{AreNumbers};
-ghost use Rattle.qss_run.specs.Places.{AreBranches, line_at, watch_at, IsWatched};
-ghost use Rattle.qss_run.specs.Reads.{AreArrived};
-ghost use Rattle.qss_run.specs.Rewatchings.{IsKept, AreSettled, readers_of, touched_of, touched_by, readers_before, touched_after, settles_after, one_reads};
-ghost use Rattle.qss_quiet.specs.Sims.{condition_at};
-ghost use Rattle.qss_run.specs.Stores.{states_at};
+ghost use Rattle.qss_run.specs.Places.{AreWatched};
+ghost use Rattle.qss_run.specs.Rewatchings.{AreSettledAlong, OthersAreKept, OthersAreUnread, watchings_of, readers_of, touched_of, touched_by, readers_before, touched_after};
+ghost use Rattle.qss_run.specs.Stores.{states_at, FitsMachine};
 
-use crate::conditions::{BranchPlace, condition_of};
+use crate::conditions::Conditions;
 use crate::fired::arrive_read;
 use crate::logged::reinitializes;
-use crate::watches::settle;
-use crate::watching::rewatch_of;
-use qss_cross::Detector;
+use crate::moment::{Moment, Point};
+use crate::store::Store;
 use qss_hand::Work;
-use qss_machine::{Machine, Row, Uses};
-use qss_quant::Integrator;
+use qss_machine::{Machine, Row};
 use qss_sched::Agenda;
 
-// One condition settles at the states to which the lines lead.
-fn settle_along(
-    m: &Machine,
-    branches: &[BranchPlace],
-    tick: u64,
-    place: u32,
-    lines: &[Integrator],
-    slopes: &[i128],
-    d: &[i64],
-    x: &mut [i128],
-    watches: &mut [Detector],
-    settled: &mut [bool],
-    agenda: &mut Agenda,
-)
-    requires branches { AreBranches m.now branches.now }
-    requires few { length branches.now ≤ 16384 }
-    requires place { place < length branches.now }
-    requires lines { length lines.now ≡ state_count m.now }
-    requires slopes { length slopes.now ≡ state_count m.now }
-    requires discretes { length d.now ≡ discrete_count m.now }
-    requires states { length x.old ≡ state_count m.now }
-    requires watches { length watches.old ≡ length branches.now }
-    requires settled { length settled.old ≡ length branches.now }
-    requires places { state_count m.now + length branches.now ≤ length agenda.old }
-    requires small_x { All (IsWithin 88) x.old }
-    requires small_states { All (IsWithin 88) (states_at lines.now tick) }
-    requires small_discretes { All (IsWithin 43) d.now }
-    requires small_slopes { All (IsWithin 88) slopes.now }
-    requires in_time { tick < 2 ^ 32 }
-    requires later { (j : ℕ) → j < length lines.now → (line_at lines.now j).tick ≤ tick }
-    ensures settled { AreSettled m.now tick (states_at lines.now tick) d.now slopes.now (place ∷ []) (record { watches = watches.old; settled = settled.old; dues = agenda.old }) (record { watches = watches.new; settled = settled.new; dues = agenda.new }) }
-    ensures arrived { AreArrived (one_reads m.now (place ∷ [])) (states_at lines.now tick) x.old x.new }
-    ensures small_x { All (IsWithin 88) x.new }
-{
-    let condition = condition_of(m, branches[place as usize]);
-    arrive_read(&condition.form, tick, lines, x);
-    settle(
-        m, branches, tick, place, x, d, slopes, watches, settled, agenda,
-    );
-}
-
-// The conditions at these places settle.
-fn settle_places(
-    m: &Machine,
-    branches: &[BranchPlace],
-    tick: u64,
-    places: &[u32],
-    lines: &[Integrator],
-    slopes: &[i128],
-    d: &[i64],
-    x: &mut [i128],
-    watches: &mut [Detector],
-    settled: &mut [bool],
-    agenda: &mut Agenda,
-)
-    requires branches { AreBranches m.now branches.now }
-    requires few { length branches.now ≤ 16384 }
-    requires known { All (λ place. place < length branches.now) places.now }
-    requires lines { length lines.now ≡ state_count m.now }
-    requires slopes { length slopes.now ≡ state_count m.now }
-    requires discretes { length d.now ≡ discrete_count m.now }
-    requires states { length x.old ≡ state_count m.now }
-    requires watches { length watches.old ≡ length branches.now }
-    requires settled { length settled.old ≡ length branches.now }
-    requires places { state_count m.now + length branches.now ≤ length agenda.old }
-    requires small_x { All (IsWithin 88) x.old }
-    requires small_states { All (IsWithin 88) (states_at lines.now tick) }
-    requires small_discretes { All (IsWithin 43) d.now }
-    requires small_slopes { All (IsWithin 88) slopes.now }
-    requires in_time { tick < 2 ^ 32 }
-    requires later { (j : ℕ) → j < length lines.now → (line_at lines.now j).tick ≤ tick }
-    ensures settled { AreSettled m.now tick (states_at lines.now tick) d.now slopes.now (places.now) (record { watches = watches.old; settled = settled.old; dues = agenda.old }) (record { watches = watches.new; settled = settled.new; dues = agenda.new }) }
-    ensures arrived { AreArrived (one_reads m.now places.now) (states_at lines.now tick) x.old x.new }
-    ensures small_x { All (IsWithin 88) x.new }
-{
-    for place in places {
-        settle_along(
-            m, branches, tick, *place, lines, slopes, d, x, watches, settled, agenda,
-        );
+impl Conditions {
+    // One condition settles at the states to which the lines lead.
+    fn settle_along(
+        &mut self,
+        at: &Moment,
+        place: u32,
+        d: &[i64],
+        x: &mut [i128],
+        agenda: &mut Agenda,
+    )
+        requires ready { CanSettle at.now d.now self.old agenda.old x.old }
+        requires place { place < length (conditions at.now.machine.now) }
+        ensures { AreSettledAlong at.now d.now (place ∷ []) self.old self.new agenda.old agenda.new x.old x.new }
+    {
+        let condition = self.condition(at.machine, place);
+        arrive_read(&condition.form, at.tick, at.lines, x);
+        let point = Point {
+            tick: at.tick,
+            states: x,
+            discretes: d,
+            slopes: at.slopes,
+        };
+        self.settle(at.machine, &point, place, agenda);
     }
-}
 
-// The conditions that read one of these variables settle.
-fn settle_readers(
-    m: &Machine,
-    uses: &Uses,
-    branches: &[BranchPlace],
-    tick: u64,
-    vars: &[u32],
-    lines: &[Integrator],
-    slopes: &[i128],
-    d: &[i64],
-    x: &mut [i128],
-    watches: &mut [Detector],
-    settled: &mut [bool],
-    agenda: &mut Agenda,
-)
-    requires uses { uses.now ≡ uses_of m.now }
-    requires branches { AreBranches m.now branches.now }
-    requires few { length branches.now ≤ 16384 }
-    requires known { All (λ var. var < state_count m.now + discrete_count m.now) vars.now }
-    requires lines { length lines.now ≡ state_count m.now }
-    requires slopes { length slopes.now ≡ state_count m.now }
-    requires discretes { length d.now ≡ discrete_count m.now }
-    requires states { length x.old ≡ state_count m.now }
-    requires watches { length watches.old ≡ length branches.now }
-    requires settled { length settled.old ≡ length branches.now }
-    requires places { state_count m.now + length branches.now ≤ length agenda.old }
-    requires small_x { All (IsWithin 88) x.old }
-    requires small_states { All (IsWithin 88) (states_at lines.now tick) }
-    requires small_discretes { All (IsWithin 43) d.now }
-    requires small_slopes { All (IsWithin 88) slopes.now }
-    requires in_time { tick < 2 ^ 32 }
-    requires later { (j : ℕ) → j < length lines.now → (line_at lines.now j).tick ≤ tick }
-    ensures settled { AreSettled m.now tick (states_at lines.now tick) d.now slopes.now (readers_of m.now vars.now) (record { watches = watches.old; settled = settled.old; dues = agenda.old }) (record { watches = watches.new; settled = settled.new; dues = agenda.new }) }
-    ensures arrived { AreArrived (one_reads m.now (readers_of m.now vars.now)) (states_at lines.now tick) x.old x.new }
-    ensures small_x { All (IsWithin 88) x.new }
-{
-    for var in vars {
-        let places = uses.conditions_of(*var);
-        settle_places(
-            m, branches, tick, places, lines, slopes, d, x, watches, settled, agenda,
-        );
-    }
-}
-
-// The conditions that read a state whose row reads this variable, or the variable, settle.
-fn settle_touched_of(
-    m: &Machine,
-    uses: &Uses,
-    branches: &[BranchPlace],
-    tick: u64,
-    var: u32,
-    lines: &[Integrator],
-    slopes: &[i128],
-    d: &[i64],
-    x: &mut [i128],
-    watches: &mut [Detector],
-    settled: &mut [bool],
-    agenda: &mut Agenda,
-)
-    requires uses { uses.now ≡ uses_of m.now }
-    requires branches { AreBranches m.now branches.now }
-    requires few { length branches.now ≤ 16384 }
-    requires known { var < state_count m.now + discrete_count m.now }
-    requires lines { length lines.now ≡ state_count m.now }
-    requires slopes { length slopes.now ≡ state_count m.now }
-    requires discretes { length d.now ≡ discrete_count m.now }
-    requires states { length x.old ≡ state_count m.now }
-    requires watches { length watches.old ≡ length branches.now }
-    requires settled { length settled.old ≡ length branches.now }
-    requires places { state_count m.now + length branches.now ≤ length agenda.old }
-    requires small_x { All (IsWithin 88) x.old }
-    requires small_states { All (IsWithin 88) (states_at lines.now tick) }
-    requires small_discretes { All (IsWithin 43) d.now }
-    requires small_slopes { All (IsWithin 88) slopes.now }
-    requires in_time { tick < 2 ^ 32 }
-    requires later { (j : ℕ) → j < length lines.now → (line_at lines.now j).tick ≤ tick }
-    ensures settled { AreSettled m.now tick (states_at lines.now tick) d.now slopes.now (touched_of m.now var) (record { watches = watches.old; settled = settled.old; dues = agenda.old }) (record { watches = watches.new; settled = settled.new; dues = agenda.new }) }
-    ensures arrived { AreArrived (one_reads m.now (touched_of m.now var)) (states_at lines.now tick) x.old x.new }
-    ensures small_x { All (IsWithin 88) x.new }
-{
-    let rows = uses.rows_of(var);
-    settle_readers(
-        m, uses, branches, tick, rows, lines, slopes, d, x, watches, settled, agenda,
-    );
-    let places = uses.conditions_of(var);
-    settle_places(
-        m, branches, tick, places, lines, slopes, d, x, watches, settled, agenda,
-    );
-}
-
-// Those that one of these variables touches settle.
-fn settle_touched(
-    m: &Machine,
-    uses: &Uses,
-    branches: &[BranchPlace],
-    tick: u64,
-    vars: &[u32],
-    lines: &[Integrator],
-    slopes: &[i128],
-    d: &[i64],
-    x: &mut [i128],
-    watches: &mut [Detector],
-    settled: &mut [bool],
-    agenda: &mut Agenda,
-)
-    requires uses { uses.now ≡ uses_of m.now }
-    requires branches { AreBranches m.now branches.now }
-    requires few { length branches.now ≤ 16384 }
-    requires known { All (λ var. var < state_count m.now + discrete_count m.now) vars.now }
-    requires lines { length lines.now ≡ state_count m.now }
-    requires slopes { length slopes.now ≡ state_count m.now }
-    requires discretes { length d.now ≡ discrete_count m.now }
-    requires states { length x.old ≡ state_count m.now }
-    requires watches { length watches.old ≡ length branches.now }
-    requires settled { length settled.old ≡ length branches.now }
-    requires places { state_count m.now + length branches.now ≤ length agenda.old }
-    requires small_x { All (IsWithin 88) x.old }
-    requires small_states { All (IsWithin 88) (states_at lines.now tick) }
-    requires small_discretes { All (IsWithin 43) d.now }
-    requires small_slopes { All (IsWithin 88) slopes.now }
-    requires in_time { tick < 2 ^ 32 }
-    requires later { (j : ℕ) → j < length lines.now → (line_at lines.now j).tick ≤ tick }
-    ensures settled { AreSettled m.now tick (states_at lines.now tick) d.now slopes.now (touched_by m.now vars.now) (record { watches = watches.old; settled = settled.old; dues = agenda.old }) (record { watches = watches.new; settled = settled.new; dues = agenda.new }) }
-    ensures arrived { AreArrived (one_reads m.now (touched_by m.now vars.now)) (states_at lines.now tick) x.old x.new }
-    ensures small_x { All (IsWithin 88) x.new }
-{
-    for var in vars {
-        settle_touched_of(
-            m, uses, branches, tick, *var, lines, slopes, d, x, watches, settled, agenda,
-        );
-    }
-}
-
-// Those that a state touches which these rows reinitialize settle.
-fn settle_reinitialized(
-    m: &Machine,
-    uses: &Uses,
-    branches: &[BranchPlace],
-    tick: u64,
-    log: &[Row],
-    lines: &[Integrator],
-    slopes: &[i128],
-    d: &[i64],
-    x: &mut [i128],
-    watches: &mut [Detector],
-    settled: &mut [bool],
-    agenda: &mut Agenda,
-)
-    requires uses { uses.now ≡ uses_of m.now }
-    requires branches { AreBranches m.now branches.now }
-    requires few { length branches.now ≤ 16384 }
-    requires known { (j : ℕ) → is_reinitialized log.now j ≡ true → j < state_count m.now }
-    requires lines { length lines.now ≡ state_count m.now }
-    requires slopes { length slopes.now ≡ state_count m.now }
-    requires discretes { length d.now ≡ discrete_count m.now }
-    requires states { length x.old ≡ state_count m.now }
-    requires watches { length watches.old ≡ length branches.now }
-    requires settled { length settled.old ≡ length branches.now }
-    requires places { state_count m.now + length branches.now ≤ length agenda.old }
-    requires small_x { All (IsWithin 88) x.old }
-    requires small_states { All (IsWithin 88) (states_at lines.now tick) }
-    requires small_discretes { All (IsWithin 43) d.now }
-    requires small_slopes { All (IsWithin 88) slopes.now }
-    requires in_time { tick < 2 ^ 32 }
-    requires later { (j : ℕ) → j < length lines.now → (line_at lines.now j).tick ≤ tick }
-    ensures settled { AreSettled m.now tick (states_at lines.now tick) d.now slopes.now (touched_by m.now (reinitialized_of log.now)) (record { watches = watches.old; settled = settled.old; dues = agenda.old }) (record { watches = watches.new; settled = settled.new; dues = agenda.new }) }
-    ensures arrived { AreArrived (one_reads m.now (touched_by m.now (reinitialized_of log.now))) (states_at lines.now tick) x.old x.new }
-    ensures small_x { All (IsWithin 88) x.new }
-{
-    for row in log {
-        if reinitializes(row) {
-            settle_touched_of(
-                m, uses, branches, tick, row.var, lines, slopes, d, x, watches, settled, agenda,
-            );
+    // The conditions at these places settle.
+    fn settle_places(
+        &mut self,
+        at: &Moment,
+        places: &[u32],
+        d: &[i64],
+        x: &mut [i128],
+        agenda: &mut Agenda,
+    )
+        requires ready { CanSettle at.now d.now self.old agenda.old x.old }
+        requires known { All (λ place. place < length (conditions at.now.machine.now)) places.now }
+        ensures { AreSettledAlong at.now d.now places.now self.old self.new agenda.old agenda.new x.old x.new }
+    {
+        for place in places {
+            self.settle_along(at, *place, d, x, agenda);
         }
     }
-}
 
-// The conditions that read the value before the tick of one of these discrete variables settle.
-fn settle_before(
-    m: &Machine,
-    uses: &Uses,
-    branches: &[BranchPlace],
-    tick: u64,
-    assigned: &[u32],
-    lines: &[Integrator],
-    slopes: &[i128],
-    d: &[i64],
-    x: &mut [i128],
-    watches: &mut [Detector],
-    settled: &mut [bool],
-    agenda: &mut Agenda,
-)
-    requires uses { uses.now ≡ uses_of m.now }
-    requires branches { AreBranches m.now branches.now }
-    requires few { length branches.now ≤ 16384 }
-    requires assigned { AreDiscretes m.now assigned.now }
-    requires lines { length lines.now ≡ state_count m.now }
-    requires slopes { length slopes.now ≡ state_count m.now }
-    requires discretes { length d.now ≡ discrete_count m.now }
-    requires states { length x.old ≡ state_count m.now }
-    requires watches { length watches.old ≡ length branches.now }
-    requires settled { length settled.old ≡ length branches.now }
-    requires places { state_count m.now + length branches.now ≤ length agenda.old }
-    requires small_x { All (IsWithin 88) x.old }
-    requires small_states { All (IsWithin 88) (states_at lines.now tick) }
-    requires small_discretes { All (IsWithin 43) d.now }
-    requires small_slopes { All (IsWithin 88) slopes.now }
-    requires in_time { tick < 2 ^ 32 }
-    requires later { (j : ℕ) → j < length lines.now → (line_at lines.now j).tick ≤ tick }
-    ensures settled { AreSettled m.now tick (states_at lines.now tick) d.now slopes.now (readers_before m.now assigned.now) (record { watches = watches.old; settled = settled.old; dues = agenda.old }) (record { watches = watches.new; settled = settled.new; dues = agenda.new }) }
-    ensures arrived { AreArrived (one_reads m.now (readers_before m.now assigned.now)) (states_at lines.now tick) x.old x.new }
-    ensures small_x { All (IsWithin 88) x.new }
-{
-    for var in assigned {
-        let places = uses.conditions_of(*var + d.len() as u32);
-        settle_places(
-            m, branches, tick, places, lines, slopes, d, x, watches, settled, agenda,
-        );
+    // The conditions that read one of these variables settle.
+    fn settle_readers(
+        &mut self,
+        at: &Moment,
+        vars: &[u32],
+        d: &[i64],
+        x: &mut [i128],
+        agenda: &mut Agenda,
+    )
+        requires ready { CanSettle at.now d.now self.old agenda.old x.old }
+        requires known { AreVariablesOf at.now.machine.now vars.now }
+        ensures { AreSettledAlong at.now d.now (readers_of at.now.machine.now vars.now) self.old self.new agenda.old agenda.new x.old x.new }
+    {
+        for var in vars {
+            let places = at.uses.conditions_of(*var);
+            self.settle_places(at, places, d, x, agenda);
+        }
     }
-}
 
-// After handlers the conditions that changed settle, and those that read what changed.
-fn settle_handled(
-    m: &Machine,
-    uses: &Uses,
-    branches: &[BranchPlace],
-    tick: u64,
-    log: &[Row],
-    assigned: &[u32],
-    changed: &[u32],
-    lines: &[Integrator],
-    slopes: &[i128],
-    d: &[i64],
-    x: &mut [i128],
-    watches: &mut [Detector],
-    settled: &mut [bool],
-    agenda: &mut Agenda,
-)
-    requires uses { uses.now ≡ uses_of m.now }
-    requires branches { AreBranches m.now branches.now }
-    requires few { length branches.now ≤ 16384 }
-    requires reinitialized { (j : ℕ) → is_reinitialized log.now j ≡ true → j < state_count m.now }
-    requires assigned { AreDiscretes m.now assigned.now }
-    requires changed { AreNumbers (length branches.now) changed.now }
-    requires lines { length lines.now ≡ state_count m.now }
-    requires slopes { length slopes.now ≡ state_count m.now }
-    requires discretes { length d.now ≡ discrete_count m.now }
-    requires states { length x.old ≡ state_count m.now }
-    requires watches { length watches.old ≡ length branches.now }
-    requires settled { length settled.old ≡ length branches.now }
-    requires places { state_count m.now + length branches.now ≤ length agenda.old }
-    requires small_x { All (IsWithin 88) x.old }
-    requires small_states { All (IsWithin 88) (states_at lines.now tick) }
-    requires small_discretes { All (IsWithin 43) d.now }
-    requires small_slopes { All (IsWithin 88) slopes.now }
-    requires in_time { tick < 2 ^ 32 }
-    requires later { (j : ℕ) → j < length lines.now → (line_at lines.now j).tick ≤ tick }
-    ensures settled { AreSettled m.now tick (states_at lines.now tick) d.now slopes.now (touched_after m.now (reinitialized_of log.now) assigned.now changed.now) (record { watches = watches.old; settled = settled.old; dues = agenda.old }) (record { watches = watches.new; settled = settled.new; dues = agenda.new }) }
-    ensures arrived { AreArrived (one_reads m.now (touched_after m.now (reinitialized_of log.now) assigned.now changed.now)) (states_at lines.now tick) x.old x.new }
-    ensures small_x { All (IsWithin 88) x.new }
-{
-    settle_places(
-        m, branches, tick, changed, lines, slopes, d, x, watches, settled, agenda,
-    );
-    settle_reinitialized(
-        m, uses, branches, tick, log, lines, slopes, d, x, watches, settled, agenda,
-    );
-    settle_touched(
-        m, uses, branches, tick, assigned, lines, slopes, d, x, watches, settled, agenda,
-    );
-    settle_before(
-        m, uses, branches, tick, assigned, lines, slopes, d, x, watches, settled, agenda,
-    );
+    // The conditions that read a state whose row reads this variable, or the variable, settle.
+    fn settle_touched_of(
+        &mut self,
+        at: &Moment,
+        var: u32,
+        d: &[i64],
+        x: &mut [i128],
+        agenda: &mut Agenda,
+    )
+        requires ready { CanSettle at.now d.now self.old agenda.old x.old }
+        requires known { var < state_count at.now.machine.now + discrete_count at.now.machine.now }
+        ensures { AreSettledAlong at.now d.now (touched_of at.now.machine.now var) self.old self.new agenda.old agenda.new x.old x.new }
+    {
+        let rows = at.uses.rows_of(var);
+        self.settle_readers(at, rows, d, x, agenda);
+        let places = at.uses.conditions_of(var);
+        self.settle_places(at, places, d, x, agenda);
+    }
+
+    // Those that one of these variables touches settle.
+    fn settle_touched(
+        &mut self,
+        at: &Moment,
+        vars: &[u32],
+        d: &[i64],
+        x: &mut [i128],
+        agenda: &mut Agenda,
+    )
+        requires ready { CanSettle at.now d.now self.old agenda.old x.old }
+        requires known { AreVariablesOf at.now.machine.now vars.now }
+        ensures { AreSettledAlong at.now d.now (touched_by at.now.machine.now vars.now) self.old self.new agenda.old agenda.new x.old x.new }
+    {
+        for var in vars {
+            self.settle_touched_of(at, *var, d, x, agenda);
+        }
+    }
+
+    // Those that a state touches which these rows reinitialize settle.
+    fn settle_reinitialized(
+        &mut self,
+        at: &Moment,
+        log: &[Row],
+        d: &[i64],
+        x: &mut [i128],
+        agenda: &mut Agenda,
+    )
+        requires ready { CanSettle at.now d.now self.old agenda.old x.old }
+        requires known { (j : ℕ) → is_reinitialized log.now j ≡ true → j < state_count at.now.machine.now }
+        ensures { AreSettledAlong at.now d.now (touched_by at.now.machine.now (reinitialized_of log.now)) self.old self.new agenda.old agenda.new x.old x.new }
+    {
+        for row in log {
+            if reinitializes(row) {
+                self.settle_touched_of(at, row.var, d, x, agenda);
+            }
+        }
+    }
+
+    // The conditions that read the value before the tick of one of these discrete variables settle.
+    fn settle_before(
+        &mut self,
+        at: &Moment,
+        assigned: &[u32],
+        d: &[i64],
+        x: &mut [i128],
+        agenda: &mut Agenda,
+    )
+        requires ready { CanSettle at.now d.now self.old agenda.old x.old }
+        requires assigned { AreDiscretes at.now.machine.now assigned.now }
+        ensures { AreSettledAlong at.now d.now (readers_before at.now.machine.now assigned.now) self.old self.new agenda.old agenda.new x.old x.new }
+    {
+        for var in assigned {
+            let places = at.uses.conditions_of(*var + d.len() as u32);
+            self.settle_places(at, places, d, x, agenda);
+        }
+    }
+
+    // After handlers the conditions that changed settle, those that read a reinitialized state or an assigned variable, and
+    // those that read a state whose row reads one of these. Of the values only the states that they read are written.
+    fn settle_handled(
+        &mut self,
+        at: &Moment,
+        assigned: &[u32],
+        changed: &[u32],
+        work: &mut Work,
+        agenda: &mut Agenda,
+    )
+        requires ready { CanSettle at.now work.old.d self.old agenda.old work.old.x }
+        requires reinitialized { (j : ℕ) → is_reinitialized work.old.log j ≡ true → j < state_count at.now.machine.now }
+        requires assigned { AreDiscretes at.now.machine.now assigned.now }
+        requires changed { AreNumbers (length (conditions at.now.machine.now)) changed.now }
+        ensures settled { AreSettledAlong at.now work.old.d (touched_after at.now.machine.now (reinitialized_of work.old.log) assigned.now changed.now) self.old self.new agenda.old agenda.new work.old.x work.new.x }
+        ensures work { work.new ≡ record work.old { x = work.new.x } }
+    {
+        let x = work.x.as_mut_slice();
+        let d = work.d.as_slice();
+        let log = work.log.as_slice();
+        self.settle_places(at, changed, d, x, agenda);
+        self.settle_reinitialized(at, log, d, x, agenda);
+        self.settle_touched(at, assigned, d, x, agenda);
+        self.settle_before(at, assigned, d, x, agenda);
+    }
 }
 
 /// After handlers the conditions go on from a tick that changed, that read a reinitialized state or an assigned variable, or
 /// that read a state whose row reads one of these; of the values that handlers work on only those of states that they read
 /// are written. Then those go on at their new speeds that read a state whose row reads a moved one; the others are left.
-pub(crate) fn rewatch_handled(
-    m: &Machine,
-    uses: &Uses,
-    branches: &[BranchPlace],
-    tick: u64,
-    moved: &[u32],
-    assigned: &[u32],
-    changed: &[u32],
-    lines: &[Integrator],
-    slopes: &[i128],
-    work: &mut Work,
-    watches: &mut [Detector],
-    settled: &mut [bool],
-    agenda: &mut Agenda,
-)
-    requires uses { uses.now ≡ uses_of m.now }
-    requires branches { AreBranches m.now branches.now }
-    requires few { length branches.now ≤ 16384 }
-    requires moved { AreNumbers (state_count m.now) moved.now }
-    requires reinitialized { (j : ℕ) → is_reinitialized work.old.log j ≡ true → j < state_count m.now }
-    requires assigned { AreDiscretes m.now assigned.now }
-    requires changed { AreNumbers (length branches.now) changed.now }
-    requires lines { length lines.now ≡ state_count m.now }
-    requires slopes { length slopes.now ≡ state_count m.now }
-    requires states { length work.old.x ≡ state_count m.now }
-    requires discretes { length work.old.d ≡ discrete_count m.now }
-    requires watches { length watches.old ≡ length branches.now }
-    requires settled { length settled.old ≡ length branches.now }
-    requires places { state_count m.now + length branches.now ≤ length agenda.old }
-    requires small_x { All (IsWithin 88) work.old.x }
-    requires small_states { All (IsWithin 88) (states_at lines.now tick) }
-    requires small_discretes { All (IsWithin 43) work.old.d }
-    requires small_slopes { All (IsWithin 88) slopes.now }
-    requires in_time { tick < 2 ^ 32 }
-    requires later { (j : ℕ) → j < length lines.now → (line_at lines.now j).tick ≤ tick }
-    requires before { (x pre before : List ℤ) × AreWatchedUpTo m.now tick moved.now (reinitialized_of work.old.log) assigned.now changed.now x (states_at lines.now tick) pre work.old.d before slopes.now settled.old watches.old agenda.old }
-    ensures settled { settled.new ≡ truths m.now (states_at lines.now tick) work.old.d tick }
-    ensures watches { (place : ℕ) → place < length branches.now → IsWatched m.now tick (states_at lines.now tick) work.old.d slopes.now place (watch_at watches.new place) (due_at agenda.new (state_count m.now + place)) }
-    ensures kept { (place : ℕ) → place < length branches.now → settles_after m.now (reinitialized_of work.old.log) assigned.now changed.now place ≡ false → (watch_at watches.old place).speed ≡ speed_of m.now (condition_at m.now place).form slopes.now → IsKept m.now place (record { watches = watches.old; settled = settled.old; dues = agenda.old }) (record { watches = watches.new; settled = settled.new; dues = agenda.new }) }
-    ensures unread { (j : ℕ) → ((place : ℕ) → place < length branches.now → settles_after m.now (reinitialized_of work.old.log) assigned.now changed.now place ≡ true → condition_reads j (condition_at m.now place) ≡ false) → int_at work.new.x j ≡ int_at work.old.x j }
-    ensures work { work.new ≡ record work.old { x = work.new.x } }
-    ensures states { length work.new.x ≡ state_count m.now }
-    ensures small_x { All (IsWithin 88) work.new.x }
-    ensures places { length agenda.new ≡ length agenda.old }
-    ensures others { (place : ℕ) → place < state_count m.now → due_at agenda.new place ≡ due_at agenda.old place }
-    ensures beyond { (place : ℕ) → state_count m.now + length branches.now ≤ place → due_at agenda.new place ≡ due_at agenda.old place }
+pub(crate) fn rewatch_handled(m: &Machine, tick: u64, s: &mut Store)
+    requires fits { FitsMachine m.now s.old }
+    requires moved { AreNumbers (state_count m.now) s.old.moved.items }
+    requires reinitialized { (j : ℕ) → is_reinitialized s.old.work.log j ≡ true → j < state_count m.now }
+    requires assigned { AreDiscretes m.now s.old.assigned.items }
+    requires changed { AreNumbers (length (conditions m.now)) s.old.changed.items }
+    requires lines { AreLinesAt m.now tick s.old.lines.items }
+    requires slopes { AreSlopesOf m.now s.old.slopes.items }
+    requires before { WereWatched m.now tick s.old }
+    ensures settled { s.new.conditions.settled.items ≡ truths m.now (states_at s.old.lines.items tick) s.old.work.d tick }
+    ensures watches { AreWatched m.now tick (states_at s.old.lines.items tick) s.old.work.d s.old.slopes.items s.new.conditions.watches.items s.new.agenda }
+    ensures kept { OthersAreKept m.now (reinitialized_of s.old.work.log) s.old.assigned.items s.old.changed.items s.old.slopes.items (watchings_of s.old.conditions s.old.agenda) (watchings_of s.new.conditions s.new.agenda) }
+    ensures unread { OthersAreUnread m.now (reinitialized_of s.old.work.log) s.old.assigned.items s.old.changed.items s.old.work.x s.new.work.x }
+    ensures rest { IsRewatchedFrom s.old s.new }
+    ensures fits { FitsMachine m.now s.new }
+    ensures others { (place : ℕ) → place < state_count m.now → due_at s.new.agenda place ≡ due_at s.old.agenda place }
+    ensures beyond { (place : ℕ) → state_count m.now + length (conditions m.now) ≤ place → due_at s.new.agenda place ≡ due_at s.old.agenda place }
 {
-    let x = work.x.as_mut_slice();
-    let d = work.d.as_slice();
-    let log = work.log.as_slice();
-    settle_handled(
-        m, uses, branches, tick, log, assigned, changed, lines, slopes, d, x, watches, settled,
-        agenda,
+    let at = Moment {
+        machine: m,
+        uses: &s.uses,
+        tick,
+        lines: s.lines.as_slice(),
+        slopes: s.slopes.as_slice(),
+    };
+    s.conditions.settle_handled(
+        &at,
+        s.assigned.as_slice(),
+        s.changed.as_slice(),
+        &mut s.work,
+        &mut s.agenda,
     );
-    rewatch_of(m, uses, branches, tick, moved, slopes, watches, agenda);
+    s.conditions.rewatch_of(
+        m,
+        &s.uses,
+        tick,
+        s.moved.as_slice(),
+        s.slopes.as_slice(),
+        &mut s.agenda,
+    );
 }

@@ -4,6 +4,7 @@ ghost use Rattle.std.specs.Prelude.{◌≡◌, ℕ, ◌+◌, ◌<◌, ◌≤◌,
 ghost use Rattle.std.specs.Option.{option_or};
 ghost use Rattle.mu_num.specs.Sizes.{IsWithin};
 ghost use Rattle.qss_machine.specs.Numbers.{int_at, tabulate, first_past};
+ghost use Rattle.qss_machine.specs.Handlers.{conditions};
 ghost use Rattle.qss_machine.specs.Machines.{state_count, discrete_count, level_unit, slope_at, quantum_of};
 ghost use Rattle.qss_machine.specs.Ticks.{AreNextLevels, is_near, is_overweight, world_unless, Step};
 ghost use Rattle.qss_machine.specs.Runs.{level_rows, tick_rows};
@@ -11,7 +12,7 @@ ghost use Rattle.qss_machine.specs.Uses.{uses_of};
 ghost use Rattle.qss_quant.specs.Lines.{state_at, IsNear};
 ghost use Rattle.qss_sched.specs.Ranks.{due_at};
 ghost use Rattle.qss_quiet.specs.Among.{is_among, AreNumbers, IsOff};
-ghost use Rattle.qss_run.specs.Places.{AreBranches, line_at, watch_at, IsTurned, IsWatched};
+ghost use Rattle.qss_run.specs.Places.{AreConditionsOf, AreWatched, HasPlaces, line_at, IsTurned};
 ghost use Rattle.qss_run.specs.Renewals.{renewals};
 ghost use Rattle.qss_quiet.specs.Rules.{IsRuled};
 ghost use Rattle.qss_quiet.specs.Sims.{weights_at, IsDue};
@@ -21,13 +22,11 @@ ghost use Rattle.qss_run.specs.declared.shifts.RowSum.TheVariants as sum;
 ghost use Rattle.qss_run.specs.RowSums.{AreSumsBefore};
 
 use crate::calm::catch_up;
-use crate::conditions::BranchPlace;
+use crate::conditions::Conditions;
 use crate::relevel::requantize_due;
 use crate::store::Store;
 use crate::turned::reslope_of;
-use crate::watching::rewatch_of;
 use crate::weighing::reweigh_of;
-use qss_cross::Detector;
 use qss_hand::Work;
 use qss_machine::{Machine, Row, Uses};
 use qss_quant::{Integrator, Quantizer, Steps};
@@ -131,27 +130,24 @@ fn requantize_moved(
 fn go_on_moved<L: Ledger>(
     m: &Machine,
     uses: &Uses,
-    branches: &[BranchPlace],
     tick: u64,
     moved: &[u32],
     levels: &[i64],
     work: &Work,
     slopes: &mut [i128],
     lines: &mut [Integrator],
-    watches: &mut [Detector],
+    watched: &mut Conditions,
     agenda: &mut Agenda,
     steps: &mut Steps<L>,
 )
     requires uses { uses.now ≡ uses_of m.now }
-    requires branches { AreBranches m.now branches.now }
-    requires few { length branches.now ≤ 16384 }
+    requires fits { AreConditionsOf m.now watched.old }
     requires moved { AreNumbers (state_count m.now) moved.now }
     requires levels { length levels.now ≡ state_count m.now }
     requires discretes { length work.now.d ≡ discrete_count m.now }
     requires slopes { length slopes.old ≡ state_count m.now }
     requires lines { length lines.old ≡ state_count m.now }
-    requires watches { length watches.old ≡ length branches.now }
-    requires places { state_count m.now + length branches.now ≤ length agenda.old }
+    requires places { HasPlaces m.now agenda.old }
     requires small_states { All (IsWithin 88) (states_at lines.old tick) }
     requires small_levels { All (IsWithin 43) levels.now }
     requires small_discretes { All (IsWithin 43) work.now.d }
@@ -162,19 +158,21 @@ fn go_on_moved<L: Ledger>(
     requires before { (old : List ℤ) × AreSumsBefore sum.Slope m.now moved.now levels.now work.now.d slopes.old lines.old old }
     requires own_slope { (j : ℕ) → j < state_count m.now → (line_at lines.old j).slope ≡ int_at slopes.old j }
     requires due { (j : ℕ) → j < state_count m.now → (line_at lines.old j).level ≡ int_at levels.now j → IsDue m.now tick j (line_at lines.old j) (due_at agenda.old j) }
-    requires watched { (place : ℕ) → place < length branches.now → IsWatched m.now tick (states_at lines.old tick) work.now.d slopes.old place (watch_at watches.old place) (due_at agenda.old (state_count m.now + place)) }
+    requires watched { AreWatched m.now tick (states_at lines.old tick) work.now.d slopes.old watched.old.watches.items agenda.old }
     ensures slopes { slopes.new ≡ tabulate (state_count m.now) (λ j. slope_at m.now j levels.now work.now.d) }
     ensures lines { (j : ℕ) → j < state_count m.now → IsTurned m.now tick (state_at (line_at lines.old j) tick) (int_at levels.now j) (slope_at m.now j levels.now work.now.d) j (line_at lines.new j) (due_at agenda.new j) }
-    ensures watches { (place : ℕ) → place < length branches.now → IsWatched m.now tick (states_at lines.old tick) work.now.d slopes.new place (watch_at watches.new place) (due_at agenda.new (state_count m.now + place)) }
+    ensures watches { AreWatched m.now tick (states_at lines.old tick) work.now.d slopes.new watched.new.watches.items agenda.new }
+    ensures rest { watched.new ≡ record watched.old { watches = watched.new.watches } }
+    ensures fits { AreConditionsOf m.now watched.new }
     ensures places { length agenda.new ≡ length agenda.old }
-    ensures beyond { (place : ℕ) → state_count m.now + length branches.now ≤ place → due_at agenda.new place ≡ due_at agenda.old place }
+    ensures beyond { (place : ℕ) → state_count m.now + length (conditions m.now) ≤ place → due_at agenda.new place ≡ due_at agenda.old place }
     ensures counted { steps.new ≡ steps.old + renewals (state_count m.now) levels.now slopes.new lines.old }
 {
     let d = work.d.as_slice();
     reslope_of(
         m, uses, tick, moved, levels, d, slopes, lines, agenda, steps,
     );
-    rewatch_of(m, uses, branches, tick, moved, slopes, watches, agenda);
+    watched.rewatch_of(m, uses, tick, moved, slopes, agenda);
 }
 
 /// One tick after the one at which the store stands, from an agenda without the states that are due there, where no condition
@@ -216,18 +214,22 @@ pub(crate) fn visit_due<L: Ledger>(
     go_on_moved(
         m,
         &s.uses,
-        s.branches.as_slice(),
         next,
         s.moved.as_slice(),
         s.levels.as_slice(),
         &s.work,
         s.slopes.as_mut_slice(),
         s.lines.as_mut_slice(),
-        s.watches.as_mut_slice(),
+        &mut s.conditions,
         &mut s.agenda,
         steps,
     );
-    let settled = s.settled.as_slice();
-    catch_up(true, settled, s.arrived.as_mut_slice(), &mut s.calm);
+    let settled = s.conditions.settled.as_slice();
+    catch_up(
+        true,
+        settled,
+        s.conditions.arrived.as_mut_slice(),
+        &mut s.calm,
+    );
     None
 }

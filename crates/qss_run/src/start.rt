@@ -8,18 +8,18 @@ ghost use Rattle.qss_machine.specs.Limits.{level_below};
 ghost use Rattle.qss_machine.specs.Numbers.{int_at, tabulate};
 ghost use Rattle.qss_machine.specs.Machines.{state_count, discrete_count, level_unit, slope_at, quantum_of, start_states, start_discretes};
 ghost use Rattle.qss_machine.specs.Ticks.{start_world, is_overweight};
-ghost use Rattle.qss_machine.specs.Handlers.{truths};
+ghost use Rattle.qss_machine.specs.Handlers.{conditions, truths};
 ghost use Rattle.qss_machine.specs.Runs.{state_rows, discrete_rows, world_rows};
 ghost use Rattle.qss_quant.specs.Lines.{IsNear};
 ghost use Rattle.qss_sched.specs.Ranks.{due_at, HasNone};
-ghost use Rattle.qss_run.specs.Places.{AreBranches, line_at, watch_at, IsTurned, IsWatched};
+ghost use Rattle.qss_run.specs.Places.{AreBranches, AreConditionsOf, AreWatched, line_at, IsTurned};
 ghost use Rattle.qss_quiet.specs.Sims.{weights_at, IsDue};
 ghost use Rattle.qss_run.specs.Stores.{world_of, FitsMachine, Stands, IsBlank};
 
-use crate::conditions::BranchPlace;
+use crate::conditions::{BranchPlace, Conditions};
 use crate::ends::set_world_rows;
+use crate::moment::Point;
 use crate::store::Store;
-use crate::watches::rewatch_all;
 use crate::weighing::weigh_all;
 use mu_num::floor_div;
 use qss_cross::Detector;
@@ -133,6 +133,21 @@ fn flag_lists(alloc: Global, count: usize) -> Result<(Vec<bool>, Vec<bool>), All
     Ok((first, second))
 }
 
+// The conditions, at rest at 0.
+fn blank_conditions(alloc: Global, m: &Machine) -> Result<Conditions, AllocError>
+    ensures { IfOk result (λ all. AreConditionsOf m.now all) }
+{
+    let branches = branch_places(alloc, m)?;
+    let count = branches.len();
+    let (arrived, settled) = flag_lists(alloc, count)?;
+    Ok(Conditions {
+        branches,
+        watches: copies(alloc, resting_watch(), count)?,
+        arrived,
+        settled,
+    })
+}
+
 // Memory for the numbers of moved states, of changed conditions and of due branches.
 fn number_lists(
     alloc: Global,
@@ -151,24 +166,20 @@ fn number_lists(
 fn blank_store(alloc: Global, m: &Machine) -> Result<Store, AllocError>
     ensures { IfOk result (λ s. IsBlank m.now s) }
 {
-    let branches = branch_places(alloc, m)?;
+    let watched = blank_conditions(alloc, m)?;
     let work = Work::new(alloc, m)?;
     let levels = start_levels(alloc, m)?;
     let states = levels.len();
-    let conditions = branches.len();
-    let (arrived, settled) = flag_lists(alloc, conditions)?;
+    let conditions = watched.branches.len();
     let (moved, changed, fired) = number_lists(alloc, states, conditions)?;
     Ok(Store {
-        branches,
+        conditions: watched,
         uses: Uses::new(alloc, m)?,
         lines: copies(alloc, resting_line(), states)?,
         fresh: levels_again(alloc, levels.as_slice())?,
         levels,
         slopes: copies(alloc, 0, states)?,
         weights: copies(alloc, 0, states)?,
-        watches: copies(alloc, resting_watch(), conditions)?,
-        arrived,
-        settled,
         moved,
         changed,
         fired,
@@ -248,44 +259,46 @@ fn start_lines(
 // All states and conditions go on from tick 0.
 fn set_out(
     m: &Machine,
-    branches: &[BranchPlace],
     work: &Work,
     levels: &[i64],
     slopes: &mut [i128],
     weights: &mut [i128],
     lines: &mut [Integrator],
-    watches: &mut [Detector],
-    arrived: &mut [bool],
-    settled: &mut [bool],
+    watched: &mut Conditions,
     agenda: &mut Agenda,
 )
-    requires branches { AreBranches m.now branches.now }
+    requires fits { AreConditionsOf m.now watched.old }
     requires states { work.now.x ≡ start_states m.now }
     requires discretes { work.now.d ≡ start_discretes m.now }
     requires levels { levels.now ≡ map (level_below (level_unit m.now)) (start_states m.now) }
     requires slopes { length slopes.old ≡ state_count m.now }
     requires weights { length weights.old ≡ state_count m.now }
     requires lines { length lines.old ≡ state_count m.now }
-    requires watches { length watches.old ≡ length branches.now }
-    requires arrived { length arrived.old ≡ length branches.now }
-    requires settled { length settled.old ≡ length branches.now }
-    requires places { length agenda.old ≡ state_count m.now + length branches.now + 1 }
+    requires places { length agenda.old ≡ state_count m.now + length (conditions m.now) + 1 }
     requires no_dues { HasNone agenda.old }
     ensures slopes { slopes.new ≡ tabulate (state_count m.now) (λ j. slope_at m.now j levels.now work.now.d) }
     ensures weights { weights.new ≡ weights_at m.now levels.now work.now.d }
     ensures lines { (j : ℕ) → j < state_count m.now → IsTurned m.now 0 (int_at work.now.x j) (int_at levels.now j) (slope_at m.now j levels.now work.now.d) j (line_at lines.new j) (due_at agenda.new j) }
-    ensures arrived { arrived.new ≡ settled.new }
-    ensures settled { settled.new ≡ truths m.now work.now.x work.now.d 0 }
-    ensures watches { (place : ℕ) → place < length branches.now → IsWatched m.now 0 work.now.x work.now.d slopes.new place (watch_at watches.new place) (due_at agenda.new (state_count m.now + place)) }
-    ensures rising { due_at agenda.new (state_count m.now + length branches.now) ≡ None }
+    ensures arrived { watched.new.arrived.items ≡ watched.new.settled.items }
+    ensures settled { watched.new.settled.items ≡ truths m.now work.now.x work.now.d 0 }
+    ensures watches { AreWatched m.now 0 work.now.x work.now.d slopes.new watched.new.watches.items agenda.new }
+    ensures rising { due_at agenda.new (state_count m.now + length (conditions m.now)) ≡ None }
+    ensures fits { AreConditionsOf m.now watched.new }
     ensures places { length agenda.new ≡ length agenda.old }
 {
     let x = work.x.as_slice();
     let d = work.d.as_slice();
     start_lines(m, x, levels, d, slopes, lines, agenda);
     weigh_all(m, levels, d, weights);
-    rewatch_all(m, branches, 0, x, d, slopes, watches, settled, agenda);
-    arrived.copy_from_slice(settled);
+    let start = Point {
+        tick: 0,
+        states: x,
+        discretes: d,
+        slopes,
+    };
+    watched.rewatch_all(m, &start, agenda);
+    let settled = watched.settled.as_slice();
+    watched.arrived.as_mut_slice().copy_from_slice(settled);
 }
 
 // The start rows.
@@ -315,15 +328,12 @@ fn begin(m: &Machine, s: &mut Store)
 {
     set_out(
         m,
-        s.branches.as_slice(),
         &s.work,
         s.levels.as_slice(),
         s.slopes.as_mut_slice(),
         s.weights.as_mut_slice(),
         s.lines.as_mut_slice(),
-        s.watches.as_mut_slice(),
-        s.arrived.as_mut_slice(),
-        s.settled.as_mut_slice(),
+        &mut s.conditions,
         &mut s.agenda,
     );
     start_rows(&s.work, s.levels.as_slice(), &mut s.rows);

@@ -34,9 +34,9 @@ pub(crate) fn visit<L: Ledger>(
     ensures counted { steps.new ≤ steps.old + touches_at m.now (tick + 1) (world_of tick s.old) (world_unless result (world_of (tick + 1) s.new)) }
 {
     let states = s.lines.len() as u32;
-    let conditions = s.branches.len() as u32;
-    let arrived = s.arrived.as_slice();
-    let settled = s.settled.as_slice();
+    let conditions = s.conditions.branches.len() as u32;
+    let arrived = s.conditions.arrived.as_slice();
+    let settled = s.conditions.settled.as_slice();
     call_risen(s.rising, &mut s.agenda, tick + 1, states, arrived, settled);
     take_due(&mut s.agenda, tick + 1, states, &mut s.moved);
     take_changed(&mut s.agenda, tick + 1, states, conditions, &mut s.changed);

@@ -31,6 +31,7 @@ use Rattle.qss_run.proofs.AfterHandlers.{same_worlds}
 use Rattle.qss_run.proofs.Crossed.{none_early, reinits_known, later_dues, flag_same, rest_as_before, watched_then, watched_still, moved_to, near_after, due_after, levels_before_handlers, conditions_stay}
 use Rattle.qss_run.proofs.DueLevels.{int_at-states_at}
 use Rattle.qss_run.proofs.Handled.{not_some, all_within, rows_handled}
+use Rattle.qss_run.proofs.OwnConditions.{arrived_anew}
 use Rattle.qss_run.proofs.QuietVisits.{earlier, own_slope, rest_small}
 use Rattle.qss_run.proofs.Reinits.{kept_state}
 use Rattle.qss_run.proofs.Touched.{renewals_from_touched}
@@ -57,8 +58,8 @@ handle_changed-over-requires-clause-watched g c place h =
     let told : List Watch → List Line → Type 0 = λ ws ls. ((watch_at ws place).tick ≤ t) × (All (IsWithin 88) (states_at ls t) → IsSmall (value_at (watch_at ws place) t))
     × (holds_at (watch_at ws place) t ≡ truth m (condition_at m place) (states_at ls t) s.work.d t) in
     subst (λ ws. told ws c.as_slice-2.result.now) (sym c.as_slice-4.ensures.value)
-    (subst (told s.watches.items) (sym c.as_slice-2.ensures.value)
-    (watched_then m c.args.tick c.requires.taken.0 s taken c.requires.in_time place (omega (arith, h, ap length c.as_slice.ensures.value, taken.stands.fits.branches.as_many))))
+    (subst (told s.conditions.watches.items) (sym c.as_slice-2.ensures.value)
+    (watched_then m c.args.tick c.requires.taken.0 s taken c.requires.in_time place (omega (arith, h, ap length c.as_slice.ensures.value, taken.stands.fits.own_conditions.branches.as_many))))
 
 pub handle_changed-over-requires-clause-others : goal.handle_changed-over-requires-clause-others
 handle_changed-over-requires-clause-others g c place h none =
@@ -66,10 +67,10 @@ handle_changed-over-requires-clause-others g c place h none =
     let t = c.args.tick + 1 in
     let s : Store = c.args.s.now in
     let taken = c.requires.taken.1 in
-    let both = rest_as_before m c.args.tick c.requires.taken.0 s taken c.requires.in_time place (omega (arith, h, ap length c.as_slice.ensures.value, taken.stands.fits.branches.as_many))
+    let both = rest_as_before m c.args.tick c.requires.taken.0 s taken c.requires.in_time place (omega (arith, h, ap length c.as_slice.ensures.value, taken.stands.fits.own_conditions.branches.as_many))
     (ap (λ cs. is_among cs place) (sym c.as_slice-3.ensures.value) ∙ none) in (
       ap (λ ls. truth m (condition_at m place) (states_at ls t) s.work.d t) c.as_slice-2.ensures.value ∙ both.0 ∙ ap (λ b. flag_at b place) (sym c.as_slice-5.ensures.value),
-      ap (λ b. became_true c.as_mut_slice.result.now b place) c.as_slice-5.ensures.value ∙ ap (λ a. became_true a s.settled.items place) c.as_mut_slice.ensures.value ∙ both.1,
+      ap (λ b. became_true c.as_mut_slice.result.now b place) c.as_slice-5.ensures.value ∙ ap (λ a. became_true a s.conditions.settled.items place) c.as_mut_slice.ensures.value ∙ both.1,
     )
 
 pub returns-then-is_some-clause-stepped : goal.returns-then-is_some-clause-stepped
@@ -192,7 +193,8 @@ go_on_handled-requires g c =
     let of_log = ap (λ (v : Values). v.log) handled.values in
     record {
       fits = record {
-        branches = fits.branches;
+        own_conditions = arrived_anew m s.conditions (with_items s.conditions.arrived c.handle_changed-over.new.arrived) fits.own_conditions
+            (same_length s.conditions.arrived c.handle_changed-over.new.arrived ∙ fits.own_conditions.arrived);
         uses = fits.uses;
         lines = fits.lines;
         levels = same_length s.levels c.requantize_handled-over.new.levels ∙ fits.levels;
@@ -203,9 +205,6 @@ go_on_handled-requires g c =
         changed_room = fits.changed_room;
         fired_room = omega (arith, c.handle_changed-over.ensures.fired_room, fits.fired_room);
         assigned_room = omega (arith, c.handle_changed-over.ensures.assigned_room, fits.assigned_room);
-        watches = fits.watches;
-        arrived = same_length s.arrived c.handle_changed-over.new.arrived ∙ fits.arrived;
-        settled = fits.settled;
         places = without.as_many ∙ taken.without.as_many ∙ fits.places;
         states = handled.fits.states;
         discretes = handled.fits.discretes;
@@ -247,8 +246,8 @@ go_on_handled-requires g c =
       own_slope = own_slope m c.args.tick agenda s taken c.requires.in_time;
       due = due_after m c.args.tick agenda s taken c.requires.in_time moved assigned new h handled c.args.q.now.name levels allowed_now after without;
       watched = λ place inside none.
-          subst (λ p. IsWatched m t (states_at s.lines.items t) p s.slopes.items place (watch_at s.watches.items place) (due_at after (state_count m + place))) (sym of_pre)
-          (subst (λ found. IsWatched m t (states_at s.lines.items t) s.work.d s.slopes.items place (watch_at s.watches.items place) found)
+          subst (λ p. IsWatched m t (states_at s.lines.items t) p s.slopes.items place (watch_at s.conditions.watches.items place) (due_at after (state_count m + place))) (sym of_pre)
+          (subst (λ found. IsWatched m t (states_at s.lines.items t) s.work.d s.slopes.items place (watch_at s.conditions.watches.items place) found)
           (sym (conditions_stay m c.args.tick agenda s taken c.requires.in_time moved assigned new h handled after without place))
           (watched_still m c.args.tick agenda s taken c.requires.in_time place inside none));
       settled = λ place inside none.
@@ -294,10 +293,10 @@ returns g c =
     let next : World = world_of t c.go_on_handled.new.s in
     let x : List ℤ = states_with s.lines.items t moved new.x in
     let of_x : x ≡ h.states = sym handled.own_states in
-    let arrived : List Bool = (with_items s.arrived c.handle_changed-over.new.arrived).items in
+    let arrived : List Bool = (with_items s.conditions.arrived c.handle_changed-over.new.arrived).items in
     let arrivals : states_at s.lines.items t ≡ moved_states m w = arrives m c.args.tick (record s { agenda = agenda }) taken.stands in
     let of_arrived : arrived ≡ truths m (moved_states m w) s.work.d t =
-    with_items_is s.arrived c.handle_changed-over.new.arrived (c.handle_changed-over.auto.arrived ∙ c.as_mut_slice.ensures.len)
+    with_items_is s.conditions.arrived c.handle_changed-over.new.arrived (c.handle_changed-over.auto.arrived ∙ c.as_mut_slice.ensures.len)
     ∙ c.handle_changed-over.ensures.arrived calm
     ∙ ap (λ ls. truths m (states_at ls t) s.work.d t) c.as_slice-2.ensures.value
     ∙ ap (λ y. truths m y s.work.d t) arrivals in

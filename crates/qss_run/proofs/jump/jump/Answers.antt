@@ -9,7 +9,7 @@ use Rattle.qss_run.specs.declared.store.Store.{Store}
 use Rattle.qss_quiet.specs.Rules.{IsRuled}
 use Rattle.qss_run.specs.Stores.{world_of, Stands}
 use Rattle.qss_quiet.specs.Silent.{AreSilent}
-use Rattle.qss_run.proofs.Jumps.{next_later, arrived_then, arrived_if, world_then, stands_then, silent_then}
+use Rattle.qss_run.proofs.Jumps.{next_later, arrived_then, arrived_if, with_arrived, world_then, stands_then, silent_then}
 use Rattle.qss_quiet.proofs.Silences.{quiet_worlds}
 use Rattle.qss_run.proofs.jump.jump.Goals as goal
 
@@ -29,16 +29,16 @@ returns c =
     let e : tick + k ≡ next - 1 = omega (arith, later) in
     let before : tick + k < m.last = omega (arith, e, later, c.next_visit-next.ensures.at_most) in
     let nothing : (place t : ℕ) → due_at s.agenda place ≡ Some t → tick + k + 1 ≤ t = λ place t due. let least : next ≤ t = c.next_visit-next.ensures.none_before place t due in omega (arith, e, least, later) in
-    let arrived : Vec Bool Global = with_items s.arrived c.catch_up.new.arrived in
-    let is : arrived.items ≡ arrived_then k s.arrived.items s.settled.items =
-    with_items_is s.arrived c.catch_up.new.arrived (c.catch_up.auto.arrived ∙ c.as_mut_slice.ensures.len)
+    let arrived : Vec Bool Global = with_items s.conditions.arrived c.catch_up.new.arrived in
+    let is : arrived.items ≡ arrived_then k s.conditions.arrived.items s.conditions.settled.items =
+    with_items_is s.conditions.arrived c.catch_up.new.arrived (c.catch_up.auto.arrived ∙ c.as_mut_slice.ensures.len)
     ∙ c.catch_up.ensures.arrived
     ∙ ap (λ b. if nat_lt (tick + 1) next then b else c.as_mut_slice.result.now) c.as_slice.ensures.value
-    ∙ ap (λ a. if nat_lt (tick + 1) next then s.settled.items else a) c.as_mut_slice.ensures.value
-    ∙ arrived_if tick next k s.arrived.items s.settled.items e later in
+    ∙ ap (λ a. if nat_lt (tick + 1) next then s.conditions.settled.items else a) c.as_mut_slice.ensures.value
+    ∙ arrived_if tick next k s.conditions.arrived.items s.conditions.settled.items e later in
     let calm : Bool = c.catch_up.new.calm in
     let world = world_then m tick k s arrived calm c.requires.stands is in
-    let as_settled : calm ≡ true → arrived.items ≡ s.settled.items = λ e. with_items_is s.arrived c.catch_up.new.arrived (c.catch_up.auto.arrived ∙ c.as_mut_slice.ensures.len) ∙ c.catch_up.ensures.settled e ∙ c.as_slice.ensures.value in
+    let as_settled : calm ≡ true → arrived.items ≡ s.conditions.settled.items = λ e. with_items_is s.conditions.arrived c.catch_up.new.arrived (c.catch_up.auto.arrived ∙ c.as_mut_slice.ensures.len) ∙ c.catch_up.ensures.settled e ∙ c.as_slice.ensures.value in
     record {
       later = omega (arith, later);
       before = omega (arith, later, c.next_visit-next.ensures.at_most);
@@ -48,10 +48,10 @@ returns c =
           (found.0, found.1 ∙ ap (λ (t : ℕ). Some t) (sym there));
       silent = λ name. (
         quiet_worlds m (world_of tick s) k,
-        subst (λ t. AreSilent (IsRuled name) m tick (world_of tick s) (quiet_worlds m (world_of tick s) k) t (world_of t (record s { arrived = arrived; calm = calm }))) e
+        subst (λ t. AreSilent (IsRuled name) m tick (world_of tick s) (quiet_worlds m (world_of tick s) k) t (world_of t (with_arrived s arrived calm))) e
             (subst (AreSilent (IsRuled name) m tick (world_of tick s) (quiet_worlds m (world_of tick s) k) (tick + k)) (sym world)
             (silent_then (IsRuled name) m tick k s c.requires.stands before nothing)),
       );
-      stands = subst (λ t. Stands m t (record s { arrived = arrived; calm = calm })) e (stands_then m tick k s arrived calm c.requires.stands before nothing is as_settled);
+      stands = subst (λ t. Stands m t (with_arrived s arrived calm)) e (stands_then m tick k s arrived calm c.requires.stands before nothing is as_settled);
       room = refl;
     }

@@ -1,97 +1,141 @@
 -- All conditions are settled, or go on at their speeds.
-use Rattle.std.proofs.Common.{◌≡◌, ℕ, ◌<◌, List, ◌++◌, length, take, drop, ℤ, sym, ◌∙◌, ap, subst, arith}
-use Rattle.std.proofs.Math.Seq.{take-append_seam}
-use Rattle.qss_machine.specs.declared.rows.Row.{Row}
-use Rattle.qss_machine.specs.Numbers.{int_at}
+use Rattle.std.proofs.Common.{◌≡◌, ◌+◌, List, length, ℤ, sym, ◌∙◌, ap, subst, arith}
+use Rattle.std.specs.Prelude.{Bool, All}
+use Rattle.mu_num.specs.Sizes.{IsWithin}
+use Rattle.qss_machine.specs.Firing.{flag_at}
+use Rattle.qss_machine.specs.Machines.{state_count, speed_of}
 use Rattle.qss_machine.specs.Handlers.{conditions}
 use Rattle.qss_cross.specs.Crossing.{IsSmall, Watch}
+use Rattle.qss_sched.specs.Ranks.{due_at}
 use Rattle.qss_hand.specs.Values.{Values}
-use Rattle.qss_run.specs.Handlings.{is_reinitialized}
+use Rattle.qss_run.specs.declared.conditions.Conditions.{Conditions}
+use Rattle.qss_run.specs.declared.store.Store.{Store}
 use Rattle.qss_quiet.specs.Logs.{reinitialized_of}
-use Rattle.qss_run.specs.Rewatchings.{settles_after}
+use Rattle.qss_run.specs.Moments.{AreLinesAt, AreSlopesOf}
+use Rattle.qss_run.specs.Places.{watch_at, IsWatched}
+use Rattle.qss_run.specs.Rewatchings.{watchings_of, touched_after, one_reads}
 use Rattle.qss_quiet.specs.Sims.{condition_at}
+use Rattle.qss_run.specs.Speeds.{AreSlopesBefore}
 use Rattle.qss_run.specs.Stores.{states_at}
 use Rattle.qss_quiet.proofs.Flags.{truths_are}
+use Rattle.qss_run.proofs.OwnConditions.{settled_fits, still_fits, rest_watched, same_settled}
 use Rattle.qss_run.proofs.QuietTick.{value_small, condition_bounded}
 use Rattle.qss_run.proofs.Settling.{among_settling, unread_by}
-use Rattle.qss_run.proofs.Untouched.{all_watched}
+use Rattle.qss_run.proofs.Untouched.{each_watched}
 use Rattle.qss_run.proofs.rewatched.rewatch_handled.Goals as goal
 
-pub settle_handled-requires-clause-reinitialized : goal.settle_handled-requires-clause-reinitialized
-settle_handled-requires-clause-reinitialized c j among =
-    let log : c.as_slice-log.result.now ≡ c.args.work.now.log = c.as_slice-log.ensures.value ∙ ap (λ (v : Values). v.log) c.work.view_is in
-    c.requires.reinitialized j (sym (ap (λ rows. is_reinitialized rows j) log) ∙ among)
-
-pub rewatch_of-requires-clause-later : goal.rewatch_of-requires-clause-later
-rewatch_of-requires-clause-later c place h =
-    let full = states_at c.args.lines.now c.args.tick in
-    let d : c.as_slice-d.result.now ≡ c.args.work.now.d = c.as_slice-d.ensures.value ∙ ap (λ (v : Values). v.d) c.work.view_is in
-    let log : c.as_slice-log.result.now ≡ c.args.work.now.log = c.as_slice-log.ensures.value ∙ ap (λ (v : Values). v.log) c.work.view_is in
-    let was = c.requires.before in
-    let inside : place < length (conditions c.args.m.now) = omega (arith, h, c.requires.branches.as_many) in
-    (all_watched c.args.m.now c.args.tick c.args.moved.now _ _ c.args.assigned.now c.args.changed.now was.0 full was.1 c.args.work.now.d c.as_slice-d.result.now was.2 c.args.slopes.now _ _ was.3
-    d (ap reinitialized_of log) c.settle_handled.ensures.settled place inside).watched.not_later
-
-pub rewatch_of-requires-clause-small : goal.rewatch_of-requires-clause-small
-rewatch_of-requires-clause-small c place h =
+pub settle_handled-requires-clause-ready : goal.settle_handled-requires-clause-ready
+settle_handled-requires-clause-ready c =
     let m = c.args.m.now in
-    let full = states_at c.args.lines.now c.args.tick in
-    let d : c.as_slice-d.result.now ≡ c.args.work.now.d = c.as_slice-d.ensures.value ∙ ap (λ (v : Values). v.d) c.work.view_is in
-    let log : c.as_slice-log.result.now ≡ c.args.work.now.log = c.as_slice-log.ensures.value ∙ ap (λ (v : Values). v.log) c.work.view_is in
-    let was = c.requires.before in
-    let inside : place < length (conditions m) = omega (arith, h, c.requires.branches.as_many) in
-    let there = all_watched m c.args.tick c.args.moved.now _ _ c.args.assigned.now c.args.changed.now was.0 full was.1 c.args.work.now.d c.as_slice-d.result.now was.2 c.args.slopes.now _ _ was.3
-    d (ap reinitialized_of log) c.settle_handled.ensures.settled place inside in
-    subst IsSmall (sym there.watched.here)
-    (value_small m (condition_at m place).form full c.args.work.now.d c.args.tick (condition_bounded m c.args.branches.now c.requires.branches place h) c.requires.small_states
-    c.requires.small_discretes c.requires.in_time)
+    let fits = c.requires.fits in
+    record {
+      moment = record {
+        uses = fits.uses;
+        lines = subst (AreLinesAt m c.args.tick) (sym c.as_slice.ensures.value) c.requires.lines;
+        slopes = subst (AreSlopesOf m) (sym c.as_slice-2.ensures.value) c.requires.slopes;
+      };
+      fits = fits.own_conditions;
+      places = omega (arith, fits.places);
+      values = record { states = fits.states; discretes = fits.discretes; small_states = fits.small_states; small_discretes = fits.small_discretes };
+    }
 
-pub returns-clause-settled : goal.returns-clause-settled
-returns-clause-settled c =
-    let full = states_at c.args.lines.now c.args.tick in
-    let d : c.as_slice-d.result.now ≡ c.args.work.now.d = c.as_slice-d.ensures.value ∙ ap (λ (v : Values). v.d) c.work.view_is in
-    let log : c.as_slice-log.result.now ≡ c.args.work.now.log = c.as_slice-log.ensures.value ∙ ap (λ (v : Values). v.log) c.work.view_is in
-    let was = c.requires.before in
-    truths_are c.args.m.now full c.args.work.now.d c.args.tick c.settle_handled.new.settled
-    (c.settle_handled.ensures.settled.many_truths ∙ c.requires.settled ∙ c.requires.branches.as_many)
-    (λ place h.
-    (all_watched c.args.m.now c.args.tick c.args.moved.now _ _ c.args.assigned.now c.args.changed.now was.0 full was.1 c.args.work.now.d c.as_slice-d.result.now was.2 c.args.slopes.now _ _ was.3
-    d (ap reinitialized_of log) c.settle_handled.ensures.settled place h).own_truth)
-
-pub returns-clause-watches : goal.returns-clause-watches
-returns-clause-watches c place h =
+pub rewatch_of-requires-clause-ready : goal.rewatch_of-requires-clause-ready
+rewatch_of-requires-clause-ready c =
     let m = c.args.m.now in
-    let full = states_at c.args.lines.now c.args.tick in
-    let d : c.as_slice-d.result.now ≡ c.args.work.now.d = c.as_slice-d.ensures.value ∙ ap (λ (v : Values). v.d) c.work.view_is in
-    let log : c.as_slice-log.result.now ≡ c.args.work.now.log = c.as_slice-log.ensures.value ∙ ap (λ (v : Values). v.log) c.work.view_is in
+    let t = c.args.tick in
+    let s : Store = c.args.s.now in
+    let fits = c.requires.fits in
     let was = c.requires.before in
-    let inside : place < length (conditions m) = omega (arith, h, c.requires.branches.as_many) in
-    let there = all_watched m c.args.tick c.args.moved.now _ _ c.args.assigned.now c.args.changed.now was.0 full was.1 c.args.work.now.d c.as_slice-d.result.now was.2 c.args.slopes.now _ _ was.3
-    d (ap reinitialized_of log) c.settle_handled.ensures.settled place inside in
-    c.rewatch_of.ensures.watches full c.args.work.now.d there.before place h there.slopes_before there.watched
+    let full : List ℤ = states_at s.lines.items t in
+    let along = c.settle_handled.ensures.settled in
+    let are = same_settled m t s.lines.items c.as_slice.result.now s.work.d s.slopes.items c.as_slice-2.result.now (reinitialized_of s.work.log) s.assigned.items c.as_slice-3.result.now
+    s.changed.items c.as_slice-4.result.now (watchings_of s.conditions s.agenda) (watchings_of c.settle_handled.new.self c.settle_handled.new.agenda)
+    c.as_slice.ensures.value c.as_slice-2.ensures.value c.as_slice-3.ensures.value c.as_slice-4.ensures.value along.settled in
+    let there = each_watched m t s.moved.items (reinitialized_of s.work.log) s.assigned.items s.changed.items was.0 full was.1 s.work.d was.2 s.slopes.items (watchings_of s.conditions s.agenda)
+    (watchings_of c.settle_handled.new.self c.settle_handled.new.agenda) was.3 are in
+    let many : length c.settle_handled.new.self.watches.items ≡ length (conditions m) = along.settled.many_watches ∙ fits.own_conditions.watches in
+    record {
+      fits = settled_fits m s.conditions c.settle_handled.new.self fits.own_conditions along.rest along.settled.many_watches along.settled.many_truths;
+      places = omega (arith, along.settled.many_dues, fits.places);
+      small = record {
+        later = λ place h. (there place (omega (arith, h, many))).watched.not_later;
+        small = λ place h.
+            subst IsSmall (sym (there place (omega (arith, h, many))).watched.here)
+            (value_small m (condition_at m place).form full s.work.d t
+            (condition_bounded m s.conditions.branches.items fits.own_conditions.branches place (omega (arith, h, many, fits.own_conditions.branches.as_many))) c.requires.lines.small fits.small_discretes
+            c.requires.lines.in_time);
+      };
+      slopes_of = subst (AreSlopesOf m) (sym c.as_slice-6.ensures.value) c.requires.slopes;
+      in_time = c.requires.lines.in_time;
+    }
 
-pub returns-clause-kept : goal.returns-clause-kept
-returns-clause-kept c place h none own_speed =
+pub returns : goal.returns
+returns c =
     let m = c.args.m.now in
-    let inside : place < length (conditions m) = omega (arith, h, c.requires.branches.as_many) in
-    let log : c.as_slice-log.result.now ≡ c.args.work.now.log = c.as_slice-log.ensures.value ∙ ap (λ (v : Values). v.log) c.work.view_is in
-    let first = c.settle_handled.ensures.settled.kept place
-    (among_settling m place inside (reinitialized_of c.as_slice-log.result.now) c.args.assigned.now c.args.changed.now
-    ∙ ap (λ (rows : List Row). settles_after m (reinitialized_of rows) c.args.assigned.now c.args.changed.now place) log ∙ none) in
-    let on = c.rewatch_of.ensures.goes_on.each place (omega (arith, h, c.settle_handled.ensures.settled.many_watches, c.requires.watches)) in
-    let still = on.kept (ap (λ (w : Watch). w.speed) first.watch ∙ own_speed) in
-    record { watch = still.0 ∙ first.watch; truth = first.truth; due = still.1 ∙ first.due }
-
-pub returns-clause-unread : goal.returns-clause-unread
-returns-clause-unread c j none =
-    let m = c.args.m.now in
-    let log : c.as_slice-log.result.now ≡ c.args.work.now.log = c.as_slice-log.ensures.value ∙ ap (λ (v : Values). v.log) c.work.view_is in
-    let unread = unread_by m (reinitialized_of c.as_slice-log.result.now) c.args.assigned.now c.args.changed.now j
-    (λ place h settles. none place (omega (arith, h, c.requires.branches.as_many))
-    (sym (ap (λ (rows : List Row). settles_after m (reinitialized_of rows) c.args.assigned.now c.args.changed.now place) log) ∙ settles)) in
-    let first : List ℤ = c.as_mut_slice-x.result.now in
-    let after : List ℤ = c.settle_handled.new.x in
-    let rest : List ℤ = drop (length after) c.work.inside.x.items in
-    let was : first ≡ c.args.work.now.x = c.as_mut_slice-x.ensures.value ∙ ap (λ (v : Values). v.x) c.work.view_is in
-    let many : c.work.inside.x.len ≡ length after = omega (arith, c.settle_handled.ensures.arrived.as_many, c.as_mut_slice-x.ensures.len) in
-    ap (λ xs. int_at xs j) (ap (λ (n : ℕ). take n (after ++ rest)) many ∙ take-append_seam after rest) ∙ c.settle_handled.ensures.arrived.others j unread ∙ ap (λ xs. int_at xs j) was
+    let t = c.args.tick in
+    let s : Store = c.args.s.now in
+    let fits = c.requires.fits in
+    let was = c.requires.before in
+    let full : List ℤ = states_at s.lines.items t in
+    let along = c.settle_handled.ensures.settled in
+    let first : Conditions = c.settle_handled.new.self in
+    let last : Conditions = c.rewatch_of.new.self in
+    let new : Store = record s { conditions = last; agenda = c.rewatch_of.new.agenda; work = c.settle_handled.new.work } in
+    let going = c.rewatch_of.ensures.goes_on in
+    let same = c.rewatch_of.ensures.same in
+    let are = same_settled m t s.lines.items c.as_slice.result.now s.work.d s.slopes.items c.as_slice-2.result.now (reinitialized_of s.work.log) s.assigned.items c.as_slice-3.result.now
+    s.changed.items c.as_slice-4.result.now (watchings_of s.conditions s.agenda) (watchings_of first c.settle_handled.new.agenda)
+    c.as_slice.ensures.value c.as_slice-2.ensures.value c.as_slice-3.ensures.value c.as_slice-4.ensures.value along.settled in
+    let there = each_watched m t s.moved.items (reinitialized_of s.work.log) s.assigned.items s.changed.items was.0 full was.1 s.work.d was.2 s.slopes.items (watchings_of s.conditions s.agenda)
+    (watchings_of first c.settle_handled.new.agenda) was.3 are in
+    let many : length first.watches.items ≡ length (conditions m) = along.settled.many_watches ∙ fits.own_conditions.watches in
+    let still : last.settled.items ≡ first.settled.items = ap (λ (all : Conditions). all.settled.items) same in
+    let rest = rest_watched s.conditions first last along.rest same in
+    let work = c.settle_handled.ensures.work in
+    let of_d : new.work.d ≡ s.work.d = ap (λ (v : Values). v.d) work in
+    let slopes : c.as_slice-6.result.now ≡ s.slopes.items = c.as_slice-6.ensures.value in
+    record {
+      settled = still
+          ∙ truths_are m full s.work.d t first.settled.items (along.settled.many_truths ∙ fits.own_conditions.settled) (λ place h. (there place h).own_truth);
+      watches = λ place h.
+          let here = there place h in
+          subst (λ v. IsWatched m t full s.work.d v place (watch_at last.watches.items place) (due_at c.rewatch_of.new.agenda (state_count m + place))) slopes
+          (c.rewatch_of.ensures.watches full s.work.d here.before place h
+          (subst (λ v. AreSlopesBefore m c.as_slice-5.result.now here.before v place) (sym slopes)
+          (subst (λ js. AreSlopesBefore m js here.before s.slopes.items place) (sym c.as_slice-5.ensures.value) here.slopes_before)) here.watched);
+      kept = λ place h none own_speed.
+          let before = are.kept place (among_settling m place h (reinitialized_of s.work.log) s.assigned.items s.changed.items ∙ none) in
+          let on = going.each place (omega (arith, h, many)) in
+          let stays = on.kept (ap (λ (w : Watch). w.speed) before.watch ∙ own_speed ∙ ap (speed_of m (condition_at m place).form) (sym slopes)) in
+          record { watch = stays.0 ∙ before.watch; truth = ap (λ (flags : List Bool). flag_at flags place) still ∙ before.truth; due = stays.1 ∙ before.due };
+      unread = λ j none.
+          along.arrived.others j (
+          ap (λ vs. one_reads m (touched_after m (reinitialized_of s.work.log) vs c.as_slice-4.result.now) j) c.as_slice-3.ensures.value
+          ∙ ap (λ cs. one_reads m (touched_after m (reinitialized_of s.work.log) s.assigned.items cs) j) c.as_slice-4.ensures.value
+          ∙ unread_by m (reinitialized_of s.work.log) s.assigned.items s.changed.items j none);
+      rest = ap (λ (all : Conditions). record new { conditions = all }) rest
+          ∙ ap (λ (v : Values). record new { conditions = record s.conditions { watches = last.watches; settled = last.settled }; work = v }) work;
+      fits = record {
+        own_conditions = still_fits m first last (settled_fits m s.conditions first fits.own_conditions along.rest along.settled.many_watches along.settled.many_truths) same going.as_many;
+        uses = fits.uses;
+        lines = fits.lines;
+        levels = fits.levels;
+        slopes = fits.slopes;
+        fresh = fits.fresh;
+        weights = fits.weights;
+        moved_room = fits.moved_room;
+        changed_room = fits.changed_room;
+        fired_room = fits.fired_room;
+        assigned_room = fits.assigned_room;
+        places = going.places ∙ along.settled.many_dues ∙ fits.places;
+        states = along.arrived.as_many ∙ fits.states;
+        discretes = ap length of_d ∙ fits.discretes;
+        before = ap (λ (v : Values). length v.pre) work ∙ fits.before;
+        small_states = along.small;
+        small_discretes = subst (All (IsWithin 43)) (sym of_d) fits.small_discretes;
+        work_room = omega (arith, ap (λ (v : Values). v.room) work, fits.work_room);
+        row_room = fits.row_room;
+      };
+      others = λ place h. going.others place h ∙ along.settled.states place h;
+      beyond = λ place h. going.beyond place (omega (arith, h, many)) ∙ along.settled.beyond place (omega (arith, h, fits.own_conditions.watches));
+    }

@@ -1,5 +1,5 @@
 -- A tick at which nothing but states is due.
-use Rattle.std.proofs.Common.{◌≡◌, ℕ, ◌+◌, ◌<◌, ◌≤◌, List, Bool, [], length, ℤ, pos, refl, sym, ◌∙◌, ap, subst, arith}
+use Rattle.std.proofs.Common.{◌≡◌, ℕ, ◌+◌, ◌≤◌, List, Bool, [], length, ℤ, pos, sym, ◌∙◌, ap, subst, arith}
 use Rattle.std.proofs.lemmas.List.{with_items_is}
 use Rattle.std.proofs.lemmas.List.FromFn.{length-map-range_with_len}
 use Rattle.std.specs.Option.{option_or}
@@ -16,6 +16,7 @@ use Rattle.qss_sched.specs.Ranks.{due_at}
 use Rattle.qss_hand.specs.Values.{Values}
 use Rattle.qss_run.specs.RowSums.{AreSumsBefore}
 use Rattle.qss_run.specs.declared.shifts.RowSum.TheVariants.{Slope}
+use Rattle.qss_run.specs.declared.conditions.Conditions.{Conditions}
 use Rattle.qss_run.specs.declared.store.Store.{Store}
 use Rattle.qss_quiet.specs.Among.{is_among, IsOff}
 use Rattle.qss_run.specs.Places.{line_at, watch_at, IsTurned, IsWatched}
@@ -25,10 +26,10 @@ use Rattle.qss_quiet.specs.Sims.{weights_at, IsDue}
 use Rattle.qss_run.specs.Stores.{states_at, world_of, FitsMachine}
 use Rattle.qss_run.specs.Touches.{touches_at}
 use Rattle.qss_run.proofs.Handled.{not_some, clash, all_within}
+use Rattle.qss_run.proofs.OwnConditions.{arrived_anew}
 use Rattle.qss_run.proofs.QuietVisits.{steps_or, leads, rest_small, own_slope, levels_before, handled, arrived, near, kept_due, same_truths, watched, not_rising, rising, rows_then}
 use Rattle.qss_run.proofs.QuietTick.{none_rises_then}
 use Rattle.qss_run.proofs.Touched.{renewals_touched}
-use Rattle.qss_hand.proofs.Turns.{conditions_few}
 use Rattle.qss_run.proofs.Visits.{stands_again, end_of, both_none, same_length}
 use Rattle.qss_run.proofs.sparse.visit_due.Goals as goal
 
@@ -63,10 +64,6 @@ returns-then-is_some-clause-stepped g c =
     steps_or (IsRuled c.args.q.now.name) m t (world_of c.args.tick s) _ h fresh c.requantize_moved-over.result is_h allowed over
     (λ none. clash c.requantize_moved-over.result (sym c.is_some.ensures ∙ c.if-is_some.true) none)
 
-pub go_on_moved-requires-clause-few : goal.go_on_moved-requires-clause-few
-go_on_moved-requires-clause-few g c =
-    omega (arith, ap length c.as_slice-3.ensures.value, c.requires.taken.1.stands.fits.branches.as_many, conditions_few c.args.m.now)
-
 pub go_on_moved-requires-clause-small_states : goal.go_on_moved-requires-clause-small_states
 go_on_moved-requires-clause-small_states g c =
     let m = c.args.m.now in
@@ -88,8 +85,8 @@ go_on_moved-requires-clause-small_states g c =
     ∙ ap (λ ls. option_or (first_past 88 (states_at ls t)) (option_or (first_past 43 fresh) (position (is_overweight m fresh s.work.d) m.rows))) c.as_slice.ensures.value in
     let none_both = both_none (first_past 88 x) (option_or (first_past 43 fresh) (position (is_overweight m fresh s.work.d) m.rows)) (sym calm ∙ over) in
     let many : length c.requantize_moved-over.new.levels ≡ s.levels.len = c.requantize_moved-over.auto.levels ∙ c.as_mut_slice.ensures.len in
-    let levels : c.as_slice-5.result.now ≡ fresh =
-    c.as_slice-5.ensures.value ∙ with_items_is s.levels c.requantize_moved-over.new.levels many ∙ c.requantize_moved-over.ensures.levels calm in
+    let levels : c.as_slice-4.result.now ≡ fresh =
+    c.as_slice-4.ensures.value ∙ with_items_is s.levels c.requantize_moved-over.new.levels many ∙ c.requantize_moved-over.ensures.levels calm in
     let of_d : c.requantize_moved-over.new.work.d ≡ s.work.d = ap (λ (v : Values). v.d) c.requantize_moved-over.ensures.work in
     subst (λ ls. All (IsWithin 88) (states_at ls t)) (sym c.as_mut_slice-5.ensures.value) (all_within 88 x none_both.0)
 
@@ -114,8 +111,8 @@ go_on_moved-requires-clause-small_levels g c =
     ∙ ap (λ ls. option_or (first_past 88 (states_at ls t)) (option_or (first_past 43 fresh) (position (is_overweight m fresh s.work.d) m.rows))) c.as_slice.ensures.value in
     let none_both = both_none (first_past 88 x) (option_or (first_past 43 fresh) (position (is_overweight m fresh s.work.d) m.rows)) (sym calm ∙ over) in
     let many : length c.requantize_moved-over.new.levels ≡ s.levels.len = c.requantize_moved-over.auto.levels ∙ c.as_mut_slice.ensures.len in
-    let levels : c.as_slice-5.result.now ≡ fresh =
-    c.as_slice-5.ensures.value ∙ with_items_is s.levels c.requantize_moved-over.new.levels many ∙ c.requantize_moved-over.ensures.levels calm in
+    let levels : c.as_slice-4.result.now ≡ fresh =
+    c.as_slice-4.ensures.value ∙ with_items_is s.levels c.requantize_moved-over.new.levels many ∙ c.requantize_moved-over.ensures.levels calm in
     let of_d : c.requantize_moved-over.new.work.d ≡ s.work.d = ap (λ (v : Values). v.d) c.requantize_moved-over.ensures.work in
     subst (All (IsWithin 43)) (sym (levels ∙ sym (c.requantize_moved-over.ensures.levels calm))) (c.requantize_moved-over.ensures.small calm)
 
@@ -140,8 +137,8 @@ go_on_moved-requires-clause-light g c =
     ∙ ap (λ ls. option_or (first_past 88 (states_at ls t)) (option_or (first_past 43 fresh) (position (is_overweight m fresh s.work.d) m.rows))) c.as_slice.ensures.value in
     let none_both = both_none (first_past 88 x) (option_or (first_past 43 fresh) (position (is_overweight m fresh s.work.d) m.rows)) (sym calm ∙ over) in
     let many : length c.requantize_moved-over.new.levels ≡ s.levels.len = c.requantize_moved-over.auto.levels ∙ c.as_mut_slice.ensures.len in
-    let levels : c.as_slice-5.result.now ≡ fresh =
-    c.as_slice-5.ensures.value ∙ with_items_is s.levels c.requantize_moved-over.new.levels many ∙ c.requantize_moved-over.ensures.levels calm in
+    let levels : c.as_slice-4.result.now ≡ fresh =
+    c.as_slice-4.ensures.value ∙ with_items_is s.levels c.requantize_moved-over.new.levels many ∙ c.requantize_moved-over.ensures.levels calm in
     let of_d : c.requantize_moved-over.new.work.d ≡ s.work.d = ap (λ (v : Values). v.d) c.requantize_moved-over.ensures.work in
     ap (λ l. position (is_overweight m l c.requantize_moved-over.new.work.d) m.rows) levels
     ∙ ap (λ d. position (is_overweight m fresh d) m.rows) of_d
@@ -168,10 +165,10 @@ go_on_moved-requires-clause-near g c j inside =
     ∙ ap (λ ls. option_or (first_past 88 (states_at ls t)) (option_or (first_past 43 fresh) (position (is_overweight m fresh s.work.d) m.rows))) c.as_slice.ensures.value in
     let none_both = both_none (first_past 88 x) (option_or (first_past 43 fresh) (position (is_overweight m fresh s.work.d) m.rows)) (sym calm ∙ over) in
     let many : length c.requantize_moved-over.new.levels ≡ s.levels.len = c.requantize_moved-over.auto.levels ∙ c.as_mut_slice.ensures.len in
-    let levels : c.as_slice-5.result.now ≡ fresh =
-    c.as_slice-5.ensures.value ∙ with_items_is s.levels c.requantize_moved-over.new.levels many ∙ c.requantize_moved-over.ensures.levels calm in
+    let levels : c.as_slice-4.result.now ≡ fresh =
+    c.as_slice-4.ensures.value ∙ with_items_is s.levels c.requantize_moved-over.new.levels many ∙ c.requantize_moved-over.ensures.levels calm in
     let of_d : c.requantize_moved-over.new.work.d ≡ s.work.d = ap (λ (v : Values). v.d) c.requantize_moved-over.ensures.work in
-    subst (λ ls. IsNear (level_unit m) (state_at (line_at ls j) t) (int_at c.as_slice-5.result.now j) (quantum_of m j (int_at c.as_slice-5.result.now j))) (sym c.as_mut_slice-5.ensures.value)
+    subst (λ ls. IsNear (level_unit m) (state_at (line_at ls j) t) (int_at c.as_slice-4.result.now j) (quantum_of m j (int_at c.as_slice-4.result.now j))) (sym c.as_mut_slice-5.ensures.value)
     (subst (λ l. IsNear (level_unit m) (state_at (line_at s.lines.items j) t) (int_at l j) (quantum_of m j (int_at l j))) (sym levels)
     (near m c.args.tick agenda s taken c.requires.in_time c.args.q.now.name fresh (allowed none_both.0) j inside))
 
@@ -196,13 +193,13 @@ go_on_moved-requires-clause-before g c =
     ∙ ap (λ ls. option_or (first_past 88 (states_at ls t)) (option_or (first_past 43 fresh) (position (is_overweight m fresh s.work.d) m.rows))) c.as_slice.ensures.value in
     let none_both = both_none (first_past 88 x) (option_or (first_past 43 fresh) (position (is_overweight m fresh s.work.d) m.rows)) (sym calm ∙ over) in
     let many : length c.requantize_moved-over.new.levels ≡ s.levels.len = c.requantize_moved-over.auto.levels ∙ c.as_mut_slice.ensures.len in
-    let levels : c.as_slice-5.result.now ≡ fresh =
-    c.as_slice-5.ensures.value ∙ with_items_is s.levels c.requantize_moved-over.new.levels many ∙ c.requantize_moved-over.ensures.levels calm in
+    let levels : c.as_slice-4.result.now ≡ fresh =
+    c.as_slice-4.ensures.value ∙ with_items_is s.levels c.requantize_moved-over.new.levels many ∙ c.requantize_moved-over.ensures.levels calm in
     let of_d : c.requantize_moved-over.new.work.d ≡ s.work.d = ap (λ (v : Values). v.d) c.requantize_moved-over.ensures.work in
     let off : IsOff s.moved.items s.levels.items fresh =
     subst (λ l. IsOff l s.levels.items fresh) c.as_slice-2.ensures.value (subst (λ l. IsOff c.as_slice-2.result.now l fresh) c.as_mut_slice.ensures.value c.requantize_moved-over.ensures.others) in (
       s.levels.items,
-      subst (λ js. AreSumsBefore Slope m js c.as_slice-5.result.now c.requantize_moved-over.new.work.d c.as_mut_slice-4.result.now c.as_mut_slice-5.result.now s.levels.items) (sym c.as_slice-4.ensures.value)
+      subst (λ js. AreSumsBefore Slope m js c.as_slice-4.result.now c.requantize_moved-over.new.work.d c.as_mut_slice-4.result.now c.as_mut_slice-5.result.now s.levels.items) (sym c.as_slice-3.ensures.value)
           (subst (λ l. AreSumsBefore Slope m s.moved.items l c.requantize_moved-over.new.work.d c.as_mut_slice-4.result.now c.as_mut_slice-5.result.now s.levels.items) (sym levels)
           (subst (λ d. AreSumsBefore Slope m s.moved.items fresh d c.as_mut_slice-4.result.now c.as_mut_slice-5.result.now s.levels.items) (sym of_d)
           (subst (λ v. AreSumsBefore Slope m s.moved.items fresh s.work.d v c.as_mut_slice-5.result.now s.levels.items) (sym c.as_mut_slice-4.ensures.value)
@@ -242,8 +239,8 @@ go_on_moved-requires-clause-due g c j inside own =
     ∙ ap (λ ls. option_or (first_past 88 (states_at ls t)) (option_or (first_past 43 fresh) (position (is_overweight m fresh s.work.d) m.rows))) c.as_slice.ensures.value in
     let none_both = both_none (first_past 88 x) (option_or (first_past 43 fresh) (position (is_overweight m fresh s.work.d) m.rows)) (sym calm ∙ over) in
     let many : length c.requantize_moved-over.new.levels ≡ s.levels.len = c.requantize_moved-over.auto.levels ∙ c.as_mut_slice.ensures.len in
-    let levels : c.as_slice-5.result.now ≡ fresh =
-    c.as_slice-5.ensures.value ∙ with_items_is s.levels c.requantize_moved-over.new.levels many ∙ c.requantize_moved-over.ensures.levels calm in
+    let levels : c.as_slice-4.result.now ≡ fresh =
+    c.as_slice-4.ensures.value ∙ with_items_is s.levels c.requantize_moved-over.new.levels many ∙ c.requantize_moved-over.ensures.levels calm in
     let of_d : c.requantize_moved-over.new.work.d ≡ s.work.d = ap (λ (v : Values). v.d) c.requantize_moved-over.ensures.work in
     subst (λ ls. IsDue m t j (line_at ls j) (due_at s.agenda j)) (sym c.as_mut_slice-5.ensures.value)
     (kept_due m c.args.tick agenda s taken c.requires.in_time c.args.q.now.name fresh (allowed none_both.0) j inside
@@ -270,15 +267,27 @@ go_on_moved-requires-clause-watched g c place inside =
     ∙ ap (λ ls. option_or (first_past 88 (states_at ls t)) (option_or (first_past 43 fresh) (position (is_overweight m fresh s.work.d) m.rows))) c.as_slice.ensures.value in
     let none_both = both_none (first_past 88 x) (option_or (first_past 43 fresh) (position (is_overweight m fresh s.work.d) m.rows)) (sym calm ∙ over) in
     let many : length c.requantize_moved-over.new.levels ≡ s.levels.len = c.requantize_moved-over.auto.levels ∙ c.as_mut_slice.ensures.len in
-    let levels : c.as_slice-5.result.now ≡ fresh =
-    c.as_slice-5.ensures.value ∙ with_items_is s.levels c.requantize_moved-over.new.levels many ∙ c.requantize_moved-over.ensures.levels calm in
+    let levels : c.as_slice-4.result.now ≡ fresh =
+    c.as_slice-4.ensures.value ∙ with_items_is s.levels c.requantize_moved-over.new.levels many ∙ c.requantize_moved-over.ensures.levels calm in
     let of_d : c.requantize_moved-over.new.work.d ≡ s.work.d = ap (λ (v : Values). v.d) c.requantize_moved-over.ensures.work in
-    let known : place < length (conditions m) = omega (arith, inside, ap length c.as_slice-3.ensures.value, taken.stands.fits.branches.as_many) in
-    subst (λ ls. IsWatched m t (states_at ls t) c.requantize_moved-over.new.work.d c.as_mut_slice-4.result.now place (watch_at c.as_mut_slice-6.result.now place) (due_at s.agenda (state_count m + place))) (sym c.as_mut_slice-5.ensures.value)
-    (subst (λ ws. IsWatched m t x c.requantize_moved-over.new.work.d c.as_mut_slice-4.result.now place (watch_at ws place) (due_at s.agenda (state_count m + place))) (sym c.as_mut_slice-6.ensures.value)
-    (subst (λ v. IsWatched m t x c.requantize_moved-over.new.work.d v place (watch_at s.watches.items place) (due_at s.agenda (state_count m + place))) (sym c.as_mut_slice-4.ensures.value)
-    (subst (λ d. IsWatched m t x d s.slopes.items place (watch_at s.watches.items place) (due_at s.agenda (state_count m + place))) (sym of_d)
-    (watched m c.args.tick agenda s taken c.requires.in_time c.requires.none_changes place known))))
+    subst (λ ls. IsWatched m t (states_at ls t) c.requantize_moved-over.new.work.d c.as_mut_slice-4.result.now place (watch_at s.conditions.watches.items place) (due_at s.agenda (state_count m + place))) (sym c.as_mut_slice-5.ensures.value)
+    (subst (λ v. IsWatched m t x c.requantize_moved-over.new.work.d v place (watch_at s.conditions.watches.items place) (due_at s.agenda (state_count m + place))) (sym c.as_mut_slice-4.ensures.value)
+    (subst (λ d. IsWatched m t x d s.slopes.items place (watch_at s.conditions.watches.items place) (due_at s.agenda (state_count m + place))) (sym of_d)
+    (watched m c.args.tick agenda s taken c.requires.in_time c.requires.none_changes place inside)))
+
+pub catch_up-requires-clause-as_many : goal.catch_up-requires-clause-as_many
+catch_up-requires-clause-as_many g c =
+    let fits = c.go_on_moved.ensures.fits in
+    ap length c.as_mut_slice-6.ensures.value ∙ fits.arrived ∙ sym fits.settled ∙ sym (ap length c.as_slice-settled.ensures.value)
+
+pub catch_up-requires-clause-calm : goal.catch_up-requires-clause-calm
+catch_up-requires-clause-calm g c calm =
+    let rest = c.go_on_moved.ensures.rest in
+    c.as_mut_slice-6.ensures.value
+    ∙ ap (λ (all : Conditions). all.arrived.items) rest
+    ∙ c.requires.taken.1.stands.calm calm
+    ∙ sym (ap (λ (all : Conditions). all.settled.items) rest)
+    ∙ sym c.as_slice-settled.ensures.value
 
 pub returns : goal.returns
 returns g c =
@@ -301,17 +310,18 @@ returns g c =
     ∙ ap (λ ls. option_or (first_past 88 (states_at ls t)) (option_or (first_past 43 fresh) (position (is_overweight m fresh s.work.d) m.rows))) c.as_slice.ensures.value in
     let none_both = both_none (first_past 88 x) (option_or (first_past 43 fresh) (position (is_overweight m fresh s.work.d) m.rows)) (sym calm ∙ over) in
     let many : length c.requantize_moved-over.new.levels ≡ s.levels.len = c.requantize_moved-over.auto.levels ∙ c.as_mut_slice.ensures.len in
-    let levels : c.as_slice-5.result.now ≡ fresh =
-    c.as_slice-5.ensures.value ∙ with_items_is s.levels c.requantize_moved-over.new.levels many ∙ c.requantize_moved-over.ensures.levels calm in
+    let levels : c.as_slice-4.result.now ≡ fresh =
+    c.as_slice-4.ensures.value ∙ with_items_is s.levels c.requantize_moved-over.new.levels many ∙ c.requantize_moved-over.ensures.levels calm in
     let of_d : c.requantize_moved-over.new.work.d ≡ s.work.d = ap (λ (v : Values). v.d) c.requantize_moved-over.ensures.work in
     let fits = taken.stands.fits in
     let work : c.requantize_moved-over.new.work ≡ record s.work { x = c.requantize_moved-over.new.work.x } = c.requantize_moved-over.ensures.work in
+    let own : Conditions = c.go_on_moved.new.watched in
+    let own_settled : own.settled.items ≡ s.conditions.settled.items = ap (λ (all : Conditions). all.settled.items) c.go_on_moved.ensures.rest in
     let next : Store = record s {
+      conditions = record own { arrived = with_items own.arrived c.catch_up.new.arrived };
       levels = with_items s.levels c.requantize_moved-over.new.levels;
       slopes = with_items s.slopes c.go_on_moved.new.slopes;
       lines = with_items s.lines c.go_on_moved.new.lines;
-      watches = with_items s.watches c.go_on_moved.new.watches;
-      arrived = with_items s.arrived c.catch_up.new.arrived;
       fresh = with_items s.fresh fresh;
       weights = with_items s.weights c.requantize_moved-over.new.weights;
       calm = c.catch_up.new.calm;
@@ -320,7 +330,7 @@ returns g c =
       rows = c.requantize_moved-over.new.rows;
     } in
     let good : FitsMachine m next = record {
-      branches = fits.branches;
+      own_conditions = arrived_anew m own (with_items own.arrived c.catch_up.new.arrived) c.go_on_moved.ensures.fits (same_length own.arrived c.catch_up.new.arrived ∙ c.go_on_moved.ensures.fits.arrived);
       uses = fits.uses;
       lines = same_length s.lines c.go_on_moved.new.lines ∙ fits.lines;
       levels = same_length s.levels c.requantize_moved-over.new.levels ∙ fits.levels;
@@ -331,9 +341,6 @@ returns g c =
       changed_room = fits.changed_room;
       fired_room = fits.fired_room;
       assigned_room = fits.assigned_room;
-      watches = same_length s.watches c.go_on_moved.new.watches ∙ fits.watches;
-      arrived = same_length s.arrived c.catch_up.new.arrived ∙ fits.arrived;
-      settled = fits.settled;
       places = c.go_on_moved.ensures.places ∙ taken.without.as_many ∙ fits.places;
       states = c.requantize_moved-over.ensures.states ∙ fits.states;
       discretes = ap length of_d ∙ fits.discretes;
@@ -345,17 +352,15 @@ returns g c =
     } in
     let of_slopes : next.slopes.items ≡ c.go_on_moved.new.slopes = with_items_is s.slopes c.go_on_moved.new.slopes (c.go_on_moved.auto.slopes ∙ c.as_mut_slice-4.ensures.len) in
     let of_lines : next.lines.items ≡ c.go_on_moved.new.lines = with_items_is s.lines c.go_on_moved.new.lines (c.go_on_moved.auto.lines ∙ c.as_mut_slice-5.ensures.len) in
-    let of_watches : next.watches.items ≡ c.go_on_moved.new.watches = with_items_is s.watches c.go_on_moved.new.watches (c.go_on_moved.auto.watches ∙ c.as_mut_slice-6.ensures.len) in
-    let of_arrived : next.arrived.items ≡ s.settled.items =
-    with_items_is s.arrived c.catch_up.new.arrived (c.catch_up.auto.arrived ∙ c.as_mut_slice-7.ensures.len) ∙ c.catch_up.ensures.arrived ∙ c.as_slice-settled.ensures.value in
-    let own_levels : next.levels.items ≡ c.as_slice-5.result.now = sym c.as_slice-5.ensures.value in
-    let branches : length c.as_slice-3.result.now ≡ length (conditions m) = ap length c.as_slice-3.ensures.value ∙ fits.branches.as_many in
+    let of_arrived : next.conditions.arrived.items ≡ s.conditions.settled.items =
+    with_items_is own.arrived c.catch_up.new.arrived (c.catch_up.auto.arrived ∙ c.as_mut_slice-6.ensures.len) ∙ c.catch_up.ensures.arrived ∙ c.as_slice-settled.ensures.value ∙ own_settled in
+    let own_levels : next.levels.items ≡ c.as_slice-4.result.now = sym c.as_slice-4.ensures.value in
     let light : position (is_overweight m next.levels.items next.work.d) m.rows ≡ None =
     ap (λ l. position (is_overweight m l next.work.d) m.rows) (own_levels ∙ levels)
     ∙ ap (λ d. position (is_overweight m fresh d) m.rows) of_d
     ∙ (both_none (first_past 43 fresh) (position (is_overweight m fresh s.work.d) m.rows) (sym none_both.1)).1 in
     let many_states : length x ≡ state_count m = length-map-range_with_len (λ j. state_at (line_at s.lines.items j) t) 0 (length s.lines.items) ∙ fits.lines in
-    let settled : s.settled.items ≡ truths m x next.work.d t =
+    let settled : s.conditions.settled.items ≡ truths m x next.work.d t =
     same_truths m c.args.tick agenda s taken c.requires.in_time c.requires.none_changes ∙ ap (λ d. truths m x d t) (sym of_d) in
     let again = stands_again m t next x many_states good
     (λ j inside. subst (λ l. IsWithin 43 (int_at l j)) (sym (own_levels ∙ levels ∙ sym (c.requantize_moved-over.ensures.levels calm)))
@@ -369,30 +374,29 @@ returns g c =
     (λ j inside.
     subst (λ ls. IsTurned m t (int_at x j) (int_at next.levels.items j) (slope_at m j next.levels.items next.work.d) j (line_at ls j) (due_at next.agenda j)) (sym of_lines)
     (subst (λ l. IsTurned m t (int_at x j) (int_at l j) (slope_at m j l next.work.d) j (line_at c.go_on_moved.new.lines j) (due_at next.agenda j)) (sym own_levels)
-    (subst (λ y. IsTurned m t y (int_at c.as_slice-5.result.now j) (slope_at m j c.as_slice-5.result.now next.work.d) j (line_at c.go_on_moved.new.lines j) (due_at next.agenda j))
+    (subst (λ y. IsTurned m t y (int_at c.as_slice-4.result.now j) (slope_at m j c.as_slice-4.result.now next.work.d) j (line_at c.go_on_moved.new.lines j) (due_at next.agenda j))
     (ap (λ ls. state_at (line_at ls j) t) c.as_mut_slice-5.ensures.value ∙ sym (leads m c.args.tick agenda s taken c.requires.in_time j inside)) (c.go_on_moved.ensures.lines j inside))))
-    settled
+    (own_settled ∙ settled)
     (λ place inside.
-    subst (λ ws. IsWatched m t x next.work.d next.slopes.items place (watch_at ws place) (due_at next.agenda (state_count m + place))) (sym of_watches)
-    (subst (λ sl. IsWatched m t x next.work.d sl place (watch_at c.go_on_moved.new.watches place) (due_at next.agenda (state_count m + place))) (sym of_slopes)
-    (subst (λ ls. IsWatched m t (states_at ls t) next.work.d c.go_on_moved.new.slopes place (watch_at c.go_on_moved.new.watches place) (due_at next.agenda (state_count m + place))) c.as_mut_slice-5.ensures.value
-    (c.go_on_moved.ensures.watches place (omega (arith, inside, branches))))))
-    (not_rising m c.args.tick agenda s taken c.requires.in_time c.requires.none_changes ∙ sym (none_rises_then (world_of c.args.tick s) (world_of t next) of_arrived refl))
+    subst (λ sl. IsWatched m t x next.work.d sl place (watch_at own.watches.items place) (due_at next.agenda (state_count m + place))) (sym of_slopes)
+    (subst (λ ls. IsWatched m t (states_at ls t) next.work.d c.go_on_moved.new.slopes place (watch_at own.watches.items place) (due_at next.agenda (state_count m + place))) c.as_mut_slice-5.ensures.value
+    (c.go_on_moved.ensures.watches place inside)))
+    (not_rising m c.args.tick agenda s taken c.requires.in_time c.requires.none_changes ∙ sym (none_rises_then (world_of c.args.tick s) (world_of t next) of_arrived own_settled))
     (rising m c.args.tick agenda s taken c.requires.in_time c.requires.none_changes next.agenda
-    (c.go_on_moved.ensures.beyond (state_count m + length (conditions m)) (omega (arith, branches))))
+    (c.go_on_moved.ensures.beyond (state_count m + length (conditions m)) (omega arith)))
     (with_items_is s.fresh fresh (c.requantize_moved-over.auto.fresh ∙ c.as_mut_slice-2.ensures.len) ∙ sym (own_levels ∙ levels))
-    (λ e. of_arrived) in
+    (λ e. of_arrived ∙ sym own_settled) in
     let w : World = world_of c.args.tick s in
     let new_levels : next.levels.items ≡ fresh = own_levels ∙ levels in
-    let still : s.settled.items ≡ truths m (moved_states m w) s.work.d t =
+    let still : s.conditions.settled.items ≡ truths m (moved_states m w) s.work.d t =
     same_truths m c.args.tick agenda s taken c.requires.in_time c.requires.none_changes ∙ ap (λ y. truths m y s.work.d t) (arrived m c.args.tick agenda s taken c.requires.in_time) in
     let end : world_of t next ≡ end_of m t w h fresh =
-    ap (λ (y : List ℤ). record { states = y; levels = next.levels.items; discretes = next.work.d; arrived = next.arrived.items; settled = s.settled.items }) again.0
-    ∙ ap (λ (l : List ℤ). record { states = x; levels = l; discretes = next.work.d; arrived = next.arrived.items; settled = s.settled.items }) new_levels
-    ∙ ap (λ (d : List ℤ). record { states = x; levels = fresh; discretes = d; arrived = next.arrived.items; settled = s.settled.items }) of_d
-    ∙ ap (λ (a : List Bool). record { states = x; levels = fresh; discretes = s.work.d; arrived = a; settled = s.settled.items }) (of_arrived ∙ still)
+    ap (λ (y : List ℤ). record { states = y; levels = next.levels.items; discretes = next.work.d; arrived = next.conditions.arrived.items; settled = next.conditions.settled.items }) again.0
+    ∙ ap (λ (l : List ℤ). record { states = x; levels = l; discretes = next.work.d; arrived = next.conditions.arrived.items; settled = next.conditions.settled.items }) new_levels
+    ∙ ap (λ (d : List ℤ). record { states = x; levels = fresh; discretes = d; arrived = next.conditions.arrived.items; settled = next.conditions.settled.items }) of_d
+    ∙ ap (λ (a : List Bool). record { states = x; levels = fresh; discretes = s.work.d; arrived = a; settled = next.conditions.settled.items }) (of_arrived ∙ still)
     ∙ ap (λ (b : List Bool). record { states = x; levels = fresh; discretes = s.work.d; arrived = truths m (moved_states m w) s.work.d t; settled = b })
-    (same_truths m c.args.tick agenda s taken c.requires.in_time c.requires.none_changes) in
+    (own_settled ∙ same_truths m c.args.tick agenda s taken c.requires.in_time c.requires.none_changes) in
     let counted : c.go_on_moved.new.steps ≡ c.args.steps.now + renewals (state_count m) next.levels.items c.go_on_moved.new.slopes s.lines.items =
     subst (λ ls. c.go_on_moved.new.steps ≡ c.args.steps.now + renewals (state_count m) next.levels.items c.go_on_moved.new.slopes ls) c.as_mut_slice-5.ensures.value
     (subst (λ l. c.go_on_moved.new.steps ≡ c.args.steps.now + renewals (state_count m) l c.go_on_moved.new.slopes c.as_mut_slice-5.result.now) (sym own_levels) c.go_on_moved.ensures.counted) in

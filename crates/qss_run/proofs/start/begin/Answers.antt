@@ -31,14 +31,12 @@ returns c =
       lines = with_items s.lines c.set_out.new.lines;
       slopes = with_items s.slopes c.set_out.new.slopes;
       weights = with_items s.weights c.set_out.new.weights;
-      watches = with_items s.watches c.set_out.new.watches;
-      arrived = with_items s.arrived c.set_out.new.arrived;
-      settled = with_items s.settled c.set_out.new.settled;
+      conditions = c.set_out.new.watched;
       agenda = c.set_out.new.agenda;
       rows = c.start_rows.new.rows;
     } in
     let good : FitsMachine m next = record {
-      branches = fits.branches;
+      own_conditions = c.set_out.ensures.fits;
       uses = fits.uses;
       lines = same_length s.lines c.set_out.new.lines ∙ fits.lines;
       levels = fits.levels;
@@ -49,9 +47,6 @@ returns c =
       changed_room = fits.changed_room;
       fired_room = fits.fired_room;
       assigned_room = fits.assigned_room;
-      watches = same_length s.watches c.set_out.new.watches ∙ fits.watches;
-      arrived = same_length s.arrived c.set_out.new.arrived ∙ fits.arrived;
-      settled = same_length s.settled c.set_out.new.settled ∙ fits.settled;
       places = c.set_out.ensures.places ∙ fits.places;
       states = fits.states;
       discretes = fits.discretes;
@@ -61,16 +56,12 @@ returns c =
       work_room = fits.work_room;
       row_room = omega (arith, c.start_rows.ensures.room, fits.row_room);
     } in
-    let levels : c.as_slice-2.result.now ≡ s.levels.items = c.as_slice-2.ensures.value in
-    let levels_again : c.as_slice-3.result.now ≡ s.levels.items = c.as_slice-3.ensures.value in
+    let levels : c.as_slice.result.now ≡ s.levels.items = c.as_slice.ensures.value in
+    let levels_again : c.as_slice-2.result.now ≡ s.levels.items = c.as_slice-2.ensures.value in
     let of_slopes : next.slopes.items ≡ c.set_out.new.slopes = with_items_is s.slopes c.set_out.new.slopes (c.set_out.auto.slopes ∙ c.as_mut_slice.ensures.len) in
     let of_lines : next.lines.items ≡ c.set_out.new.lines = with_items_is s.lines c.set_out.new.lines (c.set_out.auto.lines ∙ c.as_mut_slice-3.ensures.len) in
-    let of_watches : next.watches.items ≡ c.set_out.new.watches = with_items_is s.watches c.set_out.new.watches (c.set_out.auto.watches ∙ c.as_mut_slice-4.ensures.len) in
-    let of_arrived : next.arrived.items ≡ c.set_out.new.arrived = with_items_is s.arrived c.set_out.new.arrived (c.set_out.auto.arrived ∙ c.as_mut_slice-5.ensures.len) in
-    let of_settled : next.settled.items ≡ c.set_out.new.settled = with_items_is s.settled c.set_out.new.settled (c.set_out.auto.settled ∙ c.as_mut_slice-6.ensures.len) in
-    let branches : length c.as_slice.result.now ≡ length (conditions m) = ap length c.as_slice.ensures.value ∙ fits.branches.as_many in
     let light : position (is_overweight m next.levels.items next.work.d) m.rows ≡ None = light_at m next.levels.items next.work.d blank.levels blank.discretes in
-    let same : next.arrived.items ≡ next.settled.items = of_arrived ∙ c.set_out.ensures.arrived ∙ sym of_settled in
+    let same : next.conditions.arrived.items ≡ next.conditions.settled.items = c.set_out.ensures.arrived in
     let again = stands_again m 0 next s.work.x fits.states good
     (λ j inside. subst (λ l. IsWithin 43 (int_at l j)) (sym blank.levels) (levels_start m j (pos 0) (omega (arith, inside, count_start m))))
     light
@@ -79,27 +70,24 @@ returns c =
     (λ j inside.
     subst (λ ls. IsTurned m 0 (int_at next.work.x j) (int_at next.levels.items j) (slope_at m j next.levels.items next.work.d) j (line_at ls j) (due_at next.agenda j)) (sym of_lines)
     (subst (λ l. IsTurned m 0 (int_at next.work.x j) (int_at l j) (slope_at m j l next.work.d) j (line_at c.set_out.new.lines j) (due_at next.agenda j)) levels (c.set_out.ensures.lines j inside)))
-    (of_settled ∙ c.set_out.ensures.settled)
+    c.set_out.ensures.settled
     (λ place inside.
-    subst (λ ws. IsWatched m 0 next.work.x next.work.d next.slopes.items place (watch_at ws place) (due_at next.agenda (state_count m + place))) (sym of_watches)
-    (subst (λ sl. IsWatched m 0 next.work.x next.work.d sl place (watch_at c.set_out.new.watches place) (due_at next.agenda (state_count m + place))) (sym of_slopes)
-    (c.set_out.ensures.watches place (omega (arith, inside, branches)))))
-    (blank.not_rising ∙ sym (ap (λ a. list_any (λ flag. flag) (due_flags next.settled.items a next.settled.items)) same ∙ settled_twice next.settled.items))
-    (ap (λ k. due_at next.agenda (state_count m + k)) (sym branches)
-    ∙ c.set_out.ensures.rising
-    ∙ sym (ap (λ b. if b then Some (0 + 1) else None) blank.not_rising))
+    subst (λ sl. IsWatched m 0 next.work.x next.work.d sl place (watch_at next.conditions.watches.items place) (due_at next.agenda (state_count m + place))) (sym of_slopes)
+    (c.set_out.ensures.watches place inside))
+    (blank.not_rising ∙ sym (ap (λ a. list_any (λ flag. flag) (due_flags next.conditions.settled.items a next.conditions.settled.items)) same ∙ settled_twice next.conditions.settled.items))
+    (c.set_out.ensures.rising ∙ sym (ap (λ b. if b then Some (0 + 1) else None) blank.not_rising))
     blank.fresh_levels
     (λ e. same) in
     let of_states : states_at next.lines.items 0 ≡ start_states m = again.0 ∙ blank.states in
-    let settled : next.settled.items ≡ truths m (start_states m) (start_discretes m) 0 =
-    of_settled ∙ c.set_out.ensures.settled ∙ ap (λ x. truths m x next.work.d 0) blank.states ∙ ap (λ d. truths m (start_states m) d 0) blank.discretes in
+    let settled : next.conditions.settled.items ≡ truths m (start_states m) (start_discretes m) 0 =
+    c.set_out.ensures.settled ∙ ap (λ x. truths m x next.work.d 0) blank.states ∙ ap (λ d. truths m (start_states m) d 0) blank.discretes in
     record {
       stands = again.1;
       world =
-          ap (λ (x : List ℤ). record { states = x; levels = next.levels.items; discretes = next.work.d; arrived = next.arrived.items; settled = next.settled.items }) of_states
-          ∙ ap (λ (l : List ℤ). record { states = start_states m; levels = l; discretes = next.work.d; arrived = next.arrived.items; settled = next.settled.items }) blank.levels
-          ∙ ap (λ (d : List ℤ). record { states = start_states m; levels = levels_at_start m; discretes = d; arrived = next.arrived.items; settled = next.settled.items }) blank.discretes
-          ∙ ap (λ (a : List Bool). record { states = start_states m; levels = levels_at_start m; discretes = start_discretes m; arrived = a; settled = next.settled.items }) (same ∙ settled)
+          ap (λ (x : List ℤ). record { states = x; levels = next.levels.items; discretes = next.work.d; arrived = next.conditions.arrived.items; settled = next.conditions.settled.items }) of_states
+          ∙ ap (λ (l : List ℤ). record { states = start_states m; levels = l; discretes = next.work.d; arrived = next.conditions.arrived.items; settled = next.conditions.settled.items }) blank.levels
+          ∙ ap (λ (d : List ℤ). record { states = start_states m; levels = levels_at_start m; discretes = d; arrived = next.conditions.arrived.items; settled = next.conditions.settled.items }) blank.discretes
+          ∙ ap (λ (a : List Bool). record { states = start_states m; levels = levels_at_start m; discretes = start_discretes m; arrived = a; settled = next.conditions.settled.items }) (same ∙ settled)
           ∙ ap (λ (b : List Bool). record { states = start_states m; levels = levels_at_start m; discretes = start_discretes m; arrived = truths m (start_states m) (start_discretes m) 0; settled = b }) settled;
       rows = c.start_rows.ensures.rows
           ∙ ap (λ l. state_rows kind.Start 0 l s.work.x ++ discrete_rows kind.Start 0 (length s.work.x) s.work.d) (levels_again ∙ blank.levels)

@@ -22,8 +22,8 @@ overflow_cast-states c =
       ap length c.in_ok-levels.ensures,
       count_start m,
       c.len-conditions.ensures,
-      c.in_ok-branches.branches.ok.0,
-      c.in_ok-branches.ensures.as_many,
+      c.in_ok-watched.watched.branches.ok.0,
+      c.in_ok-watched.ensures.branches.as_many,
       conditions_few m,
       m.has_variables.few,
     )
@@ -32,7 +32,7 @@ pub returns : goal.returns
 returns c =
     let m = c.args.m.now in
     let states : c.len-states.result ≡ state_count m = omega (arith, c.len-states.ensures, c.in_ok-levels.levels.ok.0, ap length c.in_ok-levels.ensures, count_start m) in
-    let places : c.len-conditions.result ≡ length (conditions m) = omega (arith, c.len-conditions.ensures, c.in_ok-branches.branches.ok.0, c.in_ok-branches.ensures.as_many) in
+    let places : c.len-conditions.result ≡ length (conditions m) = omega (arith, c.len-conditions.ensures, c.in_ok-watched.watched.branches.ok.0, c.in_ok-watched.ensures.branches.as_many) in
     let work = c.in_ok-work.ensures in
     let of_x = ap (λ (v : Values). v.x) work in
     let of_d = ap (λ (v : Values). v.d) work in
@@ -42,7 +42,7 @@ returns c =
     let twice : c.in_ok-levels_again.field-0.items ≡ c.in_ok-levels.levels.items = c.in_ok-levels_again.ensures ∙ c.as_slice.ensures.value in
     record {
       fits = record {
-        branches = c.in_ok-branches.ensures;
+        own_conditions = c.in_ok-watched.ensures;
         uses = c.in_ok-new.ensures;
         lines = ap length c.in_ok-copies.ensures ∙ length-replicate _ _ ∙ states;
         levels = ap length c.in_ok-levels.ensures ∙ count_start m;
@@ -53,9 +53,6 @@ returns c =
         changed_room = omega (arith, c.in_ok-moved.ensures.1, places);
         fired_room = omega (arith, c.in_ok-moved.ensures.2, places);
         assigned_room = omega (arith, c.in_ok-with_capacity.ensures.capacity, c.capacity.ensures, ap (λ (v : Values). v.room) c.work.view_is, room);
-        watches = ap length c.in_ok-copies-4.ensures ∙ length-replicate _ _ ∙ places;
-        arrived = ap length c.in_ok-arrived.ensures.0 ∙ length-replicate _ _ ∙ places;
-        settled = ap length c.in_ok-arrived.ensures.1 ∙ length-replicate _ _ ∙ places;
         places = omega (arith, c.in_ok-with_places.ensures.places, states, places);
         states = ap length of_x ∙ length-map m.states (λ (s : StateInfo). s.x0);
         discretes = discretes;

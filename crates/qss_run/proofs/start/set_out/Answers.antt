@@ -1,18 +1,22 @@
 -- The values of the start are within the limits.
 use Rattle.std.proofs.Common.{ℕ, ◌+◌, ◌<◌, List, ℤ, length, refl, sym, ◌∙◌, ap, subst, arith}
-use Rattle.std.proofs.lemmas.List.{length-map}
+use Rattle.std.proofs.lemmas.List.{length-map, with_items_is}
 use Rattle.std.specs.Prelude.{All}
+use Rattle.std.specs.Vec.{with_items}
 use Rattle.mu_num.specs.Sizes.{IsWithin}
 use Rattle.qss_machine.specs.declared.parts.DiscreteInfo.{DiscreteInfo}
 use Rattle.qss_machine.specs.declared.parts.StateInfo.{StateInfo}
 use Rattle.qss_machine.specs.Numbers.{int_at}
 use Rattle.qss_machine.specs.Machines.{state_count, level_unit, quantum_of, start_states}
+use Rattle.qss_machine.specs.Handlers.{conditions}
 use Rattle.qss_machine.proofs.Near.{start_near}
 use Rattle.qss_quant.specs.Lines.{IsNear}
 use Rattle.qss_hand.specs.Values.{Values}
-use Rattle.qss_hand.proofs.Turns.{conditions_few}
+use Rattle.qss_run.specs.declared.conditions.Conditions.{Conditions}
+use Rattle.qss_run.proofs.OwnConditions.{arrived_anew}
 use Rattle.qss_run.proofs.Turning.{slopes_small}
 use Rattle.qss_quiet.proofs.Starts.{states_start, discretes_start, levels_start, light_at, count_start}
+use Rattle.qss_run.proofs.Visits.{same_length}
 use Rattle.qss_run.proofs.start.set_out.Goals as goal
 
 pub start_lines-requires-clause-states : goal.start_lines-requires-clause-states
@@ -59,32 +63,46 @@ pub weigh_all-requires-clause-light : goal.weigh_all-requires-clause-light
 weigh_all-requires-clause-light c =
     light_at c.args.m.now c.args.levels.now c.as_slice-d.result.now c.requires.levels (c.as_slice-d.ensures.value ∙ ap (λ (v : Values). v.d) c.work.view_is ∙ c.requires.discretes)
 
-pub rewatch_all-requires-clause-few : goal.rewatch_all-requires-clause-few
-rewatch_all-requires-clause-few c = omega (arith, c.requires.branches.as_many, conditions_few c.args.m.now)
-
-pub rewatch_all-requires-clause-states : goal.rewatch_all-requires-clause-states
-rewatch_all-requires-clause-states c =
-    ap length (c.as_slice-x.ensures.value ∙ ap (λ (v : Values). v.x) c.work.view_is ∙ c.requires.states) ∙ length-map c.args.m.now.states (λ (s : StateInfo). s.x0)
-
-pub rewatch_all-requires-clause-discretes : goal.rewatch_all-requires-clause-discretes
-rewatch_all-requires-clause-discretes c =
-    ap length (c.as_slice-d.ensures.value ∙ ap (λ (v : Values). v.d) c.work.view_is ∙ c.requires.discretes) ∙ length-map c.args.m.now.discretes (λ (d : DiscreteInfo). d.d0)
-
-pub rewatch_all-requires-clause-small_states : goal.rewatch_all-requires-clause-small_states
-rewatch_all-requires-clause-small_states c =
-    subst (All (IsWithin 88)) (sym (c.as_slice-x.ensures.value ∙ ap (λ (v : Values). v.x) c.work.view_is ∙ c.requires.states)) (states_start c.args.m.now)
-
-pub rewatch_all-requires-clause-small_discretes : goal.rewatch_all-requires-clause-small_discretes
-rewatch_all-requires-clause-small_discretes c =
-    subst (All (IsWithin 43)) (sym (c.as_slice-d.ensures.value ∙ ap (λ (v : Values). v.d) c.work.view_is ∙ c.requires.discretes)) (discretes_start c.args.m.now)
-
-pub rewatch_all-requires-clause-small_slopes : goal.rewatch_all-requires-clause-small_slopes
-rewatch_all-requires-clause-small_slopes c =
+pub rewatch_all-requires-clause-point : goal.rewatch_all-requires-clause-point
+rewatch_all-requires-clause-point c =
     let m = c.args.m.now in
-    let light = light_at m c.args.levels.now c.as_slice-d.result.now c.requires.levels (c.as_slice-d.ensures.value ∙ ap (λ (v : Values). v.d) c.work.view_is ∙ c.requires.discretes) in
-    slopes_small m c.args.levels.now c.as_slice-d.result.now c.as_slice-d.result.now c.start_lines.new.slopes light refl c.start_lines.ensures.slopes
+    let of_x = c.as_slice-x.ensures.value ∙ ap (λ (v : Values). v.x) c.work.view_is ∙ c.requires.states in
+    let of_d = c.as_slice-d.ensures.value ∙ ap (λ (v : Values). v.d) c.work.view_is ∙ c.requires.discretes in
+    record {
+      values = record {
+        states = ap length of_x ∙ length-map m.states (λ (s : StateInfo). s.x0);
+        discretes = ap length of_d ∙ length-map m.discretes (λ (d : DiscreteInfo). d.d0);
+        small_states = subst (All (IsWithin 88)) (sym of_x) (states_start m);
+        small_discretes = subst (All (IsWithin 43)) (sym of_d) (discretes_start m);
+      };
+      slopes = record {
+        as_many = c.start_lines.auto.slopes ∙ c.requires.slopes;
+        small = slopes_small m c.args.levels.now c.as_slice-d.result.now c.as_slice-d.result.now c.start_lines.new.slopes
+            (light_at m c.args.levels.now c.as_slice-d.result.now c.requires.levels of_d) refl c.start_lines.ensures.slopes;
+      };
+      in_time = omega arith;
+    }
+
+pub rewatch_all-requires-clause-places : goal.rewatch_all-requires-clause-places
+rewatch_all-requires-clause-places c = omega (arith, c.start_lines.ensures.places, c.requires.places)
+
+pub copy_from_slice-requires : goal.copy_from_slice-requires
+copy_from_slice-requires c =
+    let fits = c.rewatch_all.ensures.fits in
+    ap length c.as_mut_slice.ensures.value ∙ fits.arrived ∙ sym fits.settled ∙ sym (ap length c.as_slice-settled.ensures.value)
+
+pub returns-clause-arrived : goal.returns-clause-arrived
+returns-clause-arrived c =
+    let own : Conditions = c.rewatch_all.new.self in
+    with_items_is own.arrived c.copy_from_slice.new.self (c.copy_from_slice.ensures.len ∙ c.as_mut_slice.ensures.len) ∙ c.copy_from_slice.ensures.after ∙ c.as_slice-settled.ensures.value
+
+pub returns-clause-fits : goal.returns-clause-fits
+returns-clause-fits c =
+    let own : Conditions = c.rewatch_all.new.self in
+    let fits = c.rewatch_all.ensures.fits in
+    arrived_anew c.args.m.now own (with_items own.arrived c.copy_from_slice.new.self) fits (same_length own.arrived c.copy_from_slice.new.self ∙ fits.arrived)
 
 pub returns-clause-rising : goal.returns-clause-rising
 returns-clause-rising c =
-    let place : ℕ = state_count c.args.m.now + length c.args.branches.now in
+    let place : ℕ = state_count c.args.m.now + length (conditions c.args.m.now) in
     c.rewatch_all.ensures.beyond place (omega arith) ∙ c.start_lines.ensures.others place (omega arith) ∙ c.requires.no_dues place

@@ -11,20 +11,20 @@ use Rattle.qss_run.proofs.visit.visit.Goals as goal
 
 pub overflow_cast-conditions : goal.overflow_cast-conditions
 overflow_cast-conditions g c =
-    omega (arith, c.len-conditions.ensures, c.args.s.now.branches.ok.0, c.requires.stands.fits.branches.as_many, conditions_few c.args.m.now)
+    omega (arith, c.len-conditions.ensures, c.args.s.now.conditions.branches.ok.0, c.requires.stands.fits.own_conditions.branches.as_many, conditions_few c.args.m.now)
 
 pub call_risen-requires-clause-few : goal.call_risen-requires-clause-few
 call_risen-requires-clause-few g c =
     let m = c.args.m.now in
     let s : Store = c.args.s.now in
     let fits = c.requires.stands.fits in
-    omega (arith, c.len-states.ensures, s.lines.ok.0, fits.lines, m.has_variables.few, ap length c.as_slice-settled.ensures.value, fits.settled, conditions_few m)
+    omega (arith, c.len-states.ensures, s.lines.ok.0, fits.lines, m.has_variables.few, ap length c.as_slice-settled.ensures.value, fits.own_conditions.settled, conditions_few m)
 
 pub call_risen-requires-clause-none_risen : goal.call_risen-requires-clause-none_risen
 call_risen-requires-clause-none_risen g c calm place h =
     let s : Store = c.args.s.now in
     ap (λ a. became_true a c.as_slice-settled.result.now place) c.as_slice-arrived.ensures.value
-    ∙ ap (λ b. became_true s.arrived.items b place) c.as_slice-settled.ensures.value
+    ∙ ap (λ b. became_true s.conditions.arrived.items b place) c.as_slice-settled.ensures.value
     ∙ none_to_call c.args.m.now c.args.tick s c.requires.stands calm place
 
 pub take_due-requires-clause-none_before : goal.take_due-requires-clause-none_before
@@ -32,7 +32,7 @@ take_due-requires-clause-none_before g c =
     let s : Store = c.args.s.now in
     let fits = c.requires.stands.fits in
     none_called_before c.len-states.result (c.args.tick + 1) c.as_slice-arrived.result.now c.as_slice-settled.result.now s.agenda c.call_risen.new.agenda c.call_risen.ensures
-    (omega (arith, fits.places, c.len-states.ensures, s.lines.ok.0, fits.lines, ap length c.as_slice-settled.ensures.value, fits.settled))
+    (omega (arith, fits.places, c.len-states.ensures, s.lines.ok.0, fits.lines, ap length c.as_slice-settled.ensures.value, fits.own_conditions.settled))
     (λ place due e. omega (arith, dues_later c.args.m.now c.args.tick s c.requires.stands place due e))
 
 pub take_changed-requires-clause-few : goal.take_changed-requires-clause-few
@@ -47,8 +47,8 @@ take_changed-requires-clause-few g c =
       fits.lines,
       m.has_variables.few,
       c.len-conditions.ensures,
-      s.branches.ok.0,
-      fits.branches.as_many,
+      s.conditions.branches.ok.0,
+      fits.own_conditions.branches.as_many,
       conditions_few m,
     )
 
@@ -58,7 +58,7 @@ take_changed-requires-clause-none_before g c =
     let fits = c.requires.stands.fits in
     none_left_before c.len-states.result (c.args.tick + 1) c.take_due.new.moved.items c.call_risen.new.agenda c.take_due.new.agenda c.take_due.ensures.due c.take_due.ensures.without
     (none_called_before c.len-states.result (c.args.tick + 1) c.as_slice-arrived.result.now c.as_slice-settled.result.now s.agenda c.call_risen.new.agenda c.call_risen.ensures
-    (omega (arith, fits.places, c.len-states.ensures, s.lines.ok.0, fits.lines, ap length c.as_slice-settled.ensures.value, fits.settled))
+    (omega (arith, fits.places, c.len-states.ensures, s.lines.ok.0, fits.lines, ap length c.as_slice-settled.ensures.value, fits.own_conditions.settled))
     (λ place due e. omega (arith, dues_later c.args.m.now c.args.tick s c.requires.stands place due e)))
 
 pub visit_due-requires-clause-taken : goal.visit_due-requires-clause-taken
@@ -67,7 +67,7 @@ visit_due-requires-clause-taken g c =
     let s : Store = c.args.s.now in
     let fits = c.requires.stands.fits in
     let states : c.len-states.result ≡ state_count m = omega (arith, c.len-states.ensures, s.lines.ok.0, fits.lines) in
-    let places : c.len-conditions.result ≡ length (conditions m) = omega (arith, c.len-conditions.ensures, s.branches.ok.0, fits.branches.as_many) in (
+    let places : c.len-conditions.result ≡ length (conditions m) = omega (arith, c.len-conditions.ensures, s.conditions.branches.ok.0, fits.own_conditions.branches.as_many) in (
       s.agenda,
       is_taken m c.args.tick s c.len-states.result c.len-conditions.result c.as_slice-arrived.result.now c.as_slice-settled.result.now c.take_due.new.moved c.take_changed.new.changed
           c.call_risen.new.agenda c.take_due.new.agenda c.take_changed.new.agenda c.requires.stands states places c.as_slice-arrived.ensures.value c.as_slice-settled.ensures.value
@@ -80,7 +80,7 @@ visit_changed-requires-clause-taken g c =
     let s : Store = c.args.s.now in
     let fits = c.requires.stands.fits in
     let states : c.len-states.result ≡ state_count m = omega (arith, c.len-states.ensures, s.lines.ok.0, fits.lines) in
-    let places : c.len-conditions.result ≡ length (conditions m) = omega (arith, c.len-conditions.ensures, s.branches.ok.0, fits.branches.as_many) in (
+    let places : c.len-conditions.result ≡ length (conditions m) = omega (arith, c.len-conditions.ensures, s.conditions.branches.ok.0, fits.own_conditions.branches.as_many) in (
       s.agenda,
       is_taken m c.args.tick s c.len-states.result c.len-conditions.result c.as_slice-arrived.result.now c.as_slice-settled.result.now c.take_due.new.moved c.take_changed.new.changed
           c.call_risen.new.agenda c.take_due.new.agenda c.take_changed.new.agenda c.requires.stands states places c.as_slice-arrived.ensures.value c.as_slice-settled.ensures.value

@@ -1,0 +1,45 @@
+-- One condition is settled.
+use Rattle.std.proofs.Common.{◌≡◌, ◌+◌, set, ◌∙◌, ap, arith}
+use Rattle.std.proofs.lemmas.List.{length-set, with_items_is}
+use Rattle.std.specs.Vec.{with_items}
+use Rattle.qss_machine.specs.declared.parts.Condition.{Condition}
+use Rattle.qss_machine.specs.Machines.{state_count, compares, truth}
+use Rattle.qss_cross.specs.Crossing.{Watch}
+use Rattle.qss_run.specs.declared.conditions.Conditions.{Conditions}
+use Rattle.qss_run.specs.Rewatchings.{watchings_of}
+use Rattle.qss_quiet.specs.Sims.{condition_at}
+use Rattle.qss_run.proofs.Rewatching.{one_settled}
+use Rattle.qss_run.proofs.Turning.{watch_is}
+use Rattle.qss_hand.proofs.Turns.{conditions_few}
+use Rattle.qss_run.proofs.conditions.Conditions.settle.Goals as goal
+
+pub overflow_add-at : goal.overflow_add-at
+overflow_add-at c =
+    let m = c.args.m.now in omega (arith, c.requires.place, c.requires.point.slopes.as_many, conditions_few m, m.has_variables.few)
+
+pub returns-clause-settled : goal.returns-clause-settled
+returns-clause-settled c =
+    let m = c.args.m.now in
+    let at = c.args.at.now in
+    let place = c.args.place in
+    let all : Conditions = c.args.self.now in
+    let fits = c.requires.fits in
+    let watch : Watch = c.watch_of-watch.result in
+    let own : c.condition-condition.result.now ≡ condition_at m place = c.condition-condition.ensures.value in
+    let dues : c.set.new.self ≡ set c.args.agenda.now (state_count m + place) c.next_change.result =
+    c.set.ensures ∙ ap (λ n. set c.args.agenda.now (n + place) c.next_change.result) c.requires.point.slopes.as_many in
+    let watches = with_items_is all.watches (set c.as_mut_slice-watches.result.now place watch) (length-set c.as_mut_slice-watches.result.now place watch ∙ c.as_mut_slice-watches.ensures.len)
+    ∙ ap (λ ws. set ws place watch) c.as_mut_slice-watches.ensures.value in
+    let settled = with_items_is all.settled (set c.as_mut_slice-settled.result.now place c.truth.result)
+    (length-set c.as_mut_slice-settled.result.now place c.truth.result ∙ c.as_mut_slice-settled.ensures.len)
+    ∙ ap (λ flags. set flags place c.truth.result) c.as_mut_slice-settled.ensures.value in
+    one_settled m at.tick at.states.now at.discretes.now at.slopes.now place (watchings_of all c.args.agenda.now)
+    (record {
+      watches = (with_items all.watches (set c.as_mut_slice-watches.result.now place watch)).items;
+      settled = (with_items all.settled (set c.as_mut_slice-settled.result.now place c.truth.result)).items;
+      dues = c.set.new.self;
+    })
+    watch c.truth.result c.next_change.result (omega (arith, c.requires.place, fits.watches)) (omega (arith, c.requires.place, fits.settled)) (omega (arith, c.requires.place, c.requires.places))
+    watches settled dues
+    (watch_is m at.tick at.states.now at.discretes.now at.slopes.now place c.condition-condition.result.now watch c.next_change.result c.watch_of-watch.ensures own c.next_change.ensures)
+    (c.truth.ensures ∙ ap (λ (w : Watch). compares w.rel w.value) c.watch_of-watch.ensures ∙ ap (λ (condition : Condition). truth m condition at.states.now at.discretes.now at.tick) own)
