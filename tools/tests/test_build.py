@@ -41,9 +41,9 @@ class Builds(InFolder):
         os.makedirs(f"{self.folder}/bin")
         os.chmod(self.file("bin/rt", RT), 0o755)
 
-    def run_it(self, fails=""):
+    def run_it(self, fails="", jobs="2"):
         """Runs the front; its status, its output and its lines on standard error."""
-        environment = {**os.environ, "PATH": f"{self.folder}/bin:{os.environ['PATH']}", "FAILS": fails, "QSS_JOBS": "2"}
+        environment = {**os.environ, "PATH": f"{self.folder}/bin:{os.environ['PATH']}", "FAILS": fails, "QSS_JOBS": jobs}
         done = subprocess.run([f"{self.folder}/qss", "run", "a.mo"], env=environment, stdout=subprocess.PIPE, stderr=subprocess.PIPE)
         return done.returncode, done.stdout.decode(), done.stderr.decode().splitlines()
 
@@ -60,6 +60,14 @@ class Builds(InFolder):
         steps = [it.partition(", after")[0] for it in err if " of 5: " in it]
         self.assertEqual(steps, ["qss: 1 of 5: low", "qss: 2 of 5: middle", "qss: 3 of 5: upper", "qss: 4 of 5: high"])
         self.assertEqual(self.run_it(), (5, "ran run a.mo\n", []))
+
+    def test_order(self):
+        self.file("crates.txt", "early:\nlow:\nmiddle: low\nlate:\nhigh: early late middle\nqss: high\n")
+        for name, lines in (("early", 3), ("low", 1), ("middle", 5), ("late", 4)):
+            os.makedirs(f"{self.folder}/crates/{name}/src", exist_ok=True)
+            self.file(f"crates/{name}/src/lib.rt", "//\n" * lines)
+        steps = [it.partition(", after")[0].split()[-1] for it in self.run_it(jobs="1")[2] if " of 6: " in it]
+        self.assertEqual(steps, ["low", "middle", "late", "early", "high"])
 
     def test_newer_sources(self):
         for name, first in (
