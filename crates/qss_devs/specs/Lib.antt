@@ -1,0 +1,6 @@
+pub mod Messages
+pub mod Integrators
+pub mod Functions
+pub mod Crossings
+pub mod Agreement
+pub mod Laws
