@@ -1,5 +1,5 @@
 -- Components that are not touched agree with what their variables become.
-use Rattle.std.proofs.Common.{◌≡◌, ℕ, ◌+◌, ◌-◌, ◌≤◌, ◌<◌, Bool, true, false, ℤ, pos, ◌+ℤ◌, ◌*ℤ◌, get_or, All, refl, sym, ◌∙◌, ap, arith}
+use Rattle.std.proofs.Common.{◌≡◌, ℕ, ◌+◌, ◌-◌, ◌<◌, Bool, true, false, ℤ, pos, ◌+ℤ◌, ◌*ℤ◌, get_or, refl, sym, ◌∙◌, ap, arith}
 use Rattle.std.proofs.lemmas.Int.{ints}
 use Rattle.std.proofs.lemmas.Bool.Decides.{nat_tests}
 use Rattle.std.proofs.Math.IntN.{*ℤ-zero}
@@ -15,7 +15,7 @@ use Rattle.qss_quiet.proofs.Quiet.{int_at-tabulate}
 use Rattle.qss_quiet.proofs.Silence.{line_more}
 use Rattle.qss_devs.specs.declared.input.Input.{Input}
 use Rattle.qss_devs.specs.Functions.{Summing}
-use Rattle.qss_devs.specs.Crossings.{Crossing, input_at, form_at, speed_by}
+use Rattle.qss_devs.specs.Crossings.{Crossing, form_at}
 use Rattle.qss_devs.specs.Agreement.{Values, LineAgrees, SummingAgrees, Moving, moving_of, InputAgrees, CrossingAgrees}
 use Rattle.qss_devs.specs.Laws.{values_after, AgreementLasts}
 use Rattle.qss_devs.proofs.Moving.{form_moves}

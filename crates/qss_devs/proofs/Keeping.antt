@@ -1,12 +1,12 @@
 -- Messages keep components in agreement.
-use Rattle.std.proofs.Common.{◌≡◌, ◌≢◌, ℕ, ◌+◌, ◌-◌, ◌≤◌, ◌<◌, Bool, true, false, List, length, get_or, set, ℤ, pos, ◌+ℤ◌, ◌*ℤ◌, refl, sym, ◌∙◌, ap, subst, arith, inl, inr, ◌⊎◌}
+use Rattle.std.proofs.Common.{◌≡◌, ◌≢◌, ℕ, ◌+◌, ◌-◌, ◌≤◌, ◌<◌, Bool, true, false, List, get_or, set, ℤ, refl, sym, ◌∙◌, ap, subst, arith, inl, inr, ◌⊎◌}
 use Rattle.std.proofs.lemmas.Bool.{cases_eq}
 use Rattle.std.proofs.lemmas.Bool.Decides.{Decides-int_eq}
 use Rattle.std.proofs.Math.ListN.{length-set}
 use Rattle.std.specs.Option.{option_or}
 use Rattle.std.specs.Ordering.{int_eq}
 use Rattle.std.specs.Prelude.{Option, Some, None, ◌==◌, ◌||◌, if◌then◌else◌}
-use Rattle.mu_num.proofs.Tests.{if_cases, if-true, if-false, eqb-true, eqb-false, eqb-yes}
+use Rattle.mu_num.proofs.Tests.{if_cases, if-true, if-false, eqb-true, eqb-false}
 use Rattle.qss_machine.specs.declared.parts.Condition.{Condition}
 use Rattle.qss_machine.specs.declared.system.Machine.{Machine}
 use Rattle.qss_machine.specs.Numbers.{int_at}
@@ -14,7 +14,6 @@ use Rattle.qss_machine.specs.Machines.{state_count, discrete_count, row_at}
 use Rattle.qss_machine.specs.Uses.{row_reads, condition_reads}
 use Rattle.qss_quant.specs.Lines.{Line, state_at}
 use Rattle.qss_quiet.specs.Sims.{condition_at}
-use Rattle.qss_devs.specs.declared.input.Input.{Input}
 use Rattle.qss_devs.specs.declared.message.Message.TheVariants.{Slope, State, Level, Discrete}
 use Rattle.qss_devs.specs.Integrators.{line_given}
 use Rattle.qss_devs.specs.Functions.{Summing, sum_of, summing_sent, summing_with, summing_given}

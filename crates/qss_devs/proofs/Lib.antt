@@ -1,3 +1,12 @@
+pub mod Ticks
+pub mod Leaving
+pub mod Filled
+pub mod Inputs
+pub mod InputsTold
+pub mod Lines
+pub mod LinesTold
+pub mod FunctionsTold
+pub mod Across
 pub mod Moving
 pub mod Agreement
 pub mod Variables

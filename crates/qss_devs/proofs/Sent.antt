@@ -1,27 +1,24 @@
 -- Where no function has a sum to send, the sums that were sent are the slopes.
-use Rattle.std.proofs.Common.{◌≡◌, ℕ, ◌+◌, ◌≤◌, ◌<◌, ◌^◌, Bool, true, false, List, [], length, ℤ, pos, All, refl, sym, ◌∙◌, ap, subst, arith}
-use Rattle.std.proofs.lemmas.Int.{ints}
+use Rattle.std.proofs.Common.{◌≡◌, ℕ, ◌+◌, ◌≤◌, ◌<◌, ◌^◌, Bool, true, false, [], pos, All, refl, sym, ◌∙◌, ap, subst, arith}
 use Rattle.std.proofs.lemmas.List.FromFn.{length-map-range_with_len}
 use Rattle.std.specs.List.{list_all}
-use Rattle.std.specs.Prelude.{None, not, ◌||◌, position}
+use Rattle.std.specs.Prelude.{None, not, ◌||◌}
 use Rattle.mu_num.specs.Sizes.{IsWithin, passes}
 use Rattle.mu_num.proofs.Tests.{if-true, if-false}
 use Rattle.qss_machine.specs.declared.parts.Product.{Product}
 use Rattle.qss_machine.specs.declared.parts.SlopeRow.{SlopeRow}
 use Rattle.qss_machine.specs.declared.system.Machine.{Machine}
-use Rattle.qss_machine.specs.Numbers.{int_at, tabulate}
+use Rattle.qss_machine.specs.Numbers.{int_at}
 use Rattle.qss_machine.specs.Slopes.{mode_coefficient, mode_fits, slope_of, weight_of}
 use Rattle.qss_machine.specs.Machines.{state_count, discrete_count, row_at, slope_at}
-use Rattle.qss_machine.specs.Ticks.{World, is_overweight}
-use Rattle.qss_quant.specs.Lines.{Line}
+use Rattle.qss_machine.specs.Ticks.{is_overweight}
 use Rattle.qss_quiet.specs.Sims.{slopes_of}
 use Rattle.qss_quiet.proofs.Firsts.{same_lists}
 use Rattle.qss_quiet.proofs.Quiet.{int_at-tabulate, tabulate-same}
 use Rattle.qss_quiet.proofs.Ranges.{position-none}
 use Rattle.qss_quiet.proofs.SameSlopes.{mode_same, slope_same, weight_same}
 use Rattle.qss_devs.specs.Functions.{Summing, sum_at}
-use Rattle.qss_devs.specs.Crossings.{Crossing}
-use Rattle.qss_devs.specs.Agreement.{Values, HasEach, SummingAgrees, Agree, StandFor}
+use Rattle.qss_devs.specs.Agreement.{Values, HasEach, SummingAgrees, Agree}
 use Rattle.qss_devs.specs.Laws.{SettledStand}
 
 abbrev no_row : SlopeRow

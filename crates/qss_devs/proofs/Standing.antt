@@ -15,22 +15,21 @@ use Rattle.qss_machine.specs.declared.parts.Rel.TheVariants.{Less}
 use Rattle.qss_machine.specs.declared.system.Machine.{Machine}
 use Rattle.qss_machine.specs.Numbers.{int_at, sum_over}
 use Rattle.qss_machine.specs.Slopes.{weighted_sum}
-use Rattle.qss_machine.specs.Machines.{state_count, discrete_count, level_unit, slope_at, quantum_of, inputs, value_of, speed_of, compares, truth}
-use Rattle.qss_machine.specs.Handlers.{conditions, truths}
+use Rattle.qss_machine.specs.Machines.{state_count, discrete_count, level_unit, slope_at, inputs, value_of, speed_of, compares, truth}
+use Rattle.qss_machine.specs.Handlers.{conditions}
 use Rattle.qss_machine.specs.Firing.{flag_at}
 use Rattle.qss_machine.specs.Ticks.{World, is_near}
 use Rattle.qss_machine.proofs.SumLaws.{weighted_sum-entries}
-use Rattle.qss_quant.specs.Lines.{Line, state_at, IsAway}
+use Rattle.qss_quant.specs.Lines.{Line}
 use Rattle.qss_cross.specs.Crossing.{Watch, value_at, holds_at}
-use Rattle.qss_quiet.specs.Skips.{IsLeft, world_after}
-use Rattle.qss_quiet.specs.Sims.{slopes_of, condition_at, IsLineOf, IsDue, IsWatchOf, IsChange, StandsFor}
+use Rattle.qss_quiet.specs.Skips.{world_after}
+use Rattle.qss_quiet.specs.Sims.{slopes_of, condition_at, IsLineOf, IsDue, IsWatchOf, IsChange}
 use Rattle.qss_quiet.proofs.Quiet.{int_at-tabulate, tabulate-same}
 use Rattle.qss_quiet.proofs.Silence.{from_later, same_flag}
 use Rattle.qss_devs.specs.declared.input.Input.{Input}
 use Rattle.qss_devs.specs.Integrators.{LeavesAt, IsLineNext}
-use Rattle.qss_devs.specs.Functions.{Summing}
-use Rattle.qss_devs.specs.Crossings.{Crossing, input_at, form_at, speed_by, IsCrossingNext}
-use Rattle.qss_devs.specs.Agreement.{Values, values_of, LineAgrees, Moving, moving_of, InputAgrees, CrossingAgrees, entry_of, Agree, StandFor, AreNext}
+use Rattle.qss_devs.specs.Crossings.{Crossing, input_at, IsCrossingNext}
+use Rattle.qss_devs.specs.Agreement.{Values, values_of, LineAgrees, Moving, moving_of, CrossingAgrees, entry_of, Agree, StandFor}
 use Rattle.qss_devs.specs.Laws.{values_after, ComponentsStand, ComponentsMove, CrossingsTell}
 use Rattle.qss_devs.proofs.Agreement.{agreement_lasts}
 

@@ -1,5 +1,5 @@
 -- What the inputs of a crossing are after a message.
-use Rattle.std.proofs.Common.{◌≡◌, ◌≢◌, ℕ, ◌+◌, ◌-◌, ◌≤◌, ◌<◌, Bool, true, false, List, length, set, ℤ, pos, ◌+ℤ◌, ◌*ℤ◌, refl, sym, ◌∙◌, ap, subst, arith, inl, inr, ◌⊎◌}
+use Rattle.std.proofs.Common.{◌≡◌, ◌≢◌, ℕ, ◌+◌, ◌-◌, ◌≤◌, ◌<◌, Bool, true, false, List, length, set, ℤ, pos, ◌*ℤ◌, refl, sym, ◌∙◌, ap, subst, arith, inl, inr, ◌⊎◌}
 use Rattle.std.proofs.lemmas.Bool.{cases_eq, cases_lt}
 use Rattle.std.proofs.lemmas.Bool.Decides.{nat_tests}
 use Rattle.std.proofs.lemmas.Grind.{get_or-set_at}
@@ -10,7 +10,7 @@ use Rattle.qss_machine.specs.declared.system.Machine.{Machine}
 use Rattle.qss_machine.specs.Numbers.{int_at}
 use Rattle.qss_machine.specs.Machines.{state_count, discrete_count, level_unit}
 use Rattle.qss_devs.specs.declared.input.Input.{Input}
-use Rattle.qss_devs.specs.declared.message.Message.TheVariants.{Slope, State, Level, Discrete}
+use Rattle.qss_devs.specs.declared.message.Message.TheVariants.{Slope, State, Discrete}
 use Rattle.qss_devs.specs.Crossings.{input_at, input_given}
 use Rattle.qss_devs.specs.Agreement.{Values, HasEach, Moving, moving_of, InputAgrees}
 use Rattle.qss_devs.specs.Laws.{values_given}

@@ -2,5 +2,6 @@ pub mod Messages
 pub mod Integrators
 pub mod Functions
 pub mod Crossings
+pub mod Models
 pub mod Agreement
 pub mod Laws

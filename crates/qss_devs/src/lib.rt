@@ -1,11 +1,21 @@
-//! What ties the messages between quantized integrators, static functions and crossings to the run of a machine.
+//! Components of a machine as models of their own: quantized integrators, static functions and crossings, which tell each
+//! other what changes by messages.
 #![tactic(auto)]
 
+mod atomic;
+mod crossing_model;
+mod function_model;
 mod input;
+mod integrator_model;
 mod laws;
 mod message;
+mod sums;
 
+pub use atomic::Atomic;
+pub use crossing_model::CrossingModel;
+pub use function_model::FunctionModel;
 pub use input::Input;
+pub use integrator_model::IntegratorModel;
 pub use laws::{
     agreement_lasts, components_move, components_stand, crossings_tell, messages_keep_agreement,
     rows_tell_handlers, settled_stand,

@@ -1,0 +1,103 @@
+-- The inputs are given the message, and the watch has their value.
+use Rattle.std.proofs.Common.{◌≡◌, List, map, refl, sym, ◌∙◌, ap, subst, arith}
+use Rattle.std.proofs.lemmas.Int.{ints, to_z-of_z}
+use Rattle.std.proofs.lemmas.List.{with_items_is}
+use Rattle.std.specs.Int.RustNames.{FitsSigned}
+use Rattle.std.specs.Prelude.{All}
+use Rattle.std.specs.Vec.{with_items}
+use Rattle.mu_num.specs.Sizes.{IsWithin}
+use Rattle.qss_machine.specs.declared.system.Machine.{Machine}
+use Rattle.qss_machine.specs.Machines.{state_count}
+use Rattle.qss_cross.specs.Crossing.{Watch}
+use Rattle.qss_devs.specs.declared.input.Input.{Input}
+use Rattle.qss_devs.specs.Messages.{IsMessage}
+use Rattle.qss_devs.specs.Crossings.{Crossing, input_at, input_given, form_at, speed_by, IsInput, StaysIfDiscrete, AreParts}
+use Rattle.qss_devs.proofs.Inputs.{lines_later, given_inputs, given_parts}
+use Rattle.qss_devs.proofs.InputsTold.{given_so}
+use Rattle.qss_devs.proofs.crossing_model.CrossingModelAtomic.external.Goals as goal
+use mir.Syntax.{w64, w128}
+
+pub give-requires-clause-lines : goal.give-requires-clause-lines
+give-requires-clause-lines c =
+    let x = c.args.self.now in
+    subst (All (IsInput c.args.tick)) (sym c.as_mut_slice.ensures.value) (lines_later x.watch.tick c.args.tick x.inputs.items c.requires.timely.not_before x.lines)
+
+pub give-requires-clause-in_time : goal.give-requires-clause-in_time
+give-requires-clause-in_time c = c.requires.timely.in_time
+
+pub give-requires-clause-message : goal.give-requires-clause-message
+give-requires-clause-message c = subst (λ (m : Machine). IsMessage m c.args.msg) (sym c.deref.ensures) c.requires.message
+
+pub watch_of-self-requires-clause-parts : goal.watch_of-self-requires-clause-parts
+watch_of-self-requires-clause-parts c =
+    let x = c.args.self.now in
+    let m = x.machine.value in
+    let same : c.as_slice.result.now ≡ map (input_given m c.args.tick c.args.msg) x.inputs.items =
+    c.as_slice.ensures.value ∙ with_items_is x.inputs c.give.new.inputs (c.give.auto.inputs ∙ c.as_mut_slice.ensures.len) ∙ c.give.ensures
+    ∙ ap (λ (s : Machine). map (input_given s c.args.tick c.args.msg) c.as_mut_slice.result.now) c.deref.ensures
+    ∙ ap (map (input_given m c.args.tick c.args.msg)) c.as_mut_slice.ensures.value in
+    let of_time : FitsSigned w64 x.time = omega (arith, ints, x.parts.coefficients) in
+    let of_gamma : FitsSigned w128 x.gamma = omega (arith, ints, x.parts.constant) in
+    simp to_z-of_z (subst (λ (xs : List Input). AreParts xs x.time x.gamma) (sym same) (given_parts m c.args.tick c.args.msg x.inputs.items x.time x.gamma x.parts))
+
+pub watch_of-self-requires-clause-lines : goal.watch_of-self-requires-clause-lines
+watch_of-self-requires-clause-lines c =
+    let x = c.args.self.now in
+    let m = x.machine.value in
+    let same : c.as_slice.result.now ≡ map (input_given m c.args.tick c.args.msg) x.inputs.items =
+    c.as_slice.ensures.value ∙ with_items_is x.inputs c.give.new.inputs (c.give.auto.inputs ∙ c.as_mut_slice.ensures.len) ∙ c.give.ensures
+    ∙ ap (λ (s : Machine). map (input_given s c.args.tick c.args.msg) c.as_mut_slice.result.now) c.deref.ensures
+    ∙ ap (map (input_given m c.args.tick c.args.msg)) c.as_mut_slice.ensures.value in
+    let lines = lines_later x.watch.tick c.args.tick x.inputs.items c.requires.timely.not_before x.lines in
+    let given = given_inputs m c.args.tick c.args.msg c.requires.message x.inputs.items lines x.stays c.requires.small in
+    subst (All (IsInput c.args.tick)) (sym same) (λ k d inside. (given k d inside).line)
+
+pub watch_of-self-requires-clause-small : goal.watch_of-self-requires-clause-small
+watch_of-self-requires-clause-small c =
+    let x = c.args.self.now in
+    let m = x.machine.value in
+    let same : c.as_slice.result.now ≡ map (input_given m c.args.tick c.args.msg) x.inputs.items =
+    c.as_slice.ensures.value ∙ with_items_is x.inputs c.give.new.inputs (c.give.auto.inputs ∙ c.as_mut_slice.ensures.len) ∙ c.give.ensures
+    ∙ ap (λ (s : Machine). map (input_given s c.args.tick c.args.msg) c.as_mut_slice.result.now) c.deref.ensures
+    ∙ ap (map (input_given m c.args.tick c.args.msg)) c.as_mut_slice.ensures.value in
+    let lines = lines_later x.watch.tick c.args.tick x.inputs.items c.requires.timely.not_before x.lines in
+    let given = given_inputs m c.args.tick c.args.msg c.requires.message x.inputs.items lines x.stays c.requires.small in
+    subst (All (λ i. IsWithin 88 (input_at c.args.tick i))) (sym same) (λ k d inside. (given k d inside).small)
+
+pub watch_of-self-requires-clause-in_time : goal.watch_of-self-requires-clause-in_time
+watch_of-self-requires-clause-in_time c = c.requires.timely.in_time
+
+pub invariant_of-self : goal.invariant_of-self
+invariant_of-self c =
+    let x = c.args.self.now in
+    let m = x.machine.value in
+    let same : (with_items x.inputs c.give.new.inputs).items ≡ map (input_given m c.args.tick c.args.msg) x.inputs.items =
+    with_items_is x.inputs c.give.new.inputs (c.give.auto.inputs ∙ c.as_mut_slice.ensures.len) ∙ c.give.ensures
+    ∙ ap (λ (s : Machine). map (input_given s c.args.tick c.args.msg) c.as_mut_slice.result.now) c.deref.ensures
+    ∙ ap (map (input_given m c.args.tick c.args.msg)) c.as_mut_slice.ensures.value in
+    let lines = lines_later x.watch.tick c.args.tick x.inputs.items c.requires.timely.not_before x.lines in
+    let given = given_inputs m c.args.tick c.args.msg c.requires.message x.inputs.items lines x.stays c.requires.small in
+    let own : c.watch_of-self.result.tick ≡ c.args.tick = ap (λ (w : Watch). w.tick) c.watch_of-self.ensures in
+    record {
+      lines = subst (λ t. All (IsInput t) (with_items x.inputs c.give.new.inputs).items) (sym own) (subst (All (IsInput c.args.tick)) (sym same) (λ k d inside. (given k d inside).line));
+      stays = subst (All (StaysIfDiscrete (state_count m))) (sym same) (λ k d inside. (given k d inside).stays);
+      parts = subst (λ (xs : List Input). AreParts xs x.time x.gamma) (sym same) (given_parts m c.args.tick c.args.msg x.inputs.items x.time x.gamma x.parts);
+    }
+
+pub returns : goal.returns
+returns c =
+    let x = c.args.self.now in
+    let m = x.machine.value in
+    let old : Crossing = record { place = x.place; watch = x.watch; inputs = x.inputs.items; time = x.time; gamma = x.gamma } in
+    let items = (with_items x.inputs c.give.new.inputs).items in
+    let same : items ≡ map (input_given m c.args.tick c.args.msg) x.inputs.items =
+    with_items_is x.inputs c.give.new.inputs (c.give.auto.inputs ∙ c.as_mut_slice.ensures.len) ∙ c.give.ensures
+    ∙ ap (λ (s : Machine). map (input_given s c.args.tick c.args.msg) c.as_mut_slice.result.now) c.deref.ensures
+    ∙ ap (map (input_given m c.args.tick c.args.msg)) c.as_mut_slice.ensures.value in
+    let of_time : FitsSigned w64 x.time = omega (arith, ints, x.parts.coefficients) in
+    let of_gamma : FitsSigned w128 x.gamma = omega (arith, ints, x.parts.constant) in
+    let watch : c.watch_of-self.result ≡ record { rel = x.watch.rel; tick = c.args.tick; value = form_at m items x.time x.gamma c.args.tick; speed = speed_by m items x.time } =
+    (simp to_z-of_z at c.watch_of-self.ensures)
+    ∙ ap (λ (s : Machine). record { rel = x.watch.rel; tick = c.args.tick; value = form_at s c.as_slice.result.now x.time x.gamma c.args.tick; speed = speed_by s c.as_slice.result.now x.time }) c.deref-2.ensures
+    ∙ ap (λ (xs : List Input). record { rel = x.watch.rel; tick = c.args.tick; value = form_at m xs x.time x.gamma c.args.tick; speed = speed_by m xs x.time }) c.as_slice.ensures.value in
+    (refl, given_so m old c.args.tick c.args.msg items c.watch_of-self.result same watch)

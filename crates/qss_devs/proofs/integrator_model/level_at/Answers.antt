@@ -1,0 +1,43 @@
+-- Where the line leaves its quantum, the level that comes next is an answer of the rule.
+use Rattle.std.proofs.Common.{sym, ◌∙◌, ap, subst, arith}
+use Rattle.std.proofs.lemmas.Int.{ints, to_z-of_z}
+use Rattle.std.specs.Int.RustNames.{FitsSigned}
+use Rattle.mu_num.specs.Sizes.{IsWithin}
+use Rattle.qss_machine.specs.Ticks.{IsNextLevel}
+use Rattle.qss_quant.specs.Lines.{Line, IsLine, state_at}
+use Rattle.qss_quiet.specs.Rules.{IsRuled}
+use Rattle.qss_devs.proofs.Leaving.{reached, answer_at}
+use Rattle.qss_devs.proofs.integrator_model.level_at.Goals as goal
+use mir.Syntax.{w64, w128}
+use mir.Val.{to_z, of_z}
+
+pub value_at-x-requires-clause-later : goal.value_at-x-requires-clause-later
+value_at-x-requires-clause-later g c =
+    let fits : IsLine c.args.line.now = subst IsLine c.line.view_is c.line.invariant in
+    (reached c.args.m.now c.args.var c.args.line.now c.requires.known fits c.args.tick c.requires.next).not_before
+
+pub value_at-x-requires-clause-in_time : goal.value_at-x-requires-clause-in_time
+value_at-x-requires-clause-in_time g c =
+    let fits : IsLine c.args.line.now = subst IsLine c.line.view_is c.line.invariant in
+    (reached c.args.m.now c.args.var c.args.line.now c.requires.known fits c.args.tick c.requires.next).in_time
+
+pub next_level-requires-clause-small_state : goal.next_level-requires-clause-small_state
+next_level-requires-clause-small_state g c =
+    let fits : IsLine c.args.line.now = subst IsLine c.line.view_is c.line.invariant in
+    let at = reached c.args.m.now c.args.var c.args.line.now c.requires.known fits c.args.tick c.requires.next in
+    let x : FitsSigned w128 c.value_at-x.result = record { sfits = c.value_at-x.type_inv } in
+    rw (to_z-of_z w128 c.value_at-x.result x) (subst (IsWithin 89) (sym c.value_at-x.ensures) at.small)
+
+pub returns : goal.returns
+returns g c =
+    let m = c.args.m.now in
+    let line : Line = c.args.line.now in
+    let fits : IsLine c.args.line.now = subst IsLine c.line.view_is c.line.invariant in
+    let at = reached c.args.m.now c.args.var c.args.line.now c.requires.known fits c.args.tick c.requires.next in
+    let x : FitsSigned w128 c.value_at-x.result = record { sfits = c.value_at-x.type_inv } in
+    let level : FitsSigned w64 c.line.inside.level = omega (arith, ints, c.line.invariant.small_level) in
+    let answer : FitsSigned w128 c.next_level.result = record { sfits = c.next_level.type_inv } in
+    let next : IsNextLevel (IsRuled c.args.q.now.name) m c.args.var (state_at c.args.line.now c.args.tick) c.args.line.now.level c.next_level.result =
+    subst (λ z. IsNextLevel (IsRuled c.args.q.now.name) m c.args.var z c.args.line.now.level c.next_level.result) (to_z-of_z w128 c.value_at-x.result x ∙ c.value_at-x.ensures)
+    (subst (λ old. IsNextLevel (IsRuled c.args.q.now.name) m c.args.var (to_z w128 (of_z w128 c.value_at-x.result)) old c.next_level.result) (to_z-of_z w64 c.line.inside.level level ∙ ap (λ (l : Line). l.level) c.line.view_is) c.next_level.ensures) in
+    rw (to_z-of_z w128 c.next_level.result answer) (answer_at c.args.q.now.name m c.args.var (state_at c.args.line.now c.args.tick) c.args.line.now.level c.next_level.result at.away next)
