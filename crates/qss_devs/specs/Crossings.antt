@@ -31,7 +31,7 @@ form_at m inputs time gamma tick =
 abbrev pub speed_by : Machine → List Input → ℤ → ℤ
 speed_by m inputs time = sum_over (λ i. i.coef *ℤ i.speed) inputs +ℤ time *ℤ pos (2 ^ (m.f + m.p))
 
--- it changes at the first tick at which its truth is another
+-- it changes at the first later tick up to 2^32 at which its truth is another, if there is one
 abbrev pub IsCrossingNext : Watch → Option ℕ → Type 0
 IsCrossingNext w next = FirstAfter (λ tick. holds_at w tick ≢ compares w.rel w.value) w.tick next
 
@@ -48,7 +48,7 @@ input_given m tick (Discrete var value) i =
 input_given m tick (Level var level) i = i
 input_given m tick (Truth condition now) i = i
 
--- a message moves it to the message's tick, with the value and the speed of its inputs
+-- any message moves it to the message's tick, with the value and the speed of its inputs there
 abbrev pub crossing_given : Machine → Crossing → ℕ → Message → Crossing
 crossing_given m c tick message =
     let inputs = map (input_given m tick message) c.inputs in

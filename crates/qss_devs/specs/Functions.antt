@@ -27,7 +27,7 @@ sum_of m s = sum_at m s.row s.levels s.discretes
 abbrev pub summing_sent : Summing → ℕ → Summing
 summing_sent s tick = record s { tick = tick; changed = None }
 
--- the tick of its first change, where at a tick its sum becomes another
+-- the tick of the change that was noted already, else this tick where the sum becomes another
 abbrev pub change_by : Option ℕ → ℕ → ℤ → ℤ → Option ℕ
 change_by changed tick before after = option_or changed (if int_eq before after then None else Some tick)
 

@@ -77,7 +77,7 @@ AgreementLasts =
     (m : Machine) (tick ticks : ℕ) (v : Values) (line : ℕ → Line) (s : ℕ → Summing) (c : ℕ → Crossing) →
     Agree m tick v line s c → Agree m (tick + ticks) (values_after m v ticks) line s c
 
--- a message that was given where it goes makes all agree with what it tells; who sent it has made its own transition
+-- a message that was given where it goes makes all agree with what it tells; the function or the integrator that sent it has made its own transition
 pub record MessagesKeepAgreement : Type 0 where
   pub slope : (m : Machine) (tick var : ℕ) (v : Values) (line : ℕ → Line) (s sent : ℕ → Summing) (c : ℕ → Crossing) → HasEach m v → var < state_count m →
       Agree m tick v line s c → ((j : ℕ) → j ≢ var → sent j ≡ s j) → sent var ≡ summing_sent (s var) tick →

@@ -1,4 +1,4 @@
--- Messages between components, and when a component may be given one.
+-- Messages to components, from one another and from handlers, and when a component may be given one.
 use Rattle.std.specs.Prelude.{ℕ, ◌+◌, ◌^◌, ◌<◌, ◌≤◌, Option, Some}
 use Rattle.mu_num.specs.Sizes.{IsWithin}
 use Rattle.qss_machine.specs.declared.system.Machine.{Machine}
@@ -22,7 +22,7 @@ HasSmallLevel (State var state) = Unit {0}
 HasSmallLevel (Discrete var value) = Unit {0}
 HasSmallLevel (Truth condition now) = Unit {0}
 
--- a tick that is not before a component's own one and not past its next transition
+-- a tick below 2^32 that is not before a component's own one and not past its next transition
 pub record IsTimely (own : ℕ) (IsNext : Option ℕ → Type 0) (tick : ℕ) : Type 0 where
   pub not_before : own ≤ tick
   pub in_time : tick < 2 ^ 32

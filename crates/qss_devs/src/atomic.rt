@@ -52,7 +52,8 @@ pub trait Atomic {
         ensures later { (tick next : ℕ) → is_next self.old (Some tick)
             → is_next self.new (Some next) → tick < next };
 
-    /// Is given a message at a tick.
+    /// Is given a message at a tick below 2^32 that is not before its last transition and not past its next one, about a
+    /// variable of its machine and within the limits of messages.
     fn external(&mut self, tick: u64, msg: Message)
         requires timely { IsTimely (own_tick self.old) (is_next self.old) tick }
         requires message { IsMessage (part_of self.old) msg }

@@ -13,12 +13,14 @@ use mu_num::passes;
 use qss_machine::Machine;
 use std::rc::Rc;
 
-/// The right side of a state as a component: it reads levels and discrete values, and sends its sum where that changes.
+/// The right side of a state as a component: it reads levels and discrete values, and sends its sum where that changes,
+/// or 2^88 + 1 where its mode coefficients or its weight pass their limits.
 #[derive(Drop)]
 pub struct FunctionModel {
     pub machine: Rc<Machine>,
     /// The number of the state.
     pub row: u32,
+    /// The tick of its last transition.
     pub tick: u64,
     /// The levels of all states, as far as the row reads them.
     pub levels: Vec<i64>,
