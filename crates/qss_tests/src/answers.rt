@@ -1,7 +1,7 @@
 // Answers to a machine and the bytes of a certificate: what is written, how the call ends, and the line that tells it.
 
-use crate::certificates::{decay, text};
-use crate::checks::empty;
+use crate::certificates::text;
+use crate::checks::{decay, empty};
 use cert_answer::{CertificateRefusal, Ending, certify, ending_line, upgrade};
 use cert_check::{Outside, Verdict};
 use cert_text::CertErr;

@@ -2,6 +2,7 @@
 
 ghost use Rattle.std.specs.Prelude.{◌≡◌, [], ◌∷◌, pos, negsuc, IfOk};
 
+use crate::checks::decay;
 use crate::lists::{none, one};
 use cert_check::{Verdict, check, scope};
 use cert_text::{CertErr, read_certificate, write_certificate};
@@ -9,49 +10,6 @@ use mu_io::{Items, Name};
 use qss_machine::{Entry, Machine, SlopeRow, StateInfo};
 use std::alloc::{AllocError, Global};
 use std::test::Fail;
-
-// A state that starts at 262144 and has the quantum 4.
-fn states(alloc: Global) -> Result<Items<StateInfo>, AllocError>
-    ensures { IfOk result (λ states. states ≡ record { name = 120 ∷ []; x0 = pos 262144; quantum = pos 4 } ∷ []) }
-{
-    let name = Name::new(alloc, b"x")?;
-    let state = StateInfo {
-        name,
-        x0: 262144,
-        quantum: 4,
-    };
-    one(alloc, state)
-}
-
-// A right side of minus 256 times the state.
-fn rows(alloc: Global) -> Result<Items<SlopeRow>, AllocError>
-    ensures { IfOk result (λ rows. rows ≡ record { entries = record { var = 0; coef = negsuc 255 } ∷ []; products = []; beta = pos 0 } ∷ []) }
-{
-    let entries = one(alloc, Entry { var: 0, coef: -256 })?;
-    let row = SlopeRow {
-        entries,
-        products: none(alloc),
-        beta: 0,
-    };
-    one(alloc, row)
-}
-
-// Decay by 256/4096 of the level in a tick, with the quantum 4.
-pub(crate) fn decay(alloc: Global) -> Result<Machine, AllocError> {
-    let states = states(alloc)?;
-    let rows = rows(alloc)?;
-    Ok(Machine {
-        p: 8,
-        k: 4,
-        f: 0,
-        last: 16,
-        states,
-        discretes: none(alloc),
-        rows,
-        clauses: none(alloc),
-        relative: 0,
-    })
-}
 
 // Two items.
 fn two<T: Drop>(alloc: Global, first: T, second: T) -> Result<Items<T>, AllocError>

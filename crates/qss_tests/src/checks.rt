@@ -13,7 +13,7 @@ use std::alloc::{AllocError, Global};
 use std::test::Fail;
 
 // A state that starts at 262144 and has the quantum 4.
-fn decay_states(alloc: Global) -> Result<Items<StateInfo>, AllocError>
+pub(crate) fn decay_states(alloc: Global) -> Result<Items<StateInfo>, AllocError>
     ensures { IfOk result (λ states. states ≡ record { name = 120 ∷ []; x0 = pos 262144; quantum = pos 4 } ∷ []) }
 {
     let name = Name::new(alloc, b"x")?;
@@ -52,7 +52,7 @@ fn decay_rows(alloc: Global) -> Result<Items<SlopeRow>, AllocError>
 }
 
 // Decay by 256/4096 of the level in a tick, with the quantum 4.
-fn decay(alloc: Global) -> Result<Machine, AllocError>
+pub(crate) fn decay(alloc: Global) -> Result<Machine, AllocError>
     ensures plain { IfOk result (λ m. m.clauses ≡ []) }
     ensures states { IfOk result (λ m. state_count m ≡ 1) }
 {

@@ -1,6 +1,9 @@
 // Each public call on a small machine: a state that falls at twice its size.
 
-ghost use Rattle.std.specs.Prelude.{◌≡◌, [], ◌∷◌, pos, negsuc, IfOk, length};
+ghost use Rattle.std.specs.Prelude.{◌≡◌, [], ◌∷◌, pos, negsuc, IfOk, IsTrue};
+ghost use Rattle.qss_machine.specs.Machines.{state_count, row_at};
+ghost use Rattle.qss_machine.specs.Slopes.{mode_fits};
+ghost use Rattle.qss_machine.specs.Limits.{IsBounded};
 
 use crate::lists::{none, one};
 use mu_io::{Items, Name};
@@ -42,7 +45,9 @@ fn rows(alloc: Global) -> Result<Items<SlopeRow>, AllocError>
 
 // The machine, for one tick of a second.
 fn falling(alloc: Global) -> Result<Machine, AllocError>
-    ensures { IfOk result (λ m. (m.states ≡ record { name = 120 ∷ []; x0 = pos 1; quantum = pos 1 } ∷ []) × (m.discretes ≡ []) × (m.rows ≡ record { entries = record { var = 0; coef = negsuc 1 } ∷ []; products = []; beta = pos 0 } ∷ []) × (m.f ≡ 0)) }
+    ensures states { IfOk result (λ m. state_count m ≡ 1) }
+    ensures discretes { IfOk result (λ m. m.discretes ≡ []) }
+    ensures modes { IfOk result (λ m. IsTrue (mode_fits m.f (state_count m) (row_at m 0) [])) }
 {
     let states = states(alloc)?;
     let rows = rows(alloc)?;
@@ -61,7 +66,7 @@ fn falling(alloc: Global) -> Result<Machine, AllocError>
 
 // The state less three times the tick.
 fn form(alloc: Global) -> Result<Form, AllocError>
-    ensures { IfOk result (λ form. form ≡ record { entries = record { var = 0; coef = pos 1 } ∷ []; time = negsuc 2; gamma = pos 0 }) }
+    ensures { IfOk result IsBounded }
 {
     Ok(Form {
         entries: one(alloc, Entry { var: 0, coef: 1 })?,

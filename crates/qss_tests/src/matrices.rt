@@ -1,17 +1,26 @@
-ghost use Rattle.std.specs.Prelude.{◌≡◌, length};
+ghost use Rattle.std.specs.Prelude.{◌≡◌, ◌<◌, length};
 
 use cert_matrix::{Matrix, RangedSum, Test, gram_row, gram_test, quad, weigh};
 use std::test::Fail;
+
+/// Puts a number into row `i` and column `j`.
+fn put(m: &mut Matrix, i: u8, j: u8, value: i128)
+    requires row { i < length m.old }
+    requires column { j < length m.old }
+    ensures { length m.new ≡ length m.old }
+{
+    m.set(i, j, value);
+}
 
 /// The matrix with the rows (a, b) and (c, d).
 fn square(a: i128, b: i128, c: i128, d: i128) -> Matrix
     ensures { length result ≡ 2 }
 {
     let mut m = Matrix::new(2);
-    m.set(0, 0, a);
-    m.set(0, 1, b);
-    m.set(1, 0, c);
-    m.set(1, 1, d);
+    put(&mut m, 0, 0, a);
+    put(&mut m, 0, 1, b);
+    put(&mut m, 1, 0, c);
+    put(&mut m, 1, 1, d);
     m
 }
 

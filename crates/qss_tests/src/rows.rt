@@ -1,7 +1,8 @@
 // The lines of rows of every kind and the rows that filters pass, with texts that were worked out by hand.
 ghost use Rattle.std.specs.Prelude.{◌≡◌, IfOk, length};
 
-use mu_io::{Items, Name};
+use crate::lists::{none, one};
+use mu_io::Name;
 use qss_machine::{DiscreteInfo, Machine, Row, RowKind};
 use qss_rows::{Filter, LineWriter, header, lines_are_plain, row_bytes};
 use std::alloc::{AllocError, Global};
@@ -12,17 +13,16 @@ fn machine(alloc: Global, name: &[u8]) -> Result<Machine, AllocError>
     ensures { IfOk result (λ m. length m.discretes ≡ 1) }
 {
     let name = Name::new(alloc, name)?;
-    let mut discretes = Vec::new(alloc);
-    discretes.push(DiscreteInfo { name, d0: 0 })?;
+    let discretes = one(alloc, DiscreteInfo { name, d0: 0 })?;
     Ok(Machine {
         p: 0,
         k: 0,
         f: 0,
         last: 0,
-        states: Items::new(Vec::new(alloc)),
-        discretes: Items::new(discretes),
-        rows: Items::new(Vec::new(alloc)),
-        clauses: Items::new(Vec::new(alloc)),
+        states: none(alloc),
+        discretes,
+        rows: none(alloc),
+        clauses: none(alloc),
         relative: 0,
     })
 }

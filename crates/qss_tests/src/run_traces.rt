@@ -2,7 +2,7 @@
 
 ghost use Rattle.std.specs.Prelude.{◌≡◌, ◌∷◌, [], pos, ◌^◌, IfOk};
 
-use crate::certificates::decay;
+use crate::checks::{decay, decay_states};
 use crate::lists::{none, one};
 use cert_check::scope;
 use mu_io::{Items, Name};
@@ -109,18 +109,6 @@ fn rising(alloc: Global) -> Result<Machine, AllocError> {
     })
 }
 
-// A state that starts at 64 levels and has the quantum 4.
-fn high(alloc: Global) -> Result<Items<StateInfo>, AllocError>
-    ensures { IfOk result (λ states. states ≡ record { name = 120 ∷ []; x0 = pos 262144; quantum = pos 4 } ∷ []) }
-{
-    let state = StateInfo {
-        name: Name::new(alloc, b"x")?,
-        x0: 262144,
-        quantum: 4,
-    };
-    one(alloc, state)
-}
-
 // A right side of 256 times the state.
 fn growth(alloc: Global) -> Result<Items<SlopeRow>, AllocError>
     ensures { IfOk result (λ rows. rows ≡ record { entries = record { var = 0; coef = pos 256 } ∷ []; products = []; beta = pos 0 } ∷ []) }
@@ -135,7 +123,7 @@ fn growth(alloc: Global) -> Result<Items<SlopeRow>, AllocError>
 
 // Growth by 256/4096 of the level in a tick.
 fn growing(alloc: Global) -> Result<Machine, AllocError> {
-    let states = high(alloc)?;
+    let states = decay_states(alloc)?;
     let rows = growth(alloc)?;
     Ok(Machine {
         p: 8,

@@ -1,7 +1,6 @@
 // Texts of traces of one state: which are read, which are legitimate runs, and what is told of the others.
 
-use crate::certificates::decay;
-use crate::checks::empty;
+use crate::checks::{decay, empty};
 use cert_check::Outside;
 use cert_matrix::Matrix;
 use mu_io::MemSink;

@@ -1,0 +1,13 @@
+use Rattle.std.proofs.Common.{refl, rules}
+use Rattle.qss_tests.proofs.machines.falling.Goals as goal
+
+pub invariant_of-result : goal.invariant_of-result
+invariant_of-result c =
+    rw (c.in_ok-states.ensures, c.in_ok-rows.ensures, c.none.ensures, c.none-2.ensures)
+    (record { has_units = search rules; has_variables = search rules; has_rows = search rules; has_clauses = search rules })
+
+pub returns-clause-states : goal.returns-clause-states
+returns-clause-states c = rw c.in_ok-states.ensures refl
+
+pub returns-clause-modes : goal.returns-clause-modes
+returns-clause-modes c = rw (c.in_ok-states.ensures, c.in_ok-rows.ensures) (search rules)
