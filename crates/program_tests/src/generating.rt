@@ -1,5 +1,5 @@
 // Runs of generated models, summed up. The numbers are those of another program, which goes tick by tick.
-use crate::runs::{Setting, outcome, run_of};
+use crate::runs::{Setting, assert_ended, run_of};
 use qss_top::Status;
 use std::alloc::Global;
 use std::process::Abort;
@@ -18,12 +18,8 @@ fn words_of<'a>(words: &'a [&'a str]) -> Setting<'a> {
 
 // Words have this line as their answer.
 fn assert_summed(rt: &impl Abort, alloc: Global, words: &[&str], line: &str) -> Result<(), Fail> {
-    let (got, out, err) = outcome(alloc, &words_of(words))?;
-    assert_eq!(rt; err.bytes(), b"".as_slice());
-    assert_eq!(rt; got, Status::Ok);
     let text = format!(in alloc; "{}{}", HEADER, line)?;
-    assert_eq!(rt; out.bytes(), text.as_bytes());
-    Ok(())
+    assert_ended(rt, alloc, &words_of(words), Status::Ok, text.as_bytes(), "")
 }
 
 #[test]
@@ -51,9 +47,12 @@ fn a_write_that_fails_leaves_out_empty(rt: HostRuntime) -> Result<(), Fail> {
         out_fails: &[0],
         ..words_of(&["gen", "0", "1"])
     };
-    let (got, out, err) = outcome(alloc, &setting)?;
-    assert_eq!(rt; got, Status::WriteFault);
-    assert_eq!(rt; out.bytes(), b"".as_slice());
-    assert_eq!(rt; err.bytes(), b"write fault\n".as_slice());
-    Ok(())
+    assert_ended(
+        &rt,
+        alloc,
+        &setting,
+        Status::WriteFault,
+        b"",
+        "write fault\n",
+    )
 }

@@ -1,5 +1,5 @@
 // Whole runs of models with thousands of states or millions of events.
-use crate::runs::{HEADER, Setting, outcome, run_of};
+use crate::runs::{HEADER, Setting, assert_ended, outcome, run_of};
 use qss_top::Status;
 use std::alloc::Global;
 use std::test::Fail;
@@ -81,11 +81,7 @@ fn thousands_of_states_rest(rt: HostRuntime) -> Result<(), Fail> {
         room: text.len(),
         ..run_of(RESTING)
     };
-    let (got, out, err) = outcome(alloc, &setting)?;
-    assert_eq!(rt; got, Status::Ok);
-    assert_eq!(rt; err.bytes(), b"".as_slice());
-    assert_eq!(rt; out.bytes(), text.as_slice());
-    Ok(())
+    assert_ended(&rt, alloc, &setting, Status::Ok, text.as_slice(), "")
 }
 
 // One state changes its level at each of 33,554,431 ticks, and thousands rest.
@@ -98,9 +94,5 @@ fn one_state_changes_among_thousands(rt: HostRuntime) -> Result<(), Fail> {
         room: text.len(),
         ..run_of(ONE_CHANGES)
     };
-    let (got, out, err) = outcome(alloc, &setting)?;
-    assert_eq!(rt; got, Status::Ok);
-    assert_eq!(rt; err.bytes(), b"".as_slice());
-    assert_eq!(rt; out.bytes(), text.as_slice());
-    Ok(())
+    assert_ended(&rt, alloc, &setting, Status::Ok, text.as_slice(), "")
 }

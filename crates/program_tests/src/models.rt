@@ -1,5 +1,5 @@
 // Whole runs of models with clauses, algebraic variables, arrays and products, and the lines of refusals, worked out by hand.
-use crate::runs::{BALL, HEADER, Setting, outcome, run_of};
+use crate::runs::{BALL, HEADER, Setting, assert_ended, outcome, run_of};
 use qss_top::Status;
 use std::alloc::Global;
 use std::process::Abort;
@@ -104,12 +104,8 @@ fn assert_told(
     rows: &str,
     line: &str,
 ) -> Result<(), Fail> {
-    let (got, out, err) = outcome(alloc, setting)?;
-    assert_eq!(rt; err.bytes(), line.as_bytes());
-    assert_eq!(rt; got, status);
     let text = format!(in alloc; "{}{}", HEADER, rows)?;
-    assert_eq!(rt; out.bytes(), text.as_bytes());
-    Ok(())
+    assert_ended(rt, alloc, setting, status, text.as_bytes(), line)
 }
 
 #[test]
@@ -224,10 +220,7 @@ const REFUSALS: [(&str, &str); 12] = [
 fn what_means_no_machine(rt: HostRuntime) -> Result<(), Fail> {
     let alloc = rt.alloc();
     for (source, line) in REFUSALS {
-        let (got, out, err) = outcome(alloc, &run_of(source))?;
-        assert_eq!(rt; got, Status::ModelRefused);
-        assert_eq!(rt; out.bytes(), b"".as_slice());
-        assert_eq!(rt; err.bytes(), line.as_bytes());
+        assert_ended(&rt, alloc, &run_of(source), Status::ModelRefused, b"", line)?;
         let setting = Setting {
             words: &["print", "M"],
             ..run_of(source)

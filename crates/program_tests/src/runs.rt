@@ -71,6 +71,22 @@ pub(crate) fn run_of(source: &str) -> Setting<'_> {
     }
 }
 
+// A call ends with this status, this text on out and this line on err.
+pub(crate) fn assert_ended(
+    rt: &impl Abort,
+    alloc: Global,
+    setting: &Setting,
+    status: Status,
+    written: &[u8],
+    line: &str,
+) -> Result<(), Fail> {
+    let (got, out, err) = outcome(alloc, setting)?;
+    assert_eq!(rt; err.bytes(), line.as_bytes());
+    assert_eq!(rt; got, status);
+    assert_eq!(rt; out.bytes(), written);
+    Ok(())
+}
+
 #[test]
 fn runs_print_their_rows(rt: HostRuntime) -> Result<(), Fail> {
     let alloc = rt.alloc();
@@ -91,11 +107,8 @@ fn runs_print_their_rows(rt: HostRuntime) -> Result<(), Fail> {
         ),
     ];
     for (source, status, rows, line) in cases {
-        let (got, out, err) = outcome(alloc, &run_of(source))?;
-        assert_eq!(rt; got, status);
         let text = format!(in alloc; "{}{}", HEADER, rows)?;
-        assert_eq!(rt; out.bytes(), text.as_bytes());
-        assert_eq!(rt; err.bytes(), line.as_bytes());
+        assert_ended(&rt, alloc, &run_of(source), status, text.as_bytes(), line)?;
     }
     Ok(())
 }
@@ -123,11 +136,8 @@ fn second_order_runs(rt: HostRuntime) -> Result<(), Fail> {
             words: &["run2", "M"],
             ..run_of(source)
         };
-        let (got, out, err) = outcome(alloc, &setting)?;
-        assert_eq!(rt; got, status);
         let text = format!(in alloc; "{}{}", HEADER, rows)?;
-        assert_eq!(rt; out.bytes(), text.as_bytes());
-        assert_eq!(rt; err.bytes(), line.as_bytes());
+        assert_ended(&rt, alloc, &setting, status, text.as_bytes(), line)?;
     }
     Ok(())
 }
@@ -271,11 +281,8 @@ fn runs_with_options(rt: HostRuntime) -> Result<(), Fail> {
             words,
             ..run_of(source)
         };
-        let (got, out, err) = outcome(alloc, &setting)?;
-        assert_eq!(rt; got, Status::Ok);
         let text = format!(in alloc; "{}{}", HEADER, rows)?;
-        assert_eq!(rt; out.bytes(), text.as_bytes());
-        assert_eq!(rt; err.bytes(), b"".as_slice());
+        assert_ended(&rt, alloc, &setting, Status::Ok, text.as_bytes(), "")?;
     }
     Ok(())
 }
@@ -294,8 +301,8 @@ fn assert_cut(rt: &impl Abort, alloc: Global, source: &str, rows: &str) -> Resul
             ..setting
         };
         let before = text.as_bytes().get(..written).unwrap_or(b"");
-        assert_cut_at(rt, alloc, &setting, before, b"write fault\n")?;
-        assert_cut_at(rt, alloc, &silent, before, b"")?;
+        assert_cut_at(rt, alloc, &setting, before, "write fault\n")?;
+        assert_cut_at(rt, alloc, &silent, before, "")?;
         written = written.saturating_add(line.len()).saturating_add(1);
     }
     assert_eq!(rt; written, text.len());
@@ -308,13 +315,9 @@ fn assert_cut_at(
     alloc: Global,
     setting: &Setting,
     written: &[u8],
-    line: &[u8],
+    line: &str,
 ) -> Result<(), Fail> {
-    let (got, out, err) = outcome(alloc, setting)?;
-    assert_eq!(rt; got, Status::WriteFault);
-    assert_eq!(rt; out.bytes(), written);
-    assert_eq!(rt; err.bytes(), line);
-    Ok(())
+    assert_ended(rt, alloc, setting, Status::WriteFault, written, line)
 }
 
 #[test]
@@ -328,7 +331,7 @@ fn a_write_that_fails_ends_the_run(rt: HostRuntime) -> Result<(), Fail> {
         ..run_of(DECAY)
     };
     let before = text.as_bytes().get(..40).unwrap_or(b"");
-    assert_cut_at(&rt, alloc, &setting, before, b"write fault\n")
+    assert_cut_at(&rt, alloc, &setting, before, "write fault\n")
 }
 
 // A run or a print ends with this status and this line, and writes nothing on out.
@@ -339,11 +342,7 @@ fn assert_nothing(
     status: Status,
     line: &str,
 ) -> Result<(), Fail> {
-    let (got, out, err) = outcome(alloc, setting)?;
-    assert_eq!(rt; got, status);
-    assert_eq!(rt; out.bytes(), b"".as_slice());
-    assert_eq!(rt; err.bytes(), line.as_bytes());
-    Ok(())
+    assert_ended(rt, alloc, setting, status, b"", line)
 }
 
 // The select and both reads of a model; a fourth call is not made.
@@ -423,10 +422,7 @@ fn assert_refused(rt: &impl Abort, alloc: Global, source: &str, line: &str) -> R
             words,
             ..run_of(source)
         };
-        let (got, out, err) = outcome(alloc, &setting)?;
-        assert_eq!(rt; got, Status::ModelRefused);
-        assert_eq!(rt; out.bytes(), b"".as_slice());
-        assert_eq!(rt; err.bytes(), line.as_bytes());
+        assert_nothing(rt, alloc, &setting, Status::ModelRefused, line)?;
     }
     Ok(())
 }
@@ -472,10 +468,7 @@ fn how_models_are_printed(rt: HostRuntime) -> Result<(), Fail> {
             words: &["print", "M"],
             ..run_of(source)
         };
-        let (got, out, err) = outcome(alloc, &setting)?;
-        assert_eq!(rt; got, Status::Ok);
-        assert_eq!(rt; out.bytes(), text.as_bytes());
-        assert_eq!(rt; err.bytes(), b"".as_slice());
+        assert_ended(&rt, alloc, &setting, Status::Ok, text.as_bytes(), "")?;
     }
     Ok(())
 }
@@ -491,10 +484,8 @@ fn a_write_that_fails_ends_the_print(rt: HostRuntime) -> Result<(), Fail> {
             room,
             ..run_of(BALL)
         };
-        let (got, out, err) = outcome(alloc, &setting)?;
-        assert_eq!(rt; got, Status::WriteFault);
-        assert_eq!(rt; Some(out.bytes()), BALL_TEXT.as_bytes().get(..written));
-        assert_eq!(rt; err.bytes(), b"write fault\n".as_slice());
+        let before = BALL_TEXT.as_bytes().get(..written).ok_or("short text")?;
+        assert_cut_at(&rt, alloc, &setting, before, "write fault\n")?;
     }
     Ok(())
 }
