@@ -1,4 +1,4 @@
-use Rattle.std.proofs.Common.{pos, negsuc, [], ◌∷◌, sym, ap, length, arith, rules}
+use Rattle.std.proofs.Common.{pos, negsuc, [], ◌∷◌, sym, ap, length, rules}
 use Rattle.std.specs.List.{All}
 use Rattle.std.proofs.lemmas.List.Elements.{All-nil, All-cons}
 use Rattle.mu_num.specs.Sizes.{IsWithin}

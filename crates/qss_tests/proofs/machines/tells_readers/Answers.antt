@@ -9,7 +9,7 @@ rows_of-requires g c =
     let m = c.in_ok-machine.machine in
     let same = ap (λ (u : List (List ℕ) × List (List ℕ)). length u.0) c.in_ok-uses.ensures in
     let long = length-map-range_with_len (reading_rows m) 0 (state_count m + discrete_count m) in
-    rw (same, long) (omega arith)
+    rw (same, long) (omega (arith, c.in_ok-machine.ensures.states))
 
 pub as_slice-requires : goal.as_slice-requires
 as_slice-requires g c = omega arith
@@ -22,7 +22,7 @@ conditions_of-requires g c =
     let m = c.in_ok-machine.machine in
     let same = ap (λ (u : List (List ℕ) × List (List ℕ)). length u.1) c.in_ok-uses.ensures in
     let long = length-map-range_with_len (reading_conditions m) 0 (state_count m + discrete_count m + discrete_count m) in
-    rw (same, long) (omega arith)
+    rw (same, long) (omega (arith, c.in_ok-machine.ensures.states))
 
 pub unreachable-assert : goal.unreachable-assert
 unreachable-assert g c = c.assert-panic.result
