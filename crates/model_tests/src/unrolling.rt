@@ -1,11 +1,11 @@
 // Refusals of models that are made by hand, and the start values of arrays.
 
+use mu_flat::FlatModel;
 use mu_io::Name;
 use mu_names::fault::NameErr;
 use mu_names::role::roles;
 use mu_num::{NumErr, Ratio};
 use mu_tree::expr::{Expr, Factor, Ref};
-use mu_tree::flat::FlatModel;
 use mu_tree::tree::{Decl, Equation, Model, Prefix, Statement};
 use mu_unroll::fault::UnrollErr;
 use mu_unroll::unroll::unroll;

@@ -2,7 +2,7 @@
 
 use mu_lexer::lex::lex;
 use mu_parser::parse::parse;
-use mu_tree::canonical::write_model;
+use mu_print::write_model;
 use std::alloc::{AllocError, Global};
 use std::test::Fail;
 
