@@ -27,17 +27,24 @@ fn machine(alloc: Global, name: &[u8]) -> Result<Machine, AllocError>
     })
 }
 
+// A row of the only variable.
+fn row_of(kind: RowKind) -> Row
+    ensures { result.var ≡ 0 }
+{
+    Row {
+        tick: 7,
+        kind,
+        var: 0,
+        level: -5,
+        state: 12,
+    }
+}
+
 #[test]
 fn the_line_of_a_row(rt: HostRuntime) -> Result<(), Fail> {
     let alloc = rt.alloc();
     let m = machine(alloc, b"c")?;
-    let row = Row {
-        tick: 7,
-        kind: RowKind::Start,
-        var: 0,
-        level: -5,
-        state: 12,
-    };
+    let row = row_of(RowKind::Start);
     let bytes = row_bytes(alloc, &row, &m)?;
     assert_eq!(rt; bytes.as_slice(), b"7,start,c,-5,\n".as_slice());
     lines_are_plain();
