@@ -1,5 +1,5 @@
 use Rattle.std.proofs.Common.{rules}
-use Rattle.qss_tests.proofs.checks.relative_decay.Goals as goal
+use Rattle.qss_tests.proofs.run_traces.decay.Goals as goal
 
 pub invariant_of-result : goal.invariant_of-result
 invariant_of-result c =
