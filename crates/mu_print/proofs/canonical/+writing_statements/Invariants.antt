@@ -4,5 +4,5 @@ use Rattle.mu_tree.specs.Canonical.{joined, written_statements}
 use Rattle.mu_print.proofs.canonical.+writing_statements.Given as goal
 
 -- what is left to write completes the text
-abbrev pub invariant-canonical::write_statements-loop-one : goal.invariant-canonical::write_statements-loop-one
-invariant-canonical::write_statements-loop-one l = l.out.items ++ joined (written_statements (statements_of (map statement (drop l.one-index l.statements)))) ≡ l.initial.out.items ++ joined (written_statements (statements_of (map statement l.statements)))
+abbrev pub invariant-write_statements-loop-one : goal.invariant-write_statements-loop-one
+invariant-write_statements-loop-one l = l.out.items ++ joined (written_statements (statements_of (map statement (drop l.one-index l.statements)))) ≡ l.initial.out.items ++ joined (written_statements (statements_of (map statement l.statements)))
