@@ -1,10 +1,10 @@
 -- Places come to slots and leave them.
-use Rattle.std.proofs.Common.{◌≡◌, ◌≢◌, ℕ, ◌+◌, ◌*◌, ◌/◌, ◌%◌, ◌<◌, inl, inr, List, length, refl, sym, ◌∙◌, ap, arith}
+use Rattle.std.proofs.Common.{◌≡◌, ◌≢◌, ℕ, ◌+◌, ◌*◌, ◌/◌, ◌%◌, ◌<◌, inl, inr, List, sym, ◌∙◌, ap, arith}
 use Rattle.std.proofs.lemmas.Bool.{cases_eq}
 use Rattle.std.proofs.lemmas.Nat.Bits.{bit_at-zero}
 use Rattle.std.specs.Prelude.{slice_index}
 use Rattle.std.specs.Int.{bit_at}
-use Rattle.qss_sched.specs.Wheels.{place_bit, IsMarked, IsUnmarked, IsGrouped, IsSlotted}
+use Rattle.qss_sched.specs.Wheels.{place_bit, AreOthersKept, IsBitPut, IsGrouped, IsSlotted}
 
 -- a word with a bit is not zero
 pub some_word : (word bit : ℕ) → bit_at word bit ≡ 1 → word ≢ 0
@@ -17,40 +17,7 @@ word_slot group slot g s h i e = omega arith
 word_group : (group slot g s : ℕ) → slot < 64 → s < 64 → 64 * g + s ≡ 64 * group + slot → g ≡ group
 word_group group slot g s h i e = omega arith
 
-pub entered_grouped : (places groups new_places new_groups : List ℕ) (place slot : ℕ) → IsGrouped places groups → place < 4096 → slot < 64 →
-    IsMarked places new_places (64 * (place / 64) + slot) (place % 64) → IsMarked groups new_groups slot (place / 64) → IsGrouped new_places new_groups
-entered_grouped places groups new_places new_groups place slot a small near mp mg = record {
-  many_places = mp.as_many ∙ a.many_places;
-  many_groups = mg.as_many ∙ a.many_groups;
-  marked = λ s g hs hg some.
-      elim (cases_eq (64 * g + s) (64 * (place / 64) + slot)) [
-        | inl same ↦
-            let es = word_slot (place / 64) slot g s near hs same in
-            let eg = word_group (place / 64) slot g s near hs same in
-            ap (λ k. bit_at (slice_index new_groups k) g) es ∙ (ap (bit_at (slice_index new_groups slot)) eg ∙ mg.marked)
-        | inr other ↦
-            old_bit s g hs hg other (a.marked s g hs hg (λ z. some (mp.apart (64 * g + s) other ∙ z)))
-      ];
-  some = λ s g hs hg bit.
-      elim (cases_eq (64 * g + s) (64 * (place / 64) + slot)) [
-        | inl same ↦ λ z. some_word (slice_index new_places (64 * (place / 64) + slot)) (place % 64) mp.marked (sym (ap (slice_index new_places) same) ∙ z)
-        | inr other ↦ λ z. a.some s g hs hg (sym (kept s g hs hg other) ∙ bit) (sym (mp.apart (64 * g + s) other) ∙ z)
-      ];
-}
-  where
-    kept : (s g : ℕ) → s < 64 → g < 64 → (64 * g + s ≢ 64 * (place / 64) + slot) → bit_at (slice_index new_groups s) g ≡ bit_at (slice_index groups s) g
-    kept s g hs hg other =
-        elim (cases_eq s slot) [
-          | inl e ↦
-              let apart : g ≢ place / 64 = λ f. other (omega (arith, e, f)) in
-              ap (λ k. bit_at (slice_index new_groups k) g) e ∙ (mg.others g hg apart ∙ sym (ap (λ k. bit_at (slice_index groups k) g) e))
-          | inr n ↦ ap (λ w. bit_at w g) (mg.apart s n)
-        ]
-
-    old_bit : (s g : ℕ) → s < 64 → g < 64 → (64 * g + s ≢ 64 * (place / 64) + slot) → bit_at (slice_index groups s) g ≡ 1 → bit_at (slice_index new_groups s) g ≡ 1
-    old_bit s g hs hg other e = kept s g hs hg other ∙ e
-
-pub entered_slotted : (groups new_groups : List ℕ) (slots new_slots slot group : ℕ) → IsSlotted groups slots → slot < 64 → IsMarked groups new_groups slot group →
+pub entered_slotted : (groups new_groups : List ℕ) (slots new_slots slot group : ℕ) → IsSlotted groups slots → slot < 64 → IsBitPut groups new_groups slot group 1 →
     bit_at new_slots slot ≡ 1 → ((i : ℕ) → i ≢ slot → bit_at new_slots i ≡ bit_at slots i) → IsSlotted new_groups new_slots
 entered_slotted groups new_groups slots new_slots slot group a near mg own others = record {
   marked = λ s hs some.
@@ -60,27 +27,15 @@ entered_slotted groups new_groups slots new_slots slot group a near mg own other
       ];
   some = λ s hs bit.
       elim (cases_eq s slot) [
-        | inl e ↦ λ z. some_word (slice_index new_groups slot) group mg.marked (sym (ap (slice_index new_groups) e) ∙ z)
+        | inl e ↦ λ z. some_word (slice_index new_groups slot) group mg.takes (sym (ap (slice_index new_groups) e) ∙ z)
         | inr n ↦ λ z. a.some s hs (sym (others s n) ∙ bit) (sym (mg.apart s n) ∙ z)
       ];
 }
 
 -- the bits of other places stay
-pub entered_others : (places new_places : List ℕ) (place slot : ℕ) → slot < 64 → IsMarked places new_places (64 * (place / 64) + slot) (place % 64) →
-    (s p : ℕ) → s < 64 → (p ≡ place → s ≢ slot) → place_bit new_places s p ≡ place_bit places s p
-entered_others places new_places place slot near mp s p hs apart =
-    elim (cases_eq (64 * (p / 64) + s) (64 * (place / 64) + slot)) [
-      | inl same ↦
-          let es = word_slot (place / 64) slot (p / 64) s near hs same in
-          let eg = word_group (place / 64) slot (p / 64) s near hs same in
-          let other : p % 64 ≢ place % 64 = λ f. apart (omega (arith, eg, f)) es in
-          ap (λ k. bit_at (slice_index new_places k) (p % 64)) same ∙ (mp.others (p % 64) (omega arith) other ∙ sym (ap (λ k. bit_at (slice_index places k) (p % 64)) same))
-      | inr n ↦ ap (λ w. bit_at w (p % 64)) (mp.apart (64 * (p / 64) + s) n)
-    ]
-
-pub left_others : (places new_places : List ℕ) (place slot : ℕ) → slot < 64 → IsUnmarked places new_places (64 * (place / 64) + slot) (place % 64) →
-    (s p : ℕ) → s < 64 → (p ≡ place → s ≢ slot) → place_bit new_places s p ≡ place_bit places s p
-left_others places new_places place slot near mp s p hs apart =
+pub others_kept : (places new_places : List ℕ) (place slot value : ℕ) → slot < 64 → IsBitPut places new_places (64 * (place / 64) + slot) (place % 64) value →
+    AreOthersKept places new_places slot place
+others_kept places new_places place slot value near mp s p hs hp apart =
     elim (cases_eq (64 * (p / 64) + s) (64 * (place / 64) + slot)) [
       | inl same ↦
           let es = word_slot (place / 64) slot (p / 64) s near hs same in
@@ -92,7 +47,7 @@ left_others places new_places place slot near mp s p hs apart =
 
 -- a place leaves a word that has others
 pub left_grouped_some : (places groups new_places : List ℕ) (place slot : ℕ) → IsGrouped places groups → place < 4096 → slot < 64 →
-    IsUnmarked places new_places (64 * (place / 64) + slot) (place % 64) → place_bit places slot place ≡ 1 →
+    IsBitPut places new_places (64 * (place / 64) + slot) (place % 64) 0 → place_bit places slot place ≡ 1 →
     slice_index new_places (64 * (place / 64) + slot) ≢ 0 → IsGrouped new_places groups
 left_grouped_some places groups new_places place slot a small near mp there left = record {
   many_places = mp.as_many ∙ a.many_places;
@@ -111,7 +66,7 @@ left_grouped_some places groups new_places place slot a small near mp there left
 
 -- the last place leaves a word
 pub left_grouped_none : (places groups new_places new_groups : List ℕ) (place slot : ℕ) → IsGrouped places groups → place < 4096 → slot < 64 →
-    IsUnmarked places new_places (64 * (place / 64) + slot) (place % 64) → IsUnmarked groups new_groups slot (place / 64) →
+    IsBitPut places new_places (64 * (place / 64) + slot) (place % 64) 0 → IsBitPut groups new_groups slot (place / 64) 0 →
     slice_index new_places (64 * (place / 64) + slot) ≡ 0 → IsGrouped new_places new_groups
 left_grouped_none places groups new_places new_groups place slot a small near mp mg none = record {
   many_places = mp.as_many ∙ a.many_places;
@@ -141,11 +96,11 @@ left_grouped_none places groups new_places new_groups place slot a small near mp
     gone s g hs same bit =
         let es = word_slot (place / 64) slot g s near hs same in
         let eg = word_group (place / 64) slot g s near hs same in
-        let zero : bit_at (slice_index new_groups s) g ≡ 0 = ap (λ k. bit_at (slice_index new_groups k) g) es ∙ (ap (bit_at (slice_index new_groups slot)) eg ∙ mg.unmarked) in
+        let zero : bit_at (slice_index new_groups s) g ≡ 0 = ap (λ k. bit_at (slice_index new_groups k) g) es ∙ (ap (bit_at (slice_index new_groups slot)) eg ∙ mg.takes) in
         omega (arith, zero, bit)
 
 -- the last group of a slot is not left
-pub left_slotted_some : (groups new_groups : List ℕ) (slots slot group : ℕ) → IsSlotted groups slots → slot < 64 → IsUnmarked groups new_groups slot group →
+pub left_slotted_some : (groups new_groups : List ℕ) (slots slot group : ℕ) → IsSlotted groups slots → slot < 64 → IsBitPut groups new_groups slot group 0 →
     slice_index groups slot ≢ 0 → slice_index new_groups slot ≢ 0 → IsSlotted new_groups slots
 left_slotted_some groups new_groups slots slot group a near mg before left = record {
   marked = λ s hs some.
@@ -160,7 +115,7 @@ left_slotted_some groups new_groups slots slot group a near mg before left = rec
       ];
 }
 
-pub left_slotted_none : (groups new_groups : List ℕ) (slots new_slots slot group : ℕ) → IsSlotted groups slots → slot < 64 → IsUnmarked groups new_groups slot group →
+pub left_slotted_none : (groups new_groups : List ℕ) (slots new_slots slot group : ℕ) → IsSlotted groups slots → slot < 64 → IsBitPut groups new_groups slot group 0 →
     slice_index new_groups slot ≡ 0 → bit_at new_slots slot ≡ 0 → ((i : ℕ) → i < 64 → i ≢ slot → bit_at new_slots i ≡ bit_at slots i) → IsSlotted new_groups new_slots
 left_slotted_none groups new_groups slots new_slots slot group a near mg none own others = record {
   marked = λ s hs some.

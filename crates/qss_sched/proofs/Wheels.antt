@@ -1,18 +1,18 @@
 -- Due ticks come into a wheel and go out of it, and which of them is the first.
-use Rattle.std.proofs.Common.{◌≡◌, ◌≢◌, ℕ, ◌+◌, ◌-◌, ◌*◌, ◌/◌, ◌%◌, ◌^◌, ◌<◌, ◌≤◌, inl, inr, List, Option, Some, None, ◌⊎◌, length, refl, sym, ◌∙◌, ap, arith}
+use Rattle.std.proofs.Common.{◌≡◌, ◌≢◌, ℕ, ◌+◌, ◌-◌, ◌*◌, ◌/◌, ◌%◌, ◌<◌, ◌≤◌, inl, inr, List, Option, Some, None, ◌⊎◌, length, refl, sym, ◌∙◌, ap, arith}
 use Rattle.std.proofs.lemmas.Bool.{cases_eq, cases_lt}
 use Rattle.std.proofs.lemmas.List.{get_or-set_same, get_or-set_other}
 use Rattle.std.proofs.lemmas.Nat.Bits.{bit_at-zero}
 use Rattle.std.specs.Prelude.{slice_index, slice_set}
 use Rattle.std.specs.Int.{bit_at}
 use Rattle.qss_sched.specs.Ranks.{due_at, AreTicks, IsLeast, HasNone}
-use Rattle.qss_sched.specs.Wheels.{place_bit, IsGrouped, IsSlotted, IsFirstSlot, IsFirstPlace, IsWheel}
+use Rattle.qss_sched.specs.Wheels.{place_bit, AreOthersKept, IsGrouped, IsSlotted, IsFirstSlot, IsFirstPlace, IsWheel}
 use Rattle.qss_sched.proofs.Places.{some_word}
 
 pub taken_out : (due new_due : List (Option ℕ)) (places groups new_places new_groups : List ℕ) (slots new_slots base place tick : ℕ) →
     IsWheel due places groups slots base → place < length due → due_at due place ≡ Some tick → new_due ≡ slice_set due place None → AreTicks new_due →
     IsGrouped new_places new_groups → IsSlotted new_groups new_slots → place_bit new_places (tick % 64) place ≡ 0 →
-    ((s p : ℕ) → s < 64 → p < 4096 → (p ≡ place → s ≢ tick % 64) → place_bit new_places s p ≡ place_bit places s p) →
+    AreOthersKept places new_places (tick % 64) place →
     IsWheel new_due new_places new_groups new_slots base
 taken_out due new_due places groups new_places new_groups slots new_slots base place tick a inside has put small grouped slotted gone others = record {
   small = small;
@@ -55,7 +55,7 @@ taken_out due new_due places groups new_places new_groups slots new_slots base p
 pub came_in : (due new_due : List (Option ℕ)) (places groups new_places new_groups : List ℕ) (slots new_slots base place tick : ℕ) →
     IsWheel due places groups slots base → place < length due → place < 4096 → base ≤ tick → tick < base + 64 → due_at due place ≡ None → new_due ≡ slice_set due place (Some tick) → AreTicks new_due →
     IsGrouped new_places new_groups → IsSlotted new_groups new_slots → place_bit new_places (tick % 64) place ≡ 1 →
-    ((s p : ℕ) → s < 64 → p < 4096 → (p ≡ place → s ≢ tick % 64) → place_bit new_places s p ≡ place_bit places s p) →
+    AreOthersKept places new_places (tick % 64) place →
     IsWheel new_due new_places new_groups new_slots base
 came_in due new_due places groups new_places new_groups slots new_slots base place tick a inside few from until none put small grouped slotted there others = record {
   small = small;
@@ -158,11 +158,3 @@ first_due due places groups slots base later place slot tick a is fs fp e = reco
         let marked = marked_slot due places groups slots base a other t f in
         absurd (omega (arith, ap (bit_at slots) slot_is, none, marked))
     by_order other t f (inr late) = let n = a.near other t f in omega (arith, n.0, tick_is)
-
--- a place at a marked slot is due
-pub first_some : (due : List (Option ℕ)) (places groups : List ℕ) (slots base slot place : ℕ) → IsWheel due places groups slots base → slot < 64 →
-    IsFirstPlace places slot place → due_at due place ≡ None → ⊥
-first_some due places groups slots base slot place a hs fp e =
-    let d = a.owed slot place hs fp.within fp.there in
-    let both : Some d.0 ≡ None = sym d.1 ∙ e in
-    absurd (cc)

@@ -7,19 +7,16 @@ use Rattle.qss_sched.specs.Ranks.{due_at, AreTicks}
 abbrev pub place_bit : List ℕ → ℕ → ℕ → ℕ
 place_bit places slot place = bit_at (slice_index places (64 * (place / 64) + slot)) (place % 64)
 
--- a bit of a word is marked, and no other changes
-pub record IsMarked (old new : List ℕ) (index bit : ℕ) : Type 0 where
+-- a bit of a word takes a value, and no other bit changes
+pub record IsBitPut (old new : List ℕ) (index bit value : ℕ) : Type 0 where
   pub as_many : length new ≡ length old
-  pub marked : bit_at (slice_index new index) bit ≡ 1
+  pub takes : bit_at (slice_index new index) bit ≡ value
   pub others : (i : ℕ) → i < 64 → i ≢ bit → bit_at (slice_index new index) i ≡ bit_at (slice_index old index) i
   pub apart : (k : ℕ) → k ≢ index → slice_index new k ≡ slice_index old k
 
--- a bit of a word is unmarked, and no other changes
-pub record IsUnmarked (old new : List ℕ) (index bit : ℕ) : Type 0 where
-  pub as_many : length new ≡ length old
-  pub unmarked : bit_at (slice_index new index) bit ≡ 0
-  pub others : (i : ℕ) → i < 64 → i ≢ bit → bit_at (slice_index new index) i ≡ bit_at (slice_index old index) i
-  pub apart : (k : ℕ) → k ≢ index → slice_index new k ≡ slice_index old k
+-- but for one place at one slot, each place is at the slots where it was
+abbrev pub AreOthersKept : List ℕ → List ℕ → ℕ → ℕ → Type 0
+AreOthersKept old new slot place = (s p : ℕ) → s < 64 → p < 4096 → (p ≡ place → s ≢ slot) → place_bit new s p ≡ place_bit old s p
 
 -- at each slot the groups of 64 places that have one there are marked
 pub record IsGrouped (places groups : List ℕ) : Type 0 where

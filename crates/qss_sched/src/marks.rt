@@ -1,13 +1,22 @@
 ghost use Rattle.std.specs.Prelude.{◌≡◌, ◌≢◌, ℕ, ◌+◌, ◌*◌, ◌<◌, ◌↔◌, IsTrue, length, slice_index};
 ghost use Rattle.std.specs.Int.{bit_at};
-ghost use Rattle.qss_sched.specs.Wheels.{place_bit, IsMarked, IsUnmarked, IsGrouped, IsSlotted, IsFirstSlot, IsFirstPlace};
+ghost use Rattle.qss_sched.specs.Wheels.{place_bit, AreOthersKept, IsBitPut, IsGrouped, IsSlotted, IsFirstSlot, IsFirstPlace};
+
+/// The bits of a word.
+pub(crate) const WORD_BITS: u32 = 64;
+
+/// How many ticks in a row are near. A tick's slot is the tick modulo this.
+pub(crate) const SLOTS: u32 = 64;
+
+/// How many places a wheel takes: those that have a bit in as many words as a word has bits.
+pub(crate) const NEAR_PLACES: u32 = WORD_BITS * WORD_BITS;
 
 // Marks a bit of a word.
 #[inline(always)]
 fn mark(words: &mut [u64], index: usize, bit: u32)
     requires index { index < length words.old }
     requires bit { bit < 64 }
-    ensures { IsMarked words.old words.new index bit }
+    ensures { IsBitPut words.old words.new index bit 1 }
 {
     words[index] |= 1u64 << bit;
 }
@@ -17,7 +26,7 @@ fn mark(words: &mut [u64], index: usize, bit: u32)
 fn unmark(words: &mut [u64], index: usize, bit: u32) -> bool
     requires index { index < length words.old }
     requires bit { bit < 64 }
-    ensures unmarked { IsUnmarked words.old words.new index bit }
+    ensures unmarked { IsBitPut words.old words.new index bit 0 }
     ensures empty { IsTrue result ↔ (slice_index words.new index ≡ 0) }
 {
     let word = words[index] & !(1u64 << bit);
@@ -27,7 +36,13 @@ fn unmark(words: &mut [u64], index: usize, bit: u32) -> bool
 
 /// A place comes to a slot. Gives the slots that then have a place.
 #[inline(always)]
-pub(crate) fn enter(places: &mut [u64], groups: &mut [u64], slots: u64, place: u32, slot: u32) -> u64
+pub(crate) fn enter(
+    places: &mut [u64],
+    groups: &mut [u64],
+    slots: u64,
+    place: u32,
+    slot: u32,
+) -> u64
     requires grouped { IsGrouped places.old groups.old }
     requires slotted { IsSlotted groups.old slots }
     requires place { place < 4096 }
@@ -35,16 +50,26 @@ pub(crate) fn enter(places: &mut [u64], groups: &mut [u64], slots: u64, place: u
     ensures grouped { IsGrouped places.new groups.new }
     ensures slotted { IsSlotted groups.new result }
     ensures there { place_bit places.new slot place ≡ 1 }
-    ensures others { (s p : ℕ) → s < 64 → p < 4096 → (p ≡ place → s ≢ slot) → place_bit places.new s p ≡ place_bit places.old s p }
+    ensures others { AreOthersKept places.old places.new slot place }
 {
-    mark(places, (64 * (place / 64) + slot) as usize, place % 64);
-    mark(groups, slot as usize, place / 64);
+    mark(
+        places,
+        (SLOTS * (place / WORD_BITS) + slot) as usize,
+        place % WORD_BITS,
+    );
+    mark(groups, slot as usize, place / WORD_BITS);
     slots | 1u64 << slot
 }
 
 /// A place leaves a slot. Gives the slots that then have a place.
 #[inline(always)]
-pub(crate) fn leave(places: &mut [u64], groups: &mut [u64], slots: u64, place: u32, slot: u32) -> u64
+pub(crate) fn leave(
+    places: &mut [u64],
+    groups: &mut [u64],
+    slots: u64,
+    place: u32,
+    slot: u32,
+) -> u64
     requires grouped { IsGrouped places.old groups.old }
     requires slotted { IsSlotted groups.old slots }
     requires place { place < 4096 }
@@ -53,12 +78,16 @@ pub(crate) fn leave(places: &mut [u64], groups: &mut [u64], slots: u64, place: u
     ensures grouped { IsGrouped places.new groups.new }
     ensures slotted { IsSlotted groups.new result }
     ensures gone { place_bit places.new slot place ≡ 0 }
-    ensures others { (s p : ℕ) → s < 64 → p < 4096 → (p ≡ place → s ≢ slot) → place_bit places.new s p ≡ place_bit places.old s p }
+    ensures others { AreOthersKept places.old places.new slot place }
 {
-    if !unmark(places, (64 * (place / 64) + slot) as usize, place % 64) {
+    if !unmark(
+        places,
+        (SLOTS * (place / WORD_BITS) + slot) as usize,
+        place % WORD_BITS,
+    ) {
         return slots;
     }
-    if !unmark(groups, slot as usize, place / 64) {
+    if !unmark(groups, slot as usize, place / WORD_BITS) {
         return slots;
     }
     slots & !(1u64 << slot)
@@ -75,7 +104,7 @@ pub(crate) fn first_slot(slots: u64, from: u32) -> u32
     if rest != 0 {
         rest.trailing_zeros()
     } else {
-        slots.trailing_zeros() + (64 - from)
+        slots.trailing_zeros() + (SLOTS - from)
     }
 }
 
@@ -88,6 +117,6 @@ pub(crate) fn first_place(places: &[u64], groups: &[u64], slot: u32) -> u32
     ensures { IsFirstPlace places.now slot result }
 {
     let group = groups[slot as usize].trailing_zeros();
-    let word = places[(64 * group + slot) as usize];
-    64 * group + word.trailing_zeros()
+    let word = places[(SLOTS * group + slot) as usize];
+    WORD_BITS * group + word.trailing_zeros()
 }

@@ -2,13 +2,14 @@ ghost use Rattle.std.specs.Prelude.{◌≡◌, ℕ, ◌+◌, ◌<◌, ◌≤◌,
 ghost use Rattle.qss_sched.specs.Ranks.{due_at};
 ghost use Rattle.qss_sched.specs.Wheels.{IsWheel};
 
-use crate::marks::{enter, first_place, first_slot, leave};
+use crate::marks::{NEAR_PLACES, SLOTS, WORD_BITS, enter, first_place, first_slot, leave};
 use crate::ranks::{is_same, no_ticks, put_tick, tick_of};
 use std::alloc::{AllocError, Global};
 use std::marker::Model;
 
-/// Near due ticks by place: those among the 64 ticks from a base on. Of each slot, which is a tick modulo 64, the places at it
-/// are bits of 64 words, which of those words has one is a bit of one word, and the slots that have one are bits of one more.
+/// Near due ticks by place: those among the 64 ticks from a base on, of places below 4096. A slot
+/// is a tick modulo 64. The places at a slot are bits of 64 words, which of these words has a bit is
+/// a bit of one word, and the slots that have a place are bits of one more.
 #[derive(Drop)]
 pub(crate) struct Wheel {
     due: Vec<Option<u64>>,
@@ -43,16 +44,23 @@ fn zeros(alloc: Global, n: usize) -> Result<Vec<u64>, AllocError>
 
 // A place has no near due tick any more. Gives the slots that then have a place.
 #[inline(always)]
-fn take_out(due: &mut [Option<u64>], places: &mut [u64], groups: &mut [u64], slots: u64, place: u32) -> u64
+fn take_out(
+    due: &mut [Option<u64>],
+    places: &mut [u64],
+    groups: &mut [u64],
+    slots: u64,
+    place: u32,
+) -> u64
     requires place { place < length due.old }
     requires wheel { (base : ℕ) × IsWheel due.old places.old groups.old slots base }
     ensures due { due.new ≡ slice_set due.old place None }
-    ensures wheel { (base : ℕ) → IsWheel due.old places.old groups.old slots base → IsWheel due.new places.new groups.new result base }
+    ensures wheel { (base : ℕ) → IsWheel due.old places.old groups.old slots base
+        → IsWheel due.new places.new groups.new result base }
 {
     match tick_of(due, place) {
         Some(tick) => {
             put_tick(due, place, None);
-            leave(places, groups, slots, place, (tick % 64) as u32)
+            leave(places, groups, slots, place, (tick % SLOTS as u64) as u32)
         }
         None => slots,
     }
@@ -60,26 +68,44 @@ fn take_out(due: &mut [Option<u64>], places: &mut [u64], groups: &mut [u64], slo
 
 // A place that has no near due tick takes this one. Gives the slots that then have a place.
 #[inline(always)]
-fn put_in(due: &mut [Option<u64>], places: &mut [u64], groups: &mut [u64], slots: u64, place: u32, tick: u64) -> u64
+fn put_in(
+    due: &mut [Option<u64>],
+    places: &mut [u64],
+    groups: &mut [u64],
+    slots: u64,
+    place: u32,
+    tick: u64,
+) -> u64
     requires place { place < length due.old }
     requires near { place < 4096 }
     requires none { due_at due.old place ≡ None }
     requires wheel { (base : ℕ) × IsWheel due.old places.old groups.old slots base }
     ensures due { due.new ≡ slice_set due.old place (Some tick) }
-    ensures wheel { (base : ℕ) → base ≤ tick → tick < base + 64 → IsWheel due.old places.old groups.old slots base → IsWheel due.new places.new groups.new result base }
+    ensures wheel { (base : ℕ) → base ≤ tick → tick < base + 64
+        → IsWheel due.old places.old groups.old slots base
+        → IsWheel due.new places.new groups.new result base }
 {
     put_tick(due, place, Some(tick));
-    enter(places, groups, slots, place, (tick % 64) as u32)
+    enter(places, groups, slots, place, (tick % SLOTS as u64) as u32)
 }
 
 // A place takes this near due tick in place of its own. Gives the slots that then have a place.
 #[inline(always)]
-fn move_to(due: &mut [Option<u64>], places: &mut [u64], groups: &mut [u64], slots: u64, place: u32, tick: u64) -> u64
+fn move_to(
+    due: &mut [Option<u64>],
+    places: &mut [u64],
+    groups: &mut [u64],
+    slots: u64,
+    place: u32,
+    tick: u64,
+) -> u64
     requires place { place < length due.old }
     requires near { place < 4096 }
     requires wheel { (base : ℕ) × IsWheel due.old places.old groups.old slots base }
     ensures due { due.new ≡ slice_set due.old place (Some tick) }
-    ensures wheel { (base : ℕ) → base ≤ tick → tick < base + 64 → IsWheel due.old places.old groups.old slots base → IsWheel due.new places.new groups.new result base }
+    ensures wheel { (base : ℕ) → base ≤ tick → tick < base + 64
+        → IsWheel due.old places.old groups.old slots base
+        → IsWheel due.new places.new groups.new result base }
 {
     let left = take_out(due, places, groups, slots, place);
     put_in(due, places, groups, left, place, tick)
@@ -96,8 +122,8 @@ impl Wheel {
         ensures none { IfOk result HasNone }
     {
         let due = no_ticks(alloc, n)?;
-        let places = zeros(alloc, 4096)?;
-        let groups = zeros(alloc, 64)?;
+        let places = zeros(alloc, (SLOTS * WORD_BITS) as usize)?;
+        let groups = zeros(alloc, SLOTS as usize)?;
         Ok(Wheel {
             due,
             places,
@@ -118,17 +144,25 @@ impl Wheel {
         }
     }
 
-    /// Gives a place this due tick and says so, or that the tick is not near and that nothing changed.
+    /// Gives a place this due tick and says so, or says that the tick is not near: then nothing
+    /// changed.
     #[inline(always)]
     pub(crate) fn accept(&mut self, place: u32, tick: u64) -> bool
         requires { place < length self.old }
         ensures { self.new ≡ (if result then slice_set self.old place (Some tick) else self.old) }
     {
-        if place >= 4096 || tick < self.base || tick - self.base >= 64 {
+        if place >= NEAR_PLACES || tick < self.base || tick - self.base >= SLOTS as u64 {
             return false;
         }
         if !is_same(tick_of(&self.due, place), Some(tick)) {
-            self.slots = move_to(&mut self.due, &mut self.places, &mut self.groups, self.slots, place, tick);
+            self.slots = move_to(
+                &mut self.due,
+                &mut self.places,
+                &mut self.groups,
+                self.slots,
+                place,
+                tick,
+            );
         }
         true
     }
@@ -139,7 +173,13 @@ impl Wheel {
         requires { place < length self.old }
         ensures { self.new ≡ slice_set self.old place None }
     {
-        self.slots = take_out(&mut self.due, &mut self.places, &mut self.groups, self.slots, place);
+        self.slots = take_out(
+            &mut self.due,
+            &mut self.places,
+            &mut self.groups,
+            self.slots,
+            place,
+        );
     }
 
     /// The least near due tick and the least place that has it.
@@ -150,8 +190,8 @@ impl Wheel {
         if self.slots == 0 {
             return None;
         }
-        let from = (self.base % 64) as u32;
-        let slot = (from + first_slot(self.slots, from)) % 64;
+        let from = (self.base % SLOTS as u64) as u32;
+        let slot = (from + first_slot(self.slots, from)) % SLOTS;
         let place = first_place(&self.places, &self.groups, slot);
         match tick_of(&self.due, place) {
             Some(tick) => Some((tick, place)),

@@ -13,7 +13,7 @@ returns-clause-unmarked c =
     let held = get_or-set_same words c.args.index _ 0 c.requires.index in
     record {
       as_many = length-set words c.args.index _;
-      unmarked = ap (λ w. bit_at w c.args.bit) held ∙ bit_at_clear_same w64 word c.args.bit c.requires.bit;
+      takes = ap (λ w. bit_at w c.args.bit) held ∙ bit_at_clear_same w64 word c.args.bit c.requires.bit;
       others = λ i within apart. ap (λ w. bit_at w i) held ∙ bit_at_clear_other w64 word c.args.bit c.requires.bit i within apart;
       apart = λ k other. get_or-set_other words c.args.index k _ 0 other;
     }

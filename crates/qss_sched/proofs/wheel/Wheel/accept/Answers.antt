@@ -11,7 +11,7 @@ invariant_of-self c =
     let many_groups : length moved.new.groups ≡ c.self.inside.groups.len = moved.auto.groups ∙ c.deref_mut-then-not-is_same-2.ensures.len in
     rw (take_at moved.new.due _ _ many_due, take_at moved.new.places _ _ many_places, take_at moved.new.groups _ _ many_groups)
     ((rw (c.deref_mut.ensures.value, c.deref_mut-then-not-is_same.ensures.value, c.deref_mut-then-not-is_same-2.ensures.value) at moved.ensures.wheel)
-    c.self.inside.base c.if-tick-self.false (omega (arith, c.if-tick-self-ge64.false)) c.self.invariant)
+    c.self.inside.base c.if-tick-self.false (omega (arith, c.if-tick-self-2.false)) c.self.invariant)
 
 pub returns-then-not-is_same : goal.returns-then-not-is_same
 returns-then-not-is_same c =
