@@ -39,5 +39,5 @@ returns g c =
     let answer : FitsSigned w128 c.next_level.result = record { sfits = c.next_level.type_inv } in
     let next : IsNextLevel (IsRuled c.args.q.now.name) m c.args.var (state_at c.args.line.now c.args.tick) c.args.line.now.level c.next_level.result =
     subst (λ z. IsNextLevel (IsRuled c.args.q.now.name) m c.args.var z c.args.line.now.level c.next_level.result) (to_z-of_z w128 c.value_at-x.result x ∙ c.value_at-x.ensures)
-    (subst (λ old. IsNextLevel (IsRuled c.args.q.now.name) m c.args.var (to_z w128 (of_z w128 c.value_at-x.result)) old c.next_level.result) (to_z-of_z w64 c.line.inside.level level ∙ ap (λ (l : Line). l.level) c.line.view_is) c.next_level.ensures) in
+    (subst (λ old. IsNextLevel (IsRuled c.args.q.now.name) m c.args.var (to_z w128 (of_z w128 c.value_at-x.result)) old c.next_level.result) (to_z-of_z w64 c.line.inside.level level ∙ ap (λ (l : Line). l.level) c.line.view_is) c.next_level.ensures.next) in
     rw (to_z-of_z w128 c.next_level.result answer) (answer_at c.args.q.now.name m c.args.var (state_at c.args.line.now c.args.tick) c.args.line.now.level c.next_level.result at.away next)
