@@ -1,51 +1,10 @@
--- Due ticks come into a wheel and go out of it, and which of them is the first.
-use Rattle.std.proofs.Common.{◌≡◌, ◌≢◌, ℕ, ◌+◌, ◌-◌, ◌*◌, ◌/◌, ◌%◌, ◌<◌, ◌≤◌, inl, inr, List, Option, Some, None, ◌⊎◌, length, refl, sym, ◌∙◌, ap, arith}
+-- A due tick comes into a wheel, and which of them is the first.
+use Rattle.std.proofs.Common.{◌≡◌, ◌≢◌, ℕ, ◌+◌, ◌-◌, ◌%◌, ◌<◌, ◌≤◌, inl, inr, List, Option, Some, None, ◌⊎◌, length, refl, sym, ◌∙◌, ap, arith}
 use Rattle.std.proofs.lemmas.Bool.{cases_eq, cases_lt}
 use Rattle.std.proofs.lemmas.List.{get_or-set_same, get_or-set_other}
-use Rattle.std.specs.Prelude.{slice_index, slice_set}
+use Rattle.std.specs.Prelude.{slice_set}
 use Rattle.qss_sched.specs.Ranks.{due_at, AreTicks, IsLeast, HasNone}
 use Rattle.qss_sched.specs.Wheels.{place_bit, AreOthersKept, HasNoPlace, IsEarliest, IsWheel}
-
-pub taken_out : (due new_due : List (Option ℕ)) (places new_places : List ℕ) (base place tick : ℕ) →
-    IsWheel due places base → place < length due → due_at due place ≡ Some tick → new_due ≡ slice_set due place None → AreTicks new_due →
-    place_bit new_places (tick % 64) place ≡ 0 →
-    AreOthersKept places new_places (tick % 64) place →
-    IsWheel new_due new_places base
-taken_out due new_due places new_places base place tick a inside has put small gone others = record {
-  small = small;
-  near = λ p t e. let o = old p t e in a.near p t o.1;
-  held = λ p t e.
-      let o = old p t e in
-      others (t % 64) p (omega arith) (a.near p t o.1).2 (λ same. absurd (o.0 same)) ∙ a.held p t o.1;
-  owed = λ s p hs hp bit.
-      elim (cases_eq p place) [
-        | inl same ↦ absurd (no_bit s p hs hp same bit)
-        | inr apart ↦
-            let d = a.owed s p hs hp (sym (others s p hs hp (λ same. absurd (apart same))) ∙ bit) in
-            (d.0, (ap (λ l. due_at l p) put ∙ get_or-set_other due place p None None apart) ∙ d.1, d.2)
-      ];
-}
-  where
-    gone_due : due_at new_due place ≡ None
-    gone_due = ap (λ l. due_at l place) put ∙ get_or-set_same due place None None inside
-
-    old : (p t : ℕ) → due_at new_due p ≡ Some t → (p ≢ place) × (due_at due p ≡ Some t)
-    old p t e =
-        elim (cases_eq p place) [
-          | inl same ↦ let no : due_at new_due p ≡ None = ap (due_at new_due) same ∙ gone_due in absurd (cc)
-          | inr apart ↦ (apart, sym (ap (λ l. due_at l p) put ∙ get_or-set_other due place p None None apart) ∙ e)
-        ]
-
-    no_bit : (s p : ℕ) → s < 64 → p < 4096 → p ≡ place → place_bit new_places s p ≡ 1 → ⊥
-    no_bit s p hs hp same bit =
-        elim (cases_eq s (tick % 64)) [
-          | inl e ↦ let zero : place_bit new_places s p ≡ 0 = ap (λ k. place_bit new_places k p) e ∙ (ap (place_bit new_places (tick % 64)) same ∙ gone) in omega (arith, zero, bit)
-          | inr n ↦
-              let d = a.owed s p hs hp (sym (others s p hs hp (λ _. n)) ∙ bit) in
-              let both : Some d.0 ≡ Some tick = sym d.1 ∙ (ap (due_at due) same ∙ has) in
-              let ticks : d.0 ≡ tick = cc in
-              n (sym d.2 ∙ ap (λ t. t % 64) ticks)
-        ]
 
 pub came_in : (due new_due : List (Option ℕ)) (places new_places : List ℕ) (base place tick : ℕ) →
     IsWheel due places base → place < length due → place < 4096 → base ≤ tick → tick < base + 64 → due_at due place ≡ None → new_due ≡ slice_set due place (Some tick) → AreTicks new_due →
@@ -103,16 +62,6 @@ none_due due places base a none place = by_due (due_at due place) refl
     by_due (Some tick) e =
         let no = none (tick % 64) place (omega arith) (a.near place tick e).2 in
         absurd (omega (arith, a.held place tick e, no))
-
--- with another base that is as near a wheel stays one
-pub rebased : (due : List (Option ℕ)) (places : List ℕ) (base tick : ℕ) → IsWheel due places base →
-    ((place due_tick : ℕ) → due_at due place ≡ Some due_tick → (tick ≤ due_tick) × (due_tick < tick + 64)) → IsWheel due places tick
-rebased due places base tick a h = record {
-  small = a.small;
-  near = λ p t e. let n = h p t e in (n.0, n.1, (a.near p t e).2);
-  held = a.held;
-  owed = a.owed;
-}
 
 pub first_due : (due : List (Option ℕ)) (places : List ℕ) (base place tick : ℕ) → IsWheel due places base →
     IsEarliest places (base % 64) place → due_at due place ≡ Some tick → IsLeast due tick place

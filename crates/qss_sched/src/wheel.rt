@@ -33,7 +33,8 @@ fn take_out(due: &mut [Option<u64>], marks: &mut Marks, place: u32)
     requires place { place < length due.old }
     requires wheel { (base : ℕ) × IsWheel due.old marks.old base }
     ensures due { due.new ≡ slice_set due.old place None }
-    ensures wheel { (base : ℕ) → IsWheel due.old marks.old base → IsWheel due.new marks.new base }
+    ensures wheel { (base : ℕ) → IsWheel due.old marks.old base
+        → IsWheel due.new marks.new base }
 {
     if let Some(tick) = tick_of(due, place) {
         put_tick(due, place, None);
@@ -89,7 +90,7 @@ impl Wheel {
         })
     }
 
-    /// Nothing is due before this tick: the wheel's base moves on to it, if it is not past it.
+    /// Nothing is due before this tick: the wheel's base moves on to it, never back.
     #[inline(always)]
     pub(crate) fn advance(&mut self, tick: u64)
         requires { (place due : ℕ) → due_at self.old place ≡ Some due → tick ≤ due }

@@ -1,8 +1,24 @@
 -- Either word may have another bit: then what it stands for stays marked.
 use Rattle.std.proofs.Common.{◌≡◌, ◌∙◌, length, refl}
 use Rattle.std.proofs.lemmas.List.{take_at}
-use Rattle.qss_sched.proofs.Places.{left_group, left_slot, others_kept}
+use Rattle.qss_sched.proofs.Places.{left_word, left_group, left_slot, others_kept}
 use Rattle.qss_sched.proofs.marks.Marks.leave.Goals as goal
+
+pub invariant_of-self : goal.invariant_of-self
+invariant_of-self c =
+    let m = c.self.inside in
+    let many_places : length c.unmark.new.words ≡ m.places.len = c.unmark.auto.words ∙ c.deref_mut.ensures.len in
+    rw (take_at c.unmark.new.words _ _ many_places)
+    (left_word m.places.items m.groups.items c.unmark.new.words m.slots c.args.place c.args.slot c.self.invariant c.requires.place c.requires.slot
+    (rw (← c.self.view_is) at c.requires.there)
+    (rw c.deref_mut.ensures.value at c.unmark.ensures.unmarked) (λ z. let e = c.if-not-unmark.ensures.empty.1 z in cc))
+
+pub returns-then-not-unmark-clause-others : goal.returns-then-not-unmark-clause-others
+returns-then-not-unmark-clause-others c =
+    let m = c.self.inside in
+    let many_places : length c.unmark.new.words ≡ m.places.len = c.unmark.auto.words ∙ c.deref_mut.ensures.len in
+    rw (take_at c.unmark.new.words _ _ many_places, ← c.self.view_is)
+    (others_kept m.places.items c.unmark.new.words c.args.place c.args.slot 0 c.requires.slot (rw c.deref_mut.ensures.value at c.unmark.ensures.unmarked))
 
 pub invariant_of-self-then-not-unmark-2 : goal.invariant_of-self-then-not-unmark-2
 invariant_of-self-then-not-unmark-2 c =
