@@ -2,10 +2,10 @@
 use Rattle.std.proofs.Common.{◌≡◌, ◌≢◌, ℕ, ◌+◌, ◌-◌, ◌*◌, ◌/◌, ◌%◌, ◌^◌, ◌<◌, ◌≤◌, inl, inr, ◌⊎◌, List, sym, ◌∙◌, ap, arith, w64}
 use Rattle.std.proofs.lemmas.Bool.{cases_eq, cases_lt}
 use Rattle.std.proofs.lemmas.Nat.{pow_pos, mod_below, div-add-mod', shr_le}
-use Rattle.std.proofs.lemmas.Nat.Bits.{bit_at-zero, bit_at-trailing_zeros, bit_at_above, bit_at_cat_high}
+use Rattle.std.proofs.lemmas.Nat.Bits.{bit_at-lt, bit_at-zero, bit_at-trailing_zeros, bit_at_above, bit_at_cat_high}
 use Rattle.std.specs.Prelude.{slice_index}
 use Rattle.std.specs.Int.{bit_at, trailing_zeros}
-use Rattle.qss_sched.specs.Wheels.{place_bit, IsGrouped, IsFirstSlot, IsFirstPlace}
+use Rattle.qss_sched.specs.Wheels.{place_bit, AreMarks, HasNoPlace, IsEarliest, IsGrouped, IsFirstSlot, IsFirstPlace}
 use Rattle.qss_sched.proofs.Places.{some_word}
 
 -- the bits of a number that is shifted down
@@ -124,3 +124,33 @@ place_found places groups slot group place a hs some fits is_group word_fits is_
               ]
           | inr apart ↦ omega (arith, more, apart, inner.0, is_place)
         ]
+
+-- the slot of a place is marked
+marked_slot : (places groups : List ℕ) (slots : ℕ) → AreMarks places groups slots → (slot place : ℕ) → slot < 64 → place < 4096 → place_bit places slot place ≡ 1 →
+    bit_at slots slot ≡ 1
+marked_slot places groups slots a slot place hs small bit =
+    let word = some_word (slice_index places (64 * (place / 64) + slot)) (place % 64) bit in
+    let group = a.grouped.marked slot (place / 64) hs (omega (arith, small)) word in
+    a.slotted.marked slot hs (some_word (slice_index groups slot) (place / 64) group)
+
+-- no place is at a slot that is not marked
+unmarked_slot : (places groups : List ℕ) (slots : ℕ) → AreMarks places groups slots → (slot place : ℕ) → slot < 64 → place < 4096 → bit_at slots slot ≡ 0 →
+    place_bit places slot place ≡ 0
+unmarked_slot places groups slots a slot place hs small none =
+    elim (cases_eq (place_bit places slot place) 1) [
+      | inl one ↦ absurd (omega (arith, marked_slot places groups slots a slot place hs small one, none))
+      | inr other ↦ omega (arith, other, bit_at-lt (slice_index places (64 * (place / 64) + slot)) (place % 64))
+    ]
+
+pub no_place : (places groups : List ℕ) (slots : ℕ) → AreMarks places groups slots → slots ≡ 0 → HasNoPlace places
+no_place places groups slots a zero slot place hs small =
+    unmarked_slot places groups slots a slot place hs small (ap (λ n. bit_at n slot) zero ∙ bit_at-zero slot)
+
+pub earliest : (places groups : List ℕ) (slots from later place : ℕ) → AreMarks places groups slots → IsFirstSlot slots from later → IsFirstPlace places ((from + later) % 64) place →
+    IsEarliest places from place
+earliest places groups slots from later place a fs fp = record {
+  later = later;
+  within = fs.within;
+  none = λ fewer other h small. unmarked_slot places groups slots a ((from + fewer) % 64) other (omega arith) small (fs.first fewer h);
+  is_first = fp;
+}

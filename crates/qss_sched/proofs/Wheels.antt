@@ -1,66 +1,18 @@
--- Due ticks come into a wheel and go out of it, and which of them is the first.
-use Rattle.std.proofs.Common.{◌≡◌, ◌≢◌, ℕ, ◌+◌, ◌-◌, ◌*◌, ◌/◌, ◌%◌, ◌<◌, ◌≤◌, inl, inr, List, Option, Some, None, ◌⊎◌, length, refl, sym, ◌∙◌, ap, arith}
+-- A due tick comes into a wheel, and which of them is the first.
+use Rattle.std.proofs.Common.{◌≡◌, ◌≢◌, ℕ, ◌+◌, ◌-◌, ◌%◌, ◌<◌, ◌≤◌, inl, inr, List, Option, Some, None, ◌⊎◌, length, refl, sym, ◌∙◌, ap, arith}
 use Rattle.std.proofs.lemmas.Bool.{cases_eq, cases_lt}
 use Rattle.std.proofs.lemmas.List.{get_or-set_same, get_or-set_other}
-use Rattle.std.proofs.lemmas.Nat.Bits.{bit_at-zero}
-use Rattle.std.specs.Prelude.{slice_index, slice_set}
-use Rattle.std.specs.Int.{bit_at}
+use Rattle.std.specs.Prelude.{slice_set}
 use Rattle.qss_sched.specs.Ranks.{due_at, AreTicks, IsLeast, HasNone}
-use Rattle.qss_sched.specs.Wheels.{place_bit, AreOthersKept, IsGrouped, IsSlotted, IsFirstSlot, IsFirstPlace, IsWheel}
-use Rattle.qss_sched.proofs.Places.{some_word}
+use Rattle.qss_sched.specs.Wheels.{place_bit, AreOthersKept, HasNoPlace, IsEarliest, IsWheel}
 
-pub taken_out : (due new_due : List (Option ℕ)) (places groups new_places new_groups : List ℕ) (slots new_slots base place tick : ℕ) →
-    IsWheel due places groups slots base → place < length due → due_at due place ≡ Some tick → new_due ≡ slice_set due place None → AreTicks new_due →
-    IsGrouped new_places new_groups → IsSlotted new_groups new_slots → place_bit new_places (tick % 64) place ≡ 0 →
+pub came_in : (due new_due : List (Option ℕ)) (places new_places : List ℕ) (base place tick : ℕ) →
+    IsWheel due places base → place < length due → place < 4096 → base ≤ tick → tick < base + 64 → due_at due place ≡ None → new_due ≡ slice_set due place (Some tick) → AreTicks new_due →
+    place_bit new_places (tick % 64) place ≡ 1 →
     AreOthersKept places new_places (tick % 64) place →
-    IsWheel new_due new_places new_groups new_slots base
-taken_out due new_due places groups new_places new_groups slots new_slots base place tick a inside has put small grouped slotted gone others = record {
+    IsWheel new_due new_places base
+came_in due new_due places new_places base place tick a inside few from until none put small there others = record {
   small = small;
-  grouped = grouped;
-  slotted = slotted;
-  near = λ p t e. let o = old p t e in a.near p t o.1;
-  held = λ p t e.
-      let o = old p t e in
-      others (t % 64) p (omega arith) (a.near p t o.1).2 (λ same. absurd (o.0 same)) ∙ a.held p t o.1;
-  owed = λ s p hs hp bit.
-      elim (cases_eq p place) [
-        | inl same ↦ absurd (no_bit s p hs hp same bit)
-        | inr apart ↦
-            let d = a.owed s p hs hp (sym (others s p hs hp (λ same. absurd (apart same))) ∙ bit) in
-            (d.0, (ap (λ l. due_at l p) put ∙ get_or-set_other due place p None None apart) ∙ d.1, d.2)
-      ];
-}
-  where
-    gone_due : due_at new_due place ≡ None
-    gone_due = ap (λ l. due_at l place) put ∙ get_or-set_same due place None None inside
-
-    old : (p t : ℕ) → due_at new_due p ≡ Some t → (p ≢ place) × (due_at due p ≡ Some t)
-    old p t e =
-        elim (cases_eq p place) [
-          | inl same ↦ let no : due_at new_due p ≡ None = ap (due_at new_due) same ∙ gone_due in absurd (cc)
-          | inr apart ↦ (apart, sym (ap (λ l. due_at l p) put ∙ get_or-set_other due place p None None apart) ∙ e)
-        ]
-
-    no_bit : (s p : ℕ) → s < 64 → p < 4096 → p ≡ place → place_bit new_places s p ≡ 1 → ⊥
-    no_bit s p hs hp same bit =
-        elim (cases_eq s (tick % 64)) [
-          | inl e ↦ let zero : place_bit new_places s p ≡ 0 = ap (λ k. place_bit new_places k p) e ∙ (ap (place_bit new_places (tick % 64)) same ∙ gone) in omega (arith, zero, bit)
-          | inr n ↦
-              let d = a.owed s p hs hp (sym (others s p hs hp (λ _. n)) ∙ bit) in
-              let both : Some d.0 ≡ Some tick = sym d.1 ∙ (ap (due_at due) same ∙ has) in
-              let ticks : d.0 ≡ tick = cc in
-              n (sym d.2 ∙ ap (λ t. t % 64) ticks)
-        ]
-
-pub came_in : (due new_due : List (Option ℕ)) (places groups new_places new_groups : List ℕ) (slots new_slots base place tick : ℕ) →
-    IsWheel due places groups slots base → place < length due → place < 4096 → base ≤ tick → tick < base + 64 → due_at due place ≡ None → new_due ≡ slice_set due place (Some tick) → AreTicks new_due →
-    IsGrouped new_places new_groups → IsSlotted new_groups new_slots → place_bit new_places (tick % 64) place ≡ 1 →
-    AreOthersKept places new_places (tick % 64) place →
-    IsWheel new_due new_places new_groups new_slots base
-came_in due new_due places groups new_places new_groups slots new_slots base place tick a inside few from until none put small grouped slotted there others = record {
-  small = small;
-  grouped = grouped;
-  slotted = slotted;
   near = λ p t e.
       elim (cases_eq p place) [
         | inl same ↦ let is = own p t same e in (omega (arith, is), omega (arith, is), omega (arith, same))
@@ -101,60 +53,38 @@ came_in due new_due places groups new_places new_groups slots new_slots base pla
               absurd (cc)
         ]
 
--- the slot of a due tick is marked
-marked_slot : (due : List (Option ℕ)) (places groups : List ℕ) (slots base : ℕ) → IsWheel due places groups slots base →
-    (place tick : ℕ) → due_at due place ≡ Some tick → bit_at slots (tick % 64) ≡ 1
-marked_slot due places groups slots base a place tick e =
-    let near : place < 4096 = (a.near place tick e).2 in
-    let group = a.grouped.marked (tick % 64) (place / 64) (omega arith) (omega arith) (some_word (slice_index places (64 * (place / 64) + tick % 64)) (place % 64) (a.held place tick e)) in
-    a.slotted.marked (tick % 64) (omega arith) (some_word (slice_index groups (tick % 64)) (place / 64) group)
-
--- where no slot is marked nothing is due
-pub none_due : (due : List (Option ℕ)) (places groups : List ℕ) (slots base : ℕ) → IsWheel due places groups slots base → slots ≡ 0 → HasNone due
-none_due due places groups slots base a zero place = by_due (due_at due place) refl
+-- where no place is at a slot nothing is due
+pub none_due : (due : List (Option ℕ)) (places : List ℕ) (base : ℕ) → IsWheel due places base → HasNoPlace places → HasNone due
+none_due due places base a none place = by_due (due_at due place) refl
   where
     by_due : (d : Option ℕ) → due_at due place ≡ d → due_at due place ≡ None
     by_due None e = e
     by_due (Some tick) e =
-        let marked = marked_slot due places groups slots base a place tick e in
-        let no : bit_at slots (tick % 64) ≡ 0 = ap (λ n. bit_at n (tick % 64)) zero ∙ bit_at-zero (tick % 64) in
-        absurd (omega (arith, marked, no))
+        let no = none (tick % 64) place (omega arith) (a.near place tick e).2 in
+        absurd (omega (arith, a.held place tick e, no))
 
--- with another base that is as near a wheel stays one
-pub rebased : (due : List (Option ℕ)) (places groups : List ℕ) (slots base tick : ℕ) → IsWheel due places groups slots base →
-    ((place due_tick : ℕ) → due_at due place ≡ Some due_tick → (tick ≤ due_tick) × (due_tick < tick + 64)) → IsWheel due places groups slots tick
-rebased due places groups slots base tick a h = record {
-  small = a.small;
-  grouped = a.grouped;
-  slotted = a.slotted;
-  near = λ p t e. let n = h p t e in (n.0, n.1, (a.near p t e).2);
-  held = a.held;
-  owed = a.owed;
-}
-
-pub first_due : (due : List (Option ℕ)) (places groups : List ℕ) (slots base later place slot tick : ℕ) → IsWheel due places groups slots base →
-    slot ≡ (base % 64 + later) % 64 → IsFirstSlot slots (base % 64) later → IsFirstPlace places slot place → due_at due place ≡ Some tick → IsLeast due tick place
-first_due due places groups slots base later place slot tick a is fs fp e = record {
+pub first_due : (due : List (Option ℕ)) (places : List ℕ) (base place tick : ℕ) → IsWheel due places base →
+    IsEarliest places (base % 64) place → due_at due place ≡ Some tick → IsLeast due tick place
+first_due due places base place tick a f e = record {
   has = e;
-  least = λ other t f. by_order other t f (cases_lt (t - base) later);
-  first = λ other f. fp.first other (a.near other tick f).2 (ap (λ s. place_bit places s other) (sym same) ∙ a.held other tick f);
+  least = λ other t g. by_order other t g (cases_lt (t - base) f.later);
+  first = λ other g. f.is_first.first other (a.near other tick g).2 (ap (λ s. place_bit places s other) (sym same) ∙ a.held other tick g);
 }
   where
-    same : tick % 64 ≡ slot
+    same : tick % 64 ≡ (base % 64 + f.later) % 64
     same =
-        let d = a.owed slot place (omega (arith, is)) fp.within fp.there in
+        let d = a.owed ((base % 64 + f.later) % 64) place (omega arith) f.is_first.within f.is_first.there in
         let both : Some d.0 ≡ Some tick = sym d.1 ∙ e in
         let ticks : d.0 ≡ tick = cc in
         ap (λ t. t % 64) (sym ticks) ∙ d.2
 
-    tick_is : tick ≡ base + later
-    tick_is = let n = a.near place tick e in omega (arith, n.0, n.1, fs.within, is, same)
+    tick_is : tick ≡ base + f.later
+    tick_is = let n = a.near place tick e in omega (arith, n.0, n.1, f.within, same)
 
-    by_order : (other t : ℕ) → due_at due other ≡ Some t → (t - base < later) ⊎ (later ≤ t - base) → tick ≤ t
-    by_order other t f (inl early) =
-        let n = a.near other t f in
+    by_order : (other t : ℕ) → due_at due other ≡ Some t → (t - base < f.later) ⊎ (f.later ≤ t - base) → tick ≤ t
+    by_order other t g (inl early) =
+        let n = a.near other t g in
         let slot_is : (base % 64 + (t - base)) % 64 ≡ t % 64 = omega (arith, n.0) in
-        let none = fs.first (t - base) early in
-        let marked = marked_slot due places groups slots base a other t f in
-        absurd (omega (arith, ap (bit_at slots) slot_is, none, marked))
-    by_order other t f (inr late) = let n = a.near other t f in omega (arith, n.0, tick_is)
+        let none = f.none (t - base) other early n.2 in
+        absurd (omega (arith, ap (λ s. place_bit places s other) slot_is, none, a.held other t g))
+    by_order other t g (inr late) = let n = a.near other t g in omega (arith, n.0, tick_is)

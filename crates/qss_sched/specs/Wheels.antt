@@ -42,11 +42,25 @@ pub record IsFirstPlace (places : List ℕ) (slot place : ℕ) : Type 0 where
   pub there : place_bit places slot place ≡ 1
   pub first : (other : ℕ) → other < 4096 → place_bit places slot other ≡ 1 → place ≤ other
 
--- what a wheel keeps: each due tick is one of the 64 from its base on, and its place is at the tick's slot and at no other
-pub record IsWheel (due : List (Option ℕ)) (places groups : List ℕ) (slots base : ℕ) : Type 0 where
-  pub small : AreTicks due
+-- no place is at a slot
+abbrev pub HasNoPlace : List ℕ → Type 0
+HasNoPlace places = (slot place : ℕ) → slot < 64 → place < 4096 → place_bit places slot place ≡ 0
+
+-- of the slots from one on, and on from the first after the last, the place is the first at the first slot that has one
+pub record IsEarliest (places : List ℕ) (from place : ℕ) : Type 0 where
+  pub later : ℕ
+  pub within : later < 64
+  pub none : (fewer other : ℕ) → fewer < later → other < 4096 → place_bit places ((from + fewer) % 64) other ≡ 0
+  pub is_first : IsFirstPlace places ((from + later) % 64) place
+
+-- what marks keep
+pub record AreMarks (places groups : List ℕ) (slots : ℕ) : Type 0 where
   pub grouped : IsGrouped places groups
   pub slotted : IsSlotted groups slots
+
+-- what a wheel keeps: each due tick is one of the 64 from its base on, and its place is at the tick's slot and at no other
+pub record IsWheel (due : List (Option ℕ)) (places : List ℕ) (base : ℕ) : Type 0 where
+  pub small : AreTicks due
   pub near : (place tick : ℕ) → due_at due place ≡ Some tick → (base ≤ tick) × (tick < base + 64) × (place < 4096)
   pub held : (place tick : ℕ) → due_at due place ≡ Some tick → place_bit places (tick % 64) place ≡ 1
   pub owed : (slot place : ℕ) → slot < 64 → place < 4096 → place_bit places slot place ≡ 1 → (tick : ℕ) × (due_at due place ≡ Some tick) × (tick % 64 ≡ slot)

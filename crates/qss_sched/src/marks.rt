@@ -1,6 +1,8 @@
-ghost use Rattle.std.specs.Prelude.{◌≡◌, ◌≢◌, ℕ, ◌+◌, ◌*◌, ◌<◌, ◌↔◌, IsTrue, length, slice_index};
-ghost use Rattle.std.specs.Int.{bit_at};
-ghost use Rattle.qss_sched.specs.Wheels.{place_bit, AreOthersKept, IsBitPut, IsGrouped, IsSlotted, IsFirstSlot, IsFirstPlace};
+ghost use Rattle.std.specs.Prelude.{◌≡◌, ◌≢◌, ℕ, ◌<◌, ◌↔◌, IsTrue, IfOk, length, slice_index, vec_len};
+ghost use Rattle.qss_sched.specs.Wheels.{IsBitPut, IsGrouped, IsFirstSlot, IsFirstPlace};
+
+use std::alloc::{AllocError, Global};
+use std::marker::Model;
 
 /// The bits of a word.
 pub(crate) const WORD_BITS: u32 = 64;
@@ -10,6 +12,38 @@ pub(crate) const SLOTS: u32 = 64;
 
 /// How many places a wheel takes: those that have a bit in as many words as a word has bits.
 pub(crate) const NEAR_PLACES: u32 = WORD_BITS * WORD_BITS;
+
+/// Which places are at which slots. The places at a slot are bits of 64 words, which of these words
+/// has a bit is a bit of one word, and the slots that have a place are bits of one more.
+#[derive(Drop)]
+pub(crate) struct Marks {
+    places: Vec<u64>,
+    groups: Vec<u64>,
+    slots: u64,
+}
+
+impl Model for Marks {
+    ghost use Rattle.std.specs.Prelude.{ℕ, List};
+    ghost use Rattle.qss_sched.specs.Wheels.{AreMarks};
+
+    ghost Value = { List ℕ };
+
+    ghost view = { λ m. m.places.items };
+
+    ghost invariant = { λ m. AreMarks m.places.items m.groups.items m.slots };
+}
+
+// As many words without a bit.
+fn zeros(alloc: Global, n: u32) -> Result<Vec<u64>, AllocError>
+    ensures length { IfOk result (λ words. vec_len words ≡ n) }
+    ensures none { IfOk result (λ words. (i : ℕ) → slice_index words.items i ≡ 0) }
+{
+    let mut words = Vec::with_capacity(alloc, n as usize)?;
+    for _ in 0..n {
+        words.push(0)?;
+    }
+    Ok(words)
+}
 
 // Marks a bit of a word.
 #[inline(always)]
@@ -34,68 +68,9 @@ fn unmark(words: &mut [u64], index: usize, bit: u32) -> bool
     word == 0
 }
 
-/// A place comes to a slot. Gives the slots that then have a place.
+// How many slots after one the first marked one comes, where the first slot follows on the last.
 #[inline(always)]
-pub(crate) fn enter(
-    places: &mut [u64],
-    groups: &mut [u64],
-    slots: u64,
-    place: u32,
-    slot: u32,
-) -> u64
-    requires grouped { IsGrouped places.old groups.old }
-    requires slotted { IsSlotted groups.old slots }
-    requires place { place < 4096 }
-    requires slot { slot < 64 }
-    ensures grouped { IsGrouped places.new groups.new }
-    ensures slotted { IsSlotted groups.new result }
-    ensures there { place_bit places.new slot place ≡ 1 }
-    ensures others { AreOthersKept places.old places.new slot place }
-{
-    mark(
-        places,
-        (SLOTS * (place / WORD_BITS) + slot) as usize,
-        place % WORD_BITS,
-    );
-    mark(groups, slot as usize, place / WORD_BITS);
-    slots | 1u64 << slot
-}
-
-/// A place leaves a slot. Gives the slots that then have a place.
-#[inline(always)]
-pub(crate) fn leave(
-    places: &mut [u64],
-    groups: &mut [u64],
-    slots: u64,
-    place: u32,
-    slot: u32,
-) -> u64
-    requires grouped { IsGrouped places.old groups.old }
-    requires slotted { IsSlotted groups.old slots }
-    requires place { place < 4096 }
-    requires slot { slot < 64 }
-    requires there { place_bit places.old slot place ≡ 1 }
-    ensures grouped { IsGrouped places.new groups.new }
-    ensures slotted { IsSlotted groups.new result }
-    ensures gone { place_bit places.new slot place ≡ 0 }
-    ensures others { AreOthersKept places.old places.new slot place }
-{
-    if !unmark(
-        places,
-        (SLOTS * (place / WORD_BITS) + slot) as usize,
-        place % WORD_BITS,
-    ) {
-        return slots;
-    }
-    if !unmark(groups, slot as usize, place / WORD_BITS) {
-        return slots;
-    }
-    slots & !(1u64 << slot)
-}
-
-/// How many slots after one the first marked one comes, where the first slot follows on the last.
-#[inline(always)]
-pub(crate) fn first_slot(slots: u64, from: u32) -> u32
+fn first_slot(slots: u64, from: u32) -> u32
     requires some { 0 < slots }
     requires from { from < 64 }
     ensures { IsFirstSlot slots from result }
@@ -108,9 +83,9 @@ pub(crate) fn first_slot(slots: u64, from: u32) -> u32
     }
 }
 
-/// The first place at a slot that has one.
+// The first place at a slot that has one.
 #[inline(always)]
-pub(crate) fn first_place(places: &[u64], groups: &[u64], slot: u32) -> u32
+fn first_place(places: &[u64], groups: &[u64], slot: u32) -> u32
     requires grouped { IsGrouped places.now groups.now }
     requires slot { slot < 64 }
     requires some { slice_index groups.now slot ≢ 0 }
@@ -119,4 +94,68 @@ pub(crate) fn first_place(places: &[u64], groups: &[u64], slot: u32) -> u32
     let group = groups[slot as usize].trailing_zeros();
     let word = places[(SLOTS * group + slot) as usize];
     WORD_BITS * group + word.trailing_zeros()
+}
+
+impl Marks {
+    ghost use Rattle.std.specs.Prelude.{◌≡◌, ◌<◌, IfOk, MatchOption};
+    ghost use Rattle.qss_sched.specs.Wheels.{place_bit, AreOthersKept, HasNoPlace, IsEarliest};
+
+    /// No place at any slot. It takes all the memory that it ever needs.
+    pub(crate) fn without_places(alloc: Global) -> Result<Marks, AllocError>
+        ensures { IfOk result HasNoPlace }
+    {
+        let places = zeros(alloc, SLOTS * WORD_BITS)?;
+        let groups = zeros(alloc, SLOTS)?;
+        Ok(Marks {
+            places,
+            groups,
+            slots: 0,
+        })
+    }
+
+    /// A place comes to a slot.
+    #[inline(always)]
+    pub(crate) fn enter(&mut self, place: u32, slot: u32)
+        requires place { place < 4096 }
+        requires slot { slot < 64 }
+        ensures there { place_bit self.new slot place ≡ 1 }
+        ensures others { AreOthersKept self.old self.new slot place }
+    {
+        let word = (SLOTS * (place / WORD_BITS) + slot) as usize;
+        mark(&mut self.places, word, place % WORD_BITS);
+        mark(&mut self.groups, slot as usize, place / WORD_BITS);
+        self.slots |= 1u64 << slot;
+    }
+
+    /// A place leaves a slot.
+    #[inline(always)]
+    pub(crate) fn leave(&mut self, place: u32, slot: u32)
+        requires place { place < 4096 }
+        requires slot { slot < 64 }
+        requires there { place_bit self.old slot place ≡ 1 }
+        ensures gone { place_bit self.new slot place ≡ 0 }
+        ensures others { AreOthersKept self.old self.new slot place }
+    {
+        let word = (SLOTS * (place / WORD_BITS) + slot) as usize;
+        if !unmark(&mut self.places, word, place % WORD_BITS) {
+            return;
+        }
+        if !unmark(&mut self.groups, slot as usize, place / WORD_BITS) {
+            return;
+        }
+        self.slots &= !(1u64 << slot);
+    }
+
+    /// The first place at the first slot that has one, from a slot on and round to the one before.
+    #[inline(always)]
+    pub(crate) fn first(&self, from: u32) -> Option<u32>
+        requires { from < 64 }
+        ensures { MatchOption result (HasNoPlace self.now) (IsEarliest self.now from) }
+    {
+        if self.slots == 0 {
+            return None;
+        }
+        let slot = (from + first_slot(self.slots, from)) % SLOTS;
+        Some(first_place(&self.places, &self.groups, slot))
+    }
 }
