@@ -3,12 +3,13 @@
 ghost use Rattle.std.specs.Prelude.{◌≡◌, IfOk, map};
 ghost use Rattle.mu_tree.specs.Expression.{expression, reference, signed, scaled};
 
+use crate::copied::Copied;
 use mu_tree::expr::{Expr, Factor, Ref, Term};
 use std::alloc::{AllocError, Global};
 
-/// An equal expression.
+// An equal expression.
 #[cycle(copying)]
-pub fn copy_expression(alloc: Global, value: &Expr) -> Result<Expr, AllocError>
+pub(crate) fn copy_expression(alloc: Global, value: &Expr) -> Result<Expr, AllocError>
     ensures { IfOk result (λ copy. expression copy ≡ expression value.now) }
 {
     match value {
@@ -101,4 +102,12 @@ fn copy_factors(alloc: Global, factors: &[Factor]) -> Result<Vec<Factor>, AllocE
         })?;
     }
     Ok(all)
+}
+
+impl Copied for Expr {
+    fn copy(&self, alloc: Global) -> Result<Expr, AllocError>
+        ensures { IfOk result (λ copy. expression copy ≡ expression self.now) }
+    {
+        copy_expression(alloc, self)
+    }
 }

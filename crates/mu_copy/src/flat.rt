@@ -13,6 +13,7 @@ ghost use Rattle.mu_flat.specs.FlatExpression.{
   flat_variable,
 };
 
+use crate::copied::Copied;
 use mu_flat::{
     FlatBranch, FlatClause, FlatEquation, FlatExpr, FlatFactor, FlatModel, FlatStatement, FlatTerm,
     FlatVar,
@@ -32,9 +33,9 @@ pub fn copy_flat_variable(alloc: Global, one: &FlatVar) -> Result<FlatVar, Alloc
     })
 }
 
-/// An equal expression.
+// An equal expression.
 #[cycle(copying_flat)]
-pub fn copy_flat_expression(alloc: Global, value: &FlatExpr) -> Result<FlatExpr, AllocError>
+fn copy_flat_expression(alloc: Global, value: &FlatExpr) -> Result<FlatExpr, AllocError>
     ensures { IfOk result (λ copy. flat_expression copy ≡ flat_expression value.now) }
 {
     match value {
@@ -209,8 +210,8 @@ fn copy_flat_clauses(alloc: Global, clauses: &[FlatClause]) -> Result<Vec<FlatCl
     Ok(all)
 }
 
-/// An equal flat model.
-pub fn copy_flat_model(alloc: Global, m: &FlatModel) -> Result<FlatModel, AllocError>
+// An equal flat model.
+fn copy_flat_model(alloc: Global, m: &FlatModel) -> Result<FlatModel, AllocError>
     ensures { IfOk result (λ copy. flat_model copy ≡ flat_model m.now) }
 {
     let vars = copy_vars(alloc, &m.vars)?;
@@ -221,4 +222,20 @@ pub fn copy_flat_model(alloc: Global, m: &FlatModel) -> Result<FlatModel, AllocE
         equations,
         clauses,
     })
+}
+
+impl Copied for FlatExpr {
+    fn copy(&self, alloc: Global) -> Result<FlatExpr, AllocError>
+        ensures { IfOk result (λ copy. flat_expression copy ≡ flat_expression self.now) }
+    {
+        copy_flat_expression(alloc, self)
+    }
+}
+
+impl Copied for FlatModel {
+    fn copy(&self, alloc: Global) -> Result<FlatModel, AllocError>
+        ensures { IfOk result (λ copy. flat_model copy ≡ flat_model self.now) }
+    {
+        copy_flat_model(alloc, self)
+    }
 }

@@ -14,6 +14,7 @@ ghost use Rattle.mu_tree.specs.ModelTree.{
   statement,
 };
 
+use crate::copied::Copied;
 use crate::expr::{copy_expression, copy_reference};
 use mu_tree::expr::Expr;
 use mu_tree::tree::{Branch, Clause, Cond, Decl, Equation, Model, SettingItem, Statement};
@@ -33,9 +34,9 @@ pub fn copy_condition(alloc: Global, cond: &Cond) -> Result<Cond, AllocError>
     })
 }
 
-/// An equal equation.
+// An equal equation.
 #[cycle(copying_equations)]
-pub fn copy_equation(alloc: Global, one: &Equation) -> Result<Equation, AllocError>
+fn copy_equation(alloc: Global, one: &Equation) -> Result<Equation, AllocError>
     ensures { IfOk result (λ copy. equation copy ≡ equation one.now) }
 {
     match one {
@@ -84,9 +85,9 @@ pub fn copy_equations(alloc: Global, equations: &[Equation]) -> Result<Vec<Equat
     Ok(all)
 }
 
-/// An equal statement.
+// An equal statement.
 #[cycle(copying_statements)]
-pub fn copy_statement(alloc: Global, one: &Statement) -> Result<Statement, AllocError>
+fn copy_statement(alloc: Global, one: &Statement) -> Result<Statement, AllocError>
     ensures { IfOk result (λ copy. statement copy ≡ statement one.now) }
 {
     match one {
@@ -159,9 +160,9 @@ pub fn copy_branches(alloc: Global, branches: &[Branch]) -> Result<Vec<Branch>, 
     Ok(all)
 }
 
-/// An equal clause.
+// An equal clause.
 #[cycle(copying_clauses)]
-pub fn copy_clause(alloc: Global, one: &Clause) -> Result<Clause, AllocError>
+fn copy_clause(alloc: Global, one: &Clause) -> Result<Clause, AllocError>
     ensures { IfOk result (λ copy. clause copy ≡ clause one.now) }
 {
     match one {
@@ -217,8 +218,8 @@ fn copy_optional(alloc: Global, value: &Option<Expr>) -> Result<Option<Expr>, Al
     }
 }
 
-/// An equal declaration.
-pub fn copy_decl(alloc: Global, decl: &Decl) -> Result<Decl, AllocError>
+// An equal declaration.
+fn copy_decl(alloc: Global, decl: &Decl) -> Result<Decl, AllocError>
     ensures { IfOk result (λ copy. declaration copy ≡ declaration decl.now) }
 {
     let name = decl.name.copy(alloc)?;
@@ -277,8 +278,8 @@ pub fn copy_settings(
     Ok(all)
 }
 
-/// An equal model.
-pub fn copy_model(alloc: Global, m: &Model) -> Result<Model, AllocError>
+// An equal model.
+fn copy_model(alloc: Global, m: &Model) -> Result<Model, AllocError>
     ensures { IfOk result (λ copy. model copy ≡ model m.now) }
 {
     let name = m.name.copy(alloc)?;
@@ -298,4 +299,44 @@ pub fn copy_model(alloc: Global, m: &Model) -> Result<Model, AllocError>
         clauses,
         settings,
     })
+}
+
+impl Copied for Equation {
+    fn copy(&self, alloc: Global) -> Result<Equation, AllocError>
+        ensures { IfOk result (λ copy. equation copy ≡ equation self.now) }
+    {
+        copy_equation(alloc, self)
+    }
+}
+
+impl Copied for Statement {
+    fn copy(&self, alloc: Global) -> Result<Statement, AllocError>
+        ensures { IfOk result (λ copy. statement copy ≡ statement self.now) }
+    {
+        copy_statement(alloc, self)
+    }
+}
+
+impl Copied for Clause {
+    fn copy(&self, alloc: Global) -> Result<Clause, AllocError>
+        ensures { IfOk result (λ copy. clause copy ≡ clause self.now) }
+    {
+        copy_clause(alloc, self)
+    }
+}
+
+impl Copied for Decl {
+    fn copy(&self, alloc: Global) -> Result<Decl, AllocError>
+        ensures { IfOk result (λ copy. declaration copy ≡ declaration self.now) }
+    {
+        copy_decl(alloc, self)
+    }
+}
+
+impl Copied for Model {
+    fn copy(&self, alloc: Global) -> Result<Model, AllocError>
+        ensures { IfOk result (λ copy. model copy ≡ model self.now) }
+    {
+        copy_model(alloc, self)
+    }
 }
