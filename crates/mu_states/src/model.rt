@@ -136,11 +136,11 @@ fn resume(alloc: Global, then: Then) -> State
 fn fixed_token(alloc: Global, expected: Fixed, then: Then, symbol: Symbol) -> Effect
     ensures { effect_of result ≡ meets (is_fixed expected (symbol_view symbol.entry)) (then_of then) }
 {
-    if expected.is(symbol) {
-        Effect::Advances(resume(alloc, then))
-    } else {
-        Effect::Refuses
+    let comes = expected.is(symbol);
+    if comes {
+        return Effect::Advances(resume(alloc, then));
     }
+    Effect::Refuses
 }
 
 // One token.
