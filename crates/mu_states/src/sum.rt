@@ -14,7 +14,7 @@ ghost use Rattle.mu_grammar.specs.ModelMachine.{receive, sum_move};
 ghost use Rattle.mu_grammar.specs.States.{outside, side_level};
 ghost use Rattle.mu_grammar.specs.SumMachine.{depth_at, step};
 ghost use Rattle.mu_states.specs.ItemViews.{settings_of};
-ghost use Rattle.mu_states.specs.ExpressionViews.{frames_of, position_of};
+ghost use Rattle.mu_states.specs.ExpressionViews.{frames_of, move_of, position_of};
 ghost use Rattle.mu_states.specs.SectionViews.{aim_of, component_of, effect_of, waiting_of};
 ghost use Rattle.mu_grammar.specs.SymbolViews.{symbol_view};
 
@@ -177,6 +177,26 @@ fn outside(waiting: &Waiting) -> u128
     }
 }
 
+// What a move in a sum does, where this many levels are open.
+fn sum_move(
+    alloc: Global,
+    waiting: Waiting,
+    level: u128,
+    next: Move,
+    frames: Vec<Frame>,
+    symbol: Symbol,
+) -> Result<Effect, AllocError>
+    ensures { IfOk result (λ e. effect_of e ≡ sum_move (waiting_of waiting) level
+        (move_of next frames.items) (symbol_view symbol.entry)) }
+{
+    match next {
+        Move::Moves(next) => Ok(Effect::Advances(State::Sum(waiting, next, frames))),
+        Move::Opens(next) => Ok(Effect::Descends(level, State::Sum(waiting, next, frames))),
+        Move::Ends(value) => receive(alloc, waiting, value, symbol),
+        Move::Wrong => Ok(Effect::Refuses),
+    }
+}
+
 /// In a sum.
 pub fn sum_token(
     alloc: Global,
@@ -189,12 +209,8 @@ pub fn sum_token(
 {
     let level = level_in(&waiting, &position, &frames);
     let mut frames = frames;
-    match step(alloc, position, &mut frames, symbol)? {
-        Move::Moves(next) => Ok(Effect::Advances(State::Sum(waiting, next, frames))),
-        Move::Opens(next) => Ok(Effect::Descends(level, State::Sum(waiting, next, frames))),
-        Move::Ends(value) => receive(alloc, waiting, value, symbol),
-        Move::Wrong => Ok(Effect::Refuses),
-    }
+    let next = step(alloc, position, &mut frames, symbol)?;
+    sum_move(alloc, waiting, level, next, frames, symbol)
 }
 
 // The levels that are open in a sum.
