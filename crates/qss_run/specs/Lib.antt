@@ -14,3 +14,4 @@ pub mod Renewals
 pub mod Handlings
 pub mod Rewatchings
 pub mod Reads
+pub mod Visitings

@@ -32,6 +32,7 @@ mod states;
 mod store;
 mod turned;
 mod visit;
+mod visiting;
 mod watches;
 mod watching;
 mod weighing;

@@ -16,6 +16,7 @@ ghost use Rattle.qss_quiet.specs.Rules.{IsRuled};
 ghost use Rattle.qss_quiet.specs.Sims.{weights_at};
 
 use crate::relevel::requantize_states;
+use crate::visiting::{Handled, NewLevels};
 use crate::weighing::reweigh_handled;
 use qss_hand::Work;
 use qss_machine::{Machine, Row, Uses};
@@ -79,5 +80,18 @@ pub(crate) fn requantize_handled(
     }
     let pre = work.pre.as_slice();
     let d = work.d.as_slice();
-    reweigh_handled(m, uses, moved, assigned, levels, pre, d, lines, weights)
+    let at = NewLevels {
+        machine: m,
+        uses,
+        tick,
+        moved,
+        levels,
+    };
+    let left = Handled {
+        assigned,
+        states: x,
+        before: pre,
+        discretes: d,
+    };
+    reweigh_handled(&at, &left, lines, weights)
 }

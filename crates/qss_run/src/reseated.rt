@@ -17,10 +17,12 @@ ghost use Rattle.qss_quiet.specs.Sims.{IsDue};
 ghost use Rattle.qss_quiet.specs.Writes.{IsWritten};
 ghost use Rattle.qss_run.specs.declared.shifts.RowSum.TheVariants as sum;
 ghost use Rattle.qss_run.specs.RowSums.{AreSumsBefore};
+ghost use Rattle.qss_run.specs.Visitings.{AreNewLevels, AreHandled, first_overweight, new_slopes, WereSums};
 
 use crate::shifts::shift_slopes;
 use crate::slopes::renew;
 use crate::turned::turn_readers;
+use crate::visiting::{Handled, NewLevels};
 use qss_machine::{Machine, Uses};
 use qss_quant::{Integrator, Steps};
 use qss_quiet::leaving;
@@ -68,34 +70,23 @@ fn slope_readers(
 }
 
 // The slopes of all rows follow where the moved states take their levels and the assigned discrete variables their values.
-fn follow_slopes(
-    m: &Machine,
-    uses: &Uses,
-    moved: &[u32],
-    assigned: &[u32],
-    levels: &[i64],
-    pre: &[i64],
-    d: &[i64],
-    lines: &[Integrator],
-    slopes: &mut [i128],
-)
-    requires uses { uses.now ≡ uses_of m.now }
-    requires moved { AreNumbers (state_count m.now) moved.now }
-    requires assigned_known { AreDiscretes m.now assigned.now }
-    requires assigned { AreAssigned m.now assigned.now pre.now d.now }
-    requires levels { length levels.now ≡ state_count m.now }
-    requires before_tick { length pre.now ≡ discrete_count m.now }
-    requires discretes { length d.now ≡ discrete_count m.now }
-    requires lines { length lines.now ≡ state_count m.now }
-    requires small_levels { All (IsWithin 43) levels.now }
-    requires small_before { All (IsWithin 43) pre.now }
-    requires small_discretes { All (IsWithin 43) d.now }
-    requires light { position (is_overweight m.now levels.now d.now) m.now.rows ≡ None }
-    requires before { (old : List ℤ) × AreSumsBefore sum.Slope m.now moved.now levels.now pre.now slopes.old lines.now old }
-    ensures { slopes.new ≡ tabulate (state_count m.now) (λ j. slope_at m.now j levels.now d.now) }
+fn follow_slopes(at: &NewLevels, left: &Handled, lines: &[Integrator], slopes: &mut [i128])
+    requires ready { AreNewLevels at.now }
+    requires left { AreHandled at.now.machine.now left.now }
+    requires lines { length lines.now ≡ state_count at.now.machine.now }
+    requires light { first_overweight at.now left.now.discretes.now ≡ None }
+    requires before { WereSums sum.Slope at.now left.now.before.now slopes.old lines.now }
+    ensures { slopes.new ≡ new_slopes at.now left.now.discretes.now }
 {
-    shift_slopes(m, uses, moved, levels, pre, lines, slopes);
-    slope_readers(m, uses, assigned, levels, d, slopes);
+    shift_slopes(at, left.before, lines, slopes);
+    slope_readers(
+        at.machine,
+        at.uses,
+        left.assigned,
+        at.levels,
+        left.discretes,
+        slopes,
+    );
 }
 
 // State j goes on from a tick at its slope, and the agenda has the tick at which it then leaves its quantum, whatever it
@@ -260,7 +251,20 @@ pub(crate) fn reslope_handled<L: Ledger>(
     ensures others { (place : ℕ) → state_count m.now ≤ place → due_at agenda.new place ≡ due_at agenda.old place }
     ensures counted { steps.new ≡ steps.old + renewals_from (state_count m.now) tick (states_with lines.old tick moved.now x.now) levels.now slopes.new lines.old }
 {
-    follow_slopes(m, uses, moved, assigned, levels, pre, d, lines, slopes);
+    let at = NewLevels {
+        machine: m,
+        uses,
+        tick,
+        moved,
+        levels,
+    };
+    let left = Handled {
+        assigned,
+        states: x,
+        before: pre,
+        discretes: d,
+    };
+    follow_slopes(&at, &left, lines, slopes);
     seat_each(m, tick, moved, x, levels, slopes, lines, agenda, steps);
     turn_readers(m, uses, tick, moved, levels, slopes, lines, agenda, steps);
     turn_readers(

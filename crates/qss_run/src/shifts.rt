@@ -1,17 +1,18 @@
 //! Slopes and weights along the changes of levels.
 
-ghost use Rattle.std.specs.Prelude.{◌≡◌, ℕ, ◌<◌, List, ℤ, pos, ◌-ℤ◌, ◌*ℤ◌, All, length, true};
+ghost use Rattle.std.specs.Prelude.{◌≡◌, ℕ, ◌<◌, pos, ◌-ℤ◌, ◌*ℤ◌, All, length, true};
 ghost use Rattle.mu_num.specs.Sizes.{IsWithin};
-ghost use Rattle.qss_machine.specs.Numbers.{int_at, tabulate};
+ghost use Rattle.qss_machine.specs.Numbers.{int_at};
 ghost use Rattle.qss_machine.specs.Slopes.{mode_fits};
-ghost use Rattle.qss_machine.specs.Machines.{state_count, discrete_count, row_at, mode_coefficient_at, slope_at};
-ghost use Rattle.qss_machine.specs.Uses.{uses_of};
+ghost use Rattle.qss_machine.specs.Machines.{state_count, discrete_count, row_at, mode_coefficient_at};
 ghost use Rattle.qss_quiet.specs.Among.{AreNumbers};
-ghost use Rattle.qss_run.specs.RowSums.{taken_by, sum_at, AreSumsBefore, HasFollowed};
+ghost use Rattle.qss_run.specs.RowSums.{taken_by, HasFollowed};
 ghost use Rattle.qss_quiet.specs.Writes.{IsWritten};
 ghost use Rattle.qss_run.specs.declared.shifts.RowSum.TheVariants as sum;
+ghost use Rattle.qss_run.specs.Visitings.{IsMode, AreNewLevels, new_sums, new_slopes, WereSums};
 
-use qss_machine::{Machine, Uses};
+use crate::visiting::{Mode, NewLevels};
+use qss_machine::Machine;
 use qss_quant::Integrator;
 
 /// A sum of a row over levels: its slope, or its weight, which takes the sizes of all numbers.
@@ -77,82 +78,74 @@ fn shift_of(kind: RowSum, m: &Machine, row: u32, state: u32, old: i64, new: i64,
 // The sums of these rows follow where a state takes another level.
 fn shift_rows(
     kind: RowSum,
-    m: &Machine,
+    at: &Mode,
     rows: &[u32],
     state: u32,
     old: i64,
     new: i64,
-    d: &[i64],
     sums: &mut [i128],
 )
-    requires rows { AreNumbers (state_count m.now) rows.now }
-    requires state { state < state_count m.now }
-    requires discretes { length d.now ≡ discrete_count m.now }
-    requires sums { length sums.old ≡ state_count m.now }
-    requires small_discretes { All (IsWithin 43) d.now }
-    requires small_sums { (j : ℕ) → j < state_count m.now → IsWithin 100 (int_at sums.old j) }
-    requires modes { (row : ℕ) → row < state_count m.now → mode_fits m.now.f (state_count m.now) (row_at m.now row) d.now ≡ true }
+    requires mode { IsMode at.now }
+    requires rows { AreNumbers (state_count at.now.machine.now) rows.now }
+    requires state { state < state_count at.now.machine.now }
+    requires sums { length sums.old ≡ state_count at.now.machine.now }
+    requires small_sums { (j : ℕ) → j < state_count at.now.machine.now
+        → IsWithin 100 (int_at sums.old j) }
     requires old { IsWithin 43 old }
     requires new { IsWithin 43 new }
-    ensures { IsWritten (pos 0) (HasFollowed kind m.now state old new d.now sums.old) rows.now sums.old sums.new }
+    ensures { IsWritten (pos 0)
+        (HasFollowed kind at.now.machine.now state old new at.now.discretes.now sums.old)
+        rows.now sums.old sums.new }
 {
     for row in rows {
         let j = *row as usize;
-        let change = shift_of(kind, m, *row, state, old, new, d);
+        let change = shift_of(kind, at.machine, *row, state, old, new, at.discretes);
         sums[j] += change;
     }
 }
 
-/// The sums of all rows follow where the moved states take their levels, from those of their lines.
+/// The sums of all rows, at these discrete values, follow where the moved states take their levels, from those of their lines.
 pub(crate) fn shift_sums(
     kind: RowSum,
-    m: &Machine,
-    uses: &Uses,
-    moved: &[u32],
-    levels: &[i64],
+    at: &NewLevels,
     d: &[i64],
     lines: &[Integrator],
     sums: &mut [i128],
 )
-    requires uses { uses.now ≡ uses_of m.now }
-    requires moved { AreNumbers (state_count m.now) moved.now }
-    requires levels { length levels.now ≡ state_count m.now }
-    requires discretes { length d.now ≡ discrete_count m.now }
-    requires lines { length lines.now ≡ state_count m.now }
-    requires small_levels { All (IsWithin 43) levels.now }
+    requires ready { AreNewLevels at.now }
+    requires discretes { length d.now ≡ discrete_count at.now.machine.now }
     requires small_discretes { All (IsWithin 43) d.now }
-    requires before { (old : List ℤ) × AreSumsBefore kind m.now moved.now levels.now d.now sums.old lines.now old }
-    ensures { sums.new ≡ tabulate (state_count m.now) (λ j. sum_at kind m.now j levels.now d.now) }
+    requires lines { length lines.now ≡ state_count at.now.machine.now }
+    requires before { WereSums kind at.now d.now sums.old lines.now }
+    ensures { sums.new ≡ new_sums kind at.now d.now }
 {
-    for state in moved {
+    for state in at.moved {
         let j = *state as usize;
         let line = &lines[j];
         let old = taken_level(kind, line.level);
-        let new = taken_level(kind, levels[j]);
-        let rows = uses.rows_of(*state);
-        shift_rows(kind, m, rows, *state, old, new, d, sums);
+        let new = taken_level(kind, at.levels[j]);
+        let rows = at.uses.rows_of(*state);
+        let mode = Mode {
+            machine: at.machine,
+            discretes: d,
+        };
+        shift_rows(kind, &mode, rows, *state, old, new, sums);
     }
 }
 
-/// The slopes of all rows follow where the moved states take their levels, from those of their lines.
+/// The slopes of all rows, at these discrete values, follow where the moved states take their levels, from those of their lines.
 pub(crate) fn shift_slopes(
-    m: &Machine,
-    uses: &Uses,
-    moved: &[u32],
-    levels: &[i64],
+    at: &NewLevels,
     d: &[i64],
     lines: &[Integrator],
     slopes: &mut [i128],
 )
-    requires uses { uses.now ≡ uses_of m.now }
-    requires moved { AreNumbers (state_count m.now) moved.now }
-    requires levels { length levels.now ≡ state_count m.now }
-    requires discretes { length d.now ≡ discrete_count m.now }
-    requires lines { length lines.now ≡ state_count m.now }
-    requires small_levels { All (IsWithin 43) levels.now }
+    requires ready { AreNewLevels at.now }
+    requires discretes { length d.now ≡ discrete_count at.now.machine.now }
     requires small_discretes { All (IsWithin 43) d.now }
-    requires before { (old : List ℤ) × AreSumsBefore sum.Slope m.now moved.now levels.now d.now slopes.old lines.now old }
-    ensures { slopes.new ≡ tabulate (state_count m.now) (λ j. slope_at m.now j levels.now d.now) }
+    requires lines { length lines.now ≡ state_count at.now.machine.now }
+    requires before { WereSums sum.Slope at.now d.now slopes.old lines.now }
+    ensures { slopes.new ≡ new_slopes at.now d.now }
 {
-    shift_sums(RowSum::Slope, m, uses, moved, levels, d, lines, slopes);
+    shift_sums(RowSum::Slope, at, d, lines, slopes);
 }

@@ -26,6 +26,7 @@ use crate::conditions::Conditions;
 use crate::relevel::requantize_due;
 use crate::store::Store;
 use crate::turned::reslope_of;
+use crate::visiting::NewLevels;
 use crate::weighing::reweigh_of;
 use qss_hand::Work;
 use qss_machine::{Machine, Row, Uses};
@@ -121,8 +122,15 @@ fn requantize_moved(
     if over.is_some() {
         return over;
     }
+    let at = NewLevels {
+        machine: m,
+        uses,
+        tick,
+        moved,
+        levels,
+    };
     let d = work.d.as_slice();
-    reweigh_of(m, uses, moved, levels, d, lines, weights)
+    reweigh_of(&at, d, lines, weights)
 }
 
 // The moved states and those whose rows read one of them go on from a tick at their new slopes, and the conditions that

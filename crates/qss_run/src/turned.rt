@@ -19,6 +19,7 @@ ghost use Rattle.qss_run.specs.RowSums.{AreSumsBefore};
 
 use crate::shifts::shift_slopes;
 use crate::slopes::reslope;
+use crate::visiting::NewLevels;
 use qss_machine::{Machine, Uses};
 use qss_quant::{Integrator, Steps};
 use qss_sched::Agenda;
@@ -154,7 +155,14 @@ pub(crate) fn reslope_of<L: Ledger>(
     ensures others { (place : ℕ) → state_count m.now ≤ place → due_at agenda.new place ≡ due_at agenda.old place }
     ensures counted { steps.new ≡ steps.old + renewals (state_count m.now) levels.now slopes.new lines.old }
 {
-    shift_slopes(m, uses, moved, levels, d, lines, slopes);
+    let at = NewLevels {
+        machine: m,
+        uses,
+        tick,
+        moved,
+        levels,
+    };
+    shift_slopes(&at, d, lines, slopes);
     turn_each(m, tick, moved, levels, slopes, lines, agenda, steps);
     turn_readers(m, uses, tick, moved, levels, slopes, lines, agenda, steps);
 }

@@ -1,47 +1,41 @@
 //! Weights along the changes of levels and of discrete values.
 
-ghost use Rattle.std.specs.Prelude.{◌≡◌, ◌<◌, List, ℤ, pos, All, None, length, flat_map, position};
+ghost use Rattle.std.specs.Prelude.{◌≡◌, ◌<◌, pos, All, None, length, flat_map, position};
 ghost use Rattle.mu_num.specs.Sizes.{IsWithin};
 ghost use Rattle.qss_machine.specs.Machines.{state_count, discrete_count};
 ghost use Rattle.qss_machine.specs.Ticks.{is_overweight};
 ghost use Rattle.qss_machine.specs.Uses.{reading_rows, uses_of};
-ghost use Rattle.qss_run.specs.Handlings.{AreAssigned, AreDiscretes};
-ghost use Rattle.qss_quiet.specs.Among.{AreNumbers};
+ghost use Rattle.qss_run.specs.Handlings.{AreDiscretes};
 ghost use Rattle.qss_run.specs.Overweights.{IsWeighed};
-ghost use Rattle.qss_run.specs.RowSums.{AreSumsBefore};
 ghost use Rattle.qss_quiet.specs.Sims.{weights_at};
 ghost use Rattle.qss_run.specs.declared.shifts.RowSum.TheVariants as sum;
 ghost use Rattle.qss_quiet.specs.Writes.{IsWritten};
+ghost use Rattle.qss_run.specs.Visitings.{AreNewLevels, AreHandled, first_overweight, WereSums};
 
 use crate::readers::least_reader;
 use crate::shifts::{RowSum, shift_sums};
+use crate::visiting::{Handled, NewLevels};
 use qss_machine::{Machine, Uses};
 use qss_quant::Integrator;
 
-/// The weights of all rows follow where the moved states take their levels, from those of their lines. It gives the least
-/// row past its limits, if one is.
+/// The weights of all rows, at these discrete values, follow where the moved states take their levels, from those of their
+/// lines. It gives the least row past its limits, if one is.
 pub(crate) fn reweigh_of(
-    m: &Machine,
-    uses: &Uses,
-    moved: &[u32],
-    levels: &[i64],
+    at: &NewLevels,
     d: &[i64],
     lines: &[Integrator],
     weights: &mut [i128],
 ) -> Option<u32>
-    requires uses { uses.now ≡ uses_of m.now }
-    requires moved { AreNumbers (state_count m.now) moved.now }
-    requires levels { length levels.now ≡ state_count m.now }
-    requires discretes { length d.now ≡ discrete_count m.now }
-    requires lines { length lines.now ≡ state_count m.now }
-    requires small_levels { All (IsWithin 43) levels.now }
+    requires ready { AreNewLevels at.now }
+    requires discretes { length d.now ≡ discrete_count at.now.machine.now }
     requires small_discretes { All (IsWithin 43) d.now }
-    requires before { (old : List ℤ) × AreSumsBefore sum.Weight m.now moved.now levels.now d.now weights.old lines.now old }
-    ensures over { result ≡ position (is_overweight m.now levels.now d.now) m.now.rows }
-    ensures weights { weights.new ≡ weights_at m.now levels.now d.now }
+    requires lines { length lines.now ≡ state_count at.now.machine.now }
+    requires before { WereSums sum.Weight at.now d.now weights.old lines.now }
+    ensures over { result ≡ first_overweight at.now d.now }
+    ensures weights { weights.new ≡ weights_at at.now.machine.now at.now.levels.now d.now }
 {
-    shift_sums(RowSum::Weight, m, uses, moved, levels, d, lines, weights);
-    least_reader(uses, moved, weights, None)
+    shift_sums(RowSum::Weight, at, d, lines, weights);
+    least_reader(at.uses, at.moved, weights, None)
 }
 
 // The weight of a row, or where its mode coefficients pass their limit a number that is past that of weights.
@@ -101,35 +95,30 @@ fn weigh_readers(
 /// The weights of all rows follow where the moved states take their levels, from those of their lines, and where discrete
 /// variables were assigned. It gives the least row past its limits, if one is; the weights are good for nothing then.
 pub(crate) fn reweigh_handled(
-    m: &Machine,
-    uses: &Uses,
-    moved: &[u32],
-    assigned: &[u32],
-    levels: &[i64],
-    pre: &[i64],
-    d: &[i64],
+    at: &NewLevels,
+    left: &Handled,
     lines: &[Integrator],
     weights: &mut [i128],
 ) -> Option<u32>
-    requires uses { uses.now ≡ uses_of m.now }
-    requires moved { AreNumbers (state_count m.now) moved.now }
-    requires assigned_known { AreDiscretes m.now assigned.now }
-    requires assigned { AreAssigned m.now assigned.now pre.now d.now }
-    requires levels { length levels.now ≡ state_count m.now }
-    requires before_many { length pre.now ≡ discrete_count m.now }
-    requires discretes { length d.now ≡ discrete_count m.now }
-    requires lines { length lines.now ≡ state_count m.now }
-    requires small_levels { All (IsWithin 43) levels.now }
-    requires small_before { All (IsWithin 43) pre.now }
-    requires small_discretes { All (IsWithin 43) d.now }
-    requires before { (old : List ℤ) × AreSumsBefore sum.Weight m.now moved.now levels.now pre.now weights.old lines.now old }
-    ensures over { result ≡ position (is_overweight m.now levels.now d.now) m.now.rows }
-    ensures weights { result ≡ None → weights.new ≡ weights_at m.now levels.now d.now }
+    requires ready { AreNewLevels at.now }
+    requires left { AreHandled at.now.machine.now left.now }
+    requires lines { length lines.now ≡ state_count at.now.machine.now }
+    requires before { WereSums sum.Weight at.now left.now.before.now weights.old lines.now }
+    ensures over { result ≡ first_overweight at.now left.now.discretes.now }
+    ensures weights { result ≡ None
+        → weights.new ≡ weights_at at.now.machine.now at.now.levels.now left.now.discretes.now }
 {
-    shift_sums(RowSum::Weight, m, uses, moved, levels, pre, lines, weights);
-    weigh_readers(m, uses, assigned, levels, d, weights);
-    let least = least_reader(uses, moved, weights, None);
-    least_reader(uses, assigned, weights, least)
+    shift_sums(RowSum::Weight, at, left.before, lines, weights);
+    weigh_readers(
+        at.machine,
+        at.uses,
+        left.assigned,
+        at.levels,
+        left.discretes,
+        weights,
+    );
+    let least = least_reader(at.uses, at.moved, weights, None);
+    least_reader(at.uses, left.assigned, weights, least)
 }
 
 /// The weights of all rows.

@@ -1,13 +1,34 @@
 -- The weights are those at the levels before.
-use Rattle.std.proofs.Common.{◌≡◌, List, ℤ, sym, ◌∙◌, ap, subst}
+use Rattle.std.proofs.Common.{◌≡◌, List, length, ℤ, sym, ◌∙◌, ap, subst}
 use Rattle.std.specs.List.{position}
-use Rattle.std.specs.Prelude.{None}
+use Rattle.std.specs.Prelude.{None, All}
+use Rattle.mu_num.specs.Sizes.{IsWithin}
 use Rattle.qss_hand.specs.Values.{Values}
 use Rattle.qss_machine.specs.Ticks.{is_overweight}
+use Rattle.qss_run.specs.Handlings.{AreAssigned}
 use Rattle.qss_quiet.specs.Among.{IsOff}
 use Rattle.qss_quiet.specs.Sims.{weights_at}
 use Rattle.qss_run.proofs.Handled.{not_some}
 use Rattle.qss_run.proofs.requantized.requantize_handled.Goals as goal
+
+pub reweigh_handled-requires-clause-left : goal.reweigh_handled-requires-clause-left
+reweigh_handled-requires-clause-left g c =
+    let m = c.args.m.now in
+    let fits = c.requires.fits in
+    let of_x : c.as_slice-x.result.now ≡ c.args.work.now.x = c.as_slice-x.ensures.value ∙ ap (λ (v : Values). v.x) c.work.view_is in
+    let of_pre : c.as_slice-pre.result.now ≡ c.args.work.now.pre = c.as_slice-pre.ensures.value ∙ ap (λ (v : Values). v.pre) c.work.view_is in
+    let of_d : c.as_slice-d.result.now ≡ c.args.work.now.d = c.as_slice-d.ensures.value ∙ ap (λ (v : Values). v.d) c.work.view_is in
+    record {
+      assigned_known = c.requires.assigned_known;
+      own = subst (λ (d : List ℤ). AreAssigned m c.args.assigned.now c.as_slice-pre.result.now d) (sym of_d)
+          (subst (λ (p : List ℤ). AreAssigned m c.args.assigned.now p c.args.work.now.d) (sym of_pre) c.requires.assigned);
+      many_states = ap length of_x ∙ fits.states;
+      many_before = ap length of_pre ∙ fits.before;
+      many_discretes = ap length of_d ∙ fits.discretes;
+      small_states = subst (All (IsWithin 88)) (sym of_x) fits.small_states;
+      small_before = subst (All (IsWithin 43)) (sym of_pre) fits.small_before;
+      small_discretes = subst (All (IsWithin 43)) (sym of_d) fits.small_discretes;
+    }
 
 pub reweigh_handled-requires-clause-before : goal.reweigh_handled-requires-clause-before
 reweigh_handled-requires-clause-before g c =

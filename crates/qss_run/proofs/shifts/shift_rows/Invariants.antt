@@ -7,6 +7,6 @@ use Rattle.qss_run.proofs.shifts.shift_rows.Given as goal
 -- the sums of the rows so far
 abbrev pub invariant-loop-row : goal.invariant-loop-row
 invariant-loop-row l = record {
-  written : IsWritten (pos 0) (HasFollowed l.kind l.m l.state l.old l.new l.d l.fn.sums) (take l.row-index l.rows) l.fn.sums l.sums;
-  as_many : length l.sums ≡ state_count l.m;
+  written : IsWritten (pos 0) (HasFollowed l.kind l.at.machine.now l.state l.old l.new l.at.discretes.now l.fn.sums) (take l.row-index l.rows) l.fn.sums l.sums;
+  as_many : length l.sums ≡ state_count l.at.machine.now;
 }

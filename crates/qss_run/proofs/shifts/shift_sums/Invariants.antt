@@ -9,8 +9,8 @@ use Rattle.qss_run.proofs.shifts.shift_sums.Given as goal
 -- the sums where the moved states so far have their levels
 abbrev pub invariant-loop-state : goal.invariant-loop-state
 invariant-loop-state l = record {
-  own : (old : List ℤ) → AreSumsBefore l.kind l.m l.moved l.levels l.d l.fn.sums l.lines old → (j : ℕ) → j < state_count l.m →
-      int_at l.sums j ≡ sum_at l.kind l.m j (levels_along (take l.state-index l.moved) l.levels old) l.d;
-  as_many : length l.sums ≡ state_count l.m;
-  near : (j : ℕ) → j < state_count l.m → unsigned_abs (int_at l.sums j) ≤ (l.state-index + 1) * 2 ^ 88;
+  own : (old : List ℤ) → AreSumsBefore l.kind l.at.machine.now l.at.moved.now l.at.levels.now l.d l.fn.sums l.lines old → (j : ℕ) → j < state_count l.at.machine.now →
+      int_at l.sums j ≡ sum_at l.kind l.at.machine.now j (levels_along (take l.state-index l.at.moved.now) l.at.levels.now old) l.d;
+  as_many : length l.sums ≡ state_count l.at.machine.now;
+  near : (j : ℕ) → j < state_count l.at.machine.now → unsigned_abs (int_at l.sums j) ≤ (l.state-index + 1) * 2 ^ 88;
 }
