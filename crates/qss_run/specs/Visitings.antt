@@ -1,20 +1,30 @@
 -- What the parts of a visit are given.
-use Rattle.std.specs.Prelude.{◌≡◌, ℕ, ◌<◌, List, length, All, ℤ, true, Option, position}
+use Rattle.std.specs.Prelude.{◌≡◌, ℕ, ◌+◌, ◌<◌, ◌≤◌, ◌^◌, true, false, List, length, All, ℤ, Option, None, position}
 use Rattle.mu_num.specs.Sizes.{IsWithin}
+use Rattle.mu_num.specs.Ticks.{tick_limit}
 use Rattle.qss_machine.specs.declared.system.Machine.{Machine}
-use Rattle.qss_machine.specs.Machines.{state_count, discrete_count, row_at, slope_at}
-use Rattle.qss_machine.specs.Numbers.{tabulate}
+use Rattle.qss_machine.specs.Firing.{flag_at}
+use Rattle.qss_machine.specs.Handlers.{conditions}
+use Rattle.qss_machine.specs.Machines.{state_count, discrete_count, level_unit, row_at, slope_at, quantum_of, truth}
+use Rattle.qss_machine.specs.Numbers.{int_at, tabulate}
 use Rattle.qss_machine.specs.Slopes.{mode_fits}
 use Rattle.qss_machine.specs.Ticks.{is_overweight}
 use Rattle.qss_machine.specs.Uses.{uses_of}
-use Rattle.qss_quant.specs.Lines.{Line}
-use Rattle.qss_quiet.specs.Among.{AreNumbers}
+use Rattle.qss_quant.specs.Lines.{Line, state_at, IsNear}
+use Rattle.qss_sched.specs.Ranks.{due_at}
+use Rattle.qss_quiet.specs.Among.{is_among, AreNumbers}
+use Rattle.qss_quiet.specs.Sims.{condition_at, weights_at, IsDue}
 use Rattle.qss_run.specs.declared.shifts.RowSum.{RowSum}
+use Rattle.qss_run.specs.declared.shifts.RowSum.TheVariants.{Slope}
+use Rattle.qss_run.specs.declared.store.Store.{Store}
 use Rattle.qss_run.specs.declared.visiting.Handled.{Handled}
 use Rattle.qss_run.specs.declared.visiting.Mode.{Mode}
 use Rattle.qss_run.specs.declared.visiting.NewLevels.{NewLevels}
-use Rattle.qss_run.specs.Handlings.{AreDiscretes, AreAssigned}
+use Rattle.qss_run.specs.Handlings.{AreDiscretes, AreAssigned, is_reinitialized, states_with}
+use Rattle.qss_run.specs.Moments.{AreSlopesOf}
+use Rattle.qss_run.specs.Places.{line_at, watch_at, IsWatched}
 use Rattle.qss_run.specs.RowSums.{sum_at, AreSumsBefore}
+use Rattle.qss_run.specs.Stores.{states_at, FitsMachine}
 
 -- discrete values of a machine within the limit, at which the mode coefficients of all rows are within theirs
 pub record IsMode (at : Mode) : Type 0 where
@@ -60,3 +70,86 @@ pub record AreHandled (m : Machine) (left : Handled) : Type 0 where
   pub small_states : All (IsWithin 88) left.states.now
   pub small_before : All (IsWithin 43) left.before.now
   pub small_discretes : All (IsWithin 43) left.discretes.now
+
+-- a machine's states may go on at their new levels and at these slopes
+pub record CanGoOn (at : NewLevels) (slopes : List ℤ) : Type 0 where
+  pub new : AreNewLevels at
+  pub slopes_of : AreSlopesOf at.machine.now slopes
+  pub in_time : at.tick ≤ tick_limit
+
+-- a value of each state, within the limit
+pub record AreStatesOf (m : Machine) (x : List ℤ) : Type 0 where
+  pub as_many : length x ≡ state_count m
+  pub small : All (IsWithin 88) x
+
+-- the moved states may go on at their new levels, and all states at their new slopes, from the slopes, the lines and the due ticks before
+pub record CanReslope (at : NewLevels) (d slopes_old : List ℤ) (lines_old : List Line) (dues_old : List (Option ℕ)) : Type 0 where
+  pub new : AreNewLevels at
+  pub discretes : length d ≡ discrete_count at.machine.now
+  pub small_discretes : All (IsWithin 43) d
+  pub slopes : length slopes_old ≡ state_count at.machine.now
+  pub lines : length lines_old ≡ state_count at.machine.now
+  pub places : state_count at.machine.now ≤ length dues_old
+  pub light : first_overweight at d ≡ None
+  pub in_time : at.tick ≤ tick_limit
+  pub earlier : (j : ℕ) → j < state_count at.machine.now → (line_at lines_old j).tick < at.tick
+  pub small_states : (j : ℕ) → j < state_count at.machine.now → IsWithin 88 (state_at (line_at lines_old j) at.tick)
+  pub near : (j : ℕ) → j < state_count at.machine.now →
+      IsNear (level_unit at.machine.now) (state_at (line_at lines_old j) at.tick) (int_at at.levels.now j) (quantum_of at.machine.now j (int_at at.levels.now j))
+  pub before : WereSums Slope at d slopes_old lines_old
+  pub own_slope : (j : ℕ) → j < state_count at.machine.now → (line_at lines_old j).slope ≡ int_at slopes_old j
+  pub due : (j : ℕ) → j < state_count at.machine.now → (line_at lines_old j).level ≡ int_at at.levels.now j →
+      IsDue at.machine.now at.tick j (line_at lines_old j) (due_at dues_old j)
+
+-- the states after handlers: the moved ones as these left them, the others where their lines lead
+abbrev pub states_left : NewLevels → Handled → List Line → List ℤ
+states_left at left lines = states_with lines at.tick at.moved.now left.states.now
+
+-- the moved states may go on after handlers from where these left them, and all states at their new slopes, from the slopes, the lines and the due ticks before
+pub record CanReseat (at : NewLevels) (left : Handled) (slopes_old : List ℤ) (lines_old : List Line) (dues_old : List (Option ℕ)) : Type 0 where
+  pub new : AreNewLevels at
+  pub handled : AreHandled at.machine.now left
+  pub slopes : length slopes_old ≡ state_count at.machine.now
+  pub lines : length lines_old ≡ state_count at.machine.now
+  pub places : state_count at.machine.now ≤ length dues_old
+  pub light : first_overweight at left.discretes.now ≡ None
+  pub in_time : at.tick ≤ tick_limit
+  pub small_states : All (IsWithin 88) (states_left at left lines_old)
+  pub later : (j : ℕ) → j < state_count at.machine.now → (line_at lines_old j).tick ≤ at.tick
+  pub small : (j : ℕ) → j < state_count at.machine.now → IsWithin 89 (state_at (line_at lines_old j) at.tick)
+  pub near : (j : ℕ) → j < state_count at.machine.now →
+      IsNear (level_unit at.machine.now) (int_at (states_left at left lines_old) j) (int_at at.levels.now j) (quantum_of at.machine.now j (int_at at.levels.now j))
+  pub before : WereSums Slope at left.before.now slopes_old lines_old
+  pub own_slope : (j : ℕ) → j < state_count at.machine.now → (line_at lines_old j).slope ≡ int_at slopes_old j
+  pub due : (j : ℕ) → j < state_count at.machine.now → is_among at.moved.now j ≡ false → (line_at lines_old j).level ≡ int_at at.levels.now j →
+      IsDue at.machine.now at.tick j (line_at lines_old j) (due_at dues_old j)
+
+-- a store may go on from a tick after its handlers: it has the moved states as these left them, the assigned discrete variables and the new levels and weights; its slopes, lines, due ticks and watches are those before the tick
+pub record CanGoOnHandled (m : Machine) (tick : ℕ) (s : Store) : Type 0 where
+  pub fits : FitsMachine m s
+  pub moved : AreNumbers (state_count m) s.moved.items
+  pub assigned_known : AreDiscretes m s.assigned.items
+  pub assigned : AreAssigned m s.assigned.items s.work.pre s.work.d
+  pub changed : AreNumbers (length (conditions m)) s.changed.items
+  pub reinitialized : (j : ℕ) → is_reinitialized s.work.log j ≡ true → j < state_count m
+  pub still : (j : ℕ) → j < state_count m → is_reinitialized s.work.log j ≡ false →
+      int_at (states_with s.lines.items tick s.moved.items s.work.x) j ≡ state_at (line_at s.lines.items j) tick
+  pub small_before : All (IsWithin 43) s.work.pre
+  pub small_states : All (IsWithin 88) (states_with s.lines.items tick s.moved.items s.work.x)
+  pub small_levels : All (IsWithin 43) s.levels.items
+  pub light : position (is_overweight m s.levels.items s.work.d) m.rows ≡ None
+  pub weights : s.weights.items ≡ weights_at m s.levels.items s.work.d
+  pub fresh_levels : s.fresh.items ≡ s.levels.items
+  pub in_time : tick < 2 ^ 32
+  pub later : (j : ℕ) → j < state_count m → (line_at s.lines.items j).tick ≤ tick
+  pub small : All (IsWithin 88) (states_at s.lines.items tick)
+  pub near : (j : ℕ) → j < state_count m →
+      IsNear (level_unit m) (int_at (states_with s.lines.items tick s.moved.items s.work.x) j) (int_at s.levels.items j) (quantum_of m j (int_at s.levels.items j))
+  pub before : (old : List ℤ) × AreSumsBefore Slope m s.moved.items s.levels.items s.work.pre s.slopes.items s.lines.items old
+  pub own_slope : (j : ℕ) → j < state_count m → (line_at s.lines.items j).slope ≡ int_at s.slopes.items j
+  pub due : (j : ℕ) → j < state_count m → is_among s.moved.items j ≡ false → (line_at s.lines.items j).level ≡ int_at s.levels.items j →
+      IsDue m tick j (line_at s.lines.items j) (due_at s.agenda j)
+  pub watched : (place : ℕ) → place < length (conditions m) → is_among s.changed.items place ≡ false →
+      IsWatched m tick (states_at s.lines.items tick) s.work.pre s.slopes.items place (watch_at s.conditions.watches.items place) (due_at s.agenda (state_count m + place))
+  pub settled : (place : ℕ) → place < length (conditions m) → is_among s.changed.items place ≡ false →
+      flag_at s.conditions.settled.items place ≡ truth m (condition_at m place) (states_at s.lines.items tick) s.work.pre tick

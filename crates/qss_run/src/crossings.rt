@@ -1,26 +1,19 @@
 //! A tick at which conditions are looked at.
 
-ghost use Rattle.std.specs.Prelude.{◌≡◌, ℕ, ◌+◌, ◌<◌, ◌≤◌, ◌^◌, List, ℤ, All, Option, None, Some, length, position, vec_capacity, true, false, if◌then◌else◌};
+ghost use Rattle.std.specs.Prelude.{◌≡◌, ℕ, ◌+◌, ◌<◌, ◌≤◌, ◌^◌, List, Option, None, Some, length, vec_capacity, false, if◌then◌else◌};
 ghost use Rattle.std.specs.List.{list_any};
-ghost use Rattle.mu_num.specs.Sizes.{IsWithin};
-ghost use Rattle.qss_machine.specs.Handlers.{conditions, truths, due_flags};
-ghost use Rattle.qss_machine.specs.Firing.{flag_at};
-ghost use Rattle.qss_machine.specs.Machines.{state_count, level_unit, slope_at, quantum_of, truth};
-ghost use Rattle.qss_machine.specs.Numbers.{int_at, tabulate};
-ghost use Rattle.qss_machine.specs.Ticks.{is_overweight, world_unless, Step};
+ghost use Rattle.qss_machine.specs.Handlers.{truths, due_flags};
+ghost use Rattle.qss_machine.specs.Machines.{state_count, slope_at};
+ghost use Rattle.qss_machine.specs.Numbers.{tabulate};
+ghost use Rattle.qss_machine.specs.Ticks.{world_unless, Step};
 ghost use Rattle.qss_machine.specs.Runs.{tick_rows};
-ghost use Rattle.qss_quant.specs.Lines.{IsNear, state_at};
 ghost use Rattle.qss_sched.specs.Ranks.{due_at};
-ghost use Rattle.qss_run.specs.Handlings.{AreDiscretes, AreAssigned, is_reinitialized, states_with};
-ghost use Rattle.qss_quiet.specs.Among.{is_among, AreNumbers};
-ghost use Rattle.qss_run.specs.Places.{line_at, watch_at, IsWatched};
+ghost use Rattle.qss_run.specs.Handlings.{states_with};
 ghost use Rattle.qss_run.specs.Renewals.{renewals_from};
 ghost use Rattle.qss_quiet.specs.Rules.{IsRuled};
-ghost use Rattle.qss_quiet.specs.Sims.{condition_at, weights_at, IsDue};
-ghost use Rattle.qss_run.specs.Stores.{states_at, world_of, FitsMachine, Stands, IsTaken};
+ghost use Rattle.qss_run.specs.Stores.{world_of, Stands, IsTaken};
 ghost use Rattle.qss_run.specs.Touches.{touches_at};
-ghost use Rattle.qss_run.specs.declared.shifts.RowSum.TheVariants as sum;
-ghost use Rattle.qss_run.specs.RowSums.{AreSumsBefore};
+ghost use Rattle.qss_run.specs.Visitings.{CanGoOnHandled};
 
 use crate::handling::handle_changed;
 use crate::requantized::requantize_handled;
@@ -28,6 +21,7 @@ use crate::reseated::reslope_handled;
 use crate::rewatched::rewatch_handled;
 use crate::rising::rise;
 use crate::store::Store;
+use crate::visiting::{Handled, NewLevels};
 use qss_machine::Machine;
 use qss_quant::{Quantizer, Steps};
 use std::sync::ledger::Ledger;
@@ -53,44 +47,29 @@ fn note_rising(tick: u64, s: &mut Store)
 
 // After the handlers of a tick the states and conditions that changed there, or that read a change, go on from it.
 fn go_on_handled<L: Ledger>(m: &Machine, tick: u64, s: &mut Store, steps: &mut Steps<L>)
-    requires fits { FitsMachine m.now s.old }
-    requires moved { AreNumbers (state_count m.now) s.old.moved.items }
-    requires assigned_known { AreDiscretes m.now s.old.assigned.items }
-    requires assigned { AreAssigned m.now s.old.assigned.items s.old.work.pre s.old.work.d }
-    requires changed { AreNumbers (length (conditions m.now)) s.old.changed.items }
-    requires reinitialized { (j : ℕ) → is_reinitialized s.old.work.log j ≡ true → j < state_count m.now }
-    requires still { (j : ℕ) → j < state_count m.now → is_reinitialized s.old.work.log j ≡ false → int_at (states_with s.old.lines.items tick s.old.moved.items s.old.work.x) j ≡ state_at (line_at s.old.lines.items j) tick }
-    requires small_before { All (IsWithin 43) s.old.work.pre }
-    requires small_states { All (IsWithin 88) (states_with s.old.lines.items tick s.old.moved.items s.old.work.x) }
-    requires small_levels { All (IsWithin 43) s.old.levels.items }
-    requires light { position (is_overweight m.now s.old.levels.items s.old.work.d) m.now.rows ≡ None }
-    requires weights { s.old.weights.items ≡ weights_at m.now s.old.levels.items s.old.work.d }
-    requires fresh_levels { s.old.fresh.items ≡ s.old.levels.items }
-    requires in_time { tick < 2 ^ 32 }
-    requires later { (j : ℕ) → j < state_count m.now → (line_at s.old.lines.items j).tick ≤ tick }
-    requires small { All (IsWithin 88) (states_at s.old.lines.items tick) }
-    requires near { (j : ℕ) → j < state_count m.now → IsNear (level_unit m.now) (int_at (states_with s.old.lines.items tick s.old.moved.items s.old.work.x) j) (int_at s.old.levels.items j) (quantum_of m.now j (int_at s.old.levels.items j)) }
-    requires before { (old : List ℤ) × AreSumsBefore sum.Slope m.now s.old.moved.items s.old.levels.items s.old.work.pre s.old.slopes.items s.old.lines.items old }
-    requires own_slope { (j : ℕ) → j < state_count m.now → (line_at s.old.lines.items j).slope ≡ int_at s.old.slopes.items j }
-    requires due { (j : ℕ) → j < state_count m.now → is_among s.old.moved.items j ≡ false → (line_at s.old.lines.items j).level ≡ int_at s.old.levels.items j → IsDue m.now tick j (line_at s.old.lines.items j) (due_at s.old.agenda j) }
-    requires watched { (place : ℕ) → place < length (conditions m.now) → is_among s.old.changed.items place ≡ false → IsWatched m.now tick (states_at s.old.lines.items tick) s.old.work.pre s.old.slopes.items place (watch_at s.old.conditions.watches.items place) (due_at s.old.agenda (state_count m.now + place)) }
-    requires settled { (place : ℕ) → place < length (conditions m.now) → is_among s.old.changed.items place ≡ false → flag_at s.old.conditions.settled.items place ≡ truth m.now (condition_at m.now place) (states_at s.old.lines.items tick) s.old.work.pre tick }
+    requires { CanGoOnHandled m.now tick s.old }
     ensures stands { Stands m.now tick s.new }
     ensures world { world_of tick s.new ≡ record { states = states_with s.old.lines.items tick s.old.moved.items s.old.work.x; levels = s.old.levels.items; discretes = s.old.work.d; arrived = s.old.conditions.arrived.items; settled = truths m.now (states_with s.old.lines.items tick s.old.moved.items s.old.work.x) s.old.work.d tick } }
     ensures rows { s.new.rows ≡ s.old.rows }
     ensures counted { steps.new ≡ steps.old + renewals_from (state_count m.now) tick (states_with s.old.lines.items tick s.old.moved.items s.old.work.x) s.old.levels.items (tabulate (state_count m.now) (λ j. slope_at m.now j s.old.levels.items s.old.work.d)) s.old.lines.items }
 {
     let work = &s.work;
-    reslope_handled(
-        m,
-        &s.uses,
+    let at = NewLevels {
+        machine: m,
+        uses: &s.uses,
         tick,
-        s.moved.as_slice(),
-        s.assigned.as_slice(),
-        work.x.as_slice(),
-        s.levels.as_slice(),
-        work.pre.as_slice(),
-        work.d.as_slice(),
+        moved: s.moved.as_slice(),
+        levels: s.levels.as_slice(),
+    };
+    let left = Handled {
+        assigned: s.assigned.as_slice(),
+        states: work.x.as_slice(),
+        before: work.pre.as_slice(),
+        discretes: work.d.as_slice(),
+    };
+    reslope_handled(
+        &at,
+        &left,
         s.slopes.as_mut_slice(),
         s.lines.as_mut_slice(),
         &mut s.agenda,

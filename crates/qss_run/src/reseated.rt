@@ -3,21 +3,18 @@
 ghost use Rattle.std.specs.Prelude.{◌≡◌, ℕ, ◌+◌, ◌<◌, ◌≤◌, List, ℤ, pos, All, None, length, position, true, false, flat_map, if◌then◌else◌};
 ghost use Rattle.mu_num.specs.Sizes.{IsWithin};
 ghost use Rattle.mu_num.specs.Ticks.{tick_limit};
-ghost use Rattle.qss_machine.specs.Numbers.{int_at, tabulate};
+ghost use Rattle.qss_machine.specs.Numbers.{int_at};
 ghost use Rattle.qss_machine.specs.Machines.{state_count, discrete_count, level_unit, slope_at, quantum_of};
 ghost use Rattle.qss_machine.specs.Ticks.{is_overweight};
 ghost use Rattle.qss_machine.specs.Uses.{reading_rows, uses_of};
 ghost use Rattle.qss_quant.specs.Lines.{state_at, IsNear};
 ghost use Rattle.qss_sched.specs.Ranks.{due_at};
-ghost use Rattle.qss_run.specs.Handlings.{AreDiscretes, AreAssigned, states_with};
-ghost use Rattle.qss_quiet.specs.Among.{is_among, AreNumbers};
+ghost use Rattle.qss_quiet.specs.Among.{is_among};
 ghost use Rattle.qss_run.specs.Places.{line_at, IsTurned};
 ghost use Rattle.qss_run.specs.Renewals.{goes_from, renewals_from};
-ghost use Rattle.qss_quiet.specs.Sims.{IsDue};
 ghost use Rattle.qss_quiet.specs.Writes.{IsWritten};
 ghost use Rattle.qss_run.specs.declared.shifts.RowSum.TheVariants as sum;
-ghost use Rattle.qss_run.specs.RowSums.{AreSumsBefore};
-ghost use Rattle.qss_run.specs.Visitings.{AreNewLevels, AreHandled, first_overweight, new_slopes, WereSums};
+ghost use Rattle.qss_run.specs.Visitings.{AreNewLevels, AreHandled, AreStatesOf, CanGoOn, CanReseat, first_overweight, new_slopes, states_left, WereSums};
 
 use crate::shifts::shift_slopes;
 use crate::slopes::renew;
@@ -127,147 +124,115 @@ fn reseat<L: Ledger>(
     agenda.set(j, leaving(m, j, &here));
 }
 
-// A moved state goes on from a tick where it is.
+// A moved state goes on from a tick where it is, at its level and its slope.
 fn seat<L: Ledger>(
-    m: &Machine,
-    tick: u64,
+    at: &NewLevels,
+    slopes: &[i128],
     j: u32,
     x: &[i128],
-    levels: &[i64],
-    slopes: &[i128],
     lines: &mut [Integrator],
     agenda: &mut Agenda,
     steps: &mut Steps<L>,
 )
-    requires state { j < state_count m.now }
-    requires states { length x.now ≡ state_count m.now }
-    requires levels { length levels.now ≡ state_count m.now }
-    requires slopes { length slopes.now ≡ state_count m.now }
-    requires lines { length lines.old ≡ state_count m.now }
-    requires places { state_count m.now ≤ length agenda.old }
-    requires small_states { All (IsWithin 88) x.now }
-    requires small_levels { All (IsWithin 43) levels.now }
-    requires small_slopes { All (IsWithin 88) slopes.now }
-    requires in_time { tick ≤ tick_limit }
-    requires later { (line_at lines.old j).tick ≤ tick }
-    requires small { IsWithin 89 (state_at (line_at lines.old j) tick) }
-    requires near { IsNear (level_unit m.now) (int_at x.now j) (int_at levels.now j) (quantum_of m.now j (int_at levels.now j)) }
-    ensures turned { IsTurned m.now tick (int_at x.now j) (int_at levels.now j) (int_at slopes.now j) j (line_at lines.new j) (due_at agenda.new j) }
+    requires state { j < state_count at.now.machine.now }
+    requires on { CanGoOn at.now slopes.now }
+    requires states { AreStatesOf at.now.machine.now x.now }
+    requires lines { length lines.old ≡ state_count at.now.machine.now }
+    requires places { state_count at.now.machine.now ≤ length agenda.old }
+    requires later { (line_at lines.old j).tick ≤ at.now.tick }
+    requires small { IsWithin 89 (state_at (line_at lines.old j) at.now.tick) }
+    requires near { IsNear (level_unit at.now.machine.now) (int_at x.now j) (int_at at.now.levels.now j)
+        (quantum_of at.now.machine.now j (int_at at.now.levels.now j)) }
+    ensures turned { IsTurned at.now.machine.now at.now.tick (int_at x.now j) (int_at at.now.levels.now j)
+        (int_at slopes.now j) j (line_at lines.new j) (due_at agenda.new j) }
     ensures lines { (k : ℕ) → (k ≡ j → ⊥) → line_at lines.new k ≡ line_at lines.old k }
-    ensures kept { goes_from tick (int_at x.now j) (int_at levels.now j) (int_at slopes.now j) (line_at lines.old j) ≡ true → line_at lines.new j ≡ line_at lines.old j }
+    ensures kept { goes_from at.now.tick (int_at x.now j) (int_at at.now.levels.now j) (int_at slopes.now j)
+            (line_at lines.old j) ≡ true
+        → line_at lines.new j ≡ line_at lines.old j }
     ensures places { length agenda.new ≡ length agenda.old }
     ensures dues { (place : ℕ) → (place ≡ j → ⊥) → due_at agenda.new place ≡ due_at agenda.old place }
-    ensures counted { (states : List ℤ) → int_at states j ≡ int_at x.now j → steps.new + renewals_from (state_count m.now) tick states levels.now slopes.now lines.new ≡ steps.old + renewals_from (state_count m.now) tick states levels.now slopes.now lines.old }
+    ensures counted { (states : List ℤ) → int_at states j ≡ int_at x.now j
+        → steps.new + renewals_from (state_count at.now.machine.now) at.now.tick states at.now.levels.now slopes.now lines.new
+        ≡ steps.old + renewals_from (state_count at.now.machine.now) at.now.tick states at.now.levels.now slopes.now lines.old }
 {
     let slope = slopes[j as usize];
-    let level = levels[j as usize];
-    let at = x[j as usize];
+    let level = at.levels[j as usize];
+    let state = x[j as usize];
     let line = &mut lines[j as usize];
-    reseat(m, j, tick, at, slope, level, line, agenda, steps);
+    reseat(
+        at.machine, j, at.tick, state, slope, level, line, agenda, steps,
+    );
 }
 
 // The moved states go on from a tick where they are.
 fn seat_each<L: Ledger>(
-    m: &Machine,
-    tick: u64,
-    moved: &[u32],
-    x: &[i128],
-    levels: &[i64],
+    at: &NewLevels,
     slopes: &[i128],
+    x: &[i128],
     lines: &mut [Integrator],
     agenda: &mut Agenda,
     steps: &mut Steps<L>,
 )
-    requires moved { All (λ j. j < state_count m.now) moved.now }
-    requires states { length x.now ≡ state_count m.now }
-    requires levels { length levels.now ≡ state_count m.now }
-    requires slopes { length slopes.now ≡ state_count m.now }
-    requires lines { length lines.old ≡ state_count m.now }
-    requires places { state_count m.now ≤ length agenda.old }
-    requires small_states { All (IsWithin 88) x.now }
-    requires small_levels { All (IsWithin 43) levels.now }
-    requires small_slopes { All (IsWithin 88) slopes.now }
-    requires in_time { tick ≤ tick_limit }
-    requires later { (j : ℕ) → j < state_count m.now → (line_at lines.old j).tick ≤ tick }
-    requires small { (j : ℕ) → j < state_count m.now → IsWithin 89 (state_at (line_at lines.old j) tick) }
-    requires near { (j : ℕ) → is_among moved.now j ≡ true → IsNear (level_unit m.now) (int_at x.now j) (int_at levels.now j) (quantum_of m.now j (int_at levels.now j)) }
-    ensures turned { (j : ℕ) → is_among moved.now j ≡ true → IsTurned m.now tick (int_at x.now j) (int_at levels.now j) (int_at slopes.now j) j (line_at lines.new j) (due_at agenda.new j) }
-    ensures lines { (j : ℕ) → is_among moved.now j ≡ false → line_at lines.new j ≡ line_at lines.old j }
-    ensures kept { (j : ℕ) → goes_from tick (int_at x.now j) (int_at levels.now j) (int_at slopes.now j) (line_at lines.old j) ≡ true → line_at lines.new j ≡ line_at lines.old j }
+    requires on { CanGoOn at.now slopes.now }
+    requires states { AreStatesOf at.now.machine.now x.now }
+    requires lines { length lines.old ≡ state_count at.now.machine.now }
+    requires places { state_count at.now.machine.now ≤ length agenda.old }
+    requires later { (j : ℕ) → j < state_count at.now.machine.now → (line_at lines.old j).tick ≤ at.now.tick }
+    requires small { (j : ℕ) → j < state_count at.now.machine.now
+        → IsWithin 89 (state_at (line_at lines.old j) at.now.tick) }
+    requires near { (j : ℕ) → is_among at.now.moved.now j ≡ true
+        → IsNear (level_unit at.now.machine.now) (int_at x.now j) (int_at at.now.levels.now j)
+            (quantum_of at.now.machine.now j (int_at at.now.levels.now j)) }
+    ensures turned { (j : ℕ) → is_among at.now.moved.now j ≡ true
+        → IsTurned at.now.machine.now at.now.tick (int_at x.now j) (int_at at.now.levels.now j)
+            (int_at slopes.now j) j (line_at lines.new j) (due_at agenda.new j) }
+    ensures lines { (j : ℕ) → is_among at.now.moved.now j ≡ false → line_at lines.new j ≡ line_at lines.old j }
+    ensures kept { (j : ℕ)
+        → goes_from at.now.tick (int_at x.now j) (int_at at.now.levels.now j) (int_at slopes.now j)
+            (line_at lines.old j) ≡ true
+        → line_at lines.new j ≡ line_at lines.old j }
     ensures places { length agenda.new ≡ length agenda.old }
-    ensures dues { (place : ℕ) → is_among moved.now place ≡ false → due_at agenda.new place ≡ due_at agenda.old place }
-    ensures counted { (states : List ℤ) → ((j : ℕ) → is_among moved.now j ≡ true → int_at states j ≡ int_at x.now j) → steps.new + renewals_from (state_count m.now) tick states levels.now slopes.now lines.new ≡ steps.old + renewals_from (state_count m.now) tick states levels.now slopes.now lines.old }
+    ensures dues { (place : ℕ) → is_among at.now.moved.now place ≡ false
+        → due_at agenda.new place ≡ due_at agenda.old place }
+    ensures counted { (states : List ℤ)
+        → ((j : ℕ) → is_among at.now.moved.now j ≡ true → int_at states j ≡ int_at x.now j)
+        → steps.new + renewals_from (state_count at.now.machine.now) at.now.tick states at.now.levels.now slopes.now lines.new
+        ≡ steps.old + renewals_from (state_count at.now.machine.now) at.now.tick states at.now.levels.now slopes.now lines.old }
 {
-    for j in moved {
-        seat(m, tick, *j, x, levels, slopes, lines, agenda, steps);
+    for j in at.moved {
+        seat(at, slopes, *j, x, lines, agenda, steps);
     }
 }
 
-/// After handlers the moved states go on from a tick where they are, and those whose rows read one of them or an assigned
-/// discrete variable where their lines lead, all at their new slopes. `pre` has the discrete values before the handlers.
+/// After handlers the moved states go on from a tick where these left them, and those whose rows read one of them or an
+/// assigned discrete variable where their lines lead, all at their new slopes.
 pub(crate) fn reslope_handled<L: Ledger>(
-    m: &Machine,
-    uses: &Uses,
-    tick: u64,
-    moved: &[u32],
-    assigned: &[u32],
-    x: &[i128],
-    levels: &[i64],
-    pre: &[i64],
-    d: &[i64],
+    at: &NewLevels,
+    left: &Handled,
     slopes: &mut [i128],
     lines: &mut [Integrator],
     agenda: &mut Agenda,
     steps: &mut Steps<L>,
 )
-    requires uses { uses.now ≡ uses_of m.now }
-    requires moved { AreNumbers (state_count m.now) moved.now }
-    requires assigned_known { AreDiscretes m.now assigned.now }
-    requires assigned { AreAssigned m.now assigned.now pre.now d.now }
-    requires states { length x.now ≡ state_count m.now }
-    requires levels { length levels.now ≡ state_count m.now }
-    requires before_tick { length pre.now ≡ discrete_count m.now }
-    requires discretes { length d.now ≡ discrete_count m.now }
-    requires slopes { length slopes.old ≡ state_count m.now }
-    requires lines { length lines.old ≡ state_count m.now }
-    requires places { state_count m.now ≤ length agenda.old }
-    requires small_x { All (IsWithin 88) x.now }
-    requires small_states { All (IsWithin 88) (states_with lines.old tick moved.now x.now) }
-    requires small_levels { All (IsWithin 43) levels.now }
-    requires small_before { All (IsWithin 43) pre.now }
-    requires small_discretes { All (IsWithin 43) d.now }
-    requires light { position (is_overweight m.now levels.now d.now) m.now.rows ≡ None }
-    requires in_time { tick ≤ tick_limit }
-    requires later { (j : ℕ) → j < state_count m.now → (line_at lines.old j).tick ≤ tick }
-    requires small { (j : ℕ) → j < state_count m.now → IsWithin 89 (state_at (line_at lines.old j) tick) }
-    requires near { (j : ℕ) → j < state_count m.now → IsNear (level_unit m.now) (int_at (states_with lines.old tick moved.now x.now) j) (int_at levels.now j) (quantum_of m.now j (int_at levels.now j)) }
-    requires before { (old : List ℤ) × AreSumsBefore sum.Slope m.now moved.now levels.now pre.now slopes.old lines.old old }
-    requires own_slope { (j : ℕ) → j < state_count m.now → (line_at lines.old j).slope ≡ int_at slopes.old j }
-    requires due { (j : ℕ) → j < state_count m.now → is_among moved.now j ≡ false → (line_at lines.old j).level ≡ int_at levels.now j → IsDue m.now tick j (line_at lines.old j) (due_at agenda.old j) }
-    ensures slopes { slopes.new ≡ tabulate (state_count m.now) (λ j. slope_at m.now j levels.now d.now) }
-    ensures lines { (j : ℕ) → j < state_count m.now → IsTurned m.now tick (int_at (states_with lines.old tick moved.now x.now) j) (int_at levels.now j) (slope_at m.now j levels.now d.now) j (line_at lines.new j) (due_at agenda.new j) }
-    ensures kept { (j : ℕ) → j < state_count m.now → goes_from tick (int_at (states_with lines.old tick moved.now x.now) j) (int_at levels.now j) (int_at slopes.new j) (line_at lines.old j) ≡ true → line_at lines.new j ≡ line_at lines.old j }
+    requires { CanReseat at.now left.now slopes.old lines.old agenda.old }
+    ensures slopes { slopes.new ≡ new_slopes at.now left.now.discretes.now }
+    ensures lines { (j : ℕ) → j < state_count at.now.machine.now
+        → IsTurned at.now.machine.now at.now.tick (int_at (states_left at.now left.now lines.old) j)
+            (int_at at.now.levels.now j) (slope_at at.now.machine.now j at.now.levels.now left.now.discretes.now)
+            j (line_at lines.new j) (due_at agenda.new j) }
+    ensures kept { (j : ℕ) → j < state_count at.now.machine.now
+        → goes_from at.now.tick (int_at (states_left at.now left.now lines.old) j) (int_at at.now.levels.now j)
+            (int_at slopes.new j) (line_at lines.old j) ≡ true
+        → line_at lines.new j ≡ line_at lines.old j }
     ensures places { length agenda.new ≡ length agenda.old }
-    ensures others { (place : ℕ) → state_count m.now ≤ place → due_at agenda.new place ≡ due_at agenda.old place }
-    ensures counted { steps.new ≡ steps.old + renewals_from (state_count m.now) tick (states_with lines.old tick moved.now x.now) levels.now slopes.new lines.old }
+    ensures others { (place : ℕ) → state_count at.now.machine.now ≤ place
+        → due_at agenda.new place ≡ due_at agenda.old place }
+    ensures counted { steps.new
+        ≡ steps.old + renewals_from (state_count at.now.machine.now) at.now.tick
+            (states_left at.now left.now lines.old) at.now.levels.now slopes.new lines.old }
 {
-    let at = NewLevels {
-        machine: m,
-        uses,
-        tick,
-        moved,
-        levels,
-    };
-    let left = Handled {
-        assigned,
-        states: x,
-        before: pre,
-        discretes: d,
-    };
-    follow_slopes(&at, &left, lines, slopes);
-    seat_each(m, tick, moved, x, levels, slopes, lines, agenda, steps);
-    turn_readers(m, uses, tick, moved, levels, slopes, lines, agenda, steps);
-    turn_readers(
-        m, uses, tick, assigned, levels, slopes, lines, agenda, steps,
-    );
+    follow_slopes(at, left, lines, slopes);
+    seat_each(at, slopes, left.states, lines, agenda, steps);
+    turn_readers(at, slopes, at.moved, lines, agenda, steps);
+    turn_readers(at, slopes, left.assigned, lines, agenda, steps);
 }

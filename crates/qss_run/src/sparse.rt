@@ -3,23 +3,22 @@
 ghost use Rattle.std.specs.Prelude.{◌≡◌, ℕ, ◌+◌, ◌<◌, ◌≤◌, ◌^◌, [], All, length, position, List, ℤ, Option, None, true, false, vec_capacity};
 ghost use Rattle.std.specs.Option.{option_or};
 ghost use Rattle.mu_num.specs.Sizes.{IsWithin};
-ghost use Rattle.qss_machine.specs.Numbers.{int_at, tabulate, first_past};
+ghost use Rattle.qss_machine.specs.Numbers.{int_at, first_past};
 ghost use Rattle.qss_machine.specs.Handlers.{conditions};
-ghost use Rattle.qss_machine.specs.Machines.{state_count, discrete_count, level_unit, slope_at, quantum_of};
+ghost use Rattle.qss_machine.specs.Machines.{state_count, discrete_count, slope_at};
 ghost use Rattle.qss_machine.specs.Ticks.{AreNextLevels, is_near, is_overweight, world_unless, Step};
 ghost use Rattle.qss_machine.specs.Runs.{level_rows, tick_rows};
 ghost use Rattle.qss_machine.specs.Uses.{uses_of};
-ghost use Rattle.qss_quant.specs.Lines.{state_at, IsNear};
+ghost use Rattle.qss_quant.specs.Lines.{state_at};
 ghost use Rattle.qss_sched.specs.Ranks.{due_at};
 ghost use Rattle.qss_quiet.specs.Among.{is_among, AreNumbers, IsOff};
 ghost use Rattle.qss_run.specs.Places.{AreConditionsOf, AreWatched, HasPlaces, line_at, IsTurned};
 ghost use Rattle.qss_run.specs.Renewals.{renewals};
 ghost use Rattle.qss_quiet.specs.Rules.{IsRuled};
-ghost use Rattle.qss_quiet.specs.Sims.{weights_at, IsDue};
+ghost use Rattle.qss_quiet.specs.Sims.{weights_at};
 ghost use Rattle.qss_run.specs.Stores.{states_at, world_of, Stands, IsTaken};
 ghost use Rattle.qss_run.specs.Touches.{touches_at};
-ghost use Rattle.qss_run.specs.declared.shifts.RowSum.TheVariants as sum;
-ghost use Rattle.qss_run.specs.RowSums.{AreSumsBefore};
+ghost use Rattle.qss_run.specs.Visitings.{CanReslope, new_slopes};
 
 use crate::calm::catch_up;
 use crate::conditions::Conditions;
@@ -136,11 +135,7 @@ fn requantize_moved(
 // The moved states and those whose rows read one of them go on from a tick at their new slopes, and the conditions that
 // read these at their new speeds.
 fn go_on_moved<L: Ledger>(
-    m: &Machine,
-    uses: &Uses,
-    tick: u64,
-    moved: &[u32],
-    levels: &[i64],
+    at: &NewLevels,
     work: &Work,
     slopes: &mut [i128],
     lines: &mut [Integrator],
@@ -148,39 +143,33 @@ fn go_on_moved<L: Ledger>(
     agenda: &mut Agenda,
     steps: &mut Steps<L>,
 )
-    requires uses { uses.now ≡ uses_of m.now }
-    requires fits { AreConditionsOf m.now watched.old }
-    requires moved { AreNumbers (state_count m.now) moved.now }
-    requires levels { length levels.now ≡ state_count m.now }
-    requires discretes { length work.now.d ≡ discrete_count m.now }
-    requires slopes { length slopes.old ≡ state_count m.now }
-    requires lines { length lines.old ≡ state_count m.now }
-    requires places { HasPlaces m.now agenda.old }
-    requires small_states { All (IsWithin 88) (states_at lines.old tick) }
-    requires small_levels { All (IsWithin 43) levels.now }
-    requires small_discretes { All (IsWithin 43) work.now.d }
-    requires light { position (is_overweight m.now levels.now work.now.d) m.now.rows ≡ None }
-    requires in_time { tick < 2 ^ 32 }
-    requires earlier { (j : ℕ) → j < state_count m.now → (line_at lines.old j).tick < tick }
-    requires near { (j : ℕ) → j < state_count m.now → IsNear (level_unit m.now) (state_at (line_at lines.old j) tick) (int_at levels.now j) (quantum_of m.now j (int_at levels.now j)) }
-    requires before { (old : List ℤ) × AreSumsBefore sum.Slope m.now moved.now levels.now work.now.d slopes.old lines.old old }
-    requires own_slope { (j : ℕ) → j < state_count m.now → (line_at lines.old j).slope ≡ int_at slopes.old j }
-    requires due { (j : ℕ) → j < state_count m.now → (line_at lines.old j).level ≡ int_at levels.now j → IsDue m.now tick j (line_at lines.old j) (due_at agenda.old j) }
-    requires watched { AreWatched m.now tick (states_at lines.old tick) work.now.d slopes.old watched.old.watches.items agenda.old }
-    ensures slopes { slopes.new ≡ tabulate (state_count m.now) (λ j. slope_at m.now j levels.now work.now.d) }
-    ensures lines { (j : ℕ) → j < state_count m.now → IsTurned m.now tick (state_at (line_at lines.old j) tick) (int_at levels.now j) (slope_at m.now j levels.now work.now.d) j (line_at lines.new j) (due_at agenda.new j) }
-    ensures watches { AreWatched m.now tick (states_at lines.old tick) work.now.d slopes.new watched.new.watches.items agenda.new }
+    requires ready { CanReslope at.now work.now.d slopes.old lines.old agenda.old }
+    requires fits { AreConditionsOf at.now.machine.now watched.old }
+    requires places { HasPlaces at.now.machine.now agenda.old }
+    requires small_states { All (IsWithin 88) (states_at lines.old at.now.tick) }
+    requires in_time { at.now.tick < 2 ^ 32 }
+    requires watched { AreWatched at.now.machine.now at.now.tick (states_at lines.old at.now.tick) work.now.d
+        slopes.old watched.old.watches.items agenda.old }
+    ensures slopes { slopes.new ≡ new_slopes at.now work.now.d }
+    ensures lines { (j : ℕ) → j < state_count at.now.machine.now
+        → IsTurned at.now.machine.now at.now.tick (state_at (line_at lines.old j) at.now.tick)
+            (int_at at.now.levels.now j) (slope_at at.now.machine.now j at.now.levels.now work.now.d)
+            j (line_at lines.new j) (due_at agenda.new j) }
+    ensures watches { AreWatched at.now.machine.now at.now.tick (states_at lines.old at.now.tick) work.now.d
+        slopes.new watched.new.watches.items agenda.new }
     ensures rest { watched.new ≡ record watched.old { watches = watched.new.watches } }
-    ensures fits { AreConditionsOf m.now watched.new }
+    ensures fits { AreConditionsOf at.now.machine.now watched.new }
     ensures places { length agenda.new ≡ length agenda.old }
-    ensures beyond { (place : ℕ) → state_count m.now + length (conditions m.now) ≤ place → due_at agenda.new place ≡ due_at agenda.old place }
-    ensures counted { steps.new ≡ steps.old + renewals (state_count m.now) levels.now slopes.new lines.old }
+    ensures beyond { (place : ℕ) → state_count at.now.machine.now + length (conditions at.now.machine.now) ≤ place
+        → due_at agenda.new place ≡ due_at agenda.old place }
+    ensures counted { steps.new
+        ≡ steps.old + renewals (state_count at.now.machine.now) at.now.levels.now slopes.new lines.old }
 {
     let d = work.d.as_slice();
-    reslope_of(
-        m, uses, tick, moved, levels, d, slopes, lines, agenda, steps,
+    reslope_of(at, d, slopes, lines, agenda, steps);
+    watched.rewatch_of(
+        at.machine, at.uses, at.tick, at.moved, slopes, agenda,
     );
-    watched.rewatch_of(m, uses, tick, moved, slopes, agenda);
 }
 
 /// One tick after the one at which the store stands, from an agenda without the states that are due there, where no condition
@@ -219,12 +208,15 @@ pub(crate) fn visit_due<L: Ledger>(
     if over.is_some() {
         return over;
     }
+    let at = NewLevels {
+        machine: m,
+        uses: &s.uses,
+        tick: next,
+        moved: s.moved.as_slice(),
+        levels: s.levels.as_slice(),
+    };
     go_on_moved(
-        m,
-        &s.uses,
-        next,
-        s.moved.as_slice(),
-        s.levels.as_slice(),
+        &at,
         &s.work,
         s.slopes.as_mut_slice(),
         s.lines.as_mut_slice(),

@@ -1,23 +1,28 @@
 -- What goes on after the handlers of a tick.
-use Rattle.std.proofs.Common.{◌≡◌, ℕ, ◌+◌, ◌<◌, List, false, length, ℤ, pos, refl, sym, ◌∙◌, ap, subst, arith}
+use Rattle.std.proofs.Common.{◌≡◌, ℕ, ◌+◌, ◌<◌, ◌≤◌, List, false, length, ℤ, pos, refl, sym, ◌∙◌, ap, subst, arith}
 use Rattle.std.proofs.lemmas.List.{with_items_is}
-use Rattle.std.specs.Prelude.{All}
+use Rattle.std.specs.Prelude.{All, position}
 use Rattle.std.specs.Vec.{with_items}
 use Rattle.mu_num.specs.Sizes.{IsWithin}
 use Rattle.std.specs.List.{list_any}
 use Rattle.qss_machine.specs.Handlers.{conditions, truths, due_flags}
-use Rattle.qss_machine.specs.Machines.{state_count, slope_at}
+use Rattle.qss_machine.specs.Machines.{state_count, level_unit, slope_at, quantum_of}
 use Rattle.qss_machine.specs.Numbers.{int_at, tabulate}
-use Rattle.qss_quant.specs.Lines.{state_at}
+use Rattle.qss_machine.specs.Ticks.{is_overweight}
+use Rattle.qss_quant.specs.Lines.{state_at, IsNear}
 use Rattle.qss_sched.specs.Ranks.{due_at}
 use Rattle.qss_hand.specs.Values.{Values}
 use Rattle.qss_run.specs.declared.conditions.Conditions.{Conditions}
 use Rattle.qss_run.specs.declared.store.Store.{Store}
-use Rattle.qss_run.specs.Handlings.{states_with, AreWatchedUpTo}
+use Rattle.qss_run.specs.declared.shifts.RowSum.TheVariants.{Slope}
+use Rattle.qss_run.specs.Handlings.{AreAssigned, AreDiscretes, AreWatchedUpTo, states_with}
+use Rattle.qss_quiet.specs.Among.{is_among, AreNumbers}
 use Rattle.qss_quiet.specs.Logs.{reinitialized_of}
 use Rattle.qss_run.specs.Moments.{AreLinesAt}
 use Rattle.qss_run.specs.Places.{line_at, watch_at, IsTurned, IsWatched}
 use Rattle.qss_run.specs.Renewals.{renewals_from}
+use Rattle.qss_run.specs.RowSums.{AreSumsBefore}
+use Rattle.qss_quiet.specs.Sims.{IsDue}
 use Rattle.qss_run.specs.Stores.{states_at, world_of, FitsMachine, Stands}
 use Rattle.qss_run.proofs.AfterHandlers.{length-states_with, same_states, same_slopes, same_worlds, lead_to, watched_up_to}
 use Rattle.qss_run.proofs.Reinitialized.{among_reinitialized}
@@ -26,11 +31,69 @@ use Rattle.qss_hand.proofs.Turns.{conditions_few}
 use Rattle.qss_run.proofs.Visits.{state_small, stands_again, same_length}
 use Rattle.qss_run.proofs.crossings.go_on_handled.Goals as goal
 
-pub reslope_handled-requires-clause-small : goal.reslope_handled-requires-clause-small
-reslope_handled-requires-clause-small g c j h =
+pub reslope_handled-requires : goal.reslope_handled-requires
+reslope_handled-requires g c =
+    let m = c.args.m.now in
+    let t = c.args.tick in
     let s : Store = c.args.s.now in
-    subst (λ ls. IsWithin 89 (state_at (line_at ls j) c.args.tick)) (sym c.as_mut_slice-2.ensures.value)
-    (state_small s.lines.items c.args.tick j (omega (arith, h, c.requires.fits.lines)) c.requires.small)
+    let fits = c.requires.fits in
+    let y : List ℤ = states_with s.lines.items t s.moved.items s.work.x in
+    let of_moved : c.as_slice.result.now ≡ s.moved.items = c.as_slice.ensures.value in
+    let of_levels : c.as_slice-2.result.now ≡ s.levels.items = c.as_slice-2.ensures.value in
+    let of_assigned : c.as_slice-3.result.now ≡ s.assigned.items = c.as_slice-3.ensures.value in
+    let of_x : c.as_slice-4.result.now ≡ s.work.x = c.as_slice-4.ensures.value ∙ ap (λ (v : Values). v.x) c.work.view_is in
+    let of_pre : c.as_slice-5.result.now ≡ s.work.pre = c.as_slice-5.ensures.value ∙ ap (λ (v : Values). v.pre) c.work.view_is in
+    let of_d : c.as_slice-6.result.now ≡ s.work.d = c.as_slice-6.ensures.value ∙ ap (λ (v : Values). v.d) c.work.view_is in
+    let of_slopes : c.as_mut_slice.result.now ≡ s.slopes.items = c.as_mut_slice.ensures.value in
+    let of_lines : c.as_mut_slice-2.result.now ≡ s.lines.items = c.as_mut_slice-2.ensures.value in
+    let same : states_with c.as_mut_slice-2.result.now t c.as_slice.result.now c.as_slice-4.result.now ≡ y =
+    same_states s.lines.items c.as_mut_slice-2.result.now t s.moved.items c.as_slice.result.now s.work.x c.as_slice-4.result.now of_lines of_moved of_x in
+    record {
+      new = record {
+        uses = fits.uses;
+        moved = subst (AreNumbers (state_count m)) (sym of_moved) c.requires.moved;
+        levels = ap length of_levels ∙ fits.levels;
+        small_levels = subst (All (IsWithin 43)) (sym of_levels) c.requires.small_levels;
+      };
+      handled = record {
+        assigned_known = subst (AreDiscretes m) (sym of_assigned) c.requires.assigned_known;
+        own = subst (λ (js : List ℕ). AreAssigned m js c.as_slice-5.result.now c.as_slice-6.result.now) (sym of_assigned)
+            (subst (λ (p : List ℤ). AreAssigned m s.assigned.items p c.as_slice-6.result.now) (sym of_pre)
+            (subst (λ (d : List ℤ). AreAssigned m s.assigned.items s.work.pre d) (sym of_d) c.requires.assigned));
+        many_states = ap length of_x ∙ fits.states;
+        many_before = ap length of_pre ∙ fits.before;
+        many_discretes = ap length of_d ∙ fits.discretes;
+        small_states = subst (All (IsWithin 88)) (sym of_x) fits.small_states;
+        small_before = subst (All (IsWithin 43)) (sym of_pre) c.requires.small_before;
+        small_discretes = subst (All (IsWithin 43)) (sym of_d) fits.small_discretes;
+      };
+      slopes = ap length of_slopes ∙ fits.slopes;
+      lines = ap length of_lines ∙ fits.lines;
+      places = omega (arith, fits.places);
+      light = ap (λ l. position (is_overweight m l c.as_slice-6.result.now) m.rows) of_levels
+          ∙ ap (λ d. position (is_overweight m s.levels.items d) m.rows) of_d ∙ c.requires.light;
+      in_time = omega (arith, c.requires.in_time);
+      small_states = subst (All (IsWithin 88)) (sym same) c.requires.small_states;
+      later = λ j h. subst (λ ls. (line_at ls j).tick ≤ t) (sym of_lines) (c.requires.later j h);
+      small = λ j h.
+          subst (λ ls. IsWithin 89 (state_at (line_at ls j) t)) (sym of_lines)
+          (state_small s.lines.items t j (omega (arith, h, fits.lines)) c.requires.small);
+      near = λ j h.
+          subst (λ (xs : List ℤ). IsNear (level_unit m) (int_at xs j) (int_at c.as_slice-2.result.now j) (quantum_of m j (int_at c.as_slice-2.result.now j))) (sym same)
+          (subst (λ (l : List ℤ). IsNear (level_unit m) (int_at y j) (int_at l j) (quantum_of m j (int_at l j))) (sym of_levels) (c.requires.near j h));
+      before = (
+        c.requires.before.0,
+        subst (λ js. AreSumsBefore Slope m js c.as_slice-2.result.now c.as_slice-5.result.now c.as_mut_slice.result.now c.as_mut_slice-2.result.now c.requires.before.0) (sym of_moved)
+            (subst (λ l. AreSumsBefore Slope m s.moved.items l c.as_slice-5.result.now c.as_mut_slice.result.now c.as_mut_slice-2.result.now c.requires.before.0) (sym of_levels)
+            (subst (λ p. AreSumsBefore Slope m s.moved.items s.levels.items p c.as_mut_slice.result.now c.as_mut_slice-2.result.now c.requires.before.0) (sym of_pre)
+            (subst (λ v. AreSumsBefore Slope m s.moved.items s.levels.items s.work.pre v c.as_mut_slice-2.result.now c.requires.before.0) (sym of_slopes)
+            (subst (λ ls. AreSumsBefore Slope m s.moved.items s.levels.items s.work.pre s.slopes.items ls c.requires.before.0) (sym of_lines) c.requires.before.1)))),
+      );
+      own_slope = λ j h. ap (λ ls. (line_at ls j).slope) of_lines ∙ c.requires.own_slope j h ∙ ap (λ v. int_at v j) (sym of_slopes);
+      due = λ j h none own.
+          subst (λ ls. IsDue m t j (line_at ls j) (due_at s.agenda j)) (sym of_lines)
+          (c.requires.due j h (ap (λ js. is_among js j) (sym of_moved) ∙ none) (ap (λ ls. (line_at ls j).level) (sym of_lines) ∙ own ∙ ap (λ l. int_at l j) of_levels));
+    }
 
 pub rewatch_handled-requires-clause-fits : goal.rewatch_handled-requires-clause-fits
 rewatch_handled-requires-clause-fits g c =
@@ -67,9 +130,9 @@ rewatch_handled-requires-clause-lines g c =
     let after = c.reslope_handled.new.lines in
     let lines : (with_items s.lines after).items ≡ after = with_items_is s.lines after (c.reslope_handled.auto.lines ∙ c.as_mut_slice-2.ensures.len) in
     let many : length after ≡ state_count m = c.reslope_handled.auto.lines ∙ c.as_mut_slice-2.ensures.len ∙ s.lines.ok.0 ∙ fits.lines in
-    let same : states_with c.as_mut_slice-2.result.now t c.as_slice.result.now c.as_slice-3.result.now ≡ states_with s.lines.items t s.moved.items s.work.x =
-    same_states s.lines.items c.as_mut_slice-2.result.now t s.moved.items c.as_slice.result.now s.work.x c.as_slice-3.result.now c.as_mut_slice-2.ensures.value c.as_slice.ensures.value
-    (c.as_slice-3.ensures.value ∙ ap (λ (v : Values). v.x) c.work.view_is) in
+    let same : states_with c.as_mut_slice-2.result.now t c.as_slice.result.now c.as_slice-4.result.now ≡ states_with s.lines.items t s.moved.items s.work.x =
+    same_states s.lines.items c.as_mut_slice-2.result.now t s.moved.items c.as_slice.result.now s.work.x c.as_slice-4.result.now c.as_mut_slice-2.ensures.value c.as_slice.ensures.value
+    (c.as_slice-4.ensures.value ∙ ap (λ (v : Values). v.x) c.work.view_is) in
     let lead : states_at after t ≡ states_with s.lines.items t s.moved.items s.work.x =
     lead_to (state_count m) s.lines.items after t s.moved.items s.work.x fits.lines many (λ j h. (c.reslope_handled.ensures.lines j h).here ∙ ap (λ xs. int_at xs j) same) in
     subst (AreLinesAt m t) (sym lines)
@@ -90,7 +153,7 @@ rewatch_handled-requires-clause-slopes g c =
       as_many = same_length s.slopes slopes ∙ c.requires.fits.slopes;
       small = slopes_small m s.levels.items s.work.d s.work.d (with_items s.slopes slopes).items c.requires.light refl
           (with_items_is s.slopes slopes many ∙ c.reslope_handled.ensures.slopes
-          ∙ same_slopes m s.levels.items c.as_slice-4.result.now s.work.d c.as_slice-6.result.now c.as_slice-4.ensures.value (c.as_slice-6.ensures.value ∙ ap (λ (v : Values). v.d) c.work.view_is));
+          ∙ same_slopes m s.levels.items c.as_slice-2.result.now s.work.d c.as_slice-6.result.now c.as_slice-2.ensures.value (c.as_slice-6.ensures.value ∙ ap (λ (v : Values). v.d) c.work.view_is));
     }
 
 pub rewatch_handled-requires-clause-before : goal.rewatch_handled-requires-clause-before
@@ -103,15 +166,15 @@ rewatch_handled-requires-clause-before g c =
     let slopes = c.reslope_handled.new.slopes in
     let due = c.reslope_handled.new.agenda in
     let lines : (with_items s.lines after).items ≡ after = with_items_is s.lines after (c.reslope_handled.auto.lines ∙ c.as_mut_slice-2.ensures.len) in
-    let same : states_with c.as_mut_slice-2.result.now t c.as_slice.result.now c.as_slice-3.result.now ≡ states_with s.lines.items t s.moved.items s.work.x =
-    same_states s.lines.items c.as_mut_slice-2.result.now t s.moved.items c.as_slice.result.now s.work.x c.as_slice-3.result.now c.as_mut_slice-2.ensures.value c.as_slice.ensures.value
-    (c.as_slice-3.ensures.value ∙ ap (λ (v : Values). v.x) c.work.view_is) in
+    let same : states_with c.as_mut_slice-2.result.now t c.as_slice.result.now c.as_slice-4.result.now ≡ states_with s.lines.items t s.moved.items s.work.x =
+    same_states s.lines.items c.as_mut_slice-2.result.now t s.moved.items c.as_slice.result.now s.work.x c.as_slice-4.result.now c.as_mut_slice-2.ensures.value c.as_slice.ensures.value
+    (c.as_slice-4.ensures.value ∙ ap (λ (v : Values). v.x) c.work.view_is) in
     let lead : states_at after t ≡ states_with s.lines.items t s.moved.items s.work.x =
     lead_to (state_count m) s.lines.items after t s.moved.items s.work.x fits.lines (c.reslope_handled.auto.lines ∙ c.as_mut_slice-2.ensures.len ∙ s.lines.ok.0 ∙ fits.lines)
     (λ j h. (c.reslope_handled.ensures.lines j h).here ∙ ap (λ xs. int_at xs j) same) in
     let slopes_are : slopes ≡ tabulate (state_count m) (λ j. slope_at m j s.levels.items s.work.d) =
     c.reslope_handled.ensures.slopes
-    ∙ same_slopes m s.levels.items c.as_slice-4.result.now s.work.d c.as_slice-6.result.now c.as_slice-4.ensures.value (c.as_slice-6.ensures.value ∙ ap (λ (v : Values). v.d) c.work.view_is) in
+    ∙ same_slopes m s.levels.items c.as_slice-2.result.now s.work.d c.as_slice-6.result.now c.as_slice-2.ensures.value (c.as_slice-6.ensures.value ∙ ap (λ (v : Values). v.d) c.work.view_is) in
     let of_slopes : (with_items s.slopes slopes).items ≡ slopes = with_items_is s.slopes slopes (c.reslope_handled.auto.slopes ∙ c.as_mut_slice.ensures.len) in
     let x : List ℤ = states_at s.lines.items t in
     let old : List ℤ = c.requires.before.0 in
@@ -152,15 +215,15 @@ returns g c =
     let after = c.reslope_handled.new.lines in
     let slopes = c.reslope_handled.new.slopes in
     let y : List ℤ = states_with s.lines.items t s.moved.items s.work.x in
-    let here : states_with c.as_mut_slice-2.result.now t c.as_slice.result.now c.as_slice-3.result.now ≡ y =
-    same_states s.lines.items c.as_mut_slice-2.result.now t s.moved.items c.as_slice.result.now s.work.x c.as_slice-3.result.now c.as_mut_slice-2.ensures.value c.as_slice.ensures.value
-    (c.as_slice-3.ensures.value ∙ ap (λ (v : Values). v.x) c.work.view_is) in
+    let here : states_with c.as_mut_slice-2.result.now t c.as_slice.result.now c.as_slice-4.result.now ≡ y =
+    same_states s.lines.items c.as_mut_slice-2.result.now t s.moved.items c.as_slice.result.now s.work.x c.as_slice-4.result.now c.as_mut_slice-2.ensures.value c.as_slice.ensures.value
+    (c.as_slice-4.ensures.value ∙ ap (λ (v : Values). v.x) c.work.view_is) in
     let lead : states_at after t ≡ y =
     lead_to (state_count m) s.lines.items after t s.moved.items s.work.x fits.lines (c.reslope_handled.auto.lines ∙ c.as_mut_slice-2.ensures.len ∙ s.lines.ok.0 ∙ fits.lines)
     (λ j h. (c.reslope_handled.ensures.lines j h).here ∙ ap (λ xs. int_at xs j) here) in
     let d_now : c.as_slice-6.result.now ≡ s.work.d = c.as_slice-6.ensures.value ∙ ap (λ (v : Values). v.d) c.work.view_is in
     let slopes_are : slopes ≡ tabulate (state_count m) (λ j. slope_at m j s.levels.items s.work.d) =
-    c.reslope_handled.ensures.slopes ∙ same_slopes m s.levels.items c.as_slice-4.result.now s.work.d c.as_slice-6.result.now c.as_slice-4.ensures.value d_now in
+    c.reslope_handled.ensures.slopes ∙ same_slopes m s.levels.items c.as_slice-2.result.now s.work.d c.as_slice-6.result.now c.as_slice-2.ensures.value d_now in
     let left : Store = c.rewatch_handled.new.s in
     let own : Conditions = record s.conditions { watches = left.conditions.watches; settled = left.conditions.settled } in
     let next : Store = record s {
@@ -215,8 +278,8 @@ returns g c =
     (subst (λ found. IsTurned m t (int_at y j) (int_at s.levels.items j) (slope_at m j s.levels.items next.work.d) j (line_at after j) found)
     (sym (kept j (omega (arith, h)) ∙ c.rewatch_handled.ensures.others j h))
     (subst (λ d. IsTurned m t (int_at y j) (int_at s.levels.items j) (slope_at m j s.levels.items d) j (line_at after j) (due_at c.reslope_handled.new.agenda j)) d_now
-    (subst (λ l. IsTurned m t (int_at y j) (int_at l j) (slope_at m j l c.as_slice-6.result.now) j (line_at after j) (due_at c.reslope_handled.new.agenda j)) c.as_slice-4.ensures.value
-    (subst (λ v. IsTurned m t (int_at v j) (int_at c.as_slice-4.result.now j) (slope_at m j c.as_slice-4.result.now c.as_slice-6.result.now) j (line_at after j) (due_at c.reslope_handled.new.agenda j)) here
+    (subst (λ l. IsTurned m t (int_at y j) (int_at l j) (slope_at m j l c.as_slice-6.result.now) j (line_at after j) (due_at c.reslope_handled.new.agenda j)) c.as_slice-2.ensures.value
+    (subst (λ v. IsTurned m t (int_at v j) (int_at c.as_slice-2.result.now j) (slope_at m j c.as_slice-2.result.now c.as_slice-6.result.now) j (line_at after j) (due_at c.reslope_handled.new.agenda j)) here
     (c.reslope_handled.ensures.lines j h))))))
     settled
     (λ place h.
@@ -235,8 +298,8 @@ returns g c =
       world = ap (world_of t) same ∙ world;
       rows = ap (λ (v : Store). v.rows) same;
       counted = c.reslope_handled.ensures.counted
-          ∙ ap (λ xs. c.args.steps.now + renewals_from (state_count m) t xs c.as_slice-4.result.now slopes c.as_mut_slice-2.result.now) here
-          ∙ ap (λ l. c.args.steps.now + renewals_from (state_count m) t y l slopes c.as_mut_slice-2.result.now) c.as_slice-4.ensures.value
+          ∙ ap (λ xs. c.args.steps.now + renewals_from (state_count m) t xs c.as_slice-2.result.now slopes c.as_mut_slice-2.result.now) here
+          ∙ ap (λ l. c.args.steps.now + renewals_from (state_count m) t y l slopes c.as_mut_slice-2.result.now) c.as_slice-2.ensures.value
           ∙ ap (λ v. c.args.steps.now + renewals_from (state_count m) t y s.levels.items v c.as_mut_slice-2.result.now) slopes_are
           ∙ ap (λ ls. c.args.steps.now + renewals_from (state_count m) t y s.levels.items (tabulate (state_count m) (λ j. slope_at m j s.levels.items s.work.d)) ls) c.as_mut_slice-2.ensures.value;
     }

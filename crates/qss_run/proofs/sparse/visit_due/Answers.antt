@@ -18,7 +18,7 @@ use Rattle.qss_run.specs.RowSums.{AreSumsBefore}
 use Rattle.qss_run.specs.declared.shifts.RowSum.TheVariants.{Slope}
 use Rattle.qss_run.specs.declared.conditions.Conditions.{Conditions}
 use Rattle.qss_run.specs.declared.store.Store.{Store}
-use Rattle.qss_quiet.specs.Among.{is_among, IsOff}
+use Rattle.qss_quiet.specs.Among.{is_among, AreNumbers, IsOff}
 use Rattle.qss_run.specs.Places.{line_at, watch_at, IsTurned, IsWatched}
 use Rattle.qss_run.specs.Renewals.{renewals}
 use Rattle.qss_quiet.specs.Rules.{IsRuled}
@@ -30,7 +30,7 @@ use Rattle.qss_run.proofs.OwnConditions.{arrived_anew}
 use Rattle.qss_run.proofs.QuietVisits.{steps_or, leads, rest_small, own_slope, levels_before, handled, arrived, near, kept_due, same_truths, watched, not_rising, rising, rows_then}
 use Rattle.qss_run.proofs.QuietTick.{none_rises_then}
 use Rattle.qss_run.proofs.Touched.{renewals_touched}
-use Rattle.qss_run.proofs.Visits.{stands_again, end_of, both_none, same_length}
+use Rattle.qss_run.proofs.Visits.{stands_again, end_of, both_none, same_length, state_within}
 use Rattle.qss_run.proofs.sparse.visit_due.Goals as goal
 
 pub requantize_moved-over-requires-clause-others_small : goal.requantize_moved-over-requires-clause-others_small
@@ -90,90 +90,8 @@ go_on_moved-requires-clause-small_states g c =
     let of_d : c.requantize_moved-over.new.work.d ≡ s.work.d = ap (λ (v : Values). v.d) c.requantize_moved-over.ensures.work in
     subst (λ ls. All (IsWithin 88) (states_at ls t)) (sym c.as_mut_slice-5.ensures.value) (all_within 88 x none_both.0)
 
-pub go_on_moved-requires-clause-small_levels : goal.go_on_moved-requires-clause-small_levels
-go_on_moved-requires-clause-small_levels g c =
-    let m = c.args.m.now in
-    let t = c.args.tick + 1 in
-    let s : Store = c.args.s.now in
-    let agenda : List (Option ℕ) = c.requires.taken.0 in
-    let taken = c.requires.taken.1 in
-    let calm : c.requantize_moved-over.result ≡ None = not_some c.requantize_moved-over.result (sym c.is_some.ensures ∙ c.if-is_some.false) in
-    let x : List ℤ = states_at s.lines.items t in
-    let fresh : List ℤ = c.requantize_moved-over.new.fresh in
-    let h : Handling = record { states = x; discretes = s.work.d; rows = []; overflow = first_past 88 x } in
-    let is_h : h ≡ handling_at m t (world_of c.args.tick s) = sym (handled m c.args.tick agenda s taken c.requires.in_time c.requires.none_changes) in
-    let allowed : first_past 88 x ≡ None → AreNextLevels (IsRuled c.args.q.now.name) m x s.levels.items fresh = λ none.
-    subst (λ ls. AreNextLevels (IsRuled c.args.q.now.name) m (states_at ls t) s.levels.items fresh) c.as_slice.ensures.value
-    (subst (λ l. AreNextLevels (IsRuled c.args.q.now.name) m (states_at c.as_slice.result.now t) l fresh) c.as_mut_slice.ensures.value
-    (c.requantize_moved-over.ensures.allowed (ap (λ ls. first_past 88 (states_at ls t)) c.as_slice.ensures.value ∙ none))) in
-    let over : c.requantize_moved-over.result ≡ option_or (first_past 88 x) (option_or (first_past 43 fresh) (position (is_overweight m fresh s.work.d) m.rows)) =
-    c.requantize_moved-over.ensures.over
-    ∙ ap (λ ls. option_or (first_past 88 (states_at ls t)) (option_or (first_past 43 fresh) (position (is_overweight m fresh s.work.d) m.rows))) c.as_slice.ensures.value in
-    let none_both = both_none (first_past 88 x) (option_or (first_past 43 fresh) (position (is_overweight m fresh s.work.d) m.rows)) (sym calm ∙ over) in
-    let many : length c.requantize_moved-over.new.levels ≡ s.levels.len = c.requantize_moved-over.auto.levels ∙ c.as_mut_slice.ensures.len in
-    let levels : c.as_slice-4.result.now ≡ fresh =
-    c.as_slice-4.ensures.value ∙ with_items_is s.levels c.requantize_moved-over.new.levels many ∙ c.requantize_moved-over.ensures.levels calm in
-    let of_d : c.requantize_moved-over.new.work.d ≡ s.work.d = ap (λ (v : Values). v.d) c.requantize_moved-over.ensures.work in
-    subst (All (IsWithin 43)) (sym (levels ∙ sym (c.requantize_moved-over.ensures.levels calm))) (c.requantize_moved-over.ensures.small calm)
-
-pub go_on_moved-requires-clause-light : goal.go_on_moved-requires-clause-light
-go_on_moved-requires-clause-light g c =
-    let m = c.args.m.now in
-    let t = c.args.tick + 1 in
-    let s : Store = c.args.s.now in
-    let agenda : List (Option ℕ) = c.requires.taken.0 in
-    let taken = c.requires.taken.1 in
-    let calm : c.requantize_moved-over.result ≡ None = not_some c.requantize_moved-over.result (sym c.is_some.ensures ∙ c.if-is_some.false) in
-    let x : List ℤ = states_at s.lines.items t in
-    let fresh : List ℤ = c.requantize_moved-over.new.fresh in
-    let h : Handling = record { states = x; discretes = s.work.d; rows = []; overflow = first_past 88 x } in
-    let is_h : h ≡ handling_at m t (world_of c.args.tick s) = sym (handled m c.args.tick agenda s taken c.requires.in_time c.requires.none_changes) in
-    let allowed : first_past 88 x ≡ None → AreNextLevels (IsRuled c.args.q.now.name) m x s.levels.items fresh = λ none.
-    subst (λ ls. AreNextLevels (IsRuled c.args.q.now.name) m (states_at ls t) s.levels.items fresh) c.as_slice.ensures.value
-    (subst (λ l. AreNextLevels (IsRuled c.args.q.now.name) m (states_at c.as_slice.result.now t) l fresh) c.as_mut_slice.ensures.value
-    (c.requantize_moved-over.ensures.allowed (ap (λ ls. first_past 88 (states_at ls t)) c.as_slice.ensures.value ∙ none))) in
-    let over : c.requantize_moved-over.result ≡ option_or (first_past 88 x) (option_or (first_past 43 fresh) (position (is_overweight m fresh s.work.d) m.rows)) =
-    c.requantize_moved-over.ensures.over
-    ∙ ap (λ ls. option_or (first_past 88 (states_at ls t)) (option_or (first_past 43 fresh) (position (is_overweight m fresh s.work.d) m.rows))) c.as_slice.ensures.value in
-    let none_both = both_none (first_past 88 x) (option_or (first_past 43 fresh) (position (is_overweight m fresh s.work.d) m.rows)) (sym calm ∙ over) in
-    let many : length c.requantize_moved-over.new.levels ≡ s.levels.len = c.requantize_moved-over.auto.levels ∙ c.as_mut_slice.ensures.len in
-    let levels : c.as_slice-4.result.now ≡ fresh =
-    c.as_slice-4.ensures.value ∙ with_items_is s.levels c.requantize_moved-over.new.levels many ∙ c.requantize_moved-over.ensures.levels calm in
-    let of_d : c.requantize_moved-over.new.work.d ≡ s.work.d = ap (λ (v : Values). v.d) c.requantize_moved-over.ensures.work in
-    ap (λ l. position (is_overweight m l c.requantize_moved-over.new.work.d) m.rows) levels
-    ∙ ap (λ d. position (is_overweight m fresh d) m.rows) of_d
-    ∙ (both_none (first_past 43 fresh) (position (is_overweight m fresh s.work.d) m.rows) (sym none_both.1)).1
-
-pub go_on_moved-requires-clause-near : goal.go_on_moved-requires-clause-near
-go_on_moved-requires-clause-near g c j inside =
-    let m = c.args.m.now in
-    let t = c.args.tick + 1 in
-    let s : Store = c.args.s.now in
-    let agenda : List (Option ℕ) = c.requires.taken.0 in
-    let taken = c.requires.taken.1 in
-    let calm : c.requantize_moved-over.result ≡ None = not_some c.requantize_moved-over.result (sym c.is_some.ensures ∙ c.if-is_some.false) in
-    let x : List ℤ = states_at s.lines.items t in
-    let fresh : List ℤ = c.requantize_moved-over.new.fresh in
-    let h : Handling = record { states = x; discretes = s.work.d; rows = []; overflow = first_past 88 x } in
-    let is_h : h ≡ handling_at m t (world_of c.args.tick s) = sym (handled m c.args.tick agenda s taken c.requires.in_time c.requires.none_changes) in
-    let allowed : first_past 88 x ≡ None → AreNextLevels (IsRuled c.args.q.now.name) m x s.levels.items fresh = λ none.
-    subst (λ ls. AreNextLevels (IsRuled c.args.q.now.name) m (states_at ls t) s.levels.items fresh) c.as_slice.ensures.value
-    (subst (λ l. AreNextLevels (IsRuled c.args.q.now.name) m (states_at c.as_slice.result.now t) l fresh) c.as_mut_slice.ensures.value
-    (c.requantize_moved-over.ensures.allowed (ap (λ ls. first_past 88 (states_at ls t)) c.as_slice.ensures.value ∙ none))) in
-    let over : c.requantize_moved-over.result ≡ option_or (first_past 88 x) (option_or (first_past 43 fresh) (position (is_overweight m fresh s.work.d) m.rows)) =
-    c.requantize_moved-over.ensures.over
-    ∙ ap (λ ls. option_or (first_past 88 (states_at ls t)) (option_or (first_past 43 fresh) (position (is_overweight m fresh s.work.d) m.rows))) c.as_slice.ensures.value in
-    let none_both = both_none (first_past 88 x) (option_or (first_past 43 fresh) (position (is_overweight m fresh s.work.d) m.rows)) (sym calm ∙ over) in
-    let many : length c.requantize_moved-over.new.levels ≡ s.levels.len = c.requantize_moved-over.auto.levels ∙ c.as_mut_slice.ensures.len in
-    let levels : c.as_slice-4.result.now ≡ fresh =
-    c.as_slice-4.ensures.value ∙ with_items_is s.levels c.requantize_moved-over.new.levels many ∙ c.requantize_moved-over.ensures.levels calm in
-    let of_d : c.requantize_moved-over.new.work.d ≡ s.work.d = ap (λ (v : Values). v.d) c.requantize_moved-over.ensures.work in
-    subst (λ ls. IsNear (level_unit m) (state_at (line_at ls j) t) (int_at c.as_slice-4.result.now j) (quantum_of m j (int_at c.as_slice-4.result.now j))) (sym c.as_mut_slice-5.ensures.value)
-    (subst (λ l. IsNear (level_unit m) (state_at (line_at s.lines.items j) t) (int_at l j) (quantum_of m j (int_at l j))) (sym levels)
-    (near m c.args.tick agenda s taken c.requires.in_time c.args.q.now.name fresh (allowed none_both.0) j inside))
-
-pub go_on_moved-requires-clause-before : goal.go_on_moved-requires-clause-before
-go_on_moved-requires-clause-before g c =
+pub go_on_moved-requires-clause-ready : goal.go_on_moved-requires-clause-ready
+go_on_moved-requires-clause-ready g c =
     let m = c.args.m.now in
     let t = c.args.tick + 1 in
     let s : Store = c.args.s.now in
@@ -197,54 +115,52 @@ go_on_moved-requires-clause-before g c =
     c.as_slice-4.ensures.value ∙ with_items_is s.levels c.requantize_moved-over.new.levels many ∙ c.requantize_moved-over.ensures.levels calm in
     let of_d : c.requantize_moved-over.new.work.d ≡ s.work.d = ap (λ (v : Values). v.d) c.requantize_moved-over.ensures.work in
     let off : IsOff s.moved.items s.levels.items fresh =
-    subst (λ l. IsOff l s.levels.items fresh) c.as_slice-2.ensures.value (subst (λ l. IsOff c.as_slice-2.result.now l fresh) c.as_mut_slice.ensures.value c.requantize_moved-over.ensures.others) in (
-      s.levels.items,
-      subst (λ js. AreSumsBefore Slope m js c.as_slice-4.result.now c.requantize_moved-over.new.work.d c.as_mut_slice-4.result.now c.as_mut_slice-5.result.now s.levels.items) (sym c.as_slice-3.ensures.value)
-          (subst (λ l. AreSumsBefore Slope m s.moved.items l c.requantize_moved-over.new.work.d c.as_mut_slice-4.result.now c.as_mut_slice-5.result.now s.levels.items) (sym levels)
-          (subst (λ d. AreSumsBefore Slope m s.moved.items fresh d c.as_mut_slice-4.result.now c.as_mut_slice-5.result.now s.levels.items) (sym of_d)
-          (subst (λ v. AreSumsBefore Slope m s.moved.items fresh s.work.d v c.as_mut_slice-5.result.now s.levels.items) (sym c.as_mut_slice-4.ensures.value)
-          (subst (λ ls. AreSumsBefore Slope m s.moved.items fresh s.work.d s.slopes.items ls s.levels.items) (sym c.as_mut_slice-5.ensures.value)
-          (levels_before m c.args.tick agenda s taken c.requires.in_time fresh off))))),
-    )
-
-pub go_on_moved-requires-clause-own_slope : goal.go_on_moved-requires-clause-own_slope
-go_on_moved-requires-clause-own_slope g c j inside =
-    let m = c.args.m.now in
-    let t = c.args.tick + 1 in
-    let s : Store = c.args.s.now in
-    let agenda : List (Option ℕ) = c.requires.taken.0 in
-    let taken = c.requires.taken.1 in
-    ap (λ ls. (line_at ls j).slope) c.as_mut_slice-5.ensures.value
-    ∙ own_slope m c.args.tick agenda s taken c.requires.in_time j inside
-    ∙ ap (λ l. int_at l j) (sym c.as_mut_slice-4.ensures.value)
-
-pub go_on_moved-requires-clause-due : goal.go_on_moved-requires-clause-due
-go_on_moved-requires-clause-due g c j inside own =
-    let m = c.args.m.now in
-    let t = c.args.tick + 1 in
-    let s : Store = c.args.s.now in
-    let agenda : List (Option ℕ) = c.requires.taken.0 in
-    let taken = c.requires.taken.1 in
-    let calm : c.requantize_moved-over.result ≡ None = not_some c.requantize_moved-over.result (sym c.is_some.ensures ∙ c.if-is_some.false) in
-    let x : List ℤ = states_at s.lines.items t in
-    let fresh : List ℤ = c.requantize_moved-over.new.fresh in
-    let h : Handling = record { states = x; discretes = s.work.d; rows = []; overflow = first_past 88 x } in
-    let is_h : h ≡ handling_at m t (world_of c.args.tick s) = sym (handled m c.args.tick agenda s taken c.requires.in_time c.requires.none_changes) in
-    let allowed : first_past 88 x ≡ None → AreNextLevels (IsRuled c.args.q.now.name) m x s.levels.items fresh = λ none.
-    subst (λ ls. AreNextLevels (IsRuled c.args.q.now.name) m (states_at ls t) s.levels.items fresh) c.as_slice.ensures.value
-    (subst (λ l. AreNextLevels (IsRuled c.args.q.now.name) m (states_at c.as_slice.result.now t) l fresh) c.as_mut_slice.ensures.value
-    (c.requantize_moved-over.ensures.allowed (ap (λ ls. first_past 88 (states_at ls t)) c.as_slice.ensures.value ∙ none))) in
-    let over : c.requantize_moved-over.result ≡ option_or (first_past 88 x) (option_or (first_past 43 fresh) (position (is_overweight m fresh s.work.d) m.rows)) =
-    c.requantize_moved-over.ensures.over
-    ∙ ap (λ ls. option_or (first_past 88 (states_at ls t)) (option_or (first_past 43 fresh) (position (is_overweight m fresh s.work.d) m.rows))) c.as_slice.ensures.value in
-    let none_both = both_none (first_past 88 x) (option_or (first_past 43 fresh) (position (is_overweight m fresh s.work.d) m.rows)) (sym calm ∙ over) in
-    let many : length c.requantize_moved-over.new.levels ≡ s.levels.len = c.requantize_moved-over.auto.levels ∙ c.as_mut_slice.ensures.len in
-    let levels : c.as_slice-4.result.now ≡ fresh =
-    c.as_slice-4.ensures.value ∙ with_items_is s.levels c.requantize_moved-over.new.levels many ∙ c.requantize_moved-over.ensures.levels calm in
-    let of_d : c.requantize_moved-over.new.work.d ≡ s.work.d = ap (λ (v : Values). v.d) c.requantize_moved-over.ensures.work in
-    subst (λ ls. IsDue m t j (line_at ls j) (due_at s.agenda j)) (sym c.as_mut_slice-5.ensures.value)
-    (kept_due m c.args.tick agenda s taken c.requires.in_time c.args.q.now.name fresh (allowed none_both.0) j inside
-    (ap (λ ls. (line_at ls j).level) (sym c.as_mut_slice-5.ensures.value) ∙ own ∙ ap (λ l. int_at l j) levels))
+    subst (λ l. IsOff l s.levels.items fresh) c.as_slice-2.ensures.value (subst (λ l. IsOff c.as_slice-2.result.now l fresh) c.as_mut_slice.ensures.value c.requantize_moved-over.ensures.others) in
+    let fits = taken.stands.fits in
+    record {
+      new = record {
+        uses = fits.uses;
+        moved = subst (AreNumbers (state_count m)) (sym c.as_slice-3.ensures.value) taken.due.numbers;
+        levels = ap length c.as_slice-4.ensures.value ∙ same_length s.levels c.requantize_moved-over.new.levels ∙ fits.levels;
+        small_levels = subst (All (IsWithin 43)) (sym (levels ∙ sym (c.requantize_moved-over.ensures.levels calm))) (c.requantize_moved-over.ensures.small calm);
+      };
+      discretes = ap length of_d ∙ fits.discretes;
+      small_discretes = subst (All (IsWithin 43)) (sym of_d) fits.small_discretes;
+      slopes = ap length c.as_mut_slice-4.ensures.value ∙ fits.slopes;
+      lines = ap length c.as_mut_slice-5.ensures.value ∙ fits.lines;
+      places = omega (arith, taken.without.as_many, fits.places);
+      light = ap (λ l. position (is_overweight m l c.requantize_moved-over.new.work.d) m.rows) levels
+          ∙ ap (λ d. position (is_overweight m fresh d) m.rows) of_d
+          ∙ (both_none (first_past 43 fresh) (position (is_overweight m fresh s.work.d) m.rows) (sym none_both.1)).1;
+      in_time = omega (arith, c.requires.in_time, m.has_units.last_tick);
+      earlier = λ j inside.
+          let not_later = (taken.stands.stands_for.lines j inside).not_later in
+          omega (arith, ap (λ ls. (line_at ls j).tick) c.as_mut_slice-5.ensures.value, not_later);
+      small_states = λ j inside.
+          subst (λ ls. IsWithin 88 (state_at (line_at ls j) t)) (sym c.as_mut_slice-5.ensures.value)
+          (state_within s.lines.items t j (omega (arith, inside, fits.lines)) (all_within 88 x none_both.0));
+      near = λ j inside.
+          subst (λ ls. IsNear (level_unit m) (state_at (line_at ls j) t) (int_at c.as_slice-4.result.now j) (quantum_of m j (int_at c.as_slice-4.result.now j))) (sym c.as_mut_slice-5.ensures.value)
+          (subst (λ l. IsNear (level_unit m) (state_at (line_at s.lines.items j) t) (int_at l j) (quantum_of m j (int_at l j))) (sym levels)
+          (near m c.args.tick agenda s taken c.requires.in_time c.args.q.now.name fresh (allowed none_both.0) j inside));
+      before = (
+        s.levels.items,
+        subst (λ js. AreSumsBefore Slope m js c.as_slice-4.result.now c.requantize_moved-over.new.work.d c.as_mut_slice-4.result.now c.as_mut_slice-5.result.now s.levels.items) (sym c.as_slice-3.ensures.value)
+            (subst (λ l. AreSumsBefore Slope m s.moved.items l c.requantize_moved-over.new.work.d c.as_mut_slice-4.result.now c.as_mut_slice-5.result.now s.levels.items) (sym levels)
+            (subst (λ d. AreSumsBefore Slope m s.moved.items fresh d c.as_mut_slice-4.result.now c.as_mut_slice-5.result.now s.levels.items) (sym of_d)
+            (subst (λ v. AreSumsBefore Slope m s.moved.items fresh s.work.d v c.as_mut_slice-5.result.now s.levels.items) (sym c.as_mut_slice-4.ensures.value)
+            (subst (λ ls. AreSumsBefore Slope m s.moved.items fresh s.work.d s.slopes.items ls s.levels.items) (sym c.as_mut_slice-5.ensures.value)
+            (levels_before m c.args.tick agenda s taken c.requires.in_time fresh off))))),
+      );
+      own_slope = λ j inside.
+          ap (λ ls. (line_at ls j).slope) c.as_mut_slice-5.ensures.value
+          ∙ own_slope m c.args.tick agenda s taken c.requires.in_time j inside
+          ∙ ap (λ l. int_at l j) (sym c.as_mut_slice-4.ensures.value);
+      due = λ j inside own.
+          subst (λ ls. IsDue m t j (line_at ls j) (due_at s.agenda j)) (sym c.as_mut_slice-5.ensures.value)
+          (kept_due m c.args.tick agenda s taken c.requires.in_time c.args.q.now.name fresh (allowed none_both.0) j inside
+          (ap (λ ls. (line_at ls j).level) (sym c.as_mut_slice-5.ensures.value) ∙ own ∙ ap (λ l. int_at l j) levels));
+    }
 
 pub go_on_moved-requires-clause-watched : goal.go_on_moved-requires-clause-watched
 go_on_moved-requires-clause-watched g c place inside =
