@@ -8,16 +8,19 @@ use Rattle.qss_machine.specs.Handlers.{conditions}
 use Rattle.qss_machine.specs.Machines.{state_count, discrete_count, level_unit, row_at, slope_at, quantum_of, truth}
 use Rattle.qss_machine.specs.Numbers.{int_at, tabulate}
 use Rattle.qss_machine.specs.Slopes.{mode_fits}
-use Rattle.qss_machine.specs.Ticks.{is_overweight}
+use Rattle.qss_machine.specs.Ticks.{is_near, is_overweight}
 use Rattle.qss_machine.specs.Uses.{uses_of}
 use Rattle.qss_quant.specs.Lines.{Line, state_at, IsNear}
 use Rattle.qss_sched.specs.Ranks.{due_at}
+use Rattle.qss_hand.specs.Works.{AreValuesOf}
 use Rattle.qss_quiet.specs.Among.{is_among, AreNumbers}
 use Rattle.qss_quiet.specs.Sims.{condition_at, weights_at, IsDue}
 use Rattle.qss_run.specs.declared.shifts.RowSum.{RowSum}
 use Rattle.qss_run.specs.declared.shifts.RowSum.TheVariants.{Slope}
 use Rattle.qss_run.specs.declared.store.Store.{Store}
+use Rattle.qss_run.specs.declared.visiting.Arrival.{Arrival}
 use Rattle.qss_run.specs.declared.visiting.Handled.{Handled}
+use Rattle.qss_run.specs.declared.visiting.HandledArrival.{HandledArrival}
 use Rattle.qss_run.specs.declared.visiting.Mode.{Mode}
 use Rattle.qss_run.specs.declared.visiting.NewLevels.{NewLevels}
 use Rattle.qss_run.specs.Handlings.{AreDiscretes, AreAssigned, is_reinitialized, states_with}
@@ -70,6 +73,40 @@ pub record AreHandled (m : Machine) (left : Handled) : Type 0 where
   pub small_states : All (IsWithin 88) left.states.now
   pub small_before : All (IsWithin 43) left.before.now
   pub small_discretes : All (IsWithin 43) left.discretes.now
+
+-- a machine's readers, a line of each state, and numbers of states
+pub record IsArrival (at : Arrival) : Type 0 where
+  pub uses : at.uses.now ≡ uses_of at.machine.now
+  pub lines : length at.lines.now ≡ state_count at.machine.now
+  pub moved : AreNumbers (state_count at.machine.now) at.moved.now
+
+-- the moved states may arrive at a tick of a run: along their lines the others pass no limit, and are near these levels
+pub record CanArrive (at : Arrival) (levels : List ℤ) : Type 0 where
+  pub arrival : IsArrival at
+  pub later : (j : ℕ) → j < length at.lines.now → (line_at at.lines.now j).tick ≤ at.tick
+  pub in_time : at.tick < 2 ^ 32
+  pub others_small : (j : ℕ) → j < state_count at.machine.now → is_among at.moved.now j ≡ false →
+      IsWithin 88 (state_at (line_at at.lines.now j) at.tick)
+  pub others_near : (j : ℕ) → j < state_count at.machine.now → is_among at.moved.now j ≡ false →
+      is_near at.machine.now j (state_at (line_at at.lines.now j) at.tick) (int_at levels j) ≡ true
+
+-- levels of a machine's states that the lines have, within their limit, the same once more, and the weights of all rows there and at discrete values, none past its limit
+pub record HoldsLevels (m : Machine) (lines : List Line) (d levels_old fresh_old weights_old : List ℤ) : Type 0 where
+  pub levels : length levels_old ≡ state_count m
+  pub fresh : fresh_old ≡ levels_old
+  pub small_levels : All (IsWithin 43) levels_old
+  pub light : position (is_overweight m levels_old d) m.rows ≡ None
+  pub weights : weights_old ≡ weights_at m levels_old d
+  pub own_levels : (j : ℕ) → j < state_count m → (line_at lines j).level ≡ int_at levels_old j
+
+-- a machine's readers, a line of each state, numbers of states and of discrete variables, and values within the limits of which only those were assigned
+pub record IsHandledArrival (at : HandledArrival) : Type 0 where
+  pub uses : at.uses.now ≡ uses_of at.machine.now
+  pub lines : length at.lines.now ≡ state_count at.machine.now
+  pub moved : AreNumbers (state_count at.machine.now) at.moved.now
+  pub assigned_known : AreDiscretes at.machine.now at.assigned.now
+  pub own : AreAssigned at.machine.now at.assigned.now at.work.now.pre at.work.now.d
+  pub fits : AreValuesOf at.machine.now at.work.now
 
 -- a machine's states may go on at their new levels and at these slopes
 pub record CanGoOn (at : NewLevels) (slopes : List ℤ) : Type 0 where

@@ -21,7 +21,7 @@ use crate::reseated::reslope_handled;
 use crate::rewatched::rewatch_handled;
 use crate::rising::rise;
 use crate::store::Store;
-use crate::visiting::{Handled, NewLevels};
+use crate::visiting::{Handled, HandledArrival, NewLevels};
 use qss_machine::Machine;
 use qss_quant::{Quantizer, Steps};
 use std::sync::ledger::Ledger;
@@ -97,11 +97,10 @@ pub(crate) fn visit_changed<L: Ledger>(
     ensures room { vec_capacity s.new.rows ≡ vec_capacity s.old.rows }
     ensures counted { steps.new ≤ steps.old + touches_at m.now (tick + 1) (world_of tick s.old) (world_unless result (world_of (tick + 1) s.new)) }
 {
-    let next = tick + 1;
     let over = handle_changed(
         m,
         s.conditions.branches.as_slice(),
-        next,
+        tick + 1,
         s.lines.as_slice(),
         s.changed.as_slice(),
         s.conditions.watches.as_slice(),
@@ -116,15 +115,18 @@ pub(crate) fn visit_changed<L: Ledger>(
     if over.is_some() {
         return over;
     }
+    let handled = HandledArrival {
+        machine: m,
+        uses: &s.uses,
+        tick: tick + 1,
+        lines: s.lines.as_slice(),
+        moved: s.moved.as_slice(),
+        assigned: s.assigned.as_slice(),
+        work: &s.work,
+    };
     let over = requantize_handled(
-        m,
-        &s.uses,
+        &handled,
         q,
-        next,
-        s.lines.as_slice(),
-        s.moved.as_slice(),
-        s.assigned.as_slice(),
-        &s.work,
         s.levels.as_mut_slice(),
         s.fresh.as_mut_slice(),
         s.weights.as_mut_slice(),
@@ -133,6 +135,6 @@ pub(crate) fn visit_changed<L: Ledger>(
     if over.is_some() {
         return over;
     }
-    go_on_handled(m, next, s, steps);
+    go_on_handled(m, tick + 1, s, steps);
     None
 }

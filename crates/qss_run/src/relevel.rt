@@ -9,7 +9,7 @@ ghost use Rattle.mu_num.specs.Ticks.{tick_limit};
 ghost use Rattle.qss_machine.specs.declared.rows.RowKind.TheVariants as kind;
 ghost use Rattle.qss_machine.specs.Numbers.{int_at, first_past};
 ghost use Rattle.qss_machine.specs.Machines.{state_count};
-ghost use Rattle.qss_machine.specs.Ticks.{is_near, IsNextLevel, AreNextLevels};
+ghost use Rattle.qss_machine.specs.Ticks.{IsNextLevel, AreNextLevels};
 ghost use Rattle.qss_machine.specs.Runs.{level_rows};
 ghost use Rattle.qss_quant.specs.Lines.{state_at};
 ghost use Rattle.qss_run.specs.Handlings.{AreMovedTo};
@@ -18,8 +18,10 @@ ghost use Rattle.qss_run.specs.Places.{line_at};
 ghost use Rattle.qss_quiet.specs.Rules.{IsRuled};
 ghost use Rattle.qss_run.specs.Stores.{states_at};
 ghost use Rattle.qss_quiet.specs.Writes.{IsFirstOf, IsWritten};
+ghost use Rattle.qss_run.specs.Visitings.{CanArrive};
 
 use crate::levels::take_level;
+use crate::visiting::Arrival;
 use mu_num::passes;
 use qss_machine::{Machine, Row};
 use qss_quant::{Integrator, Quantizer};
@@ -104,36 +106,37 @@ pub(crate) fn take_levels_due(
 /// The moved states take their new levels, with a row for each that is another one. It gives the state whose level overflows,
 /// if one does.
 pub(crate) fn requantize_states(
-    m: &Machine,
+    at: &Arrival,
     q: &Quantizer,
-    tick: u64,
     x: &[i128],
-    moved: &[u32],
     levels: &mut [i64],
     fresh: &mut [i128],
     rows: &mut Vec<Row>,
 ) -> Option<u32>
-    requires states { length x.now ≡ state_count m.now }
-    requires levels { length levels.old ≡ state_count m.now }
+    requires states { length x.now ≡ state_count at.now.machine.now }
+    requires levels { length levels.old ≡ state_count at.now.machine.now }
     requires fresh { fresh.old ≡ levels.old }
-    requires moved { AreNumbers (state_count m.now) moved.now }
-    requires small_states { (j : ℕ) → is_among moved.now j ≡ true → IsWithin 88 (int_at x.now j) }
+    requires moved { AreNumbers (state_count at.now.machine.now) at.now.moved.now }
+    requires small_states { (j : ℕ) → is_among at.now.moved.now j ≡ true → IsWithin 88 (int_at x.now j) }
     requires small_levels { All (IsWithin 43) levels.old }
-    requires room { vec_len rows.old + state_count m.now ≤ vec_capacity rows.old }
+    requires room { vec_len rows.old + state_count at.now.machine.now ≤ vec_capacity rows.old }
     ensures over { result ≡ first_past 43 fresh.new }
-    ensures allowed { (states : List ℤ) → AreMovedTo m.now moved.now x.now levels.old states → AreNextLevels (IsRuled q.now.name) m.now states levels.old fresh.new }
-    ensures others { IsOff moved.now levels.old fresh.new }
+    ensures allowed { (states : List ℤ) → AreMovedTo at.now.machine.now at.now.moved.now x.now levels.old states
+        → AreNextLevels (IsRuled q.now.name) at.now.machine.now states levels.old fresh.new }
+    ensures others { IsOff at.now.moved.now levels.old fresh.new }
     ensures levels { result ≡ None → levels.new ≡ fresh.new }
     ensures small { result ≡ None → All (IsWithin 43) levels.new }
-    ensures rows { result ≡ None → (states : List ℤ) → AreMovedTo m.now moved.now x.now levels.old states → rows.new.items ≡ rows.old.items ++ level_rows tick levels.old levels.new states }
+    ensures rows { result ≡ None
+        → (states : List ℤ) → AreMovedTo at.now.machine.now at.now.moved.now x.now levels.old states
+        → rows.new.items ≡ rows.old.items ++ level_rows at.now.tick levels.old levels.new states }
     ensures room { vec_capacity rows.new ≡ vec_capacity rows.old }
 {
-    relevel_due(m, q, x, levels, moved, fresh);
-    let passed = first_past_of(fresh, moved, 43);
+    relevel_due(at.machine, q, x, levels, at.moved, fresh);
+    let passed = first_past_of(fresh, at.moved, 43);
     if passed.is_some() {
         return passed;
     }
-    take_levels_due(tick, x, fresh, moved, levels, rows);
+    take_levels_due(at.tick, x, fresh, at.moved, levels, rows);
     None
 }
 
@@ -160,43 +163,38 @@ pub(crate) fn arrive_within(
 
 /// The due states arrive and take their new levels. It gives the state that passes a limit, on arrival or by its level.
 pub(crate) fn requantize_due(
-    m: &Machine,
+    at: &Arrival,
     q: &Quantizer,
-    tick: u64,
-    lines: &[Integrator],
-    moved: &[u32],
     x: &mut [i128],
     levels: &mut [i64],
     fresh: &mut [i128],
     rows: &mut Vec<Row>,
 ) -> Option<u32>
-    requires lines { length lines.now ≡ state_count m.now }
-    requires states { length x.old ≡ state_count m.now }
-    requires levels { length levels.old ≡ state_count m.now }
+    requires ready { CanArrive at.now levels.old }
+    requires states { length x.old ≡ state_count at.now.machine.now }
+    requires levels { length levels.old ≡ state_count at.now.machine.now }
     requires fresh { fresh.old ≡ levels.old }
     requires small_levels { All (IsWithin 43) levels.old }
-    requires moved { AreNumbers (state_count m.now) moved.now }
-    requires later { (j : ℕ) → j < length lines.now → (line_at lines.now j).tick ≤ tick }
-    requires in_time { tick < 2 ^ 32 }
-    requires others_small { (j : ℕ) → j < state_count m.now → is_among moved.now j ≡ false → IsWithin 88 (state_at (line_at lines.now j) tick) }
-    requires others_near { (j : ℕ) → j < state_count m.now → is_among moved.now j ≡ false → is_near m.now j (state_at (line_at lines.now j) tick) (int_at levels.old j) ≡ true }
     requires small_x { All (IsWithin 88) x.old }
-    requires room { state_count m.now ≤ vec_capacity rows.old }
-    ensures over { result ≡ option_or (first_past 88 (states_at lines.now tick)) (first_past 43 fresh.new) }
-    ensures allowed { first_past 88 (states_at lines.now tick) ≡ None → AreNextLevels (IsRuled q.now.name) m.now (states_at lines.now tick) levels.old fresh.new }
+    requires room { state_count at.now.machine.now ≤ vec_capacity rows.old }
+    ensures over { result ≡ option_or (first_past 88 (states_at at.now.lines.now at.now.tick)) (first_past 43 fresh.new) }
+    ensures allowed { first_past 88 (states_at at.now.lines.now at.now.tick) ≡ None
+        → AreNextLevels (IsRuled q.now.name) at.now.machine.now (states_at at.now.lines.now at.now.tick)
+            levels.old fresh.new }
     ensures levels { result ≡ None → levels.new ≡ fresh.new }
     ensures small { result ≡ None → All (IsWithin 43) levels.new }
-    ensures rows { result ≡ None → rows.new.items ≡ level_rows tick levels.old levels.new (states_at lines.now tick) }
-    ensures others { (j : ℕ) → is_among moved.now j ≡ false → int_at fresh.new j ≡ int_at levels.old j }
+    ensures rows { result ≡ None
+        → rows.new.items ≡ level_rows at.now.tick levels.old levels.new (states_at at.now.lines.now at.now.tick) }
+    ensures others { (j : ℕ) → is_among at.now.moved.now j ≡ false → int_at fresh.new j ≡ int_at levels.old j }
     ensures states { length x.new ≡ length x.old }
     ensures small_x { result ≡ None → All (IsWithin 88) x.new }
     ensures fresh { length fresh.new ≡ length fresh.old }
     ensures room { vec_capacity rows.new ≡ vec_capacity rows.old }
 {
-    let passed = arrive_within(lines, tick, moved, x);
+    let passed = arrive_within(at.lines, at.tick, at.moved, x);
     if passed.is_some() {
         return passed;
     }
     rows.clear();
-    requantize_states(m, q, tick, x, moved, levels, fresh, rows)
+    requantize_states(at, q, x, levels, fresh, rows)
 }

@@ -1,6 +1,8 @@
 //! What the parts of a visit are given.
 
+use qss_hand::Work;
 use qss_machine::{Machine, Uses};
+use qss_quant::Integrator;
 
 /// A machine with discrete values, which give each row its mode coefficients.
 #[derive(Clone, Copy)]
@@ -28,4 +30,27 @@ pub(crate) struct Handled<'a> {
     pub states: &'a [i128],
     pub before: &'a [i64],
     pub discretes: &'a [i64],
+}
+
+/// A machine at a tick at which states arrive along their lines: which rows and conditions read a variable, the lines of all
+/// states, and the states that move there.
+#[derive(Clone, Copy)]
+pub(crate) struct Arrival<'a> {
+    pub machine: &'a Machine,
+    pub uses: &'a Uses,
+    pub tick: u64,
+    pub lines: &'a [Integrator],
+    pub moved: &'a [u32],
+}
+
+/// An arrival after its handlers: the discrete variables that these assigned, and the values that they left.
+#[derive(Clone, Copy)]
+pub(crate) struct HandledArrival<'a> {
+    pub machine: &'a Machine,
+    pub uses: &'a Uses,
+    pub tick: u64,
+    pub lines: &'a [Integrator],
+    pub moved: &'a [u32],
+    pub assigned: &'a [u32],
+    pub work: &'a Work,
 }

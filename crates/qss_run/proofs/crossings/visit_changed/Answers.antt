@@ -18,8 +18,8 @@ use Rattle.qss_sched.specs.Ranks.{due_at}
 use Rattle.qss_run.specs.RowSums.{AreSumsBefore}
 use Rattle.qss_run.specs.declared.shifts.RowSum.TheVariants.{Slope}
 use Rattle.qss_run.specs.declared.store.Store.{Store}
-use Rattle.qss_run.specs.Handlings.{states_with, is_reinitialized, AreAssigned, IsHandled, AreMovedTo}
-use Rattle.qss_quiet.specs.Among.{is_among, IsOff}
+use Rattle.qss_run.specs.Handlings.{states_with, is_reinitialized, AreAssigned, AreDiscretes, IsHandled, AreMovedTo}
+use Rattle.qss_quiet.specs.Among.{is_among, AreNumbers, IsOff}
 use Rattle.qss_run.specs.Moves.{became_true}
 use Rattle.qss_run.specs.Places.{line_at, watch_at, IsWatched}
 use Rattle.qss_run.specs.Renewals.{renewals_from}
@@ -87,9 +87,69 @@ returns-then-is_some-clause-stepped g c =
     early (IsRuled c.args.q.now.name) m t (world_of c.args.tick s) _ c.handle_changed-over.result (sym c.is_some.ensures ∙ c.if-is_some.true)
     (c.handle_changed-over.ensures.over ∙ ap (λ (k : Handling). k.overflow) is_h)
 
-pub requantize_handled-over-requires-clause-small_levels : goal.requantize_handled-over-requires-clause-small_levels
-requantize_handled-over-requires-clause-small_levels g c =
-    subst (All (IsWithin 43)) (sym c.as_mut_slice-2.ensures.value) (levels_small c.args.m.now c.args.tick (record c.args.s.now { agenda = c.requires.taken.0 }) c.requires.taken.1.stands)
+pub requantize_handled-over-requires-clause-ready : goal.requantize_handled-over-requires-clause-ready
+requantize_handled-over-requires-clause-ready g c =
+    let m = c.args.m.now in
+    let t = c.args.tick + 1 in
+    let s : Store = c.args.s.now in
+    let agenda : List (Option ℕ) = c.requires.taken.0 in
+    let taken = c.requires.taken.1 in
+    let h : Handling = handling_from m t (states_at c.as_slice-2.result.now t) s.work.d c.as_mut_slice.result.now c.as_slice-5.result.now in
+    let is_h : h ≡ handling_at m t (world_of c.args.tick s) =
+    handles_from m c.args.tick (record s { agenda = agenda }) taken.stands c.as_slice-2.result.now c.as_mut_slice.result.now c.as_slice-5.result.now
+    c.as_slice-2.ensures.value c.as_mut_slice.ensures.value c.as_slice-5.ensures.value in
+    let calm : c.handle_changed-over.result ≡ None = not_some c.handle_changed-over.result (sym c.is_some.ensures ∙ c.if-is_some.false) in
+    let moved = c.handle_changed-over.new.moved.items in
+    let assigned = c.handle_changed-over.new.assigned.items in
+    let new : Values = c.handle_changed-over.new.work in
+    let handled : IsHandled m t s.lines.items s.moved.items moved assigned s.work new h =
+    subst (λ ls. IsHandled m t ls s.moved.items moved assigned s.work new h) c.as_slice-2.ensures.value (c.handle_changed-over.ensures.handled calm) in
+    let calm_h : h.overflow ≡ None = sym c.handle_changed-over.ensures.over ∙ calm in
+    let of_d : new.d ≡ h.discretes = ap (λ (v : Values). v.d) handled.values in
+    let of_pre : new.pre ≡ s.work.d = ap (λ (v : Values). v.pre) handled.values in
+    let fits = taken.stands.fits in
+    record {
+      uses = fits.uses;
+      lines = ap length c.as_slice-6.ensures.value ∙ fits.lines;
+      moved = subst (AreNumbers (state_count m)) (sym c.as_slice-7.ensures.value) handled.numbers;
+      assigned_known = subst (AreDiscretes m) (sym c.as_slice-8.ensures.value) handled.variables;
+      own = subst (λ (js : List ℕ). AreAssigned m js new.pre new.d) (sym c.as_slice-8.ensures.value)
+          (subst (λ (p : List ℤ). AreAssigned m assigned p new.d) (sym of_pre) (subst (λ (d : List ℤ). AreAssigned m assigned s.work.d d) (sym of_d) handled.others));
+      fits = handled.fits;
+    }
+
+pub requantize_handled-over-requires-clause-held : goal.requantize_handled-over-requires-clause-held
+requantize_handled-over-requires-clause-held g c =
+    let m = c.args.m.now in
+    let t = c.args.tick + 1 in
+    let s : Store = c.args.s.now in
+    let agenda : List (Option ℕ) = c.requires.taken.0 in
+    let taken = c.requires.taken.1 in
+    let h : Handling = handling_from m t (states_at c.as_slice-2.result.now t) s.work.d c.as_mut_slice.result.now c.as_slice-5.result.now in
+    let is_h : h ≡ handling_at m t (world_of c.args.tick s) =
+    handles_from m c.args.tick (record s { agenda = agenda }) taken.stands c.as_slice-2.result.now c.as_mut_slice.result.now c.as_slice-5.result.now
+    c.as_slice-2.ensures.value c.as_mut_slice.ensures.value c.as_slice-5.ensures.value in
+    let calm : c.handle_changed-over.result ≡ None = not_some c.handle_changed-over.result (sym c.is_some.ensures ∙ c.if-is_some.false) in
+    let moved = c.handle_changed-over.new.moved.items in
+    let assigned = c.handle_changed-over.new.assigned.items in
+    let new : Values = c.handle_changed-over.new.work in
+    let handled : IsHandled m t s.lines.items s.moved.items moved assigned s.work new h =
+    subst (λ ls. IsHandled m t ls s.moved.items moved assigned s.work new h) c.as_slice-2.ensures.value (c.handle_changed-over.ensures.handled calm) in
+    let calm_h : h.overflow ≡ None = sym c.handle_changed-over.ensures.over ∙ calm in
+    let of_d : new.d ≡ h.discretes = ap (λ (v : Values). v.d) handled.values in
+    let of_pre : new.pre ≡ s.work.d = ap (λ (v : Values). v.pre) handled.values in
+    let stands = taken.stands in
+    record {
+      levels = ap length c.as_mut_slice-2.ensures.value ∙ stands.fits.levels;
+      fresh = c.as_mut_slice-3.ensures.value ∙ stands.fresh_levels ∙ sym c.as_mut_slice-2.ensures.value;
+      small_levels = subst (All (IsWithin 43)) (sym c.as_mut_slice-2.ensures.value) (levels_small m c.args.tick (record s { agenda = agenda }) stands);
+      light = ap (λ l. position (is_overweight m l new.pre) m.rows) c.as_mut_slice-2.ensures.value
+          ∙ ap (λ p. position (is_overweight m s.levels.items p) m.rows) of_pre ∙ stands.stands_for.left.light;
+      weights = c.as_mut_slice-4.ensures.value ∙ stands.own_weights ∙ ap (λ l. weights_at m l s.work.d) (sym c.as_mut_slice-2.ensures.value)
+          ∙ ap (λ p. weights_at m c.as_mut_slice-2.result.now p) (sym of_pre);
+      own_levels = λ j inside.
+          ap (λ ls. (line_at ls j).level) c.as_slice-6.ensures.value ∙ (stands.stands_for.lines j inside).own_level ∙ ap (λ l. int_at l j) (sym c.as_mut_slice-2.ensures.value);
+    }
 
 pub requantize_handled-over-requires-clause-room : goal.requantize_handled-over-requires-clause-room
 requantize_handled-over-requires-clause-room g c =

@@ -22,18 +22,18 @@ returns-clause-over g c =
 
 pub returns-clause-allowed : goal.returns-clause-allowed
 returns-clause-allowed g c calm =
-    let lines = c.args.lines.now in
-    let moved = c.args.moved.now in
-    c.requantize_states.ensures.allowed (states_at lines c.args.tick)
-    (arrived_at c.args.tick lines moved c.args.x.now c.arrive_within-passed.new.x (subst (λ n. AreNumbers n moved) (sym c.requires.lines) c.requires.moved) c.arrive_within-passed.ensures.arrived
-    c.args.m.now c.args.levels.now c.requires.lines c.requires.others_near)
+    let lines = c.args.at.now.lines.now in
+    let moved = c.args.at.now.moved.now in
+    c.requantize_states.ensures.allowed (states_at lines c.args.at.now.tick)
+    (arrived_at c.args.at.now.tick lines moved c.args.x.now c.arrive_within-passed.new.x (subst (λ n. AreNumbers n moved) (sym c.requires.ready.arrival.lines) c.requires.ready.arrival.moved) c.arrive_within-passed.ensures.arrived
+    c.args.at.now.machine.now c.args.levels.now c.requires.ready.arrival.lines c.requires.ready.others_near)
 
 pub returns-clause-rows : goal.returns-clause-rows
 returns-clause-rows g c none =
-    let lines = c.args.lines.now in
-    let moved = c.args.moved.now in
-    let states = states_at lines c.args.tick in
+    let lines = c.args.at.now.lines.now in
+    let moved = c.args.at.now.moved.now in
+    let states = states_at lines c.args.at.now.tick in
     c.requantize_states.ensures.rows none states
-    (arrived_at c.args.tick lines moved c.args.x.now c.arrive_within-passed.new.x (subst (λ n. AreNumbers n moved) (sym c.requires.lines) c.requires.moved) c.arrive_within-passed.ensures.arrived
-    c.args.m.now c.args.levels.now c.requires.lines c.requires.others_near)
-    ∙ ap (λ items. items ++ level_rows c.args.tick c.args.levels.now c.requantize_states.new.levels states) c.clear.ensures.items
+    (arrived_at c.args.at.now.tick lines moved c.args.x.now c.arrive_within-passed.new.x (subst (λ n. AreNumbers n moved) (sym c.requires.ready.arrival.lines) c.requires.ready.arrival.moved) c.arrive_within-passed.ensures.arrived
+    c.args.at.now.machine.now c.args.levels.now c.requires.ready.arrival.lines c.requires.ready.others_near)
+    ∙ ap (λ items. items ++ level_rows c.args.at.now.tick c.args.levels.now c.requantize_states.new.levels states) c.clear.ensures.items

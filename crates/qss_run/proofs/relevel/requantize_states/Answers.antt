@@ -13,8 +13,8 @@ use Rattle.qss_run.proofs.relevel.requantize_states.Goals as goal
 
 pub returns-then-is_some : goal.returns-then-is_some
 returns-then-is_some g c =
-    let m = c.args.m.now in
-    let moved = c.args.moved.now in
+    let m = c.args.at.now.machine.now in
+    let moved = c.args.at.now.moved.now in
     let some = sym c.is_some.ensures ∙ c.if-is_some.true in
     let off : IsOff moved c.args.levels.now c.relevel_due.new.fresh = written_off moved _ c.args.levels.now c.args.fresh.now c.relevel_due.new.fresh c.requires.fresh c.relevel_due.ensures in
     record {
@@ -28,12 +28,12 @@ returns-then-is_some g c =
     }
 
 pub take_levels_due-requires-clause-room : goal.take_levels_due-requires-clause-room
-take_levels_due-requires-clause-room g c = omega (arith, few_numbers _ c.args.moved.now c.requires.moved, c.requires.room)
+take_levels_due-requires-clause-room g c = omega (arith, few_numbers _ c.args.at.now.moved.now c.requires.moved, c.requires.room)
 
 pub returns : goal.returns
 returns g c =
-    let m = c.args.m.now in
-    let moved = c.args.moved.now in
+    let m = c.args.at.now.machine.now in
+    let moved = c.args.at.now.moved.now in
     let none : c.first_past_of-passed.result ≡ None = not_some c.first_past_of-passed.result (sym c.is_some.ensures ∙ c.if-is_some.false) in
     let off : IsOff moved c.args.levels.now c.relevel_due.new.fresh = written_off moved _ c.args.levels.now c.args.fresh.now c.relevel_due.new.fresh c.requires.fresh c.relevel_due.ensures in
     let over : c.first_past_of-passed.result ≡ first_past 43 c.relevel_due.new.fresh =
@@ -47,7 +47,7 @@ returns g c =
       small = λ e. subst (All (IsWithin 43)) (sym taken) (all_within 43 c.relevel_due.new.fresh (sym over ∙ none));
       rows = λ e states are. c.take_levels_due.ensures.rows
           ∙ ap (λ more. c.args.rows.now.items ++ more)
-          (rows_of_moved m moved c.args.x.now c.args.levels.now c.relevel_due.new.fresh c.requires.moved c.requires.levels off states are c.args.tick
-          ∙ ap (λ l. level_rows c.args.tick c.args.levels.now l states) (sym taken));
+          (rows_of_moved m moved c.args.x.now c.args.levels.now c.relevel_due.new.fresh c.requires.moved c.requires.levels off states are c.args.at.now.tick
+          ∙ ap (λ l. level_rows c.args.at.now.tick c.args.levels.now l states) (sym taken));
       room = c.take_levels_due.ensures.room;
     }

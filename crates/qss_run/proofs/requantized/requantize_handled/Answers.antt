@@ -13,15 +13,15 @@ use Rattle.qss_run.proofs.requantized.requantize_handled.Goals as goal
 
 pub reweigh_handled-requires-clause-left : goal.reweigh_handled-requires-clause-left
 reweigh_handled-requires-clause-left g c =
-    let m = c.args.m.now in
-    let fits = c.requires.fits in
-    let of_x : c.as_slice-x.result.now ≡ c.args.work.now.x = c.as_slice-x.ensures.value ∙ ap (λ (v : Values). v.x) c.work.view_is in
-    let of_pre : c.as_slice-pre.result.now ≡ c.args.work.now.pre = c.as_slice-pre.ensures.value ∙ ap (λ (v : Values). v.pre) c.work.view_is in
-    let of_d : c.as_slice-d.result.now ≡ c.args.work.now.d = c.as_slice-d.ensures.value ∙ ap (λ (v : Values). v.d) c.work.view_is in
+    let m = c.args.at.now.machine.now in
+    let fits = c.requires.ready.fits in
+    let of_x : c.as_slice-x.result.now ≡ c.args.at.now.work.now.x = c.as_slice-x.ensures.value ∙ ap (λ (v : Values). v.x) c.work.view_is in
+    let of_pre : c.as_slice-pre.result.now ≡ c.args.at.now.work.now.pre = c.as_slice-pre.ensures.value ∙ ap (λ (v : Values). v.pre) c.work.view_is in
+    let of_d : c.as_slice-d.result.now ≡ c.args.at.now.work.now.d = c.as_slice-d.ensures.value ∙ ap (λ (v : Values). v.d) c.work.view_is in
     record {
-      assigned_known = c.requires.assigned_known;
-      own = subst (λ (d : List ℤ). AreAssigned m c.args.assigned.now c.as_slice-pre.result.now d) (sym of_d)
-          (subst (λ (p : List ℤ). AreAssigned m c.args.assigned.now p c.args.work.now.d) (sym of_pre) c.requires.assigned);
+      assigned_known = c.requires.ready.assigned_known;
+      own = subst (λ (d : List ℤ). AreAssigned m c.args.at.now.assigned.now c.as_slice-pre.result.now d) (sym of_d)
+          (subst (λ (p : List ℤ). AreAssigned m c.args.at.now.assigned.now p c.args.at.now.work.now.d) (sym of_pre) c.requires.ready.own);
       many_states = ap length of_x ∙ fits.states;
       many_before = ap length of_pre ∙ fits.before;
       many_discretes = ap length of_d ∙ fits.discretes;
@@ -32,16 +32,16 @@ reweigh_handled-requires-clause-left g c =
 
 pub reweigh_handled-requires-clause-before : goal.reweigh_handled-requires-clause-before
 reweigh_handled-requires-clause-before g c =
-    let m = c.args.m.now in
+    let m = c.args.at.now.machine.now in
     let old : List ℤ = c.args.levels.now in
     let none : c.requantize_states-over.result ≡ None = not_some c.requantize_states-over.result (sym c.is_some.ensures ∙ c.if-is_some.false) in
-    let pre : c.as_slice-pre.result.now ≡ c.args.work.now.pre = c.as_slice-pre.ensures.value ∙ ap (λ (v : Values). v.pre) c.work.view_is in (
+    let pre : c.as_slice-pre.result.now ≡ c.args.at.now.work.now.pre = c.as_slice-pre.ensures.value ∙ ap (λ (v : Values). v.pre) c.work.view_is in (
       old,
       record {
-        off = subst (IsOff c.args.moved.now old) (sym (c.requantize_states-over.ensures.levels none)) c.requantize_states-over.ensures.others;
-        small = c.requires.small_levels;
-        light = subst (λ (d : List ℤ). position (is_overweight m old d) m.rows ≡ None) (sym pre) c.requires.light;
-        own_sums = c.requires.weights ∙ ap (weights_at m old) (sym pre);
-        own_levels = c.requires.own_levels;
+        off = subst (IsOff c.args.at.now.moved.now old) (sym (c.requantize_states-over.ensures.levels none)) c.requantize_states-over.ensures.others;
+        small = c.requires.held.small_levels;
+        light = subst (λ (d : List ℤ). position (is_overweight m old d) m.rows ≡ None) (sym pre) c.requires.held.light;
+        own_sums = c.requires.held.weights ∙ ap (weights_at m old) (sym pre);
+        own_levels = c.requires.held.own_levels;
       },
     )

@@ -9,7 +9,7 @@ use Rattle.mu_num.specs.Sizes.{IsWithin}
 use Rattle.qss_machine.specs.Numbers.{int_at, tabulate, first_past}
 use Rattle.qss_machine.specs.Machines.{state_count, level_unit, slope_at, quantum_of}
 use Rattle.qss_machine.specs.Handlers.{Handling, conditions, truths}
-use Rattle.qss_machine.specs.Ticks.{World, moved_states, handling_at, is_overweight, AreNextLevels}
+use Rattle.qss_machine.specs.Ticks.{World, moved_states, handling_at, is_near, is_overweight, AreNextLevels}
 use Rattle.qss_machine.specs.Runs.{level_rows}
 use Rattle.qss_quant.specs.Lines.{state_at, IsNear}
 use Rattle.qss_sched.specs.Ranks.{due_at}
@@ -27,21 +27,58 @@ use Rattle.qss_run.specs.Stores.{states_at, world_of, FitsMachine}
 use Rattle.qss_run.specs.Touches.{touches_at}
 use Rattle.qss_run.proofs.Handled.{not_some, clash, all_within}
 use Rattle.qss_run.proofs.OwnConditions.{arrived_anew}
-use Rattle.qss_run.proofs.QuietVisits.{steps_or, leads, rest_small, own_slope, levels_before, handled, arrived, near, kept_due, same_truths, watched, not_rising, rising, rows_then}
+use Rattle.qss_run.proofs.QuietVisits.{steps_or, leads, rest_small, rest_near, own_slope, levels_before, handled, arrived, near, kept_due, same_truths, watched, not_rising, rising, rows_then}
 use Rattle.qss_run.proofs.QuietTick.{none_rises_then}
 use Rattle.qss_run.proofs.Touched.{renewals_touched}
-use Rattle.qss_run.proofs.Visits.{stands_again, end_of, both_none, same_length, state_within}
+use Rattle.qss_run.proofs.Visits.{stands_again, end_of, both_none, same_length, levels_small, state_within}
 use Rattle.qss_run.proofs.sparse.visit_due.Goals as goal
 
-pub requantize_moved-over-requires-clause-others_small : goal.requantize_moved-over-requires-clause-others_small
-requantize_moved-over-requires-clause-others_small g c j h none =
+pub requantize_moved-over-requires-clause-ready : goal.requantize_moved-over-requires-clause-ready
+requantize_moved-over-requires-clause-ready g c =
     let m = c.args.m.now in
     let t = c.args.tick + 1 in
     let s : Store = c.args.s.now in
     let agenda : List (Option ℕ) = c.requires.taken.0 in
     let taken = c.requires.taken.1 in
-    subst (λ ls. IsWithin 88 (state_at (line_at ls j) t)) (sym c.as_slice.ensures.value)
-    (rest_small m c.args.tick agenda s taken c.requires.in_time j h (ap (λ l. is_among l j) (sym c.as_slice-2.ensures.value) ∙ none))
+    let fits = taken.stands.fits in
+    record {
+      arrival = record {
+        uses = fits.uses;
+        lines = ap length c.as_slice.ensures.value ∙ fits.lines;
+        moved = subst (AreNumbers (state_count m)) (sym c.as_slice-2.ensures.value) taken.due.numbers;
+      };
+      later = λ j h.
+          let not_later = (taken.stands.stands_for.lines j (omega (arith, h, ap length c.as_slice.ensures.value, fits.lines))).not_later in
+          omega (arith, ap (λ ls. (line_at ls j).tick) c.as_slice.ensures.value, not_later);
+      in_time = omega (arith, c.requires.in_time, m.has_units.last_tick);
+      others_small = λ j h none.
+          subst (λ ls. IsWithin 88 (state_at (line_at ls j) t)) (sym c.as_slice.ensures.value)
+          (rest_small m c.args.tick agenda s taken c.requires.in_time j h (ap (λ l. is_among l j) (sym c.as_slice-2.ensures.value) ∙ none));
+      others_near = λ j h none.
+          ap (λ ls. is_near m j (state_at (line_at ls j) t) (int_at c.as_mut_slice.result.now j)) c.as_slice.ensures.value
+          ∙ ap (λ l. is_near m j (state_at (line_at s.lines.items j) t) (int_at l j)) c.as_mut_slice.ensures.value
+          ∙ rest_near m c.args.tick agenda s taken c.requires.in_time j h (ap (λ l. is_among l j) (sym c.as_slice-2.ensures.value) ∙ none);
+    }
+
+pub requantize_moved-over-requires-clause-values : goal.requantize_moved-over-requires-clause-values
+requantize_moved-over-requires-clause-values g c =
+    let fits = c.requires.taken.1.stands.fits in
+    record { states = fits.states; discretes = fits.discretes; small_states = fits.small_states; small_discretes = fits.small_discretes }
+
+pub requantize_moved-over-requires-clause-held : goal.requantize_moved-over-requires-clause-held
+requantize_moved-over-requires-clause-held g c =
+    let m = c.args.m.now in
+    let s : Store = c.args.s.now in
+    let stands = c.requires.taken.1.stands in
+    record {
+      levels = ap length c.as_mut_slice.ensures.value ∙ stands.fits.levels;
+      fresh = c.as_mut_slice-2.ensures.value ∙ stands.fresh_levels ∙ sym c.as_mut_slice.ensures.value;
+      small_levels = subst (All (IsWithin 43)) (sym c.as_mut_slice.ensures.value) (levels_small m c.args.tick (record s { agenda = c.requires.taken.0 }) stands);
+      light = ap (λ l. position (is_overweight m l s.work.d) m.rows) c.as_mut_slice.ensures.value ∙ stands.stands_for.left.light;
+      weights = c.as_mut_slice-3.ensures.value ∙ stands.own_weights ∙ ap (λ l. weights_at m l s.work.d) (sym c.as_mut_slice.ensures.value);
+      own_levels = λ j inside.
+          ap (λ ls. (line_at ls j).level) c.as_slice.ensures.value ∙ (stands.stands_for.lines j inside).own_level ∙ ap (λ l. int_at l j) (sym c.as_mut_slice.ensures.value);
+    }
 
 pub returns-then-is_some-clause-stepped : goal.returns-then-is_some-clause-stepped
 returns-then-is_some-clause-stepped g c =
@@ -194,12 +231,12 @@ go_on_moved-requires-clause-watched g c place inside =
 pub catch_up-requires-clause-as_many : goal.catch_up-requires-clause-as_many
 catch_up-requires-clause-as_many g c =
     let fits = c.go_on_moved.ensures.fits in
-    ap length c.as_mut_slice-6.ensures.value ∙ fits.arrived ∙ sym fits.settled ∙ sym (ap length c.as_slice-settled.ensures.value)
+    ap length c.as_mut_slice-arrived.ensures.value ∙ fits.arrived ∙ sym fits.settled ∙ sym (ap length c.as_slice-settled.ensures.value)
 
 pub catch_up-requires-clause-calm : goal.catch_up-requires-clause-calm
 catch_up-requires-clause-calm g c calm =
     let rest = c.go_on_moved.ensures.rest in
-    c.as_mut_slice-6.ensures.value
+    c.as_mut_slice-arrived.ensures.value
     ∙ ap (λ (all : Conditions). all.arrived.items) rest
     ∙ c.requires.taken.1.stands.calm calm
     ∙ sym (ap (λ (all : Conditions). all.settled.items) rest)
@@ -269,7 +306,7 @@ returns g c =
     let of_slopes : next.slopes.items ≡ c.go_on_moved.new.slopes = with_items_is s.slopes c.go_on_moved.new.slopes (c.go_on_moved.auto.slopes ∙ c.as_mut_slice-4.ensures.len) in
     let of_lines : next.lines.items ≡ c.go_on_moved.new.lines = with_items_is s.lines c.go_on_moved.new.lines (c.go_on_moved.auto.lines ∙ c.as_mut_slice-5.ensures.len) in
     let of_arrived : next.conditions.arrived.items ≡ s.conditions.settled.items =
-    with_items_is own.arrived c.catch_up.new.arrived (c.catch_up.auto.arrived ∙ c.as_mut_slice-6.ensures.len) ∙ c.catch_up.ensures.arrived ∙ c.as_slice-settled.ensures.value ∙ own_settled in
+    with_items_is own.arrived c.catch_up.new.arrived (c.catch_up.auto.arrived ∙ c.as_mut_slice-arrived.ensures.len) ∙ c.catch_up.ensures.arrived ∙ c.as_slice-settled.ensures.value ∙ own_settled in
     let own_levels : next.levels.items ≡ c.as_slice-4.result.now = sym c.as_slice-4.ensures.value in
     let light : position (is_overweight m next.levels.items next.work.d) m.rows ≡ None =
     ap (λ l. position (is_overweight m l next.work.d) m.rows) (own_levels ∙ levels)
