@@ -1,17 +1,17 @@
 //! Branches that are due at a tick, and their statements.
 
-ghost use Rattle.std.specs.Prelude.{◌≡◌, ℕ, ◌+◌, ◌<◌, ◌≤◌, ◌^◌, All, None, length, true, false};
+ghost use Rattle.std.specs.Prelude.{◌≡◌, ℕ, ◌+◌, ◌<◌, ◌≤◌, None, length, true, false};
 ghost use Rattle.std.specs.List.{list_any};
-ghost use Rattle.mu_num.specs.Sizes.{IsWithin};
 ghost use Rattle.mu_num.specs.Ticks.{tick_limit};
 ghost use Rattle.qss_machine.specs.Limits.{form_of};
 ghost use Rattle.qss_machine.specs.Uses.{has_entry};
 ghost use Rattle.qss_machine.specs.Numbers.{int_at};
-ghost use Rattle.qss_machine.specs.Machines.{state_count, discrete_count};
+ghost use Rattle.qss_machine.specs.Machines.{state_count};
 ghost use Rattle.qss_machine.specs.Handlers.{run_clauses};
 ghost use Rattle.qss_hand.specs.Works.{AreValuesOf, handling_of, values_after, overflow_of, row_room};
 ghost use Rattle.qss_run.specs.Handlings.{flags_of, handling_of_fired, is_reinitialized};
 ghost use Rattle.qss_quiet.specs.Among.{AreNumbers};
+ghost use Rattle.qss_run.specs.Moments.{AreLinesAt, AreWithin};
 ghost use Rattle.qss_run.specs.Places.{AreBranches, line_at};
 ghost use Rattle.qss_run.specs.Reads.{action_reads, fired_reads, AreArrived};
 ghost use Rattle.qss_run.specs.Stores.{states_at};
@@ -141,16 +141,10 @@ pub(crate) fn handle_fired(
     work: &mut Work,
 ) -> Option<u32>
     requires branches { AreBranches m.now branches.now }
-    requires lines { length lines.now ≡ state_count m.now }
     requires fired { AreNumbers (length branches.now) fired.now }
-    requires states { length work.old.x ≡ state_count m.now }
-    requires discretes { length work.old.d ≡ discrete_count m.now }
-    requires small_states { All (IsWithin 88) work.old.x }
-    requires small_arrivals { All (IsWithin 88) (states_at lines.now tick) }
-    requires small_discretes { All (IsWithin 43) work.old.d }
+    requires lines { AreLinesAt m.now tick lines.now }
+    requires values { AreWithin m.now work.old.x work.old.d }
     requires room { row_room m.now.clauses ≤ work.old.room }
-    requires later { (j : ℕ) → j < length lines.now → (line_at lines.now j).tick ≤ tick }
-    requires in_time { tick < 2 ^ 32 }
     ensures over { result ≡ (handling_of_fired m.now tick (states_at lines.now tick) work.old.d fired.now).overflow }
     ensures work { result ≡ None → let h = handling_of_fired m.now tick (states_at lines.now tick) work.old.d fired.now in work.new ≡ record { x = work.new.x; d = h.discretes; pre = work.old.d; tick = tick; log = h.rows; room = work.old.room } }
     ensures fits { result ≡ None → AreValuesOf m.now work.new }

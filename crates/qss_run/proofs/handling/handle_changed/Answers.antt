@@ -1,6 +1,7 @@
 -- The branches of the conditions that hold on arrival, and did not both before, are those that are due.
 use Rattle.std.proofs.Common.{◌≡◌, ◌<◌, ◌||◌, true, ℕ, List, length, ℤ, pos, sym, ap, ◌∙◌, subst, arith}
-use Rattle.std.specs.Prelude.{None}
+use Rattle.std.specs.Prelude.{None, All}
+use Rattle.mu_num.specs.Sizes.{IsWithin}
 use Rattle.qss_machine.specs.declared.rows.Row.{Row}
 use Rattle.qss_machine.specs.Handlers.{Handling}
 use Rattle.qss_machine.specs.Numbers.{first_past}
@@ -40,11 +41,21 @@ handle_fired-over-requires-clause-fired c =
     subst (AreNumbers many) (sym (c.as_slice-2.ensures.value ∙ c.list_fired.ensures.fired))
     (fired_numbers c.args.settled.now c.args.arrived.now c.args.changed.now (λ place. holds_at (watch_at c.args.watches.now place) c.args.tick) many c.requires.changed)
 
-pub handle_fired-over-requires-clause-small_arrivals : goal.handle_fired-over-requires-clause-small_arrivals
-handle_fired-over-requires-clause-small_arrivals c =
+pub handle_fired-over-requires-clause-lines : goal.handle_fired-over-requires-clause-lines
+handle_fired-over-requires-clause-lines c =
     let x : List ℤ = states_at c.args.lines.now c.args.tick in
     let calm : first_past 88 x ≡ None = sym c.arrive_moved-passed.ensures.over ∙ not_some c.arrive_moved-passed.result (sym c.is_some.ensures ∙ c.if-is_some.false) in
-    all_within 88 x calm
+    record { as_many = c.requires.lines; later = c.requires.later; small = all_within 88 x calm; in_time = c.requires.in_time }
+
+pub handle_fired-over-requires-clause-values : goal.handle_fired-over-requires-clause-values
+handle_fired-over-requires-clause-values c =
+    let of_d = ap (λ (v : Values). v.d) c.arrive_moved-passed.ensures.work in
+    record {
+      states = c.arrive_moved-passed.ensures.arrived.as_many ∙ c.requires.states;
+      discretes = ap length of_d ∙ c.requires.discretes;
+      small_states = c.arrive_moved-passed.ensures.small (not_some c.arrive_moved-passed.result (sym c.is_some.ensures ∙ c.if-is_some.false));
+      small_discretes = subst (All (IsWithin 43)) (sym of_d) c.requires.small_discretes;
+    }
 
 pub returns-then-is_some-2-clause-over : goal.returns-then-is_some-2-clause-over
 returns-then-is_some-2-clause-over c =
