@@ -2,7 +2,6 @@
 
 ghost use Rattle.std.specs.Prelude.{◌≡◌, ℕ, ◌+◌, ◌<◌, ◌≤◌, List, ℤ, pos, All, None, length, position, true, false, flat_map, if◌then◌else◌};
 ghost use Rattle.mu_num.specs.Sizes.{IsWithin};
-ghost use Rattle.mu_num.specs.Ticks.{tick_limit};
 ghost use Rattle.qss_machine.specs.Numbers.{int_at};
 ghost use Rattle.qss_machine.specs.Machines.{state_count, discrete_count, level_unit, slope_at, quantum_of};
 ghost use Rattle.qss_machine.specs.Ticks.{is_overweight};
@@ -86,42 +85,31 @@ fn follow_slopes(at: &NewLevels, left: &Handled, lines: &[Integrator], slopes: &
     );
 }
 
-// State j goes on from a tick at its slope, and the agenda has the tick at which it then leaves its quantum, whatever it
+// State j goes on as this line, from its tick, and the agenda has the tick at which it then leaves its quantum, whatever it
 // had. A line that goes on so already is left as it is.
 fn reseat<L: Ledger>(
     m: &Machine,
     j: u32,
-    tick: u64,
-    x: i128,
-    slope: i128,
-    level: i64,
+    here: &Integrator,
     line: &mut Integrator,
     agenda: &mut Agenda,
     steps: &mut Steps<L>,
 )
     requires state { j < state_count m.now }
     requires place { j < length agenda.old }
-    requires later { line.old.tick ≤ tick }
-    requires in_time { tick ≤ tick_limit }
-    requires small { IsWithin 89 (state_at line.old tick) }
-    requires small_state { IsWithin 88 x }
-    requires slope { IsWithin 88 slope }
-    requires level { IsWithin 43 level }
-    requires near { IsNear (level_unit m.now) x level (quantum_of m.now j level) }
-    ensures turned { IsTurned m.now tick x level slope j line.new (due_at agenda.new j) }
+    requires later { line.old.tick ≤ here.now.tick }
+    requires small { IsWithin 89 (state_at line.old here.now.tick) }
+    requires near { IsNear (level_unit m.now) here.now.x here.now.level (quantum_of m.now j here.now.level) }
+    ensures turned { IsTurned m.now here.now.tick here.now.x here.now.level here.now.slope j line.new (due_at agenda.new j) }
     ensures as_many { length agenda.new ≡ length agenda.old }
     ensures others { (place : ℕ) → (place ≡ j → ⊥) → due_at agenda.new place ≡ due_at agenda.old place }
-    ensures kept { goes_from tick x level slope line.old ≡ true → line.new ≡ line.old }
-    ensures counted { steps.new ≡ steps.old + (if goes_from tick x level slope line.old then 0 else 1) }
+    ensures kept { goes_from here.now.tick here.now.x here.now.level here.now.slope line.old ≡ true
+        → line.new ≡ line.old }
+    ensures counted { steps.new ≡ steps.old
+        + (if goes_from here.now.tick here.now.x here.now.level here.now.slope line.old then 0 else 1) }
 {
-    renew(line, tick, x, slope, level, steps);
-    let here = Integrator {
-        tick,
-        x,
-        slope,
-        level,
-    };
-    agenda.set(j, leaving(m, j, &here));
+    renew(line, here, steps);
+    agenda.set(j, leaving(m, j, here));
 }
 
 // A moved state goes on from a tick where it is, at its level and its slope.
@@ -157,11 +145,14 @@ fn seat<L: Ledger>(
 {
     let slope = slopes[j as usize];
     let level = at.levels[j as usize];
-    let state = x[j as usize];
+    let here = Integrator {
+        tick: at.tick,
+        x: x[j as usize],
+        slope,
+        level,
+    };
     let line = &mut lines[j as usize];
-    reseat(
-        at.machine, j, at.tick, state, slope, level, line, agenda, steps,
-    );
+    reseat(at.machine, j, &here, line, agenda, steps);
 }
 
 // The moved states go on from a tick where they are.

@@ -47,9 +47,13 @@ fn turn<L: Ledger>(
     let level = at.levels[j as usize];
     let line = &mut lines[j as usize];
     let x = line.value_at(at.tick);
-    reslope(
-        at.machine, j, at.tick, x, slope, level, line, agenda, steps,
-    );
+    let here = Integrator {
+        tick: at.tick,
+        x,
+        slope,
+        level,
+    };
+    reslope(at.machine, j, &here, line, agenda, steps);
 }
 
 // These states go on from a tick at their levels and slopes.
