@@ -6,14 +6,15 @@ ghost use Rattle.qss_machine.specs.declared.parts.Rel.TheVariants.{Less};
 ghost use Rattle.qss_machine.specs.declared.rows.RowKind.TheVariants as kind;
 ghost use Rattle.qss_machine.specs.Limits.{level_below};
 ghost use Rattle.qss_machine.specs.Numbers.{int_at, tabulate};
-ghost use Rattle.qss_machine.specs.Machines.{state_count, discrete_count, level_unit, slope_at, quantum_of, start_states, start_discretes};
+ghost use Rattle.qss_machine.specs.Machines.{state_count, level_unit, slope_at, quantum_of, start_states, start_discretes};
 ghost use Rattle.qss_machine.specs.Ticks.{start_world, is_overweight};
 ghost use Rattle.qss_machine.specs.Handlers.{conditions, truths};
 ghost use Rattle.qss_machine.specs.Runs.{state_rows, discrete_rows, world_rows};
 ghost use Rattle.qss_quant.specs.Lines.{IsNear};
 ghost use Rattle.qss_sched.specs.Ranks.{due_at, HasNone};
+ghost use Rattle.qss_run.specs.Moments.{AreWithin};
 ghost use Rattle.qss_run.specs.Places.{AreBranches, AreConditionsOf, AreWatched, line_at, IsTurned};
-ghost use Rattle.qss_quiet.specs.Sims.{weights_at, IsDue};
+ghost use Rattle.qss_quiet.specs.Sims.{IsDue};
 ghost use Rattle.qss_run.specs.Stores.{world_of, FitsMachine, Stands, IsBlank};
 
 use crate::conditions::{BranchPlace, Conditions};
@@ -233,15 +234,12 @@ fn start_lines(
     lines: &mut [Integrator],
     agenda: &mut Agenda,
 )
-    requires states { length x.now ≡ state_count m.now }
+    requires values { AreWithin m.now x.now d.now }
     requires levels { length levels.now ≡ state_count m.now }
-    requires discretes { length d.now ≡ discrete_count m.now }
     requires slopes { length slopes.old ≡ state_count m.now }
     requires lines { length lines.old ≡ state_count m.now }
     requires places { state_count m.now ≤ length agenda.old }
-    requires small_states { All (IsWithin 88) x.now }
     requires small_levels { All (IsWithin 43) levels.now }
-    requires small_discretes { All (IsWithin 43) d.now }
     requires light { position (is_overweight m.now levels.now d.now) m.now.rows ≡ None }
     requires near { (j : ℕ) → j < state_count m.now → IsNear (level_unit m.now) (int_at x.now j) (int_at levels.now j) (quantum_of m.now j (int_at levels.now j)) }
     ensures slopes { slopes.new ≡ tabulate (state_count m.now) (λ j. slope_at m.now j levels.now d.now) }
@@ -262,7 +260,6 @@ fn set_out(
     work: &Work,
     levels: &[i64],
     slopes: &mut [i128],
-    weights: &mut [i128],
     lines: &mut [Integrator],
     watched: &mut Conditions,
     agenda: &mut Agenda,
@@ -272,12 +269,10 @@ fn set_out(
     requires discretes { work.now.d ≡ start_discretes m.now }
     requires levels { levels.now ≡ map (level_below (level_unit m.now)) (start_states m.now) }
     requires slopes { length slopes.old ≡ state_count m.now }
-    requires weights { length weights.old ≡ state_count m.now }
     requires lines { length lines.old ≡ state_count m.now }
     requires places { length agenda.old ≡ state_count m.now + length (conditions m.now) + 1 }
     requires no_dues { HasNone agenda.old }
     ensures slopes { slopes.new ≡ tabulate (state_count m.now) (λ j. slope_at m.now j levels.now work.now.d) }
-    ensures weights { weights.new ≡ weights_at m.now levels.now work.now.d }
     ensures lines { (j : ℕ) → j < state_count m.now → IsTurned m.now 0 (int_at work.now.x j) (int_at levels.now j) (slope_at m.now j levels.now work.now.d) j (line_at lines.new j) (due_at agenda.new j) }
     ensures arrived { watched.new.arrived.items ≡ watched.new.settled.items }
     ensures settled { watched.new.settled.items ≡ truths m.now work.now.x work.now.d 0 }
@@ -289,7 +284,6 @@ fn set_out(
     let x = work.x.as_slice();
     let d = work.d.as_slice();
     start_lines(m, x, levels, d, slopes, lines, agenda);
-    weigh_all(m, levels, d, weights);
     let start = Point {
         tick: 0,
         states: x,
@@ -331,11 +325,13 @@ fn begin(m: &Machine, s: &mut Store)
         &s.work,
         s.levels.as_slice(),
         s.slopes.as_mut_slice(),
-        s.weights.as_mut_slice(),
         s.lines.as_mut_slice(),
         &mut s.conditions,
         &mut s.agenda,
     );
+    let work = &s.work;
+    let d = work.d.as_slice();
+    weigh_all(m, s.levels.as_slice(), d, s.weights.as_mut_slice());
     start_rows(&s.work, s.levels.as_slice(), &mut s.rows);
 }
 

@@ -2,7 +2,7 @@
 use Rattle.std.proofs.Common.{◌≡◌, ◌+◌, ◌++◌, List, Bool, length, ℤ, pos, sym, ◌∙◌, ap, subst, arith}
 use Rattle.std.proofs.lemmas.List.{with_items_is}
 use Rattle.std.specs.List.{list_any}
-use Rattle.std.specs.Prelude.{Some, None, position, if◌then◌else◌}
+use Rattle.std.specs.Prelude.{Some, None, All, position, if◌then◌else◌}
 use Rattle.std.specs.Vec.{with_items}
 use Rattle.mu_num.specs.Sizes.{IsWithin}
 use Rattle.qss_machine.specs.declared.rows.RowKind.TheVariants as kind
@@ -12,6 +12,7 @@ use Rattle.qss_machine.specs.Handlers.{conditions, truths, due_flags}
 use Rattle.qss_machine.specs.Ticks.{is_overweight}
 use Rattle.qss_machine.specs.Runs.{state_rows, discrete_rows}
 use Rattle.qss_sched.specs.Ranks.{due_at}
+use Rattle.qss_hand.specs.Values.{Values}
 use Rattle.qss_run.specs.declared.store.Store.{Store}
 use Rattle.qss_run.specs.Places.{line_at, watch_at, IsTurned, IsWatched}
 use Rattle.qss_quiet.specs.Sims.{weights_at}
@@ -20,6 +21,24 @@ use Rattle.qss_quiet.proofs.Skipped.{settled_twice}
 use Rattle.qss_quiet.proofs.Starts.{levels_at_start, levels_start, light_at, count_start}
 use Rattle.qss_run.proofs.Visits.{same_length, stands_again}
 use Rattle.qss_run.proofs.start.begin.Goals as goal
+
+pub weigh_all-requires-clause-levels : goal.weigh_all-requires-clause-levels
+weigh_all-requires-clause-levels c = ap length c.as_slice-2.ensures.value ∙ c.requires.fits.levels
+
+pub weigh_all-requires-clause-discretes : goal.weigh_all-requires-clause-discretes
+weigh_all-requires-clause-discretes c = ap length (c.as_slice-d.ensures.value ∙ ap (λ (v : Values). v.d) c.work.view_is) ∙ c.requires.fits.discretes
+
+pub weigh_all-requires-clause-small_levels : goal.weigh_all-requires-clause-small_levels
+weigh_all-requires-clause-small_levels c = subst (All (IsWithin 43)) (sym (c.as_slice-2.ensures.value ∙ c.requires.levels)) (levels_start c.args.m.now)
+
+pub weigh_all-requires-clause-small_discretes : goal.weigh_all-requires-clause-small_discretes
+weigh_all-requires-clause-small_discretes c =
+    subst (All (IsWithin 43)) (sym (c.as_slice-d.ensures.value ∙ ap (λ (v : Values). v.d) c.work.view_is)) c.requires.fits.small_discretes
+
+pub weigh_all-requires-clause-light : goal.weigh_all-requires-clause-light
+weigh_all-requires-clause-light c =
+    light_at c.args.m.now c.as_slice-2.result.now c.as_slice-d.result.now (c.as_slice-2.ensures.value ∙ c.requires.levels)
+    (c.as_slice-d.ensures.value ∙ ap (λ (v : Values). v.d) c.work.view_is ∙ c.requires.discretes)
 
 pub returns : goal.returns
 returns c =
@@ -30,7 +49,7 @@ returns c =
     let next : Store = record s {
       lines = with_items s.lines c.set_out.new.lines;
       slopes = with_items s.slopes c.set_out.new.slopes;
-      weights = with_items s.weights c.set_out.new.weights;
+      weights = with_items s.weights c.weigh_all.new.weights;
       conditions = c.set_out.new.watched;
       agenda = c.set_out.new.agenda;
       rows = c.start_rows.new.rows;
@@ -42,7 +61,7 @@ returns c =
       levels = fits.levels;
       slopes = same_length s.slopes c.set_out.new.slopes ∙ fits.slopes;
       fresh = fits.fresh;
-      weights = same_length s.weights c.set_out.new.weights ∙ fits.weights;
+      weights = same_length s.weights c.weigh_all.new.weights ∙ fits.weights;
       moved_room = fits.moved_room;
       changed_room = fits.changed_room;
       fired_room = fits.fired_room;
@@ -57,16 +76,18 @@ returns c =
       row_room = omega (arith, c.start_rows.ensures.room, fits.row_room);
     } in
     let levels : c.as_slice.result.now ≡ s.levels.items = c.as_slice.ensures.value in
-    let levels_again : c.as_slice-2.result.now ≡ s.levels.items = c.as_slice-2.ensures.value in
+    let levels_again : c.as_slice-3.result.now ≡ s.levels.items = c.as_slice-3.ensures.value in
+    let of_d : c.as_slice-d.result.now ≡ s.work.d = c.as_slice-d.ensures.value ∙ ap (λ (v : Values). v.d) c.work.view_is in
     let of_slopes : next.slopes.items ≡ c.set_out.new.slopes = with_items_is s.slopes c.set_out.new.slopes (c.set_out.auto.slopes ∙ c.as_mut_slice.ensures.len) in
-    let of_lines : next.lines.items ≡ c.set_out.new.lines = with_items_is s.lines c.set_out.new.lines (c.set_out.auto.lines ∙ c.as_mut_slice-3.ensures.len) in
+    let of_lines : next.lines.items ≡ c.set_out.new.lines = with_items_is s.lines c.set_out.new.lines (c.set_out.auto.lines ∙ c.as_mut_slice-2.ensures.len) in
     let light : position (is_overweight m next.levels.items next.work.d) m.rows ≡ None = light_at m next.levels.items next.work.d blank.levels blank.discretes in
     let same : next.conditions.arrived.items ≡ next.conditions.settled.items = c.set_out.ensures.arrived in
     let again = stands_again m 0 next s.work.x fits.states good
     (λ j inside. subst (λ l. IsWithin 43 (int_at l j)) (sym blank.levels) (levels_start m j (pos 0) (omega (arith, inside, count_start m))))
     light
     (of_slopes ∙ c.set_out.ensures.slopes ∙ ap (λ l. tabulate (state_count m) (λ j. slope_at m j l next.work.d)) levels)
-    (with_items_is s.weights c.set_out.new.weights (c.set_out.auto.weights ∙ c.as_mut_slice-2.ensures.len) ∙ c.set_out.ensures.weights ∙ ap (λ l. weights_at m l next.work.d) levels)
+    (with_items_is s.weights c.weigh_all.new.weights (c.weigh_all.auto.weights ∙ c.as_mut_slice-3.ensures.len) ∙ c.weigh_all.ensures
+    ∙ ap (λ l. weights_at m l c.as_slice-d.result.now) c.as_slice-2.ensures.value ∙ ap (weights_at m s.levels.items) of_d)
     (λ j inside.
     subst (λ ls. IsTurned m 0 (int_at next.work.x j) (int_at next.levels.items j) (slope_at m j next.levels.items next.work.d) j (line_at ls j) (due_at next.agenda j)) (sym of_lines)
     (subst (λ l. IsTurned m 0 (int_at next.work.x j) (int_at l j) (slope_at m j l next.work.d) j (line_at c.set_out.new.lines j) (due_at next.agenda j)) levels (c.set_out.ensures.lines j inside)))

@@ -19,27 +19,23 @@ use Rattle.qss_quiet.proofs.Starts.{states_start, discretes_start, levels_start,
 use Rattle.qss_run.proofs.Visits.{same_length}
 use Rattle.qss_run.proofs.start.set_out.Goals as goal
 
-pub start_lines-requires-clause-states : goal.start_lines-requires-clause-states
-start_lines-requires-clause-states c =
-    ap length (c.as_slice-x.ensures.value ∙ ap (λ (v : Values). v.x) c.work.view_is ∙ c.requires.states) ∙ length-map c.args.m.now.states (λ (s : StateInfo). s.x0)
+pub start_lines-requires-clause-values : goal.start_lines-requires-clause-values
+start_lines-requires-clause-values c =
+    let m = c.args.m.now in
+    let of_x = c.as_slice-x.ensures.value ∙ ap (λ (v : Values). v.x) c.work.view_is ∙ c.requires.states in
+    let of_d = c.as_slice-d.ensures.value ∙ ap (λ (v : Values). v.d) c.work.view_is ∙ c.requires.discretes in
+    record {
+      states = ap length of_x ∙ length-map m.states (λ (s : StateInfo). s.x0);
+      discretes = ap length of_d ∙ length-map m.discretes (λ (d : DiscreteInfo). d.d0);
+      small_states = subst (All (IsWithin 88)) (sym of_x) (states_start m);
+      small_discretes = subst (All (IsWithin 43)) (sym of_d) (discretes_start m);
+    }
 
 pub start_lines-requires-clause-levels : goal.start_lines-requires-clause-levels
 start_lines-requires-clause-levels c = ap length c.requires.levels ∙ count_start c.args.m.now
 
-pub start_lines-requires-clause-discretes : goal.start_lines-requires-clause-discretes
-start_lines-requires-clause-discretes c =
-    ap length (c.as_slice-d.ensures.value ∙ ap (λ (v : Values). v.d) c.work.view_is ∙ c.requires.discretes) ∙ length-map c.args.m.now.discretes (λ (d : DiscreteInfo). d.d0)
-
-pub start_lines-requires-clause-small_states : goal.start_lines-requires-clause-small_states
-start_lines-requires-clause-small_states c =
-    subst (All (IsWithin 88)) (sym (c.as_slice-x.ensures.value ∙ ap (λ (v : Values). v.x) c.work.view_is ∙ c.requires.states)) (states_start c.args.m.now)
-
 pub start_lines-requires-clause-small_levels : goal.start_lines-requires-clause-small_levels
 start_lines-requires-clause-small_levels c = subst (All (IsWithin 43)) (sym c.requires.levels) (levels_start c.args.m.now)
-
-pub start_lines-requires-clause-small_discretes : goal.start_lines-requires-clause-small_discretes
-start_lines-requires-clause-small_discretes c =
-    subst (All (IsWithin 43)) (sym (c.as_slice-d.ensures.value ∙ ap (λ (v : Values). v.d) c.work.view_is ∙ c.requires.discretes)) (discretes_start c.args.m.now)
 
 pub start_lines-requires-clause-light : goal.start_lines-requires-clause-light
 start_lines-requires-clause-light c =
@@ -51,17 +47,6 @@ start_lines-requires-clause-near c =
     let near_by : List ℤ → List ℤ → Type 0 = λ x l. (j : ℕ) → j < state_count m → IsNear (level_unit m) (int_at x j) (int_at l j) (quantum_of m j (int_at l j)) in
     subst (λ x. near_by x c.args.levels.now) (sym (c.as_slice-x.ensures.value ∙ ap (λ (v : Values). v.x) c.work.view_is ∙ c.requires.states))
     (subst (near_by (start_states m)) (sym c.requires.levels) (start_near m))
-
-pub weigh_all-requires-clause-small_levels : goal.weigh_all-requires-clause-small_levels
-weigh_all-requires-clause-small_levels c = subst (All (IsWithin 43)) (sym c.requires.levels) (levels_start c.args.m.now)
-
-pub weigh_all-requires-clause-small_discretes : goal.weigh_all-requires-clause-small_discretes
-weigh_all-requires-clause-small_discretes c =
-    subst (All (IsWithin 43)) (sym (c.as_slice-d.ensures.value ∙ ap (λ (v : Values). v.d) c.work.view_is ∙ c.requires.discretes)) (discretes_start c.args.m.now)
-
-pub weigh_all-requires-clause-light : goal.weigh_all-requires-clause-light
-weigh_all-requires-clause-light c =
-    light_at c.args.m.now c.args.levels.now c.as_slice-d.result.now c.requires.levels (c.as_slice-d.ensures.value ∙ ap (λ (v : Values). v.d) c.work.view_is ∙ c.requires.discretes)
 
 pub rewatch_all-requires-clause-point : goal.rewatch_all-requires-clause-point
 rewatch_all-requires-clause-point c =

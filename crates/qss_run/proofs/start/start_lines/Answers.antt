@@ -32,7 +32,7 @@ start_line-requires-clause-slope c =
 pub start_line-requires-clause-near : goal.start_line-requires-clause-near
 start_line-requires-clause-near c =
     let j = c.loop-j.j in
-    let small_x : IsWithin 88 (int_at c.args.x.now j) = c.requires.small_states j (pos 0) (omega (arith, c.requires.states, c.requires.lines, c.loop-j-test.true)) in
+    let small_x : IsWithin 88 (int_at c.args.x.now j) = c.requires.values.small_states j (pos 0) (omega (arith, c.requires.values.states, c.requires.lines, c.loop-j-test.true)) in
     let small_level : IsWithin 43 (int_at c.args.levels.now j) = c.requires.small_levels j (pos 0) (omega (arith, c.requires.levels, c.requires.lines, c.loop-j-test.true)) in
     let x : FitsSigned w128 (int_at c.args.x.now j) = omega (arith, ints, small_x) in
     let level : FitsSigned w64 (int_at c.args.levels.now j) = omega (arith, ints, small_level) in
@@ -44,7 +44,7 @@ loop-j-preserved c =
     let j = c.loop-j.j in
     let m = c.args.m.now in
     let inv = c.loop-j.invariant in
-    let small_x : IsWithin 88 (int_at c.args.x.now j) = c.requires.small_states j (pos 0) (omega (arith, c.requires.states, c.requires.lines, c.loop-j-test.true)) in
+    let small_x : IsWithin 88 (int_at c.args.x.now j) = c.requires.values.small_states j (pos 0) (omega (arith, c.requires.values.states, c.requires.lines, c.loop-j-test.true)) in
     let small_level : IsWithin 43 (int_at c.args.levels.now j) = c.requires.small_levels j (pos 0) (omega (arith, c.requires.levels, c.requires.lines, c.loop-j-test.true)) in
     let x : FitsSigned w128 (int_at c.args.x.now j) = omega (arith, ints, small_x) in
     let level : FitsSigned w64 (int_at c.args.levels.now j) = omega (arith, ints, small_level) in
