@@ -11,21 +11,26 @@ use Rattle.qss_machine.specs.Slopes.{mode_fits}
 use Rattle.qss_machine.specs.Ticks.{is_near, is_overweight}
 use Rattle.qss_machine.specs.Uses.{uses_of}
 use Rattle.qss_quant.specs.Lines.{Line, state_at, IsNear}
+use Rattle.qss_cross.specs.Crossing.{IsSmall, value_at, holds_at}
 use Rattle.qss_sched.specs.Ranks.{due_at}
+use Rattle.qss_hand.specs.Values.{Values}
 use Rattle.qss_hand.specs.Works.{AreValuesOf}
 use Rattle.qss_quiet.specs.Among.{is_among, AreNumbers}
 use Rattle.qss_quiet.specs.Sims.{condition_at, weights_at, IsDue}
 use Rattle.qss_run.specs.declared.shifts.RowSum.{RowSum}
 use Rattle.qss_run.specs.declared.shifts.RowSum.TheVariants.{Slope}
+use Rattle.qss_run.specs.declared.conditions.Conditions.{Conditions}
 use Rattle.qss_run.specs.declared.store.Store.{Store}
 use Rattle.qss_run.specs.declared.visiting.Arrival.{Arrival}
+use Rattle.qss_run.specs.declared.visiting.Changing.{Changing}
 use Rattle.qss_run.specs.declared.visiting.Handled.{Handled}
 use Rattle.qss_run.specs.declared.visiting.HandledArrival.{HandledArrival}
 use Rattle.qss_run.specs.declared.visiting.Mode.{Mode}
 use Rattle.qss_run.specs.declared.visiting.NewLevels.{NewLevels}
 use Rattle.qss_run.specs.Handlings.{AreDiscretes, AreAssigned, is_reinitialized, states_with}
-use Rattle.qss_run.specs.Moments.{AreSlopesOf}
-use Rattle.qss_run.specs.Places.{line_at, watch_at, IsWatched}
+use Rattle.qss_run.specs.Moments.{AreSlopesOf, AreWithin}
+use Rattle.qss_run.specs.Moves.{IsTakenFrom, became_true}
+use Rattle.qss_run.specs.Places.{AreConditionsOf, line_at, watch_at, IsWatched}
 use Rattle.qss_run.specs.RowSums.{sum_at, AreSumsBefore}
 use Rattle.qss_run.specs.Stores.{states_at, FitsMachine}
 
@@ -190,3 +195,23 @@ pub record CanGoOnHandled (m : Machine) (tick : ℕ) (s : Store) : Type 0 where
       IsWatched m tick (states_at s.lines.items tick) s.work.pre s.slopes.items place (watch_at s.conditions.watches.items place) (due_at s.agenda (state_count m + place))
   pub settled : (place : ℕ) → place < length (conditions m) → is_among s.changed.items place ≡ false →
       flag_at s.conditions.settled.items place ≡ truth m (condition_at m place) (states_at s.lines.items tick) s.work.pre tick
+
+-- the handlers of a tick may come, where these states are due and these conditions are looked at: the others are as they were, and the watches know the truths on arrival
+pub record CanHandle (at : Changing) (all : Conditions) (due : List ℕ) (work : Values) (dues : List (Option ℕ)) : Type 0 where
+  pub fits : AreConditionsOf at.machine.now all
+  pub changed : AreNumbers (length (conditions at.machine.now)) at.changed.now
+  pub lines : length at.lines.now ≡ state_count at.machine.now
+  pub values : AreWithin at.machine.now work.x work.d
+  pub moved : AreNumbers (state_count at.machine.now) due
+  pub places : state_count at.machine.now ≤ length dues
+  pub later : (j : ℕ) → j < length at.lines.now → (line_at at.lines.now j).tick ≤ at.tick
+  pub in_time : at.tick < 2 ^ 32
+  pub taken : IsTakenFrom at.tick due dues
+  pub others_small : (j : ℕ) → j < state_count at.machine.now → is_among due j ≡ false → IsWithin 88 (state_at (line_at at.lines.now j) at.tick)
+  pub watched : (place : ℕ) → place < length (conditions at.machine.now) →
+      ((watch_at all.watches.items place).tick ≤ at.tick)
+      × (All (IsWithin 88) (states_at at.lines.now at.tick) → IsSmall (value_at (watch_at all.watches.items place) at.tick))
+      × (holds_at (watch_at all.watches.items place) at.tick ≡ truth at.machine.now (condition_at at.machine.now place) (states_at at.lines.now at.tick) work.d at.tick)
+  pub others : (place : ℕ) → place < length (conditions at.machine.now) → is_among at.changed.now place ≡ false →
+      (truth at.machine.now (condition_at at.machine.now place) (states_at at.lines.now at.tick) work.d at.tick ≡ flag_at all.settled.items place)
+      × (became_true all.arrived.items all.settled.items place ≡ false)

@@ -15,13 +15,12 @@ ghost use Rattle.qss_run.specs.Stores.{world_of, Stands, IsTaken};
 ghost use Rattle.qss_run.specs.Touches.{touches_at};
 ghost use Rattle.qss_run.specs.Visitings.{CanGoOnHandled};
 
-use crate::handling::handle_changed;
 use crate::requantized::requantize_handled;
 use crate::reseated::reslope_handled;
 use crate::rewatched::rewatch_handled;
 use crate::rising::rise;
 use crate::store::Store;
-use crate::visiting::{Handled, HandledArrival, NewLevels};
+use crate::visiting::{Changing, Handled, HandledArrival, NewLevels};
 use qss_machine::Machine;
 use qss_quant::{Quantizer, Steps};
 use std::sync::ledger::Ledger;
@@ -97,15 +96,14 @@ pub(crate) fn visit_changed<L: Ledger>(
     ensures room { vec_capacity s.new.rows ≡ vec_capacity s.old.rows }
     ensures counted { steps.new ≤ steps.old + touches_at m.now (tick + 1) (world_of tick s.old) (world_unless result (world_of (tick + 1) s.new)) }
 {
-    let over = handle_changed(
-        m,
-        s.conditions.branches.as_slice(),
-        tick + 1,
-        s.lines.as_slice(),
-        s.changed.as_slice(),
-        s.conditions.watches.as_slice(),
-        s.conditions.settled.as_slice(),
-        s.conditions.arrived.as_mut_slice(),
+    let at = Changing {
+        machine: m,
+        tick: tick + 1,
+        lines: s.lines.as_slice(),
+        changed: s.changed.as_slice(),
+    };
+    let over = s.conditions.handle(
+        &at,
         &mut s.fired,
         &mut s.moved,
         &mut s.assigned,

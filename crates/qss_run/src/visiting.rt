@@ -54,3 +54,12 @@ pub(crate) struct HandledArrival<'a> {
     pub assigned: &'a [u32],
     pub work: &'a Work,
 }
+
+/// A machine at a tick at which conditions are looked at: the lines of the states, and the numbers of those conditions.
+#[derive(Clone, Copy)]
+pub(crate) struct Changing<'a> {
+    pub machine: &'a Machine,
+    pub tick: u64,
+    pub lines: &'a [Integrator],
+    pub changed: &'a [u32],
+}

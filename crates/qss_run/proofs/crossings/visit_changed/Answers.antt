@@ -1,26 +1,26 @@
 -- A tick at which conditions change.
-use Rattle.std.proofs.Common.{◌≡◌, ℕ, ◌+◌, ◌≤◌, ◌++◌, List, ℤ, Bool, length, sym, ◌∙◌, ap, subst, arith}
+use Rattle.std.proofs.Common.{◌≡◌, ℕ, ◌+◌, ◌≤◌, ◌++◌, List, ℤ, Bool, length, refl, sym, ◌∙◌, ap, subst, arith}
 use Rattle.std.proofs.lemmas.List.{with_items_is}
 use Rattle.std.specs.Option.{option_or}
 use Rattle.std.specs.Prelude.{Option, None, Ok, All, position, vec_capacity}
 use Rattle.std.specs.Vec.{with_items}
 use Rattle.mu_num.specs.Sizes.{IsWithin}
-use Rattle.qss_machine.specs.Handlers.{Handling, truths}
+use Rattle.qss_machine.specs.Handlers.{Handling, conditions, truths}
 use Rattle.qss_machine.specs.Machines.{state_count, slope_at, truth}
 use Rattle.qss_machine.specs.Numbers.{int_at, tabulate, first_past}
 use Rattle.qss_machine.specs.Runs.{level_rows}
 use Rattle.qss_machine.specs.Ticks.{World, moved_states, handling_at, is_overweight, AreNextLevels}
 use Rattle.qss_machine.specs.Firing.{flag_at}
-use Rattle.qss_quant.specs.Lines.{Line, state_at}
+use Rattle.qss_quant.specs.Lines.{state_at}
 use Rattle.qss_cross.specs.Crossing.{Watch, IsSmall, value_at, holds_at}
 use Rattle.qss_hand.specs.Values.{Values}
 use Rattle.qss_sched.specs.Ranks.{due_at}
 use Rattle.qss_run.specs.RowSums.{AreSumsBefore}
 use Rattle.qss_run.specs.declared.shifts.RowSum.TheVariants.{Slope}
+use Rattle.qss_run.specs.declared.conditions.Conditions.{Conditions}
 use Rattle.qss_run.specs.declared.store.Store.{Store}
 use Rattle.qss_run.specs.Handlings.{states_with, is_reinitialized, AreAssigned, AreDiscretes, IsHandled, AreMovedTo}
 use Rattle.qss_quiet.specs.Among.{is_among, AreNumbers, IsOff}
-use Rattle.qss_run.specs.Moves.{became_true}
 use Rattle.qss_run.specs.Places.{line_at, watch_at, IsWatched}
 use Rattle.qss_run.specs.Renewals.{renewals_from}
 use Rattle.qss_quiet.specs.Rules.{IsRuled}
@@ -31,47 +31,42 @@ use Rattle.qss_run.proofs.AfterHandlers.{same_worlds}
 use Rattle.qss_run.proofs.Crossed.{none_early, reinits_known, later_dues, flag_same, rest_as_before, watched_then, watched_still, moved_to, near_after, due_after, levels_before_handlers, conditions_stay}
 use Rattle.qss_run.proofs.DueLevels.{int_at-states_at}
 use Rattle.qss_run.proofs.Handled.{not_some, all_within, rows_handled}
-use Rattle.qss_run.proofs.OwnConditions.{arrived_anew}
 use Rattle.qss_run.proofs.QuietVisits.{earlier, own_slope, rest_small}
 use Rattle.qss_run.proofs.Reinits.{kept_state}
 use Rattle.qss_run.proofs.Touched.{renewals_from_touched}
 use Rattle.qss_run.proofs.Visits.{arrives, handles_from, both_none, early, late, steps_to, end_of, same_length, levels_small}
 use Rattle.qss_run.proofs.crossings.visit_changed.Goals as goal
 
-pub handle_changed-over-requires-clause-taken : goal.handle_changed-over-requires-clause-taken
-handle_changed-over-requires-clause-taken g c = record {
-  later = later_dues c.args.m.now c.args.tick c.requires.taken.0 c.args.s.now c.requires.taken.1 c.requires.in_time;
-  none = c.requires.taken.1.without.states;
-}
-
-pub handle_changed-over-requires-clause-others_small : goal.handle_changed-over-requires-clause-others_small
-handle_changed-over-requires-clause-others_small g c j h none =
-    subst (λ ls. IsWithin 88 (state_at (line_at ls j) (c.args.tick + 1))) (sym c.as_slice-2.ensures.value)
-    (rest_small c.args.m.now c.args.tick c.requires.taken.0 c.args.s.now c.requires.taken.1 c.requires.in_time j h none)
-
-pub handle_changed-over-requires-clause-watched : goal.handle_changed-over-requires-clause-watched
-handle_changed-over-requires-clause-watched g c place h =
+pub handle-over-requires-clause-ready : goal.handle-over-requires-clause-ready
+handle-over-requires-clause-ready g c =
     let m = c.args.m.now in
     let t = c.args.tick + 1 in
     let s : Store = c.args.s.now in
+    let agenda : List (Option ℕ) = c.requires.taken.0 in
     let taken = c.requires.taken.1 in
-    let told : List Watch → List Line → Type 0 = λ ws ls. ((watch_at ws place).tick ≤ t) × (All (IsWithin 88) (states_at ls t) → IsSmall (value_at (watch_at ws place) t))
-    × (holds_at (watch_at ws place) t ≡ truth m (condition_at m place) (states_at ls t) s.work.d t) in
-    subst (λ ws. told ws c.as_slice-2.result.now) (sym c.as_slice-4.ensures.value)
-    (subst (told s.conditions.watches.items) (sym c.as_slice-2.ensures.value)
-    (watched_then m c.args.tick c.requires.taken.0 s taken c.requires.in_time place (omega (arith, h, ap length c.as_slice.ensures.value, taken.stands.fits.own_conditions.branches.as_many))))
-
-pub handle_changed-over-requires-clause-others : goal.handle_changed-over-requires-clause-others
-handle_changed-over-requires-clause-others g c place h none =
-    let m = c.args.m.now in
-    let t = c.args.tick + 1 in
-    let s : Store = c.args.s.now in
-    let taken = c.requires.taken.1 in
-    let both = rest_as_before m c.args.tick c.requires.taken.0 s taken c.requires.in_time place (omega (arith, h, ap length c.as_slice.ensures.value, taken.stands.fits.own_conditions.branches.as_many))
-    (ap (λ cs. is_among cs place) (sym c.as_slice-3.ensures.value) ∙ none) in (
-      ap (λ ls. truth m (condition_at m place) (states_at ls t) s.work.d t) c.as_slice-2.ensures.value ∙ both.0 ∙ ap (λ b. flag_at b place) (sym c.as_slice-5.ensures.value),
-      ap (λ b. became_true c.as_mut_slice.result.now b place) c.as_slice-5.ensures.value ∙ ap (λ a. became_true a s.conditions.settled.items place) c.as_mut_slice.ensures.value ∙ both.1,
-    )
+    let fits = taken.stands.fits in
+    record {
+      fits = fits.own_conditions;
+      changed = subst (AreNumbers (length (conditions m))) (sym c.as_slice-2.ensures.value) taken.changing.numbers;
+      lines = ap length c.as_slice.ensures.value ∙ fits.lines;
+      values = record { states = fits.states; discretes = fits.discretes; small_states = fits.small_states; small_discretes = fits.small_discretes };
+      moved = taken.due.numbers;
+      places = omega (arith, taken.without.as_many, fits.places);
+      later = λ j h.
+          let not_later = (taken.stands.stands_for.lines j (omega (arith, h, ap length c.as_slice.ensures.value, fits.lines))).not_later in
+          omega (arith, ap (λ ls. (line_at ls j).tick) c.as_slice.ensures.value, not_later);
+      in_time = omega (arith, c.requires.in_time, m.has_units.last_tick);
+      taken = record { later = later_dues m c.args.tick agenda s taken c.requires.in_time; none = taken.without.states };
+      others_small = λ j h none.
+          subst (λ ls. IsWithin 88 (state_at (line_at ls j) t)) (sym c.as_slice.ensures.value) (rest_small m c.args.tick agenda s taken c.requires.in_time j h none);
+      watched = λ place h.
+          let watch : Watch = watch_at s.conditions.watches.items place in
+          subst (λ ls. (watch.tick ≤ t) × (All (IsWithin 88) (states_at ls t) → IsSmall (value_at watch t)) × (holds_at watch t ≡ truth m (condition_at m place) (states_at ls t) s.work.d t))
+          (sym c.as_slice.ensures.value) (watched_then m c.args.tick agenda s taken c.requires.in_time place h);
+      others = λ place h none.
+          let both = rest_as_before m c.args.tick agenda s taken c.requires.in_time place h (ap (λ cs. is_among cs place) (sym c.as_slice-2.ensures.value) ∙ none) in
+          (ap (λ ls. truth m (condition_at m place) (states_at ls t) s.work.d t) c.as_slice.ensures.value ∙ both.0, both.1);
+    }
 
 pub returns-then-is_some-clause-stepped : goal.returns-then-is_some-clause-stepped
 returns-then-is_some-clause-stepped g c =
@@ -80,12 +75,12 @@ returns-then-is_some-clause-stepped g c =
     let s : Store = c.args.s.now in
     let agenda : List (Option ℕ) = c.requires.taken.0 in
     let taken = c.requires.taken.1 in
-    let h : Handling = handling_from m t (states_at c.as_slice-2.result.now t) s.work.d c.as_mut_slice.result.now c.as_slice-5.result.now in
+    let h : Handling = handling_from m t (states_at c.as_slice.result.now t) s.work.d s.conditions.arrived.items s.conditions.settled.items in
     let is_h : h ≡ handling_at m t (world_of c.args.tick s) =
-    handles_from m c.args.tick (record s { agenda = agenda }) taken.stands c.as_slice-2.result.now c.as_mut_slice.result.now c.as_slice-5.result.now
-    c.as_slice-2.ensures.value c.as_mut_slice.ensures.value c.as_slice-5.ensures.value in
-    early (IsRuled c.args.q.now.name) m t (world_of c.args.tick s) _ c.handle_changed-over.result (sym c.is_some.ensures ∙ c.if-is_some.true)
-    (c.handle_changed-over.ensures.over ∙ ap (λ (k : Handling). k.overflow) is_h)
+    handles_from m c.args.tick (record s { agenda = agenda }) taken.stands c.as_slice.result.now s.conditions.arrived.items s.conditions.settled.items
+    c.as_slice.ensures.value refl refl in
+    early (IsRuled c.args.q.now.name) m t (world_of c.args.tick s) _ c.handle-over.result (sym c.is_some.ensures ∙ c.if-is_some.true)
+    (c.handle-over.ensures.over ∙ ap (λ (k : Handling). k.overflow) is_h)
 
 pub requantize_handled-over-requires-clause-ready : goal.requantize_handled-over-requires-clause-ready
 requantize_handled-over-requires-clause-ready g c =
@@ -94,26 +89,26 @@ requantize_handled-over-requires-clause-ready g c =
     let s : Store = c.args.s.now in
     let agenda : List (Option ℕ) = c.requires.taken.0 in
     let taken = c.requires.taken.1 in
-    let h : Handling = handling_from m t (states_at c.as_slice-2.result.now t) s.work.d c.as_mut_slice.result.now c.as_slice-5.result.now in
+    let h : Handling = handling_from m t (states_at c.as_slice.result.now t) s.work.d s.conditions.arrived.items s.conditions.settled.items in
     let is_h : h ≡ handling_at m t (world_of c.args.tick s) =
-    handles_from m c.args.tick (record s { agenda = agenda }) taken.stands c.as_slice-2.result.now c.as_mut_slice.result.now c.as_slice-5.result.now
-    c.as_slice-2.ensures.value c.as_mut_slice.ensures.value c.as_slice-5.ensures.value in
-    let calm : c.handle_changed-over.result ≡ None = not_some c.handle_changed-over.result (sym c.is_some.ensures ∙ c.if-is_some.false) in
-    let moved = c.handle_changed-over.new.moved.items in
-    let assigned = c.handle_changed-over.new.assigned.items in
-    let new : Values = c.handle_changed-over.new.work in
+    handles_from m c.args.tick (record s { agenda = agenda }) taken.stands c.as_slice.result.now s.conditions.arrived.items s.conditions.settled.items
+    c.as_slice.ensures.value refl refl in
+    let calm : c.handle-over.result ≡ None = not_some c.handle-over.result (sym c.is_some.ensures ∙ c.if-is_some.false) in
+    let moved = c.handle-over.new.moved.items in
+    let assigned = c.handle-over.new.assigned.items in
+    let new : Values = c.handle-over.new.work in
     let handled : IsHandled m t s.lines.items s.moved.items moved assigned s.work new h =
-    subst (λ ls. IsHandled m t ls s.moved.items moved assigned s.work new h) c.as_slice-2.ensures.value (c.handle_changed-over.ensures.handled calm) in
-    let calm_h : h.overflow ≡ None = sym c.handle_changed-over.ensures.over ∙ calm in
+    subst (λ ls. IsHandled m t ls s.moved.items moved assigned s.work new h) c.as_slice.ensures.value (c.handle-over.ensures.handled calm) in
+    let calm_h : h.overflow ≡ None = sym c.handle-over.ensures.over ∙ calm in
     let of_d : new.d ≡ h.discretes = ap (λ (v : Values). v.d) handled.values in
     let of_pre : new.pre ≡ s.work.d = ap (λ (v : Values). v.pre) handled.values in
     let fits = taken.stands.fits in
     record {
       uses = fits.uses;
-      lines = ap length c.as_slice-6.ensures.value ∙ fits.lines;
-      moved = subst (AreNumbers (state_count m)) (sym c.as_slice-7.ensures.value) handled.numbers;
-      assigned_known = subst (AreDiscretes m) (sym c.as_slice-8.ensures.value) handled.variables;
-      own = subst (λ (js : List ℕ). AreAssigned m js new.pre new.d) (sym c.as_slice-8.ensures.value)
+      lines = ap length c.as_slice-3.ensures.value ∙ fits.lines;
+      moved = subst (AreNumbers (state_count m)) (sym c.as_slice-4.ensures.value) handled.numbers;
+      assigned_known = subst (AreDiscretes m) (sym c.as_slice-5.ensures.value) handled.variables;
+      own = subst (λ (js : List ℕ). AreAssigned m js new.pre new.d) (sym c.as_slice-5.ensures.value)
           (subst (λ (p : List ℤ). AreAssigned m assigned p new.d) (sym of_pre) (subst (λ (d : List ℤ). AreAssigned m assigned s.work.d d) (sym of_d) handled.others));
       fits = handled.fits;
     }
@@ -125,30 +120,30 @@ requantize_handled-over-requires-clause-held g c =
     let s : Store = c.args.s.now in
     let agenda : List (Option ℕ) = c.requires.taken.0 in
     let taken = c.requires.taken.1 in
-    let h : Handling = handling_from m t (states_at c.as_slice-2.result.now t) s.work.d c.as_mut_slice.result.now c.as_slice-5.result.now in
+    let h : Handling = handling_from m t (states_at c.as_slice.result.now t) s.work.d s.conditions.arrived.items s.conditions.settled.items in
     let is_h : h ≡ handling_at m t (world_of c.args.tick s) =
-    handles_from m c.args.tick (record s { agenda = agenda }) taken.stands c.as_slice-2.result.now c.as_mut_slice.result.now c.as_slice-5.result.now
-    c.as_slice-2.ensures.value c.as_mut_slice.ensures.value c.as_slice-5.ensures.value in
-    let calm : c.handle_changed-over.result ≡ None = not_some c.handle_changed-over.result (sym c.is_some.ensures ∙ c.if-is_some.false) in
-    let moved = c.handle_changed-over.new.moved.items in
-    let assigned = c.handle_changed-over.new.assigned.items in
-    let new : Values = c.handle_changed-over.new.work in
+    handles_from m c.args.tick (record s { agenda = agenda }) taken.stands c.as_slice.result.now s.conditions.arrived.items s.conditions.settled.items
+    c.as_slice.ensures.value refl refl in
+    let calm : c.handle-over.result ≡ None = not_some c.handle-over.result (sym c.is_some.ensures ∙ c.if-is_some.false) in
+    let moved = c.handle-over.new.moved.items in
+    let assigned = c.handle-over.new.assigned.items in
+    let new : Values = c.handle-over.new.work in
     let handled : IsHandled m t s.lines.items s.moved.items moved assigned s.work new h =
-    subst (λ ls. IsHandled m t ls s.moved.items moved assigned s.work new h) c.as_slice-2.ensures.value (c.handle_changed-over.ensures.handled calm) in
-    let calm_h : h.overflow ≡ None = sym c.handle_changed-over.ensures.over ∙ calm in
+    subst (λ ls. IsHandled m t ls s.moved.items moved assigned s.work new h) c.as_slice.ensures.value (c.handle-over.ensures.handled calm) in
+    let calm_h : h.overflow ≡ None = sym c.handle-over.ensures.over ∙ calm in
     let of_d : new.d ≡ h.discretes = ap (λ (v : Values). v.d) handled.values in
     let of_pre : new.pre ≡ s.work.d = ap (λ (v : Values). v.pre) handled.values in
     let stands = taken.stands in
     record {
-      levels = ap length c.as_mut_slice-2.ensures.value ∙ stands.fits.levels;
-      fresh = c.as_mut_slice-3.ensures.value ∙ stands.fresh_levels ∙ sym c.as_mut_slice-2.ensures.value;
-      small_levels = subst (All (IsWithin 43)) (sym c.as_mut_slice-2.ensures.value) (levels_small m c.args.tick (record s { agenda = agenda }) stands);
-      light = ap (λ l. position (is_overweight m l new.pre) m.rows) c.as_mut_slice-2.ensures.value
+      levels = ap length c.as_mut_slice.ensures.value ∙ stands.fits.levels;
+      fresh = c.as_mut_slice-2.ensures.value ∙ stands.fresh_levels ∙ sym c.as_mut_slice.ensures.value;
+      small_levels = subst (All (IsWithin 43)) (sym c.as_mut_slice.ensures.value) (levels_small m c.args.tick (record s { agenda = agenda }) stands);
+      light = ap (λ l. position (is_overweight m l new.pre) m.rows) c.as_mut_slice.ensures.value
           ∙ ap (λ p. position (is_overweight m s.levels.items p) m.rows) of_pre ∙ stands.stands_for.left.light;
-      weights = c.as_mut_slice-4.ensures.value ∙ stands.own_weights ∙ ap (λ l. weights_at m l s.work.d) (sym c.as_mut_slice-2.ensures.value)
-          ∙ ap (λ p. weights_at m c.as_mut_slice-2.result.now p) (sym of_pre);
+      weights = c.as_mut_slice-3.ensures.value ∙ stands.own_weights ∙ ap (λ l. weights_at m l s.work.d) (sym c.as_mut_slice.ensures.value)
+          ∙ ap (λ p. weights_at m c.as_mut_slice.result.now p) (sym of_pre);
       own_levels = λ j inside.
-          ap (λ ls. (line_at ls j).level) c.as_slice-6.ensures.value ∙ (stands.stands_for.lines j inside).own_level ∙ ap (λ l. int_at l j) (sym c.as_mut_slice-2.ensures.value);
+          ap (λ ls. (line_at ls j).level) c.as_slice-3.ensures.value ∙ (stands.stands_for.lines j inside).own_level ∙ ap (λ l. int_at l j) (sym c.as_mut_slice.ensures.value);
     }
 
 pub requantize_handled-over-requires-clause-room : goal.requantize_handled-over-requires-clause-room
@@ -158,23 +153,23 @@ requantize_handled-over-requires-clause-room g c =
     let s : Store = c.args.s.now in
     let agenda : List (Option ℕ) = c.requires.taken.0 in
     let taken = c.requires.taken.1 in
-    let h : Handling = handling_from m t (states_at c.as_slice-2.result.now t) s.work.d c.as_mut_slice.result.now c.as_slice-5.result.now in
+    let h : Handling = handling_from m t (states_at c.as_slice.result.now t) s.work.d s.conditions.arrived.items s.conditions.settled.items in
     let is_h : h ≡ handling_at m t (world_of c.args.tick s) =
-    handles_from m c.args.tick (record s { agenda = agenda }) taken.stands c.as_slice-2.result.now c.as_mut_slice.result.now c.as_slice-5.result.now
-    c.as_slice-2.ensures.value c.as_mut_slice.ensures.value c.as_slice-5.ensures.value in
-    let calm : c.handle_changed-over.result ≡ None = not_some c.handle_changed-over.result (sym c.is_some.ensures ∙ c.if-is_some.false) in
-    let moved = c.handle_changed-over.new.moved.items in
-    let assigned = c.handle_changed-over.new.assigned.items in
-    let new : Values = c.handle_changed-over.new.work in
+    handles_from m c.args.tick (record s { agenda = agenda }) taken.stands c.as_slice.result.now s.conditions.arrived.items s.conditions.settled.items
+    c.as_slice.ensures.value refl refl in
+    let calm : c.handle-over.result ≡ None = not_some c.handle-over.result (sym c.is_some.ensures ∙ c.if-is_some.false) in
+    let moved = c.handle-over.new.moved.items in
+    let assigned = c.handle-over.new.assigned.items in
+    let new : Values = c.handle-over.new.work in
     let handled : IsHandled m t s.lines.items s.moved.items moved assigned s.work new h =
-    subst (λ ls. IsHandled m t ls s.moved.items moved assigned s.work new h) c.as_slice-2.ensures.value (c.handle_changed-over.ensures.handled calm) in
-    let calm_h : h.overflow ≡ None = sym c.handle_changed-over.ensures.over ∙ calm in
+    subst (λ ls. IsHandled m t ls s.moved.items moved assigned s.work new h) c.as_slice.ensures.value (c.handle-over.ensures.handled calm) in
+    let calm_h : h.overflow ≡ None = sym c.handle-over.ensures.over ∙ calm in
     let of_d : new.d ≡ h.discretes = ap (λ (v : Values). v.d) handled.values in
     let of_pre : new.pre ≡ s.work.d = ap (λ (v : Values). v.pre) handled.values in
     omega (
       arith,
       ap (λ (v : Values). length v.log) handled.values,
-      rows_handled m t (states_at c.as_slice-2.result.now t) s.work.d c.as_mut_slice.result.now c.as_slice-5.result.now,
+      rows_handled m t (states_at c.as_slice.result.now t) s.work.d s.conditions.arrived.items s.conditions.settled.items,
       taken.stands.fits.row_room,
     )
 
@@ -185,25 +180,25 @@ returns-then-is_some-2-clause-stepped g c =
     let s : Store = c.args.s.now in
     let agenda : List (Option ℕ) = c.requires.taken.0 in
     let taken = c.requires.taken.1 in
-    let h : Handling = handling_from m t (states_at c.as_slice-2.result.now t) s.work.d c.as_mut_slice.result.now c.as_slice-5.result.now in
+    let h : Handling = handling_from m t (states_at c.as_slice.result.now t) s.work.d s.conditions.arrived.items s.conditions.settled.items in
     let is_h : h ≡ handling_at m t (world_of c.args.tick s) =
-    handles_from m c.args.tick (record s { agenda = agenda }) taken.stands c.as_slice-2.result.now c.as_mut_slice.result.now c.as_slice-5.result.now
-    c.as_slice-2.ensures.value c.as_mut_slice.ensures.value c.as_slice-5.ensures.value in
-    let calm : c.handle_changed-over.result ≡ None = not_some c.handle_changed-over.result (sym c.is_some.ensures ∙ c.if-is_some.false) in
-    let moved = c.handle_changed-over.new.moved.items in
-    let assigned = c.handle_changed-over.new.assigned.items in
-    let new : Values = c.handle_changed-over.new.work in
+    handles_from m c.args.tick (record s { agenda = agenda }) taken.stands c.as_slice.result.now s.conditions.arrived.items s.conditions.settled.items
+    c.as_slice.ensures.value refl refl in
+    let calm : c.handle-over.result ≡ None = not_some c.handle-over.result (sym c.is_some.ensures ∙ c.if-is_some.false) in
+    let moved = c.handle-over.new.moved.items in
+    let assigned = c.handle-over.new.assigned.items in
+    let new : Values = c.handle-over.new.work in
     let handled : IsHandled m t s.lines.items s.moved.items moved assigned s.work new h =
-    subst (λ ls. IsHandled m t ls s.moved.items moved assigned s.work new h) c.as_slice-2.ensures.value (c.handle_changed-over.ensures.handled calm) in
-    let calm_h : h.overflow ≡ None = sym c.handle_changed-over.ensures.over ∙ calm in
+    subst (λ ls. IsHandled m t ls s.moved.items moved assigned s.work new h) c.as_slice.ensures.value (c.handle-over.ensures.handled calm) in
+    let calm_h : h.overflow ≡ None = sym c.handle-over.ensures.over ∙ calm in
     let of_d : new.d ≡ h.discretes = ap (λ (v : Values). v.d) handled.values in
     let of_pre : new.pre ≡ s.work.d = ap (λ (v : Values). v.pre) handled.values in
     let fresh : List ℤ = c.requantize_handled-over.new.fresh in
-    let to : AreMovedTo m c.as_slice-7.result.now new.x c.as_mut_slice-2.result.now h.states =
-    subst (λ js. AreMovedTo m js new.x c.as_mut_slice-2.result.now h.states) (sym c.as_slice-7.ensures.value)
-    (subst (λ l. AreMovedTo m moved new.x l h.states) (sym c.as_mut_slice-2.ensures.value) (moved_to m c.args.tick agenda s taken c.requires.in_time moved assigned new h handled)) in
+    let to : AreMovedTo m c.as_slice-4.result.now new.x c.as_mut_slice.result.now h.states =
+    subst (λ js. AreMovedTo m js new.x c.as_mut_slice.result.now h.states) (sym c.as_slice-4.ensures.value)
+    (subst (λ l. AreMovedTo m moved new.x l h.states) (sym c.as_mut_slice.ensures.value) (moved_to m c.args.tick agenda s taken c.requires.in_time moved assigned new h handled)) in
     let allowed : AreNextLevels (IsRuled c.args.q.now.name) m h.states s.levels.items fresh =
-    subst (λ l. AreNextLevels (IsRuled c.args.q.now.name) m h.states l fresh) c.as_mut_slice-2.ensures.value (c.requantize_handled-over.ensures.allowed h.states to) in
+    subst (λ l. AreNextLevels (IsRuled c.args.q.now.name) m h.states l fresh) c.as_mut_slice.ensures.value (c.requantize_handled-over.ensures.allowed h.states to) in
     let over : c.requantize_handled-over.result ≡ option_or (first_past 43 fresh) (position (is_overweight m fresh h.discretes) m.rows) =
     c.requantize_handled-over.ensures.over ∙ ap (λ d. option_or (first_past 43 fresh) (position (is_overweight m fresh d) m.rows)) of_d in
     late (IsRuled c.args.q.now.name) m t (world_of c.args.tick s) _ h fresh c.requantize_handled-over.result (sym c.is_some-2.ensures ∙ c.if-is_some-2.true) is_h calm_h allowed over
@@ -215,56 +210,55 @@ go_on_handled-requires g c =
     let s : Store = c.args.s.now in
     let agenda : List (Option ℕ) = c.requires.taken.0 in
     let taken = c.requires.taken.1 in
-    let h : Handling = handling_from m t (states_at c.as_slice-2.result.now t) s.work.d c.as_mut_slice.result.now c.as_slice-5.result.now in
+    let h : Handling = handling_from m t (states_at c.as_slice.result.now t) s.work.d s.conditions.arrived.items s.conditions.settled.items in
     let is_h : h ≡ handling_at m t (world_of c.args.tick s) =
-    handles_from m c.args.tick (record s { agenda = agenda }) taken.stands c.as_slice-2.result.now c.as_mut_slice.result.now c.as_slice-5.result.now
-    c.as_slice-2.ensures.value c.as_mut_slice.ensures.value c.as_slice-5.ensures.value in
-    let calm : c.handle_changed-over.result ≡ None = not_some c.handle_changed-over.result (sym c.is_some.ensures ∙ c.if-is_some.false) in
-    let moved = c.handle_changed-over.new.moved.items in
-    let assigned = c.handle_changed-over.new.assigned.items in
-    let new : Values = c.handle_changed-over.new.work in
+    handles_from m c.args.tick (record s { agenda = agenda }) taken.stands c.as_slice.result.now s.conditions.arrived.items s.conditions.settled.items
+    c.as_slice.ensures.value refl refl in
+    let calm : c.handle-over.result ≡ None = not_some c.handle-over.result (sym c.is_some.ensures ∙ c.if-is_some.false) in
+    let moved = c.handle-over.new.moved.items in
+    let assigned = c.handle-over.new.assigned.items in
+    let new : Values = c.handle-over.new.work in
     let handled : IsHandled m t s.lines.items s.moved.items moved assigned s.work new h =
-    subst (λ ls. IsHandled m t ls s.moved.items moved assigned s.work new h) c.as_slice-2.ensures.value (c.handle_changed-over.ensures.handled calm) in
-    let calm_h : h.overflow ≡ None = sym c.handle_changed-over.ensures.over ∙ calm in
+    subst (λ ls. IsHandled m t ls s.moved.items moved assigned s.work new h) c.as_slice.ensures.value (c.handle-over.ensures.handled calm) in
+    let calm_h : h.overflow ≡ None = sym c.handle-over.ensures.over ∙ calm in
     let of_d : new.d ≡ h.discretes = ap (λ (v : Values). v.d) handled.values in
     let of_pre : new.pre ≡ s.work.d = ap (λ (v : Values). v.pre) handled.values in
     let fresh : List ℤ = c.requantize_handled-over.new.fresh in
-    let to : AreMovedTo m c.as_slice-7.result.now new.x c.as_mut_slice-2.result.now h.states =
-    subst (λ js. AreMovedTo m js new.x c.as_mut_slice-2.result.now h.states) (sym c.as_slice-7.ensures.value)
-    (subst (λ l. AreMovedTo m moved new.x l h.states) (sym c.as_mut_slice-2.ensures.value) (moved_to m c.args.tick agenda s taken c.requires.in_time moved assigned new h handled)) in
+    let to : AreMovedTo m c.as_slice-4.result.now new.x c.as_mut_slice.result.now h.states =
+    subst (λ js. AreMovedTo m js new.x c.as_mut_slice.result.now h.states) (sym c.as_slice-4.ensures.value)
+    (subst (λ l. AreMovedTo m moved new.x l h.states) (sym c.as_mut_slice.ensures.value) (moved_to m c.args.tick agenda s taken c.requires.in_time moved assigned new h handled)) in
     let allowed : AreNextLevels (IsRuled c.args.q.now.name) m h.states s.levels.items fresh =
-    subst (λ l. AreNextLevels (IsRuled c.args.q.now.name) m h.states l fresh) c.as_mut_slice-2.ensures.value (c.requantize_handled-over.ensures.allowed h.states to) in
+    subst (λ l. AreNextLevels (IsRuled c.args.q.now.name) m h.states l fresh) c.as_mut_slice.ensures.value (c.requantize_handled-over.ensures.allowed h.states to) in
     let over : c.requantize_handled-over.result ≡ option_or (first_past 43 fresh) (position (is_overweight m fresh h.discretes) m.rows) =
     c.requantize_handled-over.ensures.over ∙ ap (λ d. option_or (first_past 43 fresh) (position (is_overweight m fresh d) m.rows)) of_d in
     let fine : c.requantize_handled-over.result ≡ None = not_some c.requantize_handled-over.result (sym c.is_some-2.ensures ∙ c.if-is_some-2.false) in
     let none_both = both_none (first_past 43 fresh) (position (is_overweight m fresh h.discretes) m.rows) (sym fine ∙ over) in
     let levels : List ℤ = (with_items s.levels c.requantize_handled-over.new.levels).items in
-    let of_levels : levels ≡ c.requantize_handled-over.new.levels = with_items_is s.levels c.requantize_handled-over.new.levels (c.requantize_handled-over.auto.levels ∙ c.as_mut_slice-2.ensures.len) in
+    let of_levels : levels ≡ c.requantize_handled-over.new.levels = with_items_is s.levels c.requantize_handled-over.new.levels (c.requantize_handled-over.auto.levels ∙ c.as_mut_slice.ensures.len) in
     let are_fresh : levels ≡ fresh = of_levels ∙ c.requantize_handled-over.ensures.levels fine in
     let fits = taken.stands.fits in
     let off : IsOff moved s.levels.items levels =
     subst (λ l. IsOff moved s.levels.items l) (sym are_fresh)
-    (subst (λ l. IsOff moved l fresh) c.as_mut_slice-2.ensures.value (subst (λ js. IsOff js c.as_mut_slice-2.result.now fresh) c.as_slice-7.ensures.value c.requantize_handled-over.ensures.others)) in
+    (subst (λ l. IsOff moved l fresh) c.as_mut_slice.ensures.value (subst (λ js. IsOff js c.as_mut_slice.result.now fresh) c.as_slice-4.ensures.value c.requantize_handled-over.ensures.others)) in
     let allowed_now : AreNextLevels (IsRuled c.args.q.now.name) m h.states s.levels.items levels =
     subst (λ l. AreNextLevels (IsRuled c.args.q.now.name) m h.states s.levels.items l) (sym are_fresh) allowed in
-    let after = c.handle_changed-over.new.agenda in
-    let without = c.handle_changed-over.ensures.without calm in
+    let after = c.handle-over.new.agenda in
+    let without = c.handle-over.ensures.without calm in
     let w : World = world_of c.args.tick s in
     let of_log = ap (λ (v : Values). v.log) handled.values in
     record {
       fits = record {
-        own_conditions = arrived_anew m s.conditions (with_items s.conditions.arrived c.handle_changed-over.new.arrived) fits.own_conditions
-            (same_length s.conditions.arrived c.handle_changed-over.new.arrived ∙ fits.own_conditions.arrived);
+        own_conditions = c.handle-over.ensures.fits calm;
         uses = fits.uses;
         lines = fits.lines;
         levels = same_length s.levels c.requantize_handled-over.new.levels ∙ fits.levels;
         slopes = fits.slopes;
         fresh = same_length s.fresh c.requantize_handled-over.new.fresh ∙ fits.fresh;
         weights = same_length s.weights c.requantize_handled-over.new.weights ∙ fits.weights;
-        moved_room = omega (arith, c.handle_changed-over.ensures.moved_room, fits.moved_room);
+        moved_room = omega (arith, c.handle-over.ensures.moved_room, fits.moved_room);
         changed_room = fits.changed_room;
-        fired_room = omega (arith, c.handle_changed-over.ensures.fired_room, fits.fired_room);
-        assigned_room = omega (arith, c.handle_changed-over.ensures.assigned_room, fits.assigned_room);
+        fired_room = omega (arith, c.handle-over.ensures.fired_room, fits.fired_room);
+        assigned_room = omega (arith, c.handle-over.ensures.assigned_room, fits.assigned_room);
         places = without.as_many ∙ taken.without.as_many ∙ fits.places;
         states = handled.fits.states;
         discretes = handled.fits.discretes;
@@ -289,14 +283,14 @@ go_on_handled-requires g c =
       small_states = subst (All (IsWithin 88)) handled.own_states handled.small;
       small_levels = subst (All (IsWithin 43)) (sym of_levels) (c.requantize_handled-over.ensures.small fine);
       light = ap (λ l. position (is_overweight m l new.d) m.rows) are_fresh ∙ ap (λ d. position (is_overweight m fresh d) m.rows) of_d ∙ none_both.1;
-      weights = with_items_is s.weights c.requantize_handled-over.new.weights (c.requantize_handled-over.auto.weights ∙ c.as_mut_slice-4.ensures.len)
+      weights = with_items_is s.weights c.requantize_handled-over.new.weights (c.requantize_handled-over.auto.weights ∙ c.as_mut_slice-3.ensures.len)
           ∙ c.requantize_handled-over.ensures.weights fine ∙ ap (λ l. weights_at m l new.d) (sym of_levels);
-      fresh_levels = with_items_is s.fresh fresh (c.requantize_handled-over.auto.fresh ∙ c.as_mut_slice-3.ensures.len) ∙ sym are_fresh;
+      fresh_levels = with_items_is s.fresh fresh (c.requantize_handled-over.auto.fresh ∙ c.as_mut_slice-2.ensures.len) ∙ sym are_fresh;
       in_time = omega (arith, c.requires.in_time, m.has_units.last_tick);
       later = λ j inside. omega (arith, earlier m c.args.tick agenda s taken c.requires.in_time j inside);
-      small = subst (λ ls. All (IsWithin 88) (states_at ls t)) c.as_slice-2.ensures.value
-          (all_within 88 (states_at c.as_slice-2.result.now t)
-          (none_early m t (states_at c.as_slice-2.result.now t) s.work.d c.as_mut_slice.result.now c.as_slice-5.result.now calm_h));
+      small = subst (λ ls. All (IsWithin 88) (states_at ls t)) c.as_slice.ensures.value
+          (all_within 88 (states_at c.as_slice.result.now t)
+          (none_early m t (states_at c.as_slice.result.now t) s.work.d s.conditions.arrived.items s.conditions.settled.items calm_h));
       near = near_after m c.args.tick agenda s taken c.requires.in_time moved assigned new h handled c.args.q.now.name levels allowed_now;
       before = (
         s.levels.items,
@@ -306,12 +300,14 @@ go_on_handled-requires g c =
       own_slope = own_slope m c.args.tick agenda s taken c.requires.in_time;
       due = due_after m c.args.tick agenda s taken c.requires.in_time moved assigned new h handled c.args.q.now.name levels allowed_now after without;
       watched = λ place inside none.
-          subst (λ p. IsWatched m t (states_at s.lines.items t) p s.slopes.items place (watch_at s.conditions.watches.items place) (due_at after (state_count m + place))) (sym of_pre)
+          subst (λ (all : Conditions). IsWatched m t (states_at s.lines.items t) new.pre s.slopes.items place (watch_at all.watches.items place) (due_at after (state_count m + place))) (sym c.handle-over.ensures.rest)
+          (subst (λ p. IsWatched m t (states_at s.lines.items t) p s.slopes.items place (watch_at s.conditions.watches.items place) (due_at after (state_count m + place))) (sym of_pre)
           (subst (λ found. IsWatched m t (states_at s.lines.items t) s.work.d s.slopes.items place (watch_at s.conditions.watches.items place) found)
           (sym (conditions_stay m c.args.tick agenda s taken c.requires.in_time moved assigned new h handled after without place))
-          (watched_still m c.args.tick agenda s taken c.requires.in_time place inside none));
+          (watched_still m c.args.tick agenda s taken c.requires.in_time place inside none)));
       settled = λ place inside none.
-          sym (flag_same m c.args.tick agenda s taken c.requires.in_time place inside none)
+          ap (λ (all : Conditions). flag_at all.settled.items place) c.handle-over.ensures.rest
+          ∙ sym (flag_same m c.args.tick agenda s taken c.requires.in_time place inside none)
           ∙ ap (λ p. truth m (condition_at m place) (states_at s.lines.items t) p t) (sym of_pre);
     }
 
@@ -322,43 +318,42 @@ returns g c =
     let s : Store = c.args.s.now in
     let agenda : List (Option ℕ) = c.requires.taken.0 in
     let taken = c.requires.taken.1 in
-    let h : Handling = handling_from m t (states_at c.as_slice-2.result.now t) s.work.d c.as_mut_slice.result.now c.as_slice-5.result.now in
+    let h : Handling = handling_from m t (states_at c.as_slice.result.now t) s.work.d s.conditions.arrived.items s.conditions.settled.items in
     let is_h : h ≡ handling_at m t (world_of c.args.tick s) =
-    handles_from m c.args.tick (record s { agenda = agenda }) taken.stands c.as_slice-2.result.now c.as_mut_slice.result.now c.as_slice-5.result.now
-    c.as_slice-2.ensures.value c.as_mut_slice.ensures.value c.as_slice-5.ensures.value in
-    let calm : c.handle_changed-over.result ≡ None = not_some c.handle_changed-over.result (sym c.is_some.ensures ∙ c.if-is_some.false) in
-    let moved = c.handle_changed-over.new.moved.items in
-    let assigned = c.handle_changed-over.new.assigned.items in
-    let new : Values = c.handle_changed-over.new.work in
+    handles_from m c.args.tick (record s { agenda = agenda }) taken.stands c.as_slice.result.now s.conditions.arrived.items s.conditions.settled.items
+    c.as_slice.ensures.value refl refl in
+    let calm : c.handle-over.result ≡ None = not_some c.handle-over.result (sym c.is_some.ensures ∙ c.if-is_some.false) in
+    let moved = c.handle-over.new.moved.items in
+    let assigned = c.handle-over.new.assigned.items in
+    let new : Values = c.handle-over.new.work in
     let handled : IsHandled m t s.lines.items s.moved.items moved assigned s.work new h =
-    subst (λ ls. IsHandled m t ls s.moved.items moved assigned s.work new h) c.as_slice-2.ensures.value (c.handle_changed-over.ensures.handled calm) in
-    let calm_h : h.overflow ≡ None = sym c.handle_changed-over.ensures.over ∙ calm in
+    subst (λ ls. IsHandled m t ls s.moved.items moved assigned s.work new h) c.as_slice.ensures.value (c.handle-over.ensures.handled calm) in
+    let calm_h : h.overflow ≡ None = sym c.handle-over.ensures.over ∙ calm in
     let of_d : new.d ≡ h.discretes = ap (λ (v : Values). v.d) handled.values in
     let of_pre : new.pre ≡ s.work.d = ap (λ (v : Values). v.pre) handled.values in
     let fresh : List ℤ = c.requantize_handled-over.new.fresh in
-    let to : AreMovedTo m c.as_slice-7.result.now new.x c.as_mut_slice-2.result.now h.states =
-    subst (λ js. AreMovedTo m js new.x c.as_mut_slice-2.result.now h.states) (sym c.as_slice-7.ensures.value)
-    (subst (λ l. AreMovedTo m moved new.x l h.states) (sym c.as_mut_slice-2.ensures.value) (moved_to m c.args.tick agenda s taken c.requires.in_time moved assigned new h handled)) in
+    let to : AreMovedTo m c.as_slice-4.result.now new.x c.as_mut_slice.result.now h.states =
+    subst (λ js. AreMovedTo m js new.x c.as_mut_slice.result.now h.states) (sym c.as_slice-4.ensures.value)
+    (subst (λ l. AreMovedTo m moved new.x l h.states) (sym c.as_mut_slice.ensures.value) (moved_to m c.args.tick agenda s taken c.requires.in_time moved assigned new h handled)) in
     let allowed : AreNextLevels (IsRuled c.args.q.now.name) m h.states s.levels.items fresh =
-    subst (λ l. AreNextLevels (IsRuled c.args.q.now.name) m h.states l fresh) c.as_mut_slice-2.ensures.value (c.requantize_handled-over.ensures.allowed h.states to) in
+    subst (λ l. AreNextLevels (IsRuled c.args.q.now.name) m h.states l fresh) c.as_mut_slice.ensures.value (c.requantize_handled-over.ensures.allowed h.states to) in
     let over : c.requantize_handled-over.result ≡ option_or (first_past 43 fresh) (position (is_overweight m fresh h.discretes) m.rows) =
     c.requantize_handled-over.ensures.over ∙ ap (λ d. option_or (first_past 43 fresh) (position (is_overweight m fresh d) m.rows)) of_d in
     let fine : c.requantize_handled-over.result ≡ None = not_some c.requantize_handled-over.result (sym c.is_some-2.ensures ∙ c.if-is_some-2.false) in
     let none_both = both_none (first_past 43 fresh) (position (is_overweight m fresh h.discretes) m.rows) (sym fine ∙ over) in
     let levels : List ℤ = (with_items s.levels c.requantize_handled-over.new.levels).items in
-    let of_levels : levels ≡ c.requantize_handled-over.new.levels = with_items_is s.levels c.requantize_handled-over.new.levels (c.requantize_handled-over.auto.levels ∙ c.as_mut_slice-2.ensures.len) in
+    let of_levels : levels ≡ c.requantize_handled-over.new.levels = with_items_is s.levels c.requantize_handled-over.new.levels (c.requantize_handled-over.auto.levels ∙ c.as_mut_slice.ensures.len) in
     let are_fresh : levels ≡ fresh = of_levels ∙ c.requantize_handled-over.ensures.levels fine in
     let fits = taken.stands.fits in
     let w : World = world_of c.args.tick s in
     let next : World = world_of t c.go_on_handled.new.s in
     let x : List ℤ = states_with s.lines.items t moved new.x in
     let of_x : x ≡ h.states = sym handled.own_states in
-    let arrived : List Bool = (with_items s.conditions.arrived c.handle_changed-over.new.arrived).items in
+    let arrived : List Bool = c.handle-over.new.self.arrived.items in
     let arrivals : states_at s.lines.items t ≡ moved_states m w = arrives m c.args.tick (record s { agenda = agenda }) taken.stands in
     let of_arrived : arrived ≡ truths m (moved_states m w) s.work.d t =
-    with_items_is s.conditions.arrived c.handle_changed-over.new.arrived (c.handle_changed-over.auto.arrived ∙ c.as_mut_slice.ensures.len)
-    ∙ c.handle_changed-over.ensures.arrived calm
-    ∙ ap (λ ls. truths m (states_at ls t) s.work.d t) c.as_slice-2.ensures.value
+    c.handle-over.ensures.arrived calm
+    ∙ ap (λ ls. truths m (states_at ls t) s.work.d t) c.as_slice.ensures.value
     ∙ ap (λ y. truths m y s.work.d t) arrivals in
     let world : next ≡ record { states = x; levels = levels; discretes = new.d; arrived = arrived; settled = truths m x new.d t } = c.go_on_handled.ensures.world in
     let end : next ≡ end_of m t w h fresh =
@@ -385,8 +380,8 @@ returns g c =
       rows = λ none.
           ap (λ v. v.items) c.go_on_handled.ensures.rows
           ∙ c.requantize_handled-over.ensures.rows fine h.states to
-          ∙ ap (λ r. r ++ level_rows t c.as_mut_slice-2.result.now c.requantize_handled-over.new.levels h.states) (ap (λ (v : Values). v.log) handled.values ∙ ap (λ (k : Handling). k.rows) is_h)
-          ∙ ap (λ l. (handling_at m t w).rows ++ level_rows t l c.requantize_handled-over.new.levels h.states) c.as_mut_slice-2.ensures.value
+          ∙ ap (λ r. r ++ level_rows t c.as_mut_slice.result.now c.requantize_handled-over.new.levels h.states) (ap (λ (v : Values). v.log) handled.values ∙ ap (λ (k : Handling). k.rows) is_h)
+          ∙ ap (λ l. (handling_at m t w).rows ++ level_rows t l c.requantize_handled-over.new.levels h.states) c.as_mut_slice.ensures.value
           ∙ ap (λ l. (handling_at m t w).rows ++ level_rows t s.levels.items l h.states) (sym (next_levels ∙ of_levels))
           ∙ ap (λ y. (handling_at m t w).rows ++ level_rows t s.levels.items next.levels y) (sym next_states);
       stands = λ none. c.go_on_handled.ensures.stands;
