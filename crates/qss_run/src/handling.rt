@@ -59,16 +59,20 @@ impl Conditions {
         requires fired_room { length (conditions at.now.machine.now) ≤ vec_capacity fired.old }
         requires moved_room { state_count at.now.machine.now ≤ vec_capacity moved.old }
         requires assigned_room { row_room at.now.machine.now.clauses ≤ vec_capacity assigned.old }
-        ensures over { result ≡ (handling_from at.now.machine.now at.now.tick (states_at at.now.lines.now at.now.tick)
+        ensures over { result
+            ≡ (handling_from at.now.machine.now at.now.tick (states_at at.now.lines.now at.now.tick)
             work.old.d self.old.arrived.items self.old.settled.items).overflow }
         ensures handled { result ≡ None
-            → IsHandled at.now.machine.now at.now.tick at.now.lines.now moved.old.items moved.new.items assigned.new.items
+            → IsHandled at.now.machine.now at.now.tick at.now.lines.now moved.old.items
+                moved.new.items assigned.new.items
                 work.old work.new
-                (handling_from at.now.machine.now at.now.tick (states_at at.now.lines.now at.now.tick)
+                (handling_from at.now.machine.now at.now.tick
+                    (states_at at.now.lines.now at.now.tick)
                     work.old.d self.old.arrived.items self.old.settled.items) }
         ensures arrived { result ≡ None
             → self.new.arrived.items
-                ≡ truths at.now.machine.now (states_at at.now.lines.now at.now.tick) work.old.d at.now.tick }
+                ≡ truths at.now.machine.now
+                    (states_at at.now.lines.now at.now.tick) work.old.d at.now.tick }
         ensures rest { self.new ≡ record self.old { arrived = self.new.arrived } }
         ensures fits { result ≡ None → AreConditionsOf at.now.machine.now self.new }
         ensures without { result ≡ None → IsWithout moved.new.items agenda.old agenda.new }

@@ -117,11 +117,13 @@ pub(crate) fn requantize_states(
     requires levels { length levels.old ≡ state_count at.now.machine.now }
     requires fresh { fresh.old ≡ levels.old }
     requires moved { AreNumbers (state_count at.now.machine.now) at.now.moved.now }
-    requires small_states { (j : ℕ) → is_among at.now.moved.now j ≡ true → IsWithin 88 (int_at x.now j) }
+    requires small_states { (j : ℕ) → is_among at.now.moved.now j ≡ true
+        → IsWithin 88 (int_at x.now j) }
     requires small_levels { All (IsWithin 43) levels.old }
     requires room { vec_len rows.old + state_count at.now.machine.now ≤ vec_capacity rows.old }
     ensures over { result ≡ first_past 43 fresh.new }
-    ensures allowed { (states : List ℤ) → AreMovedTo at.now.machine.now at.now.moved.now x.now levels.old states
+    ensures allowed { (states : List ℤ)
+        → AreMovedTo at.now.machine.now at.now.moved.now x.now levels.old states
         → AreNextLevels (IsRuled q.now.name) at.now.machine.now states levels.old fresh.new }
     ensures others { IsOff at.now.moved.now levels.old fresh.new }
     ensures levels { result ≡ None → levels.new ≡ fresh.new }
@@ -177,15 +179,20 @@ pub(crate) fn requantize_due(
     requires small_levels { All (IsWithin 43) levels.old }
     requires small_x { All (IsWithin 88) x.old }
     requires room { state_count at.now.machine.now ≤ vec_capacity rows.old }
-    ensures over { result ≡ option_or (first_past 88 (states_at at.now.lines.now at.now.tick)) (first_past 43 fresh.new) }
+    ensures over { result
+        ≡ option_or (first_past 88 (states_at at.now.lines.now at.now.tick))
+        (first_past 43 fresh.new) }
     ensures allowed { first_past 88 (states_at at.now.lines.now at.now.tick) ≡ None
-        → AreNextLevels (IsRuled q.now.name) at.now.machine.now (states_at at.now.lines.now at.now.tick)
+        → AreNextLevels (IsRuled q.now.name) at.now.machine.now
+            (states_at at.now.lines.now at.now.tick)
             levels.old fresh.new }
     ensures levels { result ≡ None → levels.new ≡ fresh.new }
     ensures small { result ≡ None → All (IsWithin 43) levels.new }
     ensures rows { result ≡ None
-        → rows.new.items ≡ level_rows at.now.tick levels.old levels.new (states_at at.now.lines.now at.now.tick) }
-    ensures others { (j : ℕ) → is_among at.now.moved.now j ≡ false → int_at fresh.new j ≡ int_at levels.old j }
+        → rows.new.items ≡ level_rows at.now.tick levels.old levels.new
+            (states_at at.now.lines.now at.now.tick) }
+    ensures others { (j : ℕ) → is_among at.now.moved.now j ≡ false
+        → int_at fresh.new j ≡ int_at levels.old j }
     ensures states { length x.new ≡ length x.old }
     ensures small_x { result ≡ None → All (IsWithin 88) x.new }
     ensures fresh { length fresh.new ≡ length fresh.old }

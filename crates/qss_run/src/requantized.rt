@@ -44,12 +44,14 @@ pub(crate) fn requantize_handled(
     requires ready { IsHandledArrival at.now }
     requires held { HoldsLevels at.now.machine.now at.now.lines.now at.now.work.now.pre
         levels.old fresh.old weights.old }
-    requires room { length at.now.work.now.log + state_count at.now.machine.now ≤ vec_capacity rows.old }
+    requires room { length at.now.work.now.log + state_count at.now.machine.now
+        ≤ vec_capacity rows.old }
     ensures allowed { (states : List ℤ)
         → AreMovedTo at.now.machine.now at.now.moved.now at.now.work.now.x levels.old states
         → AreNextLevels (IsRuled q.now.name) at.now.machine.now states levels.old fresh.new }
     ensures over { result ≡ option_or (first_past 43 fresh.new)
-        (position (is_overweight at.now.machine.now fresh.new at.now.work.now.d) at.now.machine.now.rows) }
+        (position (is_overweight at.now.machine.now fresh.new at.now.work.now.d)
+            at.now.machine.now.rows) }
     ensures others { IsOff at.now.moved.now levels.old fresh.new }
     ensures levels { result ≡ None → levels.new ≡ fresh.new }
     ensures small { result ≡ None → All (IsWithin 43) levels.new }
@@ -58,7 +60,8 @@ pub(crate) fn requantize_handled(
     ensures rows { result ≡ None
         → (states : List ℤ)
         → AreMovedTo at.now.machine.now at.now.moved.now at.now.work.now.x levels.old states
-        → rows.new.items ≡ at.now.work.now.log ++ level_rows at.now.tick levels.old levels.new states }
+        → rows.new.items ≡ at.now.work.now.log
+            ++ level_rows at.now.tick levels.old levels.new states }
     ensures room { vec_capacity rows.new ≡ vec_capacity rows.old }
 {
     let work = at.work;

@@ -99,14 +99,17 @@ fn reseat<L: Ledger>(
     requires place { j < length agenda.old }
     requires later { line.old.tick ≤ here.now.tick }
     requires small { IsWithin 89 (state_at line.old here.now.tick) }
-    requires near { IsNear (level_unit m.now) here.now.x here.now.level (quantum_of m.now j here.now.level) }
-    ensures turned { IsTurned m.now here.now.tick here.now.x here.now.level here.now.slope j line.new (due_at agenda.new j) }
+    requires near { IsNear (level_unit m.now) here.now.x here.now.level
+        (quantum_of m.now j here.now.level) }
+    ensures turned { IsTurned m.now here.now.tick here.now.x here.now.level here.now.slope j
+        line.new (due_at agenda.new j) }
     ensures as_many { length agenda.new ≡ length agenda.old }
     ensures others { (place : ℕ) → (place ≡ j → ⊥) → due_at agenda.new place ≡ due_at agenda.old place }
     ensures kept { goes_from here.now.tick here.now.x here.now.level here.now.slope line.old ≡ true
         → line.new ≡ line.old }
     ensures counted { steps.new ≡ steps.old
-        + (if goes_from here.now.tick here.now.x here.now.level here.now.slope line.old then 0 else 1) }
+        + (if goes_from here.now.tick here.now.x here.now.level here.now.slope line.old
+            then 0 else 1) }
 {
     renew(line, here, steps);
     agenda.set(j, leaving(m, j, here));
@@ -129,19 +132,26 @@ fn seat<L: Ledger>(
     requires places { state_count at.now.machine.now ≤ length agenda.old }
     requires later { (line_at lines.old j).tick ≤ at.now.tick }
     requires small { IsWithin 89 (state_at (line_at lines.old j) at.now.tick) }
-    requires near { IsNear (level_unit at.now.machine.now) (int_at x.now j) (int_at at.now.levels.now j)
+    requires near { IsNear (level_unit at.now.machine.now) (int_at x.now j)
+        (int_at at.now.levels.now j)
         (quantum_of at.now.machine.now j (int_at at.now.levels.now j)) }
-    ensures turned { IsTurned at.now.machine.now at.now.tick (int_at x.now j) (int_at at.now.levels.now j)
+    ensures turned { IsTurned at.now.machine.now at.now.tick (int_at x.now j)
+        (int_at at.now.levels.now j)
         (int_at slopes.now j) j (line_at lines.new j) (due_at agenda.new j) }
     ensures lines { (k : ℕ) → (k ≡ j → ⊥) → line_at lines.new k ≡ line_at lines.old k }
-    ensures kept { goes_from at.now.tick (int_at x.now j) (int_at at.now.levels.now j) (int_at slopes.now j)
+    ensures kept { goes_from at.now.tick (int_at x.now j) (int_at at.now.levels.now j)
+        (int_at slopes.now j)
             (line_at lines.old j) ≡ true
         → line_at lines.new j ≡ line_at lines.old j }
     ensures places { length agenda.new ≡ length agenda.old }
     ensures dues { (place : ℕ) → (place ≡ j → ⊥) → due_at agenda.new place ≡ due_at agenda.old place }
     ensures counted { (states : List ℤ) → int_at states j ≡ int_at x.now j
-        → steps.new + renewals_from (state_count at.now.machine.now) at.now.tick states at.now.levels.now slopes.now lines.new
-        ≡ steps.old + renewals_from (state_count at.now.machine.now) at.now.tick states at.now.levels.now slopes.now lines.old }
+        → steps.new + renewals_from
+            (state_count at.now.machine.now) at.now.tick states at.now.levels.now slopes.now
+            lines.new
+        ≡ steps.old + renewals_from
+            (state_count at.now.machine.now) at.now.tick states at.now.levels.now slopes.now
+            lines.old }
 {
     let slope = slopes[j as usize];
     let level = at.levels[j as usize];
@@ -168,7 +178,8 @@ fn seat_each<L: Ledger>(
     requires states { AreStatesOf at.now.machine.now x.now }
     requires lines { length lines.old ≡ state_count at.now.machine.now }
     requires places { state_count at.now.machine.now ≤ length agenda.old }
-    requires later { (j : ℕ) → j < state_count at.now.machine.now → (line_at lines.old j).tick ≤ at.now.tick }
+    requires later { (j : ℕ) → j < state_count at.now.machine.now
+        → (line_at lines.old j).tick ≤ at.now.tick }
     requires small { (j : ℕ) → j < state_count at.now.machine.now
         → IsWithin 89 (state_at (line_at lines.old j) at.now.tick) }
     requires near { (j : ℕ) → is_among at.now.moved.now j ≡ true
@@ -177,7 +188,8 @@ fn seat_each<L: Ledger>(
     ensures turned { (j : ℕ) → is_among at.now.moved.now j ≡ true
         → IsTurned at.now.machine.now at.now.tick (int_at x.now j) (int_at at.now.levels.now j)
             (int_at slopes.now j) j (line_at lines.new j) (due_at agenda.new j) }
-    ensures lines { (j : ℕ) → is_among at.now.moved.now j ≡ false → line_at lines.new j ≡ line_at lines.old j }
+    ensures lines { (j : ℕ) → is_among at.now.moved.now j ≡ false
+        → line_at lines.new j ≡ line_at lines.old j }
     ensures kept { (j : ℕ)
         → goes_from at.now.tick (int_at x.now j) (int_at at.now.levels.now j) (int_at slopes.now j)
             (line_at lines.old j) ≡ true
@@ -187,8 +199,12 @@ fn seat_each<L: Ledger>(
         → due_at agenda.new place ≡ due_at agenda.old place }
     ensures counted { (states : List ℤ)
         → ((j : ℕ) → is_among at.now.moved.now j ≡ true → int_at states j ≡ int_at x.now j)
-        → steps.new + renewals_from (state_count at.now.machine.now) at.now.tick states at.now.levels.now slopes.now lines.new
-        ≡ steps.old + renewals_from (state_count at.now.machine.now) at.now.tick states at.now.levels.now slopes.now lines.old }
+        → steps.new + renewals_from
+            (state_count at.now.machine.now) at.now.tick states at.now.levels.now slopes.now
+            lines.new
+        ≡ steps.old + renewals_from
+            (state_count at.now.machine.now) at.now.tick states at.now.levels.now slopes.now
+            lines.old }
 {
     for j in at.moved {
         seat(at, slopes, *j, x, lines, agenda, steps);
@@ -209,10 +225,12 @@ pub(crate) fn reslope_handled<L: Ledger>(
     ensures slopes { slopes.new ≡ new_slopes at.now left.now.discretes.now }
     ensures lines { (j : ℕ) → j < state_count at.now.machine.now
         → IsTurned at.now.machine.now at.now.tick (int_at (states_left at.now left.now lines.old) j)
-            (int_at at.now.levels.now j) (slope_at at.now.machine.now j at.now.levels.now left.now.discretes.now)
+            (int_at at.now.levels.now j)
+                (slope_at at.now.machine.now j at.now.levels.now left.now.discretes.now)
             j (line_at lines.new j) (due_at agenda.new j) }
     ensures kept { (j : ℕ) → j < state_count at.now.machine.now
-        → goes_from at.now.tick (int_at (states_left at.now left.now lines.old) j) (int_at at.now.levels.now j)
+        → goes_from at.now.tick (int_at (states_left at.now left.now lines.old) j)
+            (int_at at.now.levels.now j)
             (int_at slopes.new j) (line_at lines.old j) ≡ true
         → line_at lines.new j ≡ line_at lines.old j }
     ensures places { length agenda.new ≡ length agenda.old }

@@ -25,8 +25,10 @@ pub(crate) fn renew<L: Ledger>(
     ensures moved { result ≡ true → (line.new ≡ here.now) × (steps.new ≡ steps.old + 1) }
     ensures kept { state_at line.old here.now.tick ≡ here.now.x → line.old.slope ≡ here.now.slope
         → line.old.level ≡ here.now.level → result ≡ false }
-    ensures left { result ≡ false → (line.new ≡ line.old) × (state_at line.old here.now.tick ≡ here.now.x)
-        × (line.old.slope ≡ here.now.slope) × (line.old.level ≡ here.now.level) × (steps.new ≡ steps.old) }
+    ensures left { result ≡ false
+        → (line.new ≡ line.old) × (state_at line.old here.now.tick ≡ here.now.x)
+        × (line.old.slope ≡ here.now.slope) × (line.old.level ≡ here.now.level)
+            × (steps.new ≡ steps.old) }
 {
     if line.slope == here.slope && line.level == here.level && line.value_at(here.tick) == here.x {
         return false;
@@ -50,7 +52,8 @@ pub(crate) fn reslope<L: Ledger>(
     requires place { j < length agenda.old }
     requires later { line.old.tick ≤ here.now.tick }
     requires small { IsWithin 89 (state_at line.old here.now.tick) }
-    requires near { IsNear (level_unit m.now) here.now.x here.now.level (quantum_of m.now j here.now.level) }
+    requires near { IsNear (level_unit m.now) here.now.x here.now.level
+        (quantum_of m.now j here.now.level) }
     requires due { state_at line.old here.now.tick ≡ here.now.x → line.old.level ≡ here.now.level
         → IsDue m.now here.now.tick j line.old (due_at agenda.old j) }
     ensures not_later { line.new.tick ≤ here.now.tick }
@@ -63,7 +66,8 @@ pub(crate) fn reslope<L: Ledger>(
     ensures kept { goes_from here.now.tick here.now.x here.now.level here.now.slope line.old ≡ true
         → line.new ≡ line.old }
     ensures counted { steps.new ≡ steps.old
-        + (if goes_from here.now.tick here.now.x here.now.level here.now.slope line.old then 0 else 1) }
+        + (if goes_from here.now.tick here.now.x here.now.level here.now.slope line.old
+            then 0 else 1) }
 {
     if renew(line, here, steps) {
         agenda.set(j, leaving(m, j, line));

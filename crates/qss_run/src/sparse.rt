@@ -49,15 +49,20 @@ fn requantize_in(
     requires small_levels { All (IsWithin 43) levels.old }
     requires small_x { All (IsWithin 88) work.old.x }
     requires room { state_count at.now.machine.now ≤ vec_capacity rows.old }
-    ensures over { result ≡ option_or (first_past 88 (states_at at.now.lines.now at.now.tick)) (first_past 43 fresh.new) }
+    ensures over { result
+        ≡ option_or (first_past 88 (states_at at.now.lines.now at.now.tick))
+        (first_past 43 fresh.new) }
     ensures allowed { first_past 88 (states_at at.now.lines.now at.now.tick) ≡ None
-        → AreNextLevels (IsRuled q.now.name) at.now.machine.now (states_at at.now.lines.now at.now.tick)
+        → AreNextLevels (IsRuled q.now.name) at.now.machine.now
+            (states_at at.now.lines.now at.now.tick)
             levels.old fresh.new }
     ensures levels { result ≡ None → levels.new ≡ fresh.new }
     ensures small { result ≡ None → All (IsWithin 43) levels.new }
     ensures rows { result ≡ None
-        → rows.new.items ≡ level_rows at.now.tick levels.old levels.new (states_at at.now.lines.now at.now.tick) }
-    ensures others { (j : ℕ) → is_among at.now.moved.now j ≡ false → int_at fresh.new j ≡ int_at levels.old j }
+        → rows.new.items ≡ level_rows at.now.tick levels.old levels.new
+            (states_at at.now.lines.now at.now.tick) }
+    ensures others { (j : ℕ) → is_among at.now.moved.now j ≡ false
+        → int_at fresh.new j ≡ int_at levels.old j }
     ensures work { work.new ≡ record work.old { x = work.new.x } }
     ensures states { length work.new.x ≡ length work.old.x }
     ensures small_x { result ≡ None → All (IsWithin 88) work.new.x }
@@ -85,15 +90,19 @@ fn requantize_moved(
     requires room { state_count at.now.machine.now ≤ vec_capacity rows.old }
     ensures over { result ≡ option_or (first_past 88 (states_at at.now.lines.now at.now.tick))
         (option_or (first_past 43 fresh.new)
-            (position (is_overweight at.now.machine.now fresh.new work.old.d) at.now.machine.now.rows)) }
+            (position (is_overweight at.now.machine.now fresh.new work.old.d)
+                at.now.machine.now.rows)) }
     ensures allowed { first_past 88 (states_at at.now.lines.now at.now.tick) ≡ None
-        → AreNextLevels (IsRuled q.now.name) at.now.machine.now (states_at at.now.lines.now at.now.tick)
+        → AreNextLevels (IsRuled q.now.name) at.now.machine.now
+            (states_at at.now.lines.now at.now.tick)
             levels.old fresh.new }
     ensures levels { result ≡ None → levels.new ≡ fresh.new }
     ensures small { result ≡ None → All (IsWithin 43) levels.new }
-    ensures weights { result ≡ None → weights.new ≡ weights_at at.now.machine.now levels.new work.old.d }
+    ensures weights { result ≡ None
+        → weights.new ≡ weights_at at.now.machine.now levels.new work.old.d }
     ensures rows { result ≡ None
-        → rows.new.items ≡ level_rows at.now.tick levels.old levels.new (states_at at.now.lines.now at.now.tick) }
+        → rows.new.items ≡ level_rows at.now.tick levels.old levels.new
+            (states_at at.now.lines.now at.now.tick) }
     ensures others { IsOff at.now.moved.now levels.old fresh.new }
     ensures work { work.new ≡ record work.old { x = work.new.x } }
     ensures states { length work.new.x ≡ length work.old.x }
@@ -131,22 +140,27 @@ fn go_on_moved<L: Ledger>(
     requires places { HasPlaces at.now.machine.now agenda.old }
     requires small_states { All (IsWithin 88) (states_at lines.old at.now.tick) }
     requires in_time { at.now.tick < 2 ^ 32 }
-    requires watched { AreWatched at.now.machine.now at.now.tick (states_at lines.old at.now.tick) work.now.d
+    requires watched { AreWatched at.now.machine.now at.now.tick
+        (states_at lines.old at.now.tick) work.now.d
         slopes.old watched.old.watches.items agenda.old }
     ensures slopes { slopes.new ≡ new_slopes at.now work.now.d }
     ensures lines { (j : ℕ) → j < state_count at.now.machine.now
         → IsTurned at.now.machine.now at.now.tick (state_at (line_at lines.old j) at.now.tick)
-            (int_at at.now.levels.now j) (slope_at at.now.machine.now j at.now.levels.now work.now.d)
+            (int_at at.now.levels.now j)
+                (slope_at at.now.machine.now j at.now.levels.now work.now.d)
             j (line_at lines.new j) (due_at agenda.new j) }
-    ensures watches { AreWatched at.now.machine.now at.now.tick (states_at lines.old at.now.tick) work.now.d
+    ensures watches { AreWatched at.now.machine.now at.now.tick
+        (states_at lines.old at.now.tick) work.now.d
         slopes.new watched.new.watches.items agenda.new }
     ensures rest { watched.new ≡ record watched.old { watches = watched.new.watches } }
     ensures fits { AreConditionsOf at.now.machine.now watched.new }
     ensures places { length agenda.new ≡ length agenda.old }
-    ensures beyond { (place : ℕ) → state_count at.now.machine.now + length (conditions at.now.machine.now) ≤ place
+    ensures beyond { (place : ℕ)
+        → state_count at.now.machine.now + length (conditions at.now.machine.now) ≤ place
         → due_at agenda.new place ≡ due_at agenda.old place }
     ensures counted { steps.new
-        ≡ steps.old + renewals (state_count at.now.machine.now) at.now.levels.now slopes.new lines.old }
+        ≡ steps.old + renewals
+            (state_count at.now.machine.now) at.now.levels.now slopes.new lines.old }
 {
     let d = work.d.as_slice();
     reslope_of(at, d, slopes, lines, agenda, steps);

@@ -31,17 +31,23 @@ fn turn<L: Ledger>(
     requires on { CanGoOn at.now slopes.now }
     requires lines { length lines.old ≡ state_count at.now.machine.now }
     requires places { state_count at.now.machine.now ≤ length agenda.old }
-    requires ready { MayTurn at.now.machine.now at.now.tick (int_at at.now.levels.now j) (int_at slopes.now j)
+    requires ready { MayTurn at.now.machine.now at.now.tick (int_at at.now.levels.now j)
+        (int_at slopes.now j)
         j (line_at lines.old j) (due_at agenda.old j) }
-    ensures turned { IsTurned at.now.machine.now at.now.tick (state_at (line_at lines.old j) at.now.tick)
-        (int_at at.now.levels.now j) (int_at slopes.now j) j (line_at lines.new j) (due_at agenda.new j) }
+    ensures turned { IsTurned at.now.machine.now at.now.tick
+        (state_at (line_at lines.old j) at.now.tick)
+        (int_at at.now.levels.now j) (int_at slopes.now j) j (line_at lines.new j)
+            (due_at agenda.new j) }
     ensures lines { (k : ℕ) → (k ≡ j → ⊥) → line_at lines.new k ≡ line_at lines.old k }
-    ensures kept { goes_at (int_at at.now.levels.now j) (int_at slopes.now j) (line_at lines.old j) ≡ true
+    ensures kept { goes_at (int_at at.now.levels.now j) (int_at slopes.now j) (line_at lines.old j)
+        ≡ true
         → line_at lines.new j ≡ line_at lines.old j }
     ensures places { length agenda.new ≡ length agenda.old }
     ensures dues { (place : ℕ) → (place ≡ j → ⊥) → due_at agenda.new place ≡ due_at agenda.old place }
-    ensures counted { steps.new + renewals (state_count at.now.machine.now) at.now.levels.now slopes.now lines.new
-        ≡ steps.old + renewals (state_count at.now.machine.now) at.now.levels.now slopes.now lines.old }
+    ensures counted { steps.new
+        + renewals (state_count at.now.machine.now) at.now.levels.now slopes.now lines.new
+        ≡ steps.old + renewals
+            (state_count at.now.machine.now) at.now.levels.now slopes.now lines.old }
 {
     let slope = slopes[j as usize];
     let level = at.levels[j as usize];
@@ -72,11 +78,14 @@ fn turn_each<L: Ledger>(
     requires ready { (j : ℕ) → j < state_count at.now.machine.now
         → MayTurn at.now.machine.now at.now.tick (int_at at.now.levels.now j) (int_at slopes.now j)
             j (line_at lines.old j) (due_at agenda.old j) }
-    ensures turned { AreTurned at.now.machine.now at.now.tick at.now.levels.now slopes.now states.now
+    ensures turned { AreTurned at.now.machine.now at.now.tick at.now.levels.now slopes.now
+        states.now
         (record { lines = lines.old; dues = agenda.old })
         (record { lines = lines.new; dues = agenda.new }) }
-    ensures counted { steps.new + renewals (state_count at.now.machine.now) at.now.levels.now slopes.now lines.new
-        ≡ steps.old + renewals (state_count at.now.machine.now) at.now.levels.now slopes.now lines.old }
+    ensures counted { steps.new
+        + renewals (state_count at.now.machine.now) at.now.levels.now slopes.now lines.new
+        ≡ steps.old + renewals
+            (state_count at.now.machine.now) at.now.levels.now slopes.now lines.old }
 {
     for j in states {
         turn(at, slopes, *j, lines, agenda, steps);
@@ -93,7 +102,8 @@ pub(crate) fn turn_readers<L: Ledger>(
     steps: &mut Steps<L>,
 )
     requires variables { All
-        (λ var. var < state_count at.now.machine.now + discrete_count at.now.machine.now) variables.now }
+        (λ var. var < state_count at.now.machine.now
+            + discrete_count at.now.machine.now) variables.now }
     requires on { CanGoOn at.now slopes.now }
     requires lines { length lines.old ≡ state_count at.now.machine.now }
     requires places { state_count at.now.machine.now ≤ length agenda.old }
@@ -104,8 +114,10 @@ pub(crate) fn turn_readers<L: Ledger>(
         (flat_map (reading_rows at.now.machine.now) variables.now)
         (record { lines = lines.old; dues = agenda.old })
         (record { lines = lines.new; dues = agenda.new }) }
-    ensures counted { steps.new + renewals (state_count at.now.machine.now) at.now.levels.now slopes.now lines.new
-        ≡ steps.old + renewals (state_count at.now.machine.now) at.now.levels.now slopes.now lines.old }
+    ensures counted { steps.new
+        + renewals (state_count at.now.machine.now) at.now.levels.now slopes.now lines.new
+        ≡ steps.old + renewals
+            (state_count at.now.machine.now) at.now.levels.now slopes.now lines.old }
 {
     for var in variables {
         let readers = at.uses.rows_of(*var);
@@ -135,7 +147,8 @@ pub(crate) fn reslope_of<L: Ledger>(
     ensures others { (place : ℕ) → state_count at.now.machine.now ≤ place
         → due_at agenda.new place ≡ due_at agenda.old place }
     ensures counted { steps.new
-        ≡ steps.old + renewals (state_count at.now.machine.now) at.now.levels.now slopes.new lines.old }
+        ≡ steps.old + renewals
+            (state_count at.now.machine.now) at.now.levels.now slopes.new lines.old }
 {
     shift_slopes(at, d, lines, slopes);
     turn_each(at, slopes, at.moved, lines, agenda, steps);
