@@ -64,15 +64,15 @@ impl Conditions {
             work.old.d self.old.arrived.items self.old.settled.items).overflow }
         ensures handled { result ≡ None
             → IsHandled at.now.machine.now at.now.tick at.now.lines.now moved.old.items
-                moved.new.items assigned.new.items
-                work.old work.new
-                (handling_from at.now.machine.now at.now.tick
-                    (states_at at.now.lines.now at.now.tick)
-                    work.old.d self.old.arrived.items self.old.settled.items) }
+            moved.new.items assigned.new.items
+            work.old work.new
+            (handling_from at.now.machine.now at.now.tick
+            (states_at at.now.lines.now at.now.tick)
+            work.old.d self.old.arrived.items self.old.settled.items) }
         ensures arrived { result ≡ None
             → self.new.arrived.items
-                ≡ truths at.now.machine.now
-                    (states_at at.now.lines.now at.now.tick) work.old.d at.now.tick }
+            ≡ truths at.now.machine.now
+            (states_at at.now.lines.now at.now.tick) work.old.d at.now.tick }
         ensures rest { self.new ≡ record self.old { arrived = self.new.arrived } }
         ensures fits { result ≡ None → AreConditionsOf at.now.machine.now self.new }
         ensures without { result ≡ None → IsWithout moved.new.items agenda.old agenda.new }

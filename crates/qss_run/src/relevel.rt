@@ -184,13 +184,13 @@ pub(crate) fn requantize_due(
         (first_past 43 fresh.new) }
     ensures allowed { first_past 88 (states_at at.now.lines.now at.now.tick) ≡ None
         → AreNextLevels (IsRuled q.now.name) at.now.machine.now
-            (states_at at.now.lines.now at.now.tick)
-            levels.old fresh.new }
+        (states_at at.now.lines.now at.now.tick)
+        levels.old fresh.new }
     ensures levels { result ≡ None → levels.new ≡ fresh.new }
     ensures small { result ≡ None → All (IsWithin 43) levels.new }
     ensures rows { result ≡ None
         → rows.new.items ≡ level_rows at.now.tick levels.old levels.new
-            (states_at at.now.lines.now at.now.tick) }
+        (states_at at.now.lines.now at.now.tick) }
     ensures others { (j : ℕ) → is_among at.now.moved.now j ≡ false
         → int_at fresh.new j ≡ int_at levels.old j }
     ensures states { length x.new ≡ length x.old }

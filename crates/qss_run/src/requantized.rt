@@ -51,7 +51,7 @@ pub(crate) fn requantize_handled(
         → AreNextLevels (IsRuled q.now.name) at.now.machine.now states levels.old fresh.new }
     ensures over { result ≡ option_or (first_past 43 fresh.new)
         (position (is_overweight at.now.machine.now fresh.new at.now.work.now.d)
-            at.now.machine.now.rows) }
+        at.now.machine.now.rows) }
     ensures others { IsOff at.now.moved.now levels.old fresh.new }
     ensures levels { result ≡ None → levels.new ≡ fresh.new }
     ensures small { result ≡ None → All (IsWithin 43) levels.new }
@@ -61,7 +61,7 @@ pub(crate) fn requantize_handled(
         → (states : List ℤ)
         → AreMovedTo at.now.machine.now at.now.moved.now at.now.work.now.x levels.old states
         → rows.new.items ≡ at.now.work.now.log
-            ++ level_rows at.now.tick levels.old levels.new states }
+        ++ level_rows at.now.tick levels.old levels.new states }
     ensures room { vec_capacity rows.new ≡ vec_capacity rows.old }
 {
     let work = at.work;

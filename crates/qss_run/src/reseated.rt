@@ -109,7 +109,7 @@ fn reseat<L: Ledger>(
         → line.new ≡ line.old }
     ensures counted { steps.new ≡ steps.old
         + (if goes_from here.now.tick here.now.x here.now.level here.now.slope line.old
-            then 0 else 1) }
+        then 0 else 1) }
 {
     renew(line, here, steps);
     agenda.set(j, leaving(m, j, here));
@@ -141,17 +141,17 @@ fn seat<L: Ledger>(
     ensures lines { (k : ℕ) → (k ≡ j → ⊥) → line_at lines.new k ≡ line_at lines.old k }
     ensures kept { goes_from at.now.tick (int_at x.now j) (int_at at.now.levels.now j)
         (int_at slopes.now j)
-            (line_at lines.old j) ≡ true
+        (line_at lines.old j) ≡ true
         → line_at lines.new j ≡ line_at lines.old j }
     ensures places { length agenda.new ≡ length agenda.old }
     ensures dues { (place : ℕ) → (place ≡ j → ⊥) → due_at agenda.new place ≡ due_at agenda.old place }
     ensures counted { (states : List ℤ) → int_at states j ≡ int_at x.now j
         → steps.new + renewals_from
-            (state_count at.now.machine.now) at.now.tick states at.now.levels.now slopes.now
-            lines.new
+        (state_count at.now.machine.now) at.now.tick states at.now.levels.now slopes.now
+        lines.new
         ≡ steps.old + renewals_from
-            (state_count at.now.machine.now) at.now.tick states at.now.levels.now slopes.now
-            lines.old }
+        (state_count at.now.machine.now) at.now.tick states at.now.levels.now slopes.now
+        lines.old }
 {
     let slope = slopes[j as usize];
     let level = at.levels[j as usize];
@@ -184,15 +184,15 @@ fn seat_each<L: Ledger>(
         → IsWithin 89 (state_at (line_at lines.old j) at.now.tick) }
     requires near { (j : ℕ) → is_among at.now.moved.now j ≡ true
         → IsNear (level_unit at.now.machine.now) (int_at x.now j) (int_at at.now.levels.now j)
-            (quantum_of at.now.machine.now j (int_at at.now.levels.now j)) }
+        (quantum_of at.now.machine.now j (int_at at.now.levels.now j)) }
     ensures turned { (j : ℕ) → is_among at.now.moved.now j ≡ true
         → IsTurned at.now.machine.now at.now.tick (int_at x.now j) (int_at at.now.levels.now j)
-            (int_at slopes.now j) j (line_at lines.new j) (due_at agenda.new j) }
+        (int_at slopes.now j) j (line_at lines.new j) (due_at agenda.new j) }
     ensures lines { (j : ℕ) → is_among at.now.moved.now j ≡ false
         → line_at lines.new j ≡ line_at lines.old j }
     ensures kept { (j : ℕ)
         → goes_from at.now.tick (int_at x.now j) (int_at at.now.levels.now j) (int_at slopes.now j)
-            (line_at lines.old j) ≡ true
+        (line_at lines.old j) ≡ true
         → line_at lines.new j ≡ line_at lines.old j }
     ensures places { length agenda.new ≡ length agenda.old }
     ensures dues { (place : ℕ) → is_among at.now.moved.now place ≡ false
@@ -200,11 +200,11 @@ fn seat_each<L: Ledger>(
     ensures counted { (states : List ℤ)
         → ((j : ℕ) → is_among at.now.moved.now j ≡ true → int_at states j ≡ int_at x.now j)
         → steps.new + renewals_from
-            (state_count at.now.machine.now) at.now.tick states at.now.levels.now slopes.now
-            lines.new
+        (state_count at.now.machine.now) at.now.tick states at.now.levels.now slopes.now
+        lines.new
         ≡ steps.old + renewals_from
-            (state_count at.now.machine.now) at.now.tick states at.now.levels.now slopes.now
-            lines.old }
+        (state_count at.now.machine.now) at.now.tick states at.now.levels.now slopes.now
+        lines.old }
 {
     for j in at.moved {
         seat(at, slopes, *j, x, lines, agenda, steps);
@@ -225,20 +225,20 @@ pub(crate) fn reslope_handled<L: Ledger>(
     ensures slopes { slopes.new ≡ new_slopes at.now left.now.discretes.now }
     ensures lines { (j : ℕ) → j < state_count at.now.machine.now
         → IsTurned at.now.machine.now at.now.tick (int_at (states_left at.now left.now lines.old) j)
-            (int_at at.now.levels.now j)
-                (slope_at at.now.machine.now j at.now.levels.now left.now.discretes.now)
-            j (line_at lines.new j) (due_at agenda.new j) }
+        (int_at at.now.levels.now j)
+        (slope_at at.now.machine.now j at.now.levels.now left.now.discretes.now)
+        j (line_at lines.new j) (due_at agenda.new j) }
     ensures kept { (j : ℕ) → j < state_count at.now.machine.now
         → goes_from at.now.tick (int_at (states_left at.now left.now lines.old) j)
-            (int_at at.now.levels.now j)
-            (int_at slopes.new j) (line_at lines.old j) ≡ true
+        (int_at at.now.levels.now j)
+        (int_at slopes.new j) (line_at lines.old j) ≡ true
         → line_at lines.new j ≡ line_at lines.old j }
     ensures places { length agenda.new ≡ length agenda.old }
     ensures others { (place : ℕ) → state_count at.now.machine.now ≤ place
         → due_at agenda.new place ≡ due_at agenda.old place }
     ensures counted { steps.new
         ≡ steps.old + renewals_from (state_count at.now.machine.now) at.now.tick
-            (states_left at.now left.now lines.old) at.now.levels.now slopes.new lines.old }
+        (states_left at.now left.now lines.old) at.now.levels.now slopes.new lines.old }
 {
     follow_slopes(at, left, lines, slopes);
     seat_each(at, slopes, left.states, lines, agenda, steps);

@@ -134,12 +134,7 @@ pub(crate) fn shift_sums(
 }
 
 /// The slopes of all rows, at these discrete values, follow where the moved states take their levels, from those of their lines.
-pub(crate) fn shift_slopes(
-    at: &NewLevels,
-    d: &[i64],
-    lines: &[Integrator],
-    slopes: &mut [i128],
-)
+pub(crate) fn shift_slopes(at: &NewLevels, d: &[i64], lines: &[Integrator], slopes: &mut [i128])
     requires ready { AreNewLevels at.now }
     requires discretes { length d.now ≡ discrete_count at.now.machine.now }
     requires small_discretes { All (IsWithin 43) d.now }

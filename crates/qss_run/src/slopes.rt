@@ -28,7 +28,7 @@ pub(crate) fn renew<L: Ledger>(
     ensures left { result ≡ false
         → (line.new ≡ line.old) × (state_at line.old here.now.tick ≡ here.now.x)
         × (line.old.slope ≡ here.now.slope) × (line.old.level ≡ here.now.level)
-            × (steps.new ≡ steps.old) }
+        × (steps.new ≡ steps.old) }
 {
     if line.slope == here.slope && line.level == here.level && line.value_at(here.tick) == here.x {
         return false;
@@ -67,7 +67,7 @@ pub(crate) fn reslope<L: Ledger>(
         → line.new ≡ line.old }
     ensures counted { steps.new ≡ steps.old
         + (if goes_from here.now.tick here.now.x here.now.level here.now.slope line.old
-            then 0 else 1) }
+        then 0 else 1) }
 {
     if renew(line, here, steps) {
         agenda.set(j, leaving(m, j, line));

@@ -54,13 +54,13 @@ fn requantize_in(
         (first_past 43 fresh.new) }
     ensures allowed { first_past 88 (states_at at.now.lines.now at.now.tick) ≡ None
         → AreNextLevels (IsRuled q.now.name) at.now.machine.now
-            (states_at at.now.lines.now at.now.tick)
-            levels.old fresh.new }
+        (states_at at.now.lines.now at.now.tick)
+        levels.old fresh.new }
     ensures levels { result ≡ None → levels.new ≡ fresh.new }
     ensures small { result ≡ None → All (IsWithin 43) levels.new }
     ensures rows { result ≡ None
         → rows.new.items ≡ level_rows at.now.tick levels.old levels.new
-            (states_at at.now.lines.now at.now.tick) }
+        (states_at at.now.lines.now at.now.tick) }
     ensures others { (j : ℕ) → is_among at.now.moved.now j ≡ false
         → int_at fresh.new j ≡ int_at levels.old j }
     ensures work { work.new ≡ record work.old { x = work.new.x } }
@@ -90,19 +90,19 @@ fn requantize_moved(
     requires room { state_count at.now.machine.now ≤ vec_capacity rows.old }
     ensures over { result ≡ option_or (first_past 88 (states_at at.now.lines.now at.now.tick))
         (option_or (first_past 43 fresh.new)
-            (position (is_overweight at.now.machine.now fresh.new work.old.d)
-                at.now.machine.now.rows)) }
+        (position (is_overweight at.now.machine.now fresh.new work.old.d)
+        at.now.machine.now.rows)) }
     ensures allowed { first_past 88 (states_at at.now.lines.now at.now.tick) ≡ None
         → AreNextLevels (IsRuled q.now.name) at.now.machine.now
-            (states_at at.now.lines.now at.now.tick)
-            levels.old fresh.new }
+        (states_at at.now.lines.now at.now.tick)
+        levels.old fresh.new }
     ensures levels { result ≡ None → levels.new ≡ fresh.new }
     ensures small { result ≡ None → All (IsWithin 43) levels.new }
     ensures weights { result ≡ None
         → weights.new ≡ weights_at at.now.machine.now levels.new work.old.d }
     ensures rows { result ≡ None
         → rows.new.items ≡ level_rows at.now.tick levels.old levels.new
-            (states_at at.now.lines.now at.now.tick) }
+        (states_at at.now.lines.now at.now.tick) }
     ensures others { IsOff at.now.moved.now levels.old fresh.new }
     ensures work { work.new ≡ record work.old { x = work.new.x } }
     ensures states { length work.new.x ≡ length work.old.x }
@@ -146,9 +146,9 @@ fn go_on_moved<L: Ledger>(
     ensures slopes { slopes.new ≡ new_slopes at.now work.now.d }
     ensures lines { (j : ℕ) → j < state_count at.now.machine.now
         → IsTurned at.now.machine.now at.now.tick (state_at (line_at lines.old j) at.now.tick)
-            (int_at at.now.levels.now j)
-                (slope_at at.now.machine.now j at.now.levels.now work.now.d)
-            j (line_at lines.new j) (due_at agenda.new j) }
+        (int_at at.now.levels.now j)
+        (slope_at at.now.machine.now j at.now.levels.now work.now.d)
+        j (line_at lines.new j) (due_at agenda.new j) }
     ensures watches { AreWatched at.now.machine.now at.now.tick
         (states_at lines.old at.now.tick) work.now.d
         slopes.new watched.new.watches.items agenda.new }
@@ -160,13 +160,11 @@ fn go_on_moved<L: Ledger>(
         → due_at agenda.new place ≡ due_at agenda.old place }
     ensures counted { steps.new
         ≡ steps.old + renewals
-            (state_count at.now.machine.now) at.now.levels.now slopes.new lines.old }
+        (state_count at.now.machine.now) at.now.levels.now slopes.new lines.old }
 {
     let d = work.d.as_slice();
     reslope_of(at, d, slopes, lines, agenda, steps);
-    watched.rewatch_of(
-        at.machine, at.uses, at.tick, at.moved, slopes, agenda,
-    );
+    watched.rewatch_of(at.machine, at.uses, at.tick, at.moved, slopes, agenda);
 }
 
 /// One tick after the one at which the store stands, from an agenda without the states that are due there, where no condition

@@ -37,7 +37,7 @@ fn turn<L: Ledger>(
     ensures turned { IsTurned at.now.machine.now at.now.tick
         (state_at (line_at lines.old j) at.now.tick)
         (int_at at.now.levels.now j) (int_at slopes.now j) j (line_at lines.new j)
-            (due_at agenda.new j) }
+        (due_at agenda.new j) }
     ensures lines { (k : ℕ) → (k ≡ j → ⊥) → line_at lines.new k ≡ line_at lines.old k }
     ensures kept { goes_at (int_at at.now.levels.now j) (int_at slopes.now j) (line_at lines.old j)
         ≡ true
@@ -47,7 +47,7 @@ fn turn<L: Ledger>(
     ensures counted { steps.new
         + renewals (state_count at.now.machine.now) at.now.levels.now slopes.now lines.new
         ≡ steps.old + renewals
-            (state_count at.now.machine.now) at.now.levels.now slopes.now lines.old }
+        (state_count at.now.machine.now) at.now.levels.now slopes.now lines.old }
 {
     let slope = slopes[j as usize];
     let level = at.levels[j as usize];
@@ -77,7 +77,7 @@ fn turn_each<L: Ledger>(
     requires places { state_count at.now.machine.now ≤ length agenda.old }
     requires ready { (j : ℕ) → j < state_count at.now.machine.now
         → MayTurn at.now.machine.now at.now.tick (int_at at.now.levels.now j) (int_at slopes.now j)
-            j (line_at lines.old j) (due_at agenda.old j) }
+        j (line_at lines.old j) (due_at agenda.old j) }
     ensures turned { AreTurned at.now.machine.now at.now.tick at.now.levels.now slopes.now
         states.now
         (record { lines = lines.old; dues = agenda.old })
@@ -85,7 +85,7 @@ fn turn_each<L: Ledger>(
     ensures counted { steps.new
         + renewals (state_count at.now.machine.now) at.now.levels.now slopes.now lines.new
         ≡ steps.old + renewals
-            (state_count at.now.machine.now) at.now.levels.now slopes.now lines.old }
+        (state_count at.now.machine.now) at.now.levels.now slopes.now lines.old }
 {
     for j in states {
         turn(at, slopes, *j, lines, agenda, steps);
@@ -103,13 +103,13 @@ pub(crate) fn turn_readers<L: Ledger>(
 )
     requires variables { All
         (λ var. var < state_count at.now.machine.now
-            + discrete_count at.now.machine.now) variables.now }
+        + discrete_count at.now.machine.now) variables.now }
     requires on { CanGoOn at.now slopes.now }
     requires lines { length lines.old ≡ state_count at.now.machine.now }
     requires places { state_count at.now.machine.now ≤ length agenda.old }
     requires ready { (j : ℕ) → j < state_count at.now.machine.now
         → MayTurn at.now.machine.now at.now.tick (int_at at.now.levels.now j) (int_at slopes.now j)
-            j (line_at lines.old j) (due_at agenda.old j) }
+        j (line_at lines.old j) (due_at agenda.old j) }
     ensures turned { AreTurned at.now.machine.now at.now.tick at.now.levels.now slopes.now
         (flat_map (reading_rows at.now.machine.now) variables.now)
         (record { lines = lines.old; dues = agenda.old })
@@ -117,7 +117,7 @@ pub(crate) fn turn_readers<L: Ledger>(
     ensures counted { steps.new
         + renewals (state_count at.now.machine.now) at.now.levels.now slopes.now lines.new
         ≡ steps.old + renewals
-            (state_count at.now.machine.now) at.now.levels.now slopes.now lines.old }
+        (state_count at.now.machine.now) at.now.levels.now slopes.now lines.old }
 {
     for var in variables {
         let readers = at.uses.rows_of(*var);
@@ -138,8 +138,8 @@ pub(crate) fn reslope_of<L: Ledger>(
     ensures slopes { slopes.new ≡ new_slopes at.now d.now }
     ensures lines { (j : ℕ) → j < state_count at.now.machine.now
         → IsTurned at.now.machine.now at.now.tick (state_at (line_at lines.old j) at.now.tick)
-            (int_at at.now.levels.now j) (slope_at at.now.machine.now j at.now.levels.now d.now)
-            j (line_at lines.new j) (due_at agenda.new j) }
+        (int_at at.now.levels.now j) (slope_at at.now.machine.now j at.now.levels.now d.now)
+        j (line_at lines.new j) (due_at agenda.new j) }
     ensures kept { (j : ℕ) → j < state_count at.now.machine.now
         → goes_at (int_at at.now.levels.now j) (int_at slopes.new j) (line_at lines.old j) ≡ true
         → line_at lines.new j ≡ line_at lines.old j }
@@ -148,7 +148,7 @@ pub(crate) fn reslope_of<L: Ledger>(
         → due_at agenda.new place ≡ due_at agenda.old place }
     ensures counted { steps.new
         ≡ steps.old + renewals
-            (state_count at.now.machine.now) at.now.levels.now slopes.new lines.old }
+        (state_count at.now.machine.now) at.now.levels.now slopes.new lines.old }
 {
     shift_slopes(at, d, lines, slopes);
     turn_each(at, slopes, at.moved, lines, agenda, steps);

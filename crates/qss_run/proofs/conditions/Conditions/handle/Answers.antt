@@ -32,19 +32,16 @@ arrive_moved-passed-requires-clause-moved c =
     let ready = c.requires.ready in
     subst (λ n. AreNumbers n c.as_slice.result.now) (sym ready.lines) (subst (AreNumbers (state_count c.args.at.now.machine.now)) (sym c.as_slice.ensures.value) ready.moved)
 
-
 pub arrive_moved-passed-requires-clause-others_small : goal.arrive_moved-passed-requires-clause-others_small
 arrive_moved-passed-requires-clause-others_small c j h none =
     let ready = c.requires.ready in
     ready.others_small j (omega (arith, h, ready.lines)) (ap (λ js. is_among js j) (sym c.as_slice.ensures.value) ∙ none)
-
 
 pub returns-then-is_some-clause-over : goal.returns-then-is_some-clause-over
 returns-then-is_some-clause-over c =
     let all : Conditions = c.args.self.now in
     over_early c.args.at.now.machine.now c.args.at.now.tick (states_at c.args.at.now.lines.now c.args.at.now.tick) c.args.work.now.d all.arrived.items all.settled.items
     c.arrive_moved-passed.result (sym c.is_some.ensures ∙ c.if-is_some.true) c.arrive_moved-passed.ensures.over
-
 
 pub list_fired-requires-clause-watches : goal.list_fired-requires-clause-watches
 list_fired-requires-clause-watches c =
@@ -53,14 +50,12 @@ list_fired-requires-clause-watches c =
     let fits = ready.fits in
     ap length c.as_slice-watches.ensures.value ∙ fits.watches ∙ sym (ap length c.as_slice-settled.ensures.value ∙ fits.settled)
 
-
 pub list_fired-requires-clause-changed : goal.list_fired-requires-clause-changed
 list_fired-requires-clause-changed c =
     let all : Conditions = c.args.self.now in
     let ready = c.requires.ready in
     let fits = ready.fits in
     subst (λ n. AreNumbers n c.args.at.now.changed.now) (sym (ap length c.as_slice-settled.ensures.value ∙ fits.settled)) ready.changed
-
 
 pub list_fired-requires-clause-arrived : goal.list_fired-requires-clause-arrived
 list_fired-requires-clause-arrived c =
@@ -69,14 +64,12 @@ list_fired-requires-clause-arrived c =
     let fits = ready.fits in
     ap length c.as_mut_slice-arrived.ensures.value ∙ fits.arrived ∙ sym (ap length c.as_slice-settled.ensures.value ∙ fits.settled)
 
-
 pub list_fired-requires-clause-room : goal.list_fired-requires-clause-room
 list_fired-requires-clause-room c =
     let all : Conditions = c.args.self.now in
     let ready = c.requires.ready in
     let fits = ready.fits in
     omega (arith, ap length c.as_slice-settled.ensures.value, fits.settled, c.requires.fired_room)
-
 
 pub list_fired-requires-clause-later : goal.list_fired-requires-clause-later
 list_fired-requires-clause-later c place h =
@@ -85,7 +78,6 @@ list_fired-requires-clause-later c place h =
     let fits = ready.fits in
     subst (λ ws. (watch_at ws place).tick ≤ c.args.at.now.tick) (sym c.as_slice-watches.ensures.value)
     (ready.watched place (omega (arith, h, ap length c.as_slice-settled.ensures.value, fits.settled))).0
-
 
 pub list_fired-requires-clause-small : goal.list_fired-requires-clause-small
 list_fired-requires-clause-small c place h =
@@ -100,14 +92,12 @@ list_fired-requires-clause-small c place h =
     subst (λ ws. IsSmall (value_at (watch_at ws place) tick)) (sym c.as_slice-watches.ensures.value)
     ((ready.watched place (omega (arith, h, ap length c.as_slice-settled.ensures.value, fits.settled))).1 (all_within 88 x calm))
 
-
 pub read_changed-requires-clause-watches : goal.read_changed-requires-clause-watches
 read_changed-requires-clause-watches c =
     let all : Conditions = c.args.self.now in
     let ready = c.requires.ready in
     let fits = ready.fits in
     ap length c.as_slice-watches.ensures.value ∙ fits.watches ∙ sym (ap length c.as_slice-settled.ensures.value ∙ fits.settled)
-
 
 pub read_changed-requires-clause-changed : goal.read_changed-requires-clause-changed
 read_changed-requires-clause-changed c =
@@ -116,14 +106,12 @@ read_changed-requires-clause-changed c =
     let fits = ready.fits in
     subst (λ n. AreNumbers n c.args.at.now.changed.now) (sym (ap length c.as_slice-settled.ensures.value ∙ fits.settled)) ready.changed
 
-
 pub read_changed-requires-clause-arrived : goal.read_changed-requires-clause-arrived
 read_changed-requires-clause-arrived c =
     let all : Conditions = c.args.self.now in
     let ready = c.requires.ready in
     let fits = ready.fits in
     ap length c.as_mut_slice-arrived.ensures.value ∙ fits.arrived ∙ sym (ap length c.as_slice-settled.ensures.value ∙ fits.settled)
-
 
 pub read_changed-requires-clause-later : goal.read_changed-requires-clause-later
 read_changed-requires-clause-later c place h =
@@ -132,7 +120,6 @@ read_changed-requires-clause-later c place h =
     let fits = ready.fits in
     subst (λ ws. (watch_at ws place).tick ≤ c.args.at.now.tick) (sym c.as_slice-watches.ensures.value)
     (ready.watched place (omega (arith, h, ap length c.as_slice-settled.ensures.value, fits.settled))).0
-
 
 pub read_changed-requires-clause-small : goal.read_changed-requires-clause-small
 read_changed-requires-clause-small c place h =
@@ -147,11 +134,9 @@ read_changed-requires-clause-small c place h =
     subst (λ ws. IsSmall (value_at (watch_at ws place) tick)) (sym c.as_slice-watches.ensures.value)
     ((ready.watched place (omega (arith, h, ap length c.as_slice-settled.ensures.value, fits.settled))).1 (all_within 88 x calm))
 
-
 pub handle_fired-over-requires-clause-branches : goal.handle_fired-over-requires-clause-branches
 handle_fired-over-requires-clause-branches c =
     subst (AreBranches c.args.at.now.machine.now) (sym c.as_slice-branches.ensures.value) c.requires.ready.fits.branches
-
 
 pub handle_fired-over-requires-clause-fired : goal.handle_fired-over-requires-clause-fired
 handle_fired-over-requires-clause-fired c =
@@ -165,7 +150,6 @@ handle_fired-over-requires-clause-fired c =
     (fired_numbers c.as_slice-settled.result.now c.as_mut_slice-arrived.result.now c.args.at.now.changed.now (λ place. holds_at (watch_at c.as_slice-watches.result.now place) c.args.at.now.tick) count
     (subst (λ n. AreNumbers n c.args.at.now.changed.now) (sym places) ready.changed))
 
-
 pub handle_fired-over-requires-clause-lines : goal.handle_fired-over-requires-clause-lines
 handle_fired-over-requires-clause-lines c =
     let ready = c.requires.ready in
@@ -175,7 +159,6 @@ handle_fired-over-requires-clause-lines c =
     let x : List ℤ = states_at lines tick in
     let calm : first_past 88 x ≡ None = sym c.arrive_moved-passed.ensures.over ∙ not_some c.arrive_moved-passed.result (sym c.is_some.ensures ∙ c.if-is_some.false) in
     record { as_many = ready.lines; later = ready.later; small = all_within 88 x calm; in_time = ready.in_time }
-
 
 pub handle_fired-over-requires-clause-values : goal.handle_fired-over-requires-clause-values
 handle_fired-over-requires-clause-values c =
@@ -187,7 +170,6 @@ handle_fired-over-requires-clause-values c =
       small_states = c.arrive_moved-passed.ensures.small (not_some c.arrive_moved-passed.result (sym c.is_some.ensures ∙ c.if-is_some.false));
       small_discretes = subst (All (IsWithin 43)) (sym of_d) values.small_discretes;
     }
-
 
 pub returns-then-is_some-2-clause-over : goal.returns-then-is_some-2-clause-over
 returns-then-is_some-2-clause-over c =
@@ -223,7 +205,6 @@ returns-then-is_some-2-clause-over c =
     ∙ ap (handling_from m tick x c.args.work.now.d all.arrived.items) of_settled in
     c.handle_fired-over.ensures.over ∙ ap (λ (h : Handling). h.overflow) same
 
-
 pub join_reinitialized-requires-clause-known : goal.join_reinitialized-requires-clause-known
 join_reinitialized-requires-clause-known c =
     let ready = c.requires.ready in
@@ -242,7 +223,6 @@ join_reinitialized-requires-clause-known c =
     λ j e. subst (λ n. j < n) (sym (ap length c.as_slice-3.ensures))
     (known_states m tick lines c.args.moved.now.items c.as_slice-2.result.now c.args.work.now begun c.handle_fired-over.new.work ready.lines calm came j (subst (λ rows. is_reinitialized rows j ≡ true) log e))
 
-
 pub list_assigned-requires : goal.list_assigned-requires
 list_assigned-requires c =
     let m = c.args.at.now.machine.now in
@@ -254,7 +234,6 @@ list_assigned-requires c =
     let log : c.as_slice-log.result.now ≡ done.rows =
     c.as_slice-log.ensures.value ∙ ap (λ (v : Values). v.log) c.work.view_is ∙ ap (λ (v : Values). v.log) (c.handle_fired-over.ensures.work none) in
     omega (arith, ap length log, rows_fired m tick x c.arrive_moved-passed.new.work.d c.as_slice-2.result.now, c.requires.assigned_room)
-
 
 pub returns-clause-over : goal.returns-clause-over
 returns-clause-over c =
@@ -290,7 +269,6 @@ returns-clause-over c =
     ∙ ap (handling_from m tick x c.args.work.now.d all.arrived.items) of_settled in
     let none : c.handle_fired-over.result ≡ None = not_some c.handle_fired-over.result (sym c.is_some-2.ensures ∙ c.if-is_some-2.false) in
     sym none ∙ c.handle_fired-over.ensures.over ∙ ap (λ (h : Handling). h.overflow) same
-
 
 pub returns-clause-handled : goal.returns-clause-handled
 returns-clause-handled c =
@@ -339,7 +317,6 @@ returns-clause-handled c =
     (λ j. c.join_reinitialized.ensures.each j ∙ ap (λ (rows : List Row). is_among c.args.moved.now.items j || is_reinitialized rows j) log)
     (did.fits none) (subst (λ n. AreNumbers n c.join_reinitialized.new.moved.items) (ap length c.as_slice-3.ensures) c.join_reinitialized.ensures.numbers)))
 
-
 pub returns-clause-arrived : goal.returns-clause-arrived
 returns-clause-arrived c =
     let all : Conditions = c.args.self.now in
@@ -368,7 +345,6 @@ returns-clause-arrived c =
     let as_many : length arrived ≡ length settled = ap length of_arrived ∙ fits.arrived ∙ sym many in
     λ e. with_items_is all.arrived c.read_changed.new.arrived (c.read_changed.auto.arrived ∙ c.as_mut_slice-arrived.ensures.len)
     ∙ truths_on_arrival settled arrived c.args.at.now.changed.now holds c.read_changed.new.arrived as_many c.read_changed.ensures m tick x c.args.work.now.d many own rest
-
 
 pub returns-clause-fits : goal.returns-clause-fits
 returns-clause-fits c =
