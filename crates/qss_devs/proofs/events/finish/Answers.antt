@@ -1,0 +1,45 @@
+-- The rows are those of the world.
+use Rattle.std.proofs.Common.{◌≡◌, ◌≤◌, ◌++◌, ℕ, List, length, map, All, sym, ◌∙◌, ap, subst, arith}
+use Rattle.std.proofs.lemmas.List.{length-map}
+use Rattle.qss_machine.specs.declared.rows.RowKind.TheVariants as kind
+use Rattle.qss_machine.specs.Runs.{state_rows, discrete_rows, world_rows}
+use Rattle.qss_quant.specs.Lines.{state_at}
+use Rattle.qss_hand.specs.Values.{Values}
+use Rattle.qss_devs.specs.declared.integrator_model.IntegratorModel.{IntegratorModel}
+use Rattle.qss_devs.proofs.WorldRows.{rows_at, lines_early}
+use Rattle.qss_devs.proofs.events.finish.Goals as goal
+
+pub set_world_rows-requires-clause-few : goal.set_world_rows-requires-clause-few
+set_world_rows-requires-clause-few c =
+    omega (
+      arith,
+      ap length c.as_slice.ensures.value,
+      ap length c.as_slice-2.ensures.value,
+      ap (λ (v : Values). length v.d) c.work.view_is,
+      c.requires.fits.parts.integrators,
+      c.requires.fits.values.discretes,
+      c.args.m.now.has_variables.few,
+    )
+
+pub set_world_rows-requires-clause-not_later : goal.set_world_rows-requires-clause-not_later
+set_world_rows-requires-clause-not_later c = subst (All (λ (i : IntegratorModel). i.line.tick ≤ c.args.m.now.last)) (sym c.as_slice.ensures.value) (lines_early c.args.m.now c.args.q.now.name c.args.m.now.last c.args.s.now c.requires)
+
+pub set_world_rows-requires-clause-in_time : goal.set_world_rows-requires-clause-in_time
+set_world_rows-requires-clause-in_time c = c.args.m.now.has_units.last_tick
+
+pub set_world_rows-requires-clause-room : goal.set_world_rows-requires-clause-room
+set_world_rows-requires-clause-room c =
+    omega (
+      arith,
+      ap length c.as_slice.ensures.value,
+      ap length c.as_slice-2.ensures.value,
+      ap (λ (v : Values). length v.d) c.work.view_is,
+      c.requires.fits.parts.integrators,
+      c.requires.fits.values.discretes,
+      c.requires.fits.row_room,
+    )
+
+pub returns-clause-rows : goal.returns-clause-rows
+returns-clause-rows c =
+    c.set_world_rows.ensures.rows
+    ∙ rows_at kind.End c.args.m.now.last c.as_slice.result.now c.as_slice-2.result.now c.args.s.now c.as_slice.ensures.value (c.as_slice-2.ensures.value ∙ ap (λ (v : Values). v.d) c.work.view_is)
