@@ -1,5 +1,5 @@
 -- Components that were told a message agree with what it tells.
-use Rattle.std.proofs.Common.{◌≡◌, ◌≢◌, ℕ, ◌-◌, ◌<◌, ◌≤◌, List, [], ◌∷◌, length, get_or, set, take, ℤ, refl, sym, ◌∙◌, ap, subst, arith}
+use Rattle.std.proofs.Common.{◌≡◌, ◌≢◌, ℕ, ◌+◌, ◌-◌, ◌<◌, ◌≤◌, List, [], ◌∷◌, length, get_or, set, take, ℤ, refl, sym, ◌∙◌, ap, subst, arith}
 use Rattle.std.proofs.lemmas.List.{length-set, take_more}
 use Rattle.std.proofs.lemmas.List.Sums.{fold_more}
 use Rattle.std.specs.Prelude.{fold}
@@ -33,7 +33,7 @@ agree_same m tick v line now_line s now_s c now_c lines functions crossings a = 
   crossings = λ place h. subst (CrossingAgrees m tick v place (condition_at m place)) (sym (crossings place h)) (a.crossings place h);
 }
 
-module _ (m : Machine) (tick : ℕ) (v : Values) (each : HasEach m v) (old new : Components) where
+module _ {X : Type 0} {g : _} (m : Machine) (tick : ℕ) (v : Values) (each : HasEach m v) (old new : Components X g) where
   pub agree_state : (var : ℕ) (state : ℤ) → var < state_count m → AreTold m tick (State var state) old new → Agrees m tick v old → Agrees m tick (values_given m v (State var state)) new
   agree_state var state known told a =
       agree_same m tick (values_given m v (State var state)) (lines_given tick (State var state) (line_at old)) (line_at new) (summing_at old) (summing_at new)
@@ -47,7 +47,7 @@ module _ (m : Machine) (tick : ℕ) (v : Values) (each : HasEach m v) (old new :
       (messages_keep_agreement.discrete m tick var value v (line_at old) (summing_at old) (crossing_at old) each is a)
 
   -- where a state's integrator took the level before it was told
-  pub agree_level : (var : ℕ) (level : ℤ) (mid : Components) → var < state_count m → AreTold m tick (Level var level) mid new → Agrees m tick v old →
+  pub agree_level : (var : ℕ) (level : ℤ) (mid : Components X g) → var < state_count m → AreTold m tick (Level var level) mid new → Agrees m tick v old →
       ((j : ℕ) → j ≢ var → line_at mid j ≡ line_at old j) →
       line_at mid var ≡ record { tick = tick; x = state_at (line_at old var) tick; slope = (line_at old var).slope; level = level } →
       ((j : ℕ) → summing_at mid j ≡ summing_at old j) → ((place : ℕ) → crossing_at mid place ≡ crossing_at old place) →
@@ -60,7 +60,7 @@ module _ (m : Machine) (tick : ℕ) (v : Values) (each : HasEach m v) (old new :
       (messages_keep_agreement.level m tick var level v (line_at old) (line_at mid) (summing_at old) (crossing_at old) each known a others own)
 
   -- where a function sent its sum before it was told
-  pub agree_slope : (var : ℕ) (mid : Components) → var < state_count m → AreTold m tick (Slope var (sum_of m (summing_at old var))) mid new → Agrees m tick v old →
+  pub agree_slope : (var : ℕ) (mid : Components X g) → var < state_count m → AreTold m tick (Slope var (sum_of m (summing_at old var))) mid new → Agrees m tick v old →
       ((j : ℕ) → line_at mid j ≡ line_at old j) → ((j : ℕ) → j ≢ var → summing_at mid j ≡ summing_at old j) →
       summing_at mid var ≡ summing_sent (summing_at old var) tick → ((place : ℕ) → crossing_at mid place ≡ crossing_at old place) →
       Agrees m tick (values_given m v (Slope var (sum_of m (summing_at old var)))) new

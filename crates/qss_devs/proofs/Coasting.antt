@@ -41,10 +41,10 @@ arrived_then zero arrived settled = arrived
 arrived_then (suc ticks) arrived settled = settled
 
 -- what was kept, with other truths on arrival
-abbrev pub with_arrived : Store → Vec Bool Global → Store
-with_arrived s arrived = record s { truths = record s.truths { arrived = arrived } }
+abbrev pub with_arrived : {X : Type 0} {g : _} → Store X g → Vec Bool Global → Store X g
+with_arrived {X} {g} s arrived = record s { truths = record s.truths { arrived = arrived } }
 
-module _ (m : Machine) (name : Option Rule) (tick : ℕ) (s : Store) (stands : Stands m name tick s) where
+module _ {X : Type 0} {g : _} (m : Machine) (name : Option Rule) (tick : ℕ) (s : Store X g) (stands : Stands m name tick s) where
   -- components by the ticks of their next transitions, of which none is before the next visit
   pub record Dues (visit : ℕ) : Type 0 where
     pub due : ℕ → Option ℕ
@@ -52,7 +52,7 @@ module _ (m : Machine) (name : Option Rule) (tick : ℕ) (s : Store) (stands : S
     pub none : HasNothingBefore visit due
 
   count : length (states_at tick s.parts) ≡ state_count m
-  count = length-map s.parts.integrators.items (λ (i : IntegratorModel). state_at i.line tick) ∙ stands.fits.parts.integrators
+  count = length-map s.parts.integrators.items (λ (i : IntegratorModel X g). state_at i.line tick) ∙ stands.fits.parts.integrators
 
   standing : tick ≤ tick_limit → (visit : ℕ) (dues : Dues visit) → StandsFor m tick (world_of tick s) (line_at s.parts) (λ place. (crossing_at s.parts place).watch) dues.due
   standing in_time visit dues =
@@ -60,13 +60,13 @@ module _ (m : Machine) (name : Option Rule) (tick : ℕ) (s : Store) (stands : S
 
   state_by : (t j : ℕ) → j < state_count m → int_at (states_at t s.parts) j ≡ state_at (line_at s.parts j) t
   state_by t j h =
-      at_twice (λ (i : IntegratorModel). i.line) (λ (l : Line). state_at l t) s.parts.integrators.items j (record { tick = 0; x = pos 0; slope = pos 0; level = pos 0 }) (pos 0)
+      at_twice (λ (i : IntegratorModel X g). i.line) (λ (l : Line). state_at l t) s.parts.integrators.items j (record { tick = 0; x = pos 0; slope = pos 0; level = pos 0 }) (pos 0)
       (omega (arith, h, stands.fits.parts.integrators))
 
   states_later : (k : ℕ) → states_at (tick + k) s.parts ≡ states_after m (world_of tick s) k
   states_later k =
       same_lists (pos 0) (states_at (tick + k) s.parts) (states_after m (world_of tick s) k)
-      (length-map s.parts.integrators.items (λ (i : IntegratorModel). state_at i.line (tick + k)) ∙ stands.fits.parts.integrators
+      (length-map s.parts.integrators.items (λ (i : IntegratorModel X g). state_at i.line (tick + k)) ∙ stands.fits.parts.integrators
       ∙ sym (length-map-range_with_len (λ j. int_at (states_at tick s.parts) j +ℤ pos k *ℤ slope_at m j (levels_of s.parts) s.work.d) 0 (state_count m)))
       (λ j inside. each j (omega (arith, inside, length-map-range_with_len (λ j. int_at (states_at tick s.parts) j +ℤ pos k *ℤ slope_at m j (levels_of s.parts) s.work.d) 0 (state_count m))))
     where

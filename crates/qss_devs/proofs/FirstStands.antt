@@ -48,7 +48,7 @@ abbrev pub held : CrossingModel → Bool
 held c = compares c.watch.rel c.watch.value
 
 -- what is kept, made of the components at the start
-pub record AreFirst (m : Machine) (q : Quantizer) (s : Store) : Type 0 where
+pub record AreFirst {X : Type 0} {g : _} (m : Machine) (q : Quantizer X g) (s : Store X g) : Type 0 where
   pub parts : AreComponents m s.parts
   pub integrators : EachAt (IsFirstIntegrator m q) s.parts.integrators.items
   pub functions : EachAt (IsFirstFunction m) s.parts.functions.items
@@ -59,11 +59,11 @@ pub record AreFirst (m : Machine) (q : Quantizer) (s : Store) : Type 0 where
   pub settled : s.truths.settled.items ≡ map (λ c. compares c.watch.rel c.watch.value) s.parts.crossings.items
   pub room : row_room m.clauses + state_count m + discrete_count m + 1 ≤ vec_capacity s.rows
 
-module _ (m : Machine) (q : Quantizer) (s : Store) (first : AreFirst m q s) where
+module _ {X : Type 0} {g : _} (m : Machine) (q : Quantizer X g) (s : Store X g) (first : AreFirst m q s) where
   line_first : (j : ℕ) → j < state_count m → line_at s.parts j ≡ first_line (start_values m) j
   line_first j h =
       let inside : j < length s.parts.integrators.items = omega (arith, h, first.parts.integrators) in
-      mapped_at (λ (i : IntegratorModel). i.line) s.parts.integrators.items j (record { tick = 0; x = pos 0; slope = pos 0; level = pos 0 }) (first_line (start_values m) j) inside (λ d. (first.integrators j d inside).line)
+      mapped_at (λ (i : IntegratorModel X g). i.line) s.parts.integrators.items j (record { tick = 0; x = pos 0; slope = pos 0; level = pos 0 }) (first_line (start_values m) j) inside (λ d. (first.integrators j d inside).line)
 
   summing_first : (j : ℕ) → j < state_count m → summing_at s.parts j ≡ first_summing (start_values m) j
   summing_first j h =
@@ -84,19 +84,19 @@ module _ (m : Machine) (q : Quantizer) (s : Store) (first : AreFirst m q s) wher
   states_are : states_at 0 s.parts ≡ start_states m
   states_are =
       same_lists (pos 0) (states_at 0 s.parts) (start_states m)
-      (length-map s.parts.integrators.items (λ (i : IntegratorModel). state_at i.line 0) ∙ first.parts.integrators ∙ sym states_count)
+      (length-map s.parts.integrators.items (λ (i : IntegratorModel X g). state_at i.line 0) ∙ first.parts.integrators ∙ sym states_count)
       (λ j h.
       let inside : j < length s.parts.integrators.items = omega (arith, h, states_count, first.parts.integrators) in
-      mapped_at (λ (i : IntegratorModel). state_at i.line 0) s.parts.integrators.items j (pos 0) (int_at (start_states m) j) inside
+      mapped_at (λ (i : IntegratorModel X g). state_at i.line 0) s.parts.integrators.items j (pos 0) (int_at (start_states m) j) inside
       (λ d. ap (λ (l : Line). state_at l 0) (first.integrators j d inside).line ∙ (line_agrees m j).here))
 
   levels_are : levels_of s.parts ≡ levels_at_start m
   levels_are =
       same_lists (pos 0) (levels_of s.parts) (levels_at_start m)
-      (length-map s.parts.integrators.items (λ (i : IntegratorModel). i.line.level) ∙ first.parts.integrators ∙ sym (count_start m))
+      (length-map s.parts.integrators.items (λ (i : IntegratorModel X g). i.line.level) ∙ first.parts.integrators ∙ sym (count_start m))
       (λ j h.
       let inside : j < length s.parts.integrators.items = omega (arith, h, count_start m, first.parts.integrators) in
-      mapped_at (λ (i : IntegratorModel). i.line.level) s.parts.integrators.items j (pos 0) (int_at (levels_at_start m) j) inside
+      mapped_at (λ (i : IntegratorModel X g). i.line.level) s.parts.integrators.items j (pos 0) (int_at (levels_at_start m) j) inside
       (λ d. ap (λ (l : Line). l.level) (first.integrators j d inside).line))
 
   discretes_are : s.work.d ≡ start_discretes m
@@ -131,7 +131,7 @@ module _ (m : Machine) (q : Quantizer) (s : Store) (first : AreFirst m q s) wher
   fits : FitsMachine m q.name s
   fits = record {
     parts = first.parts;
-    ruled = λ j d h. ap (λ (r : Quantizer). r.name) (first.integrators j d h).quantizer;
+    ruled = λ j d h. ap (λ (r : Quantizer X g). r.name) (first.integrators j d h).quantizer;
     values = record {
       states = ap (λ (v : Values). length v.x) first.work ∙ states_count;
       discretes = ap (λ (v : Values). length v.d) first.work ∙ discretes_count;

@@ -84,15 +84,15 @@ module _ (m : Machine) (name : Option Rule) (tick : ℕ) (w : World) where
 
 -- ---- the states and levels of components that agree with values
 
-map_lines : (f : Line → ℤ) (xs : List IntegratorModel) → map (λ (i : IntegratorModel). f i.line) xs ≡ map f (map (λ (i : IntegratorModel). i.line) xs)
-map_lines f [] = refl
-map_lines f (i ∷ xs) = ap (λ rest. f i.line ∷ rest) (map_lines f xs)
+map_lines : {X : Type 0} {g : _} (f : Line → ℤ) (xs : List (IntegratorModel X g)) → map (λ (i : IntegratorModel X g). f i.line) xs ≡ map f (map (λ (i : IntegratorModel X g). i.line) xs)
+map_lines {X} {g} f [] = refl
+map_lines {X} {g} f (i ∷ xs) = ap (λ rest. f i.line ∷ rest) (map_lines f xs)
 
-module _ (m : Machine) (tick : ℕ) (v : Values) (parts : Components) (are : AreComponents m parts) (a : Agrees m tick v parts) where
-  by_line : (f : Line → ℤ) (zs : List ℤ) → length zs ≡ state_count m → ((j : ℕ) → j < state_count m → f (line_at parts j) ≡ int_at zs j) → map (λ (i : IntegratorModel). f i.line) parts.integrators.items ≡ zs
+module _ {X : Type 0} {g : _} (m : Machine) (tick : ℕ) (v : Values) (parts : Components X g) (are : AreComponents m parts) (a : Agrees m tick v parts) where
+  by_line : (f : Line → ℤ) (zs : List ℤ) → length zs ≡ state_count m → ((j : ℕ) → j < state_count m → f (line_at parts j) ≡ int_at zs j) → map (λ (i : IntegratorModel X g). f i.line) parts.integrators.items ≡ zs
   by_line f zs many each =
-      let lines : List Line = map (λ (i : IntegratorModel). i.line) parts.integrators.items in
-      let count : length lines ≡ state_count m = length-map parts.integrators.items (λ (i : IntegratorModel). i.line) ∙ are.integrators in
+      let lines : List Line = map (λ (i : IntegratorModel X g). i.line) parts.integrators.items in
+      let count : length lines ≡ state_count m = length-map parts.integrators.items (λ (i : IntegratorModel X g). i.line) ∙ are.integrators in
       map_lines f parts.integrators.items
       ∙ same_lists (pos 0) (map f lines) zs (length-map lines f ∙ count ∙ sym many)
       (λ k inside.
@@ -112,10 +112,10 @@ map_crossings f [] = refl
 map_crossings f (c ∷ xs) = ap (λ rest. f (crossing_of c) ∷ rest) (map_crossings f xs)
 
 -- they hold as the crossings say that change only later
-pub settled_are : (m : Machine) (tick : ℕ) (w : World) (parts : Components) → AreComponents m parts → tick ≤ tick_limit → length w.states ≡ state_count m → length w.discretes ≡ discrete_count m →
+pub settled_are : {X : Type 0} {g : _} (m : Machine) (tick : ℕ) (w : World) (parts : Components X g) → AreComponents m parts → tick ≤ tick_limit → length w.states ≡ state_count m → length w.discretes ≡ discrete_count m →
     StandFor m tick w (line_at parts) (summing_at parts) (crossing_at parts) → CrossingsLater m tick (crossing_at parts) →
     map (λ (c : CrossingModel). compares c.watch.rel c.watch.value) parts.crossings.items ≡ truths m w.states w.discretes tick
-settled_are m tick w parts are in_time states discretes stand later =
+settled_are {X} {g} m tick w parts are in_time states discretes stand later =
     map_crossings (λ (c : Crossing). compares c.watch.rel c.watch.value) parts.crossings.items
     ∙ same_lists false (map (λ (c : Crossing). compares c.watch.rel c.watch.value) (map crossing_of parts.crossings.items)) (truths m w.states w.discretes tick)
     (length-map (map crossing_of parts.crossings.items) (λ (c : Crossing). compares c.watch.rel c.watch.value) ∙ count ∙ sym (length-map (conditions m) (λ (condition : Condition). truth m condition w.states w.discretes tick)))

@@ -122,17 +122,17 @@ is_past : {X : Type 0} (b : Bool) (x y : X) → Some y ≡ (if b then Some x els
 is_past true x y e = refl
 is_past false x y e = absurd (cc)
 
-pub taken_none : (m : Machine) (rule : Rule) (tick : ℕ) (v : Values) (parts : Components) (rows : List Row) → Agrees m tick v parts → AreTakenUpTo m rule tick v 0 parts rows rows
-taken_none m rule tick v parts rows a = record { agree = a; small = λ i h. absurd (omega (arith, h)); rows = sym (append-nil rows) }
+pub taken_none : {X : Type 0} {g : _} (m : Machine) (rule : Rule) (tick : ℕ) (v : Values) (parts : Components X g) (rows : List Row) → Agrees m tick v parts → AreTakenUpTo m rule tick v 0 parts rows rows
+taken_none {X} {g} m rule tick v parts rows a = record { agree = a; small = λ i h. absurd (omega (arith, h)); rows = sym (append-nil rows) }
 
 rows_more : (f : ℕ → List Row) (n : ℕ) → flat_map f (range_with_len 0 (suc n)) ≡ flat_map f (range_with_len 0 n) ++ f n
 rows_more f n =
     let e : 0 + n ≡ n = omega arith in
-    ap (flat_map f) (range_more 0 n) ∙ flat_map-append f (range_with_len 0 n) (0 + n ∷ []) ∙ ap (λ more. flat_map f (range_with_len 0 n) ++ more) (append-nil (f (0 + n)) ∙ ap f e)
+    ap (flat_map f) (range_more 0 n) ∙ flat_map-append f (range_with_len 0 n) ((0 + n) ∷ []) ∙ ap (λ more. flat_map f (range_with_len 0 n) ++ more) (append-nil (f (0 + n)) ∙ ap f e)
 
-pub taken_more : (m : Machine) (rule : Rule) (tick : ℕ) (v : Values) (n : ℕ) (parts next : Components) (old mid new : List Row) →
+pub taken_more : {X : Type 0} {g : _} (m : Machine) (rule : Rule) (tick : ℕ) (v : Values) (n : ℕ) (parts next : Components X g) (old mid new : List Row) →
     AreTakenUpTo m rule tick v n parts old mid → IsLevelTaken m rule tick (leveled m rule v n) n next mid new None → AreTakenUpTo m rule tick v (n + 1) next old new
-taken_more m rule tick v n parts next old mid new before step =
+taken_more {X} {g} m rule tick v n parts next old mid new before step =
     let past : passes 43 (level_after m rule v n) ≡ false = sym (ap (passes 43) (next_after m rule v n)) ∙ not_past (passes 43 (level_after m rule (leveled m rule v n) n)) n step.own_over in
     let e : suc n ≡ n + 1 = omega arith in
     subst (λ (k : ℕ). AreTakenUpTo m rule tick v k next old new) e (record {
@@ -157,7 +157,7 @@ rows_same f g (suc n) same =
     ∙ ap (λ rows. flat_map g (range_with_len 0 n) ++ rows) (same n (omega arith))
     ∙ sym (rows_more g n)
 
-module _ (m : Machine) (name : Option Rule) (rule : Rule) (named : name ≡ Some rule) (tick : ℕ) (v : Values) (each : HasEach m v) (parts : Components) (old new : List Row) where
+module _ {X : Type 0} {g : _} (m : Machine) (name : Option Rule) (rule : Rule) (named : name ≡ Some rule) (tick : ℕ) (v : Values) (each : HasEach m v) (parts : Components X g) (old new : List Row) where
   pub taken_all : AreTakenUpTo m rule tick v (state_count m) parts old new → AreTaken m name tick v parts old new None
   taken_all taken = record {
     levels = tabulate (state_count m) (level_after m rule v);
@@ -185,7 +185,7 @@ module _ (m : Machine) (name : Option Rule) (rule : Rule) (named : name ≡ Some
   }
 
   -- one whose level passes its limit ends it
-  pub taken_over : (n : ℕ) (before : Components) (mid : List Row) → n < state_count m → AreTakenUpTo m rule tick v n before old mid →
+  pub taken_over : (n : ℕ) (before : Components X g) (mid : List Row) → n < state_count m → AreTakenUpTo m rule tick v n before old mid →
       IsLevelTaken m rule tick (leveled m rule v n) n parts mid new (Some n) → AreTaken m name tick v parts old new (Some n)
   taken_over n before mid inside taken step =
       let past : passes 43 (level_after m rule v n) ≡ true = sym (ap (passes 43) (next_after m rule v n)) ∙ is_past (passes 43 (level_after m rule (leveled m rule v n) n)) n n step.own_over in
@@ -201,9 +201,9 @@ module _ (m : Machine) (name : Option Rule) (rule : Rule) (named : name ≡ Some
       }
 
 -- the values after some integrators had their turns are within the limits
-pub leveled_values : (m : Machine) (rule : Rule) (tick : ℕ) (v : Values) (n : ℕ) (parts : Components) (old new : List Row) → n ≤ state_count m → AreValues m v →
+pub leveled_values : {X : Type 0} {g : _} (m : Machine) (rule : Rule) (tick : ℕ) (v : Values) (n : ℕ) (parts : Components X g) (old new : List Row) → n ≤ state_count m → AreValues m v →
     AreTakenUpTo m rule tick v n parts old new → AreValues m (leveled m rule v n)
-leveled_values m rule tick v n parts old new le values taken = record {
+leveled_values {X} {g} m rule tick v n parts old new le values taken = record {
   each = record { states = values.each.states; slopes = values.each.slopes; levels = upto_many m rule v n ∙ values.each.levels; discretes = values.each.discretes };
   small = λ i h. elim (cases_lt i n) [
     | inl less ↦ subst (IsWithin 43) (sym (upto_taken m rule v n i (omega (arith, le, values.each.levels)) less)) (taken.small i less)

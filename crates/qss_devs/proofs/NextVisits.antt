@@ -25,23 +25,23 @@ pub some_element : {X : Type 0} (xs : List X) (j : ℕ) → j < length xs → X
 some_element [] j h = absurd (omega (arith, h))
 some_element (x ∷ xs) j h = x
 
-module _ (m : Machine) (parts : Components) (are : AreComponents m parts) where
+module _ {X : Type 0} {g : _} (m : Machine) (parts : Components X g) (are : AreComponents m parts) where
   -- an integrator's next transition is that of its state's line
-  pub line_of : (j : ℕ) (d : IntegratorModel) (next : Option ℕ) → j < length parts.integrators.items →
+  pub line_of : (j : ℕ) (d : IntegratorModel X g) (next : Option ℕ) → j < length parts.integrators.items →
       let i = get_or parts.integrators.items j d in IsLineNext i.machine.value i.var i.line next → IsLineNext m j (line_at parts j) next
   line_of j d next h is =
-      let i : IntegratorModel = get_or parts.integrators.items j d in
+      let i : IntegratorModel X g = get_or parts.integrators.items j d in
       let own = are.own_integrators j d h in
-      let line : line_at parts j ≡ i.line = get_or-map (λ (k : IntegratorModel). k.line) parts.integrators.items j d (record { tick = 0; x = pos 0; slope = pos 0; level = pos 0 }) h in
+      let line : line_at parts j ≡ i.line = get_or-map (λ (k : IntegratorModel X g). k.line) parts.integrators.items j d (record { tick = 0; x = pos 0; slope = pos 0; level = pos 0 }) h in
       subst (λ (l : Line). IsLineNext m j l next) (sym line)
       (subst (λ (v : ℕ). IsLineNext m v i.line next) own.own (subst (λ (n : Machine). IsLineNext n i.var i.line next) own.machine is))
 
-  pub of_line : (j : ℕ) (d : IntegratorModel) (next : Option ℕ) → j < length parts.integrators.items → IsLineNext m j (line_at parts j) next →
+  pub of_line : (j : ℕ) (d : IntegratorModel X g) (next : Option ℕ) → j < length parts.integrators.items → IsLineNext m j (line_at parts j) next →
       let i = get_or parts.integrators.items j d in IsLineNext i.machine.value i.var i.line next
   of_line j d next h is =
-      let i : IntegratorModel = get_or parts.integrators.items j d in
+      let i : IntegratorModel X g = get_or parts.integrators.items j d in
       let own = are.own_integrators j d h in
-      let line : line_at parts j ≡ i.line = get_or-map (λ (k : IntegratorModel). k.line) parts.integrators.items j d (record { tick = 0; x = pos 0; slope = pos 0; level = pos 0 }) h in
+      let line : line_at parts j ≡ i.line = get_or-map (λ (k : IntegratorModel X g). k.line) parts.integrators.items j d (record { tick = 0; x = pos 0; slope = pos 0; level = pos 0 }) h in
       subst (λ (n : Machine). IsLineNext n i.var i.line next) (sym own.machine)
       (subst (λ (v : ℕ). IsLineNext m v i.line next) (sym own.own) (subst (λ (l : Line). IsLineNext m j l next) line is))
 
@@ -49,10 +49,10 @@ module _ (m : Machine) (parts : Components) (are : AreComponents m parts) where
   watch_of place d h = ap (λ (c : Crossing). c.watch) (get_or-map crossing_of parts.crossings.items place d no_crossing h)
 
 -- a function's next transition by its place
-pub summing_of_place : (parts : Components) (j : ℕ) (d : FunctionModel) → j < length parts.functions.items → (summing_at parts j).changed ≡ (get_or parts.functions.items j d).changed
-summing_of_place parts j d h = ap (λ (f : Summing). f.changed) (get_or-map summing_of parts.functions.items j d no_summing h)
+pub summing_of_place : {X : Type 0} {g : _} (parts : Components X g) (j : ℕ) (d : FunctionModel) → j < length parts.functions.items → (summing_at parts j).changed ≡ (get_or parts.functions.items j d).changed
+summing_of_place {X} {g} parts j d h = ap (λ (f : Summing). f.changed) (get_or-map summing_of parts.functions.items j d no_summing h)
 
-module _ (m : Machine) (tick : ℕ) (w : World) (parts : Components) (lines crossings : List (Option ℕ)) (many : length lines ≡ state_count m) (count : length crossings ≡ length (conditions m))
+module _ {X : Type 0} {g : _} (m : Machine) (tick : ℕ) (w : World) (parts : Components X g) (lines crossings : List (Option ℕ)) (many : length lines ≡ state_count m) (count : length crossings ≡ length (conditions m))
     (own_lines : (j : ℕ) → j < state_count m → IsLineNext m j (line_at parts j) (get_or lines j None))
     (own_crossings : (place : ℕ) → place < length (conditions m) → IsCrossingNext (crossing_at parts place).watch (get_or crossings place None)) where
   pub due_of : ℕ → Option ℕ

@@ -147,9 +147,9 @@ module _ (m : Machine) (rule : Rule) (tick : ℕ) (v : Values) (j : ℕ) (line :
 
 -- ---- an integrator that had its turn
 
-pub taken_rests : (m : Machine) (rule : Rule) (tick : ℕ) (v : Values) (j : ℕ) (parts : Components) (rows : List Row) → IsWithin 43 (int_at v.levels j) → level_after m rule v j ≡ int_at v.levels j →
+pub taken_rests : {X : Type 0} {g : _} (m : Machine) (rule : Rule) (tick : ℕ) (v : Values) (j : ℕ) (parts : Components X g) (rows : List Row) → IsWithin 43 (int_at v.levels j) → level_after m rule v j ≡ int_at v.levels j →
     Agrees m tick v parts → IsLevelTaken m rule tick v j parts rows rows None
-taken_rests m rule tick v j parts rows small kept a =
+taken_rests {X} {g} m rule tick v j parts rows small kept a =
     let same : set v.levels j (level_after m rule v j) ≡ v.levels = ap (λ (z : ℤ). set v.levels j z) kept ∙ set-get_or v.levels j (pos 0) in
     let none : row_after m rule tick v j ≡ [] = if-true (int_eq (int_at v.levels j) (level_after m rule v j)) _ _ ((Decides-int_eq (int_at v.levels j) (level_after m rule v j)).1 (sym kept)) in
     record {
@@ -158,21 +158,21 @@ taken_rests m rule tick v j parts rows small kept a =
       rows = λ e. sym (ap (λ (more : List Row). rows ++ more) none ∙ append-nil rows);
     }
 
-pub taken_passes : (m : Machine) (rule : Rule) (tick : ℕ) (v : Values) (j : ℕ) (parts : Components) (rows : List Row) → passes 43 (level_after m rule v j) ≡ true →
+pub taken_passes : {X : Type 0} {g : _} (m : Machine) (rule : Rule) (tick : ℕ) (v : Values) (j : ℕ) (parts : Components X g) (rows : List Row) → passes 43 (level_after m rule v j) ≡ true →
     IsLevelTaken m rule tick v j parts rows rows (Some j)
-taken_passes m rule tick v j parts rows past = record {
+taken_passes {X} {g} m rule tick v j parts rows past = record {
   own_over = sym (if-true (passes 43 (level_after m rule v j)) _ _ past);
   agree = λ e. absurd (cc);
   rows = λ e. absurd (cc);
 }
 
-pub taken_sends : (m : Machine) (rule : Rule) (tick : ℕ) (v : Values) (j : ℕ) (old mid new : Components) (before after : List Row) (name : Option Rule) (sent : Message) →
+pub taken_sends : {X : Type 0} {g : _} (m : Machine) (rule : Rule) (tick : ℕ) (v : Values) (j : ℕ) (old mid new : Components X g) (before after : List Row) (name : Option Rule) (sent : Message) →
     HasEach m v → j < state_count m → Agrees m tick v old → name ≡ Some rule → IsLineNext m j (line_at old j) (Some tick) → SendsLevel m name j (line_at old j) tick sent → passes_limit sent ≡ false →
     TakesLevel j (line_at old j) tick sent (line_at mid j) → ((i : ℕ) → i ≢ j → line_at mid i ≡ line_at old i) →
     ((i : ℕ) → summing_at mid i ≡ summing_at old i) → ((place : ℕ) → crossing_at mid place ≡ crossing_at old place) → AreTold m tick sent mid new →
     after ≡ before ++ record { tick = tick; kind = kind.Level; var = j; level = (line_at mid j).level; state = (line_at mid j).x } ∷ [] →
     IsLevelTaken m rule tick v j new before after None
-taken_sends m rule tick v j old mid new before after name sent each known a named next sends small takes others functions crossings told row_is =
+taken_sends {X} {g} m rule tick v j old mid new before after name sent each known a named next sends small takes others functions crossings told row_is =
     let own : LineAgrees tick v j (line_at old j) = a.integrators j known in
     let is : sent ≡ Level j (level_after m rule v j) = due_level m rule tick v j (line_at old j) own name sent named next sends in
     let same : Level j takes.level ≡ Level j (level_after m rule v j) = sym takes.told ∙ is in

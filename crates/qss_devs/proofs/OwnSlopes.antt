@@ -68,8 +68,8 @@ slope_later m i j tick next slope line inside later found = by (j == i) refl fou
 -- ---- a function that had its turn
 
 module _ (m : Machine) (tick : ℕ) (v : Values) (each : HasEach m v) (j : ℕ) (known : j < state_count m) where
-  pub sent_rests : (parts : Components) → IsWithin 88 (int_at v.slopes j) → (summing_at parts j).changed ≡ None → Agrees m tick v parts → IsSlopeSent m tick v j parts None
-  sent_rests parts small none a =
+  pub sent_rests : {X : Type 0} {g : _} (parts : Components X g) → IsWithin 88 (int_at v.slopes j) → (summing_at parts j).changed ≡ None → Agrees m tick v parts → IsSlopeSent m tick v j parts None
+  sent_rests {X} {g} parts small none a =
       let own : SummingAgrees m tick v j (summing_at parts j) = a.functions j known in
       let same : set v.slopes j (slope_at m j v.levels v.discretes) ≡ v.slopes =
       ap (λ (z : ℤ). set v.slopes j z) (sym (own_slope m tick v each j known (summing_at parts j) own none small)) ∙ set-get_or v.slopes j (pos 0) in
@@ -79,8 +79,8 @@ module _ (m : Machine) (tick : ℕ) (v : Values) (each : HasEach m v) (j : ℕ) 
         sent = λ e. none;
       }
 
-  pub sent_passes : (parts : Components) → passes 88 (sum_of m (summing_at parts j)) ≡ true → Agrees m tick v parts → IsSlopeSent m tick v j parts (Some j)
-  sent_passes parts past a =
+  pub sent_passes : {X : Type 0} {g : _} (parts : Components X g) → passes 88 (sum_of m (summing_at parts j)) ≡ true → Agrees m tick v parts → IsSlopeSent m tick v j parts (Some j)
+  sent_passes {X} {g} parts past a =
       let sum : sum_of m (summing_at parts j) ≡ sum_at m j v.levels v.discretes = sum_same m tick v each j known (summing_at parts j) (a.functions j known) in
       let heavy : is_overweight m v.levels v.discretes (row_at m j) ≡ true = sym (past_or_slope m j v.levels v.discretes) ∙ ap (passes 88) (sym sum) ∙ past in
       record {
@@ -89,7 +89,7 @@ module _ (m : Machine) (tick : ℕ) (v : Values) (each : HasEach m v) (j : ℕ) 
         sent = λ e. absurd (cc);
       }
 
-  module _ (old mid new : Components) (sent : Message) (a : Agrees m tick v old) (is : sent ≡ Slope j (sum_of m (summing_at old j))) (told : AreTold m tick sent mid new) where
+  module _ {X : Type 0} {g : _} (old mid new : Components X g) (sent : Message) (a : Agrees m tick v old) (is : sent ≡ Slope j (sum_of m (summing_at old j))) (told : AreTold m tick sent mid new) where
     pub sent_sends : passes_limit sent ≡ false → ((i : ℕ) → line_at mid i ≡ line_at old i) → ((i : ℕ) → i ≢ j → summing_at mid i ≡ summing_at old i) →
         summing_at mid j ≡ summing_sent (summing_at old j) tick → ((place : ℕ) → crossing_at mid place ≡ crossing_at old place) → IsSlopeSent m tick v j new None
     sent_sends small lines others own crossings =

@@ -64,12 +64,12 @@ is_past : {X : Type 0} (b : Bool) (x y : X) → Some y ≡ (if b then Some x els
 is_past true x y e = refl
 is_past false x y e = absurd (cc)
 
-pub sent_none : (m : Machine) (tick : ℕ) (v : Values) (parts : Components) → Agrees m tick v parts → AreSentUpTo m tick v 0 parts
-sent_none m tick v parts a = record { agree = a; light = λ i h. absurd (omega (arith, h)); sent = λ i h. absurd (omega (arith, h)) }
+pub sent_none : {X : Type 0} {g : _} (m : Machine) (tick : ℕ) (v : Values) (parts : Components X g) → Agrees m tick v parts → AreSentUpTo m tick v 0 parts
+sent_none {X} {g} m tick v parts a = record { agree = a; light = λ i h. absurd (omega (arith, h)); sent = λ i h. absurd (omega (arith, h)) }
 
-pub sent_more : (m : Machine) (tick : ℕ) (v : Values) (n : ℕ) (parts next : Components) → n < state_count m → AreSentUpTo m tick v n parts →
+pub sent_more : {X : Type 0} {g : _} (m : Machine) (tick : ℕ) (v : Values) (n : ℕ) (parts next : Components X g) → n < state_count m → AreSentUpTo m tick v n parts →
     IsSlopeSent m tick (sloped m v n) n next None → ((i : ℕ) → i < state_count m → i ≢ n → summing_at next i ≡ summing_at parts i) → AreSentUpTo m tick v (n + 1) next
-sent_more m tick v n parts next inside before step others =
+sent_more {X} {g} m tick v n parts next inside before step others =
     let light : is_overweight m v.levels v.discretes (row_at m n) ≡ false = not_past (is_overweight m v.levels v.discretes (row_at m n)) n step.own_over in
     let e : suc n ≡ n + 1 = omega arith in
     subst (λ (k : ℕ). AreSentUpTo m tick v k next) e (record {
@@ -84,7 +84,7 @@ sent_more m tick v n parts next inside before step others =
       ];
     })
 
-module _ (m : Machine) (tick : ℕ) (v : Values) (each : HasEach m v) (parts : Components) where
+module _ {X : Type 0} {g : _} (m : Machine) (tick : ℕ) (v : Values) (each : HasEach m v) (parts : Components X g) where
   pub sent_all : AreSentUpTo m tick v (state_count m) parts → AreSent m tick v parts None
   sent_all done = record {
     own_over = sym (position-none no_row (is_overweight m v.levels v.discretes) m.rows (λ j inside. done.light j (omega (arith, inside, m.has_rows.one_each))));
@@ -92,7 +92,7 @@ module _ (m : Machine) (tick : ℕ) (v : Values) (each : HasEach m v) (parts : C
     sent = λ e. done.sent;
   }
 
-  pub sent_over : (n : ℕ) (before : Components) → n < state_count m → AreSentUpTo m tick v n before → IsSlopeSent m tick (sloped m v n) n parts (Some n) → AreSent m tick v parts (Some n)
+  pub sent_over : (n : ℕ) (before : Components X g) → n < state_count m → AreSentUpTo m tick v n before → IsSlopeSent m tick (sloped m v n) n parts (Some n) → AreSent m tick v parts (Some n)
   sent_over n before inside done step =
       let heavy : is_overweight m v.levels v.discretes (row_at m n) ≡ true = is_past (is_overweight m v.levels v.discretes (row_at m n)) n n step.own_over in
       record {
@@ -102,8 +102,8 @@ module _ (m : Machine) (tick : ℕ) (v : Values) (each : HasEach m v) (parts : C
       }
 
 -- the values after some functions had their turns are within the limits
-pub sloped_values : (m : Machine) (tick : ℕ) (v : Values) (n : ℕ) (parts : Components) → n ≤ state_count m → AreValues m v → AreSentUpTo m tick v n parts → AreValues m (sloped m v n)
-sloped_values m tick v n parts le values done = record {
+pub sloped_values : {X : Type 0} {g : _} (m : Machine) (tick : ℕ) (v : Values) (n : ℕ) (parts : Components X g) → n ≤ state_count m → AreValues m v → AreSentUpTo m tick v n parts → AreValues m (sloped m v n)
+sloped_values {X} {g} m tick v n parts le values done = record {
   each = record { states = values.each.states; slopes = upto_many m v n ∙ values.each.slopes; levels = values.each.levels; discretes = values.each.discretes };
   small = values.small;
   slow = λ i h. elim (cases_lt i n) [

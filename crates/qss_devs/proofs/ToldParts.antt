@@ -109,11 +109,11 @@ discrete_twice m tick var (Truth place now) is c = absurd is
 
 -- ---- parts that stay, and parts that were told
 
-module _ (m : Machine) (tick : ℕ) (message : Message) (old new : Components) where
+module _ {X : Type 0} {g : _} (m : Machine) (tick : ℕ) (message : Message) (old new : Components X g) where
   lines_stay : new.integrators.items ≡ old.integrators.items → ((j : ℕ) → goes_to_integrator j message ≡ false) →
       (j : ℕ) → j < state_count m → line_at new j ≡ lines_given tick message (line_at old) j
   lines_stay same none j h =
-      ap (λ (is : List IntegratorModel). get_or (map (λ (i : IntegratorModel). i.line) is) j no_line) same ∙ sym (if-false (goes_to_integrator j message) _ _ (none j))
+      ap (λ (is : List (IntegratorModel X g)). get_or (map (λ (i : IntegratorModel X g). i.line) is) j no_line) same ∙ sym (if-false (goes_to_integrator j message) _ _ (none j))
 
   functions_stay : new.functions.items ≡ old.functions.items → ((j : ℕ) → goes_to_function m j message ≡ false) →
       (j : ℕ) → j < state_count m → summing_at new j ≡ functions_given m tick message (summing_at old) j
@@ -149,43 +149,43 @@ module _ (m : Machine) (tick : ℕ) (message : Message) (old new : Components) w
 
 -- ---- an integrator among others
 
-module _ (m : Machine) (xs : List IntegratorModel) (var : ℕ) (t : IntegratorModel) (inside : var < length xs) where
-  pub integrators_set : ((j : ℕ) (d : IntegratorModel) → j < length xs → IsIntegratorOf m j (get_or xs j d)) → IsIntegratorOf m var t →
-      (j : ℕ) (d : IntegratorModel) → j < length (set xs var t) → IsIntegratorOf m j (get_or (set xs var t) j d)
+module _ {X : Type 0} {g : _} (m : Machine) (xs : List (IntegratorModel X g)) (var : ℕ) (t : IntegratorModel X g) (inside : var < length xs) where
+  pub integrators_set : ((j : ℕ) (d : IntegratorModel X g) → j < length xs → IsIntegratorOf m j (get_or xs j d)) → IsIntegratorOf m var t →
+      (j : ℕ) (d : IntegratorModel X g) → j < length (set xs var t) → IsIntegratorOf m j (get_or (set xs var t) j d)
   integrators_set each own j d h = elim (cases_eq var j) [
     | inl e ↦ subst (λ (k : ℕ). IsIntegratorOf m k (get_or (set xs var t) k d)) e (subst (IsIntegratorOf m var) (sym (get_or-set_same xs var t d inside)) own)
     | inr ne ↦ subst (IsIntegratorOf m j) (sym (get_or-set_other xs var j t d (λ e. ne (sym e)))) (each j d (omega (arith, h, length-set xs var t)))
   ]
 
   -- its line is another, and those of the others stay
-  pub line_set : (j : ℕ) → (var ≡ j → get_or (map (λ (i : IntegratorModel). i.line) (set xs var t)) j no_line ≡ t.line) × (var ≢ j → get_or (map (λ (i : IntegratorModel). i.line) (set xs var t)) j no_line ≡ get_or (map (λ (i : IntegratorModel). i.line) xs) j no_line)
+  pub line_set : (j : ℕ) → (var ≡ j → get_or (map (λ (i : IntegratorModel X g). i.line) (set xs var t)) j no_line ≡ t.line) × (var ≢ j → get_or (map (λ (i : IntegratorModel X g). i.line) (set xs var t)) j no_line ≡ get_or (map (λ (i : IntegratorModel X g). i.line) xs) j no_line)
   line_set j =
-      let lines : List Line = map (λ (i : IntegratorModel). i.line) xs in
-      let moved : map (λ (i : IntegratorModel). i.line) (set xs var t) ≡ set lines var t.line = map-set (λ (i : IntegratorModel). i.line) xs var t in
-      let many : var < length lines = omega (arith, inside, length-map xs (λ (i : IntegratorModel). i.line)) in (
+      let lines : List Line = map (λ (i : IntegratorModel X g). i.line) xs in
+      let moved : map (λ (i : IntegratorModel X g). i.line) (set xs var t) ≡ set lines var t.line = map-set (λ (i : IntegratorModel X g). i.line) xs var t in
+      let many : var < length lines = omega (arith, inside, length-map xs (λ (i : IntegratorModel X g). i.line)) in (
         (λ e. ap (λ (ls : List Line). get_or ls j no_line) moved ∙ subst (λ (k : ℕ). get_or (set lines var t.line) k no_line ≡ t.line) e (get_or-set_same lines var t.line no_line many)),
         (λ ne. ap (λ (ls : List Line). get_or ls j no_line) moved ∙ get_or-set_other lines var j t.line no_line (λ e. ne (sym e))),
       )
 
 -- ---- the messages
 
-pub told_level : (m : Machine) (tick var : ℕ) (message : Message) (places : List ℕ) (old new : Components) → AreComponents m old → AreReady m tick (line_at old) (summing_at old) (crossing_at old) →
+pub told_level : {X : Type 0} {g : _} (m : Machine) (tick var : ℕ) (message : Message) (places : List ℕ) (old new : Components X g) → AreComponents m old → AreReady m tick (line_at old) (summing_at old) (crossing_at old) →
     IsMessage m message → IsOfLevel var message → places ≡ reading_rows m var →
     new.integrators.items ≡ old.integrators.items → new.crossings.items ≡ old.crossings.items → new.uses ≡ old.uses →
     All (λ (f : FunctionModel). f.machine.value ≡ m) new.functions.items →
     IsWritten no_summing (λ j r. r ≡ summing_given m (get_or (map summing_of old.functions.items) j no_summing) tick message) places (map summing_of old.functions.items) (map summing_of new.functions.items) →
     AreTold m tick message old new
-told_level m tick var message places old new are ready is kind own same_lines same_crossings same_uses machines written = record {
+told_level {X} {g} m tick var message places old new are ready is kind own same_lines same_crossings same_uses machines written = record {
   parts = record {
-    integrators = ap (λ (l : List IntegratorModel). length l) same_lines ∙ are.integrators;
+    integrators = ap (λ (l : List (IntegratorModel X g)). length l) same_lines ∙ are.integrators;
     functions = sym (length-map new.functions.items summing_of) ∙ written.as_many ∙ length-map old.functions.items summing_of ∙ are.functions;
     crossings = ap (λ (l : List CrossingModel). length l) same_crossings ∙ are.crossings;
-    own_integrators = subst (λ (l : List IntegratorModel). (j : ℕ) (d : IntegratorModel) → j < length l → IsIntegratorOf m j (get_or l j d)) (sym same_lines) are.own_integrators;
+    own_integrators = subst (λ (l : List (IntegratorModel X g)). (j : ℕ) (d : IntegratorModel X g) → j < length l → IsIntegratorOf m j (get_or l j d)) (sym same_lines) are.own_integrators;
     own_functions = machines;
     own_crossings = subst (All (λ (c : CrossingModel). c.machine.value ≡ m)) (sym same_crossings) are.own_crossings;
     uses = same_uses ∙ are.uses;
   };
-  ruled = λ name. subst (All (λ (i : IntegratorModel). i.quantizer.value.name ≡ name)) (sym same_lines);
+  ruled = λ name. subst (All (λ (i : IntegratorModel X g). i.quantizer.value.name ≡ name)) (sym same_lines);
   ready = ready_told m tick message old new is ready lines functions crossings;
   lines = lines;
   functions = functions;
@@ -203,7 +203,7 @@ told_level m tick var message places old new are ready is kind own same_lines sa
     crossings : (place : ℕ) → place < length (conditions m) → crossing_at new place ≡ crossings_given m tick message (crossing_at old) place
     crossings = crossings_stay m tick message old new same_crossings (λ place. level_no_crossing m (condition_at m place) var message kind)
 
-pub told_discrete : (m : Machine) (tick var : ℕ) (message : Message) (rows first second : List ℕ) (old new : Components) (mid : List CrossingModel) →
+pub told_discrete : {X : Type 0} {g : _} (m : Machine) (tick var : ℕ) (message : Message) (rows first second : List ℕ) (old new : Components X g) (mid : List CrossingModel) →
     AreComponents m old → AreReady m tick (line_at old) (summing_at old) (crossing_at old) → IsMessage m message → IsOfDiscrete var message →
     rows ≡ reading_rows m var → first ≡ reading_conditions m var → second ≡ reading_conditions m (var + discrete_count m) →
     new.integrators.items ≡ old.integrators.items → new.uses ≡ old.uses →
@@ -212,17 +212,17 @@ pub told_discrete : (m : Machine) (tick var : ℕ) (message : Message) (rows fir
     IsWritten no_crossing (λ j r. r ≡ crossing_given m (get_or (map crossing_of old.crossings.items) j no_crossing) tick message) first (map crossing_of old.crossings.items) (map crossing_of mid) →
     IsWritten no_crossing (λ j r. r ≡ crossing_given m (get_or (map crossing_of mid) j no_crossing) tick message) second (map crossing_of mid) (map crossing_of new.crossings.items) →
     AreTold m tick message old new
-told_discrete m tick var message rows first second old new mid are ready is kind own_rows own_first own_second same_lines same_uses function_machines crossing_machines written one two = record {
+told_discrete {X} {g} m tick var message rows first second old new mid are ready is kind own_rows own_first own_second same_lines same_uses function_machines crossing_machines written one two = record {
   parts = record {
-    integrators = ap (λ (l : List IntegratorModel). length l) same_lines ∙ are.integrators;
+    integrators = ap (λ (l : List (IntegratorModel X g)). length l) same_lines ∙ are.integrators;
     functions = sym (length-map new.functions.items summing_of) ∙ written.as_many ∙ length-map old.functions.items summing_of ∙ are.functions;
     crossings = sym (length-map new.crossings.items crossing_of) ∙ two.as_many ∙ one.as_many ∙ length-map old.crossings.items crossing_of ∙ are.crossings;
-    own_integrators = subst (λ (l : List IntegratorModel). (j : ℕ) (d : IntegratorModel) → j < length l → IsIntegratorOf m j (get_or l j d)) (sym same_lines) are.own_integrators;
+    own_integrators = subst (λ (l : List (IntegratorModel X g)). (j : ℕ) (d : IntegratorModel X g) → j < length l → IsIntegratorOf m j (get_or l j d)) (sym same_lines) are.own_integrators;
     own_functions = function_machines;
     own_crossings = crossing_machines;
     uses = same_uses ∙ are.uses;
   };
-  ruled = λ name. subst (All (λ (i : IntegratorModel). i.quantizer.value.name ≡ name)) (sym same_lines);
+  ruled = λ name. subst (All (λ (i : IntegratorModel X g). i.quantizer.value.name ≡ name)) (sym same_lines);
   ready = ready_told m tick message old new is ready lines functions crossings;
   lines = lines;
   functions = functions;
@@ -248,29 +248,29 @@ told_discrete m tick var message rows first second old new mid are ready is kind
         crossings_by_two m tick message first second (map crossing_of old.crossings.items) (map crossing_of mid) (map crossing_of new.crossings.items)
         (discrete_twice m tick var message kind) among one two
 
-pub told_line : (m : Machine) (tick var : ℕ) (message : Message) (places : List ℕ) (old new : Components) (t : IntegratorModel) →
+pub told_line : {X : Type 0} {g : _} (m : Machine) (tick var : ℕ) (message : Message) (places : List ℕ) (old new : Components X g) (t : IntegratorModel X g) →
     AreComponents m old → AreReady m tick (line_at old) (summing_at old) (crossing_at old) → IsMessage m message → IsOfLine var message → var < state_count m →
     places ≡ reading_conditions m var → new.integrators.items ≡ set old.integrators.items var t →
     IsGivenLine (get_or old.integrators.items var t) tick message t →
     new.functions.items ≡ old.functions.items → new.uses ≡ old.uses → All (λ (c : CrossingModel). c.machine.value ≡ m) new.crossings.items →
     IsWritten no_crossing (λ j r. r ≡ crossing_given m (get_or (map crossing_of old.crossings.items) j no_crossing) tick message) places (map crossing_of old.crossings.items) (map crossing_of new.crossings.items) →
     AreTold m tick message old new
-told_line m tick var message places old new t are ready is own known reads now_set given same_functions same_uses machines written = record {
+told_line {X} {g} m tick var message places old new t are ready is own known reads now_set given same_functions same_uses machines written = record {
   parts = record {
-    integrators = ap (λ (l : List IntegratorModel). length l) now_set ∙ length-set old.integrators.items var t ∙ are.integrators;
+    integrators = ap (λ (l : List (IntegratorModel X g)). length l) now_set ∙ length-set old.integrators.items var t ∙ are.integrators;
     functions = ap (λ (l : List FunctionModel). length l) same_functions ∙ are.functions;
     crossings = sym (length-map new.crossings.items crossing_of) ∙ written.as_many ∙ length-map old.crossings.items crossing_of ∙ are.crossings;
     own_integrators =
-        subst (λ (l : List IntegratorModel). (j : ℕ) (d : IntegratorModel) → j < length l → IsIntegratorOf m j (get_or l j d)) (sym now_set)
+        subst (λ (l : List (IntegratorModel X g)). (j : ℕ) (d : IntegratorModel X g) → j < length l → IsIntegratorOf m j (get_or l j d)) (sym now_set)
         (integrators_set m old.integrators.items var t inside are.own_integrators (record { machine = given.machine ∙ was.machine; own = given.own ∙ was.own }));
     own_functions = subst (All (λ (f : FunctionModel). f.machine.value ≡ m)) (sym same_functions) are.own_functions;
     own_crossings = machines;
     uses = same_uses ∙ are.uses;
   };
   ruled = λ name before.
-      subst (All (λ (i : IntegratorModel). i.quantizer.value.name ≡ name)) (sym now_set)
-      (All-set (λ (i : IntegratorModel). i.quantizer.value.name ≡ name) old.integrators.items var t
-      (ap (λ (q : Quantizer). q.name) given.rule ∙ before var t inside) before);
+      subst (All (λ (i : IntegratorModel X g). i.quantizer.value.name ≡ name)) (sym now_set)
+      (All-set (λ (i : IntegratorModel X g). i.quantizer.value.name ≡ name) old.integrators.items var t
+      (ap (λ (q : Quantizer X g). q.name) given.rule ∙ before var t inside) before);
   ready = ready_told m tick message old new is ready lines functions crossings;
   lines = lines;
   functions = functions;
@@ -284,7 +284,7 @@ told_line m tick var message places old new t are ready is own known reads now_s
     was = are.own_integrators var t inside
 
     own_line : (get_or old.integrators.items var t).line ≡ line_at old var
-    own_line = sym (get_or-map (λ (i : IntegratorModel). i.line) old.integrators.items var t no_line inside)
+    own_line = sym (get_or-map (λ (i : IntegratorModel X g). i.line) old.integrators.items var t no_line inside)
 
     new_line : t.line ≡ line_given var (line_at old var) tick message
     new_line = given.line ∙ ap (λ (k : ℕ). line_given k (get_or old.integrators.items var t).line tick message) was.own ∙ ap (λ (l : Line). line_given var l tick message) own_line
@@ -292,13 +292,13 @@ told_line m tick var message places old new t are ready is own known reads now_s
     lines : (j : ℕ) → j < state_count m → line_at new j ≡ lines_given tick message (line_at old) j
     lines j h = elim (cases_eq var j) [
       | inl e ↦
-          ap (λ (is : List IntegratorModel). get_or (map (λ (i : IntegratorModel). i.line) is) j no_line) now_set
+          ap (λ (is : List (IntegratorModel X g)). get_or (map (λ (i : IntegratorModel X g). i.line) is) j no_line) now_set
           ∙ (line_set m old.integrators.items var t inside j).0 e
           ∙ new_line
           ∙ ap (λ (k : ℕ). line_given k (line_at old k) tick message) e
           ∙ sym (if-true (goes_to_integrator j message) _ _ (goes_line j var message own ∙ eqb-yes var j e))
       | inr ne ↦
-          ap (λ (is : List IntegratorModel). get_or (map (λ (i : IntegratorModel). i.line) is) j no_line) now_set
+          ap (λ (is : List (IntegratorModel X g)). get_or (map (λ (i : IntegratorModel X g). i.line) is) j no_line) now_set
           ∙ (line_set m old.integrators.items var t inside j).1 ne
           ∙ sym (if-false (goes_to_integrator j message) _ _ (goes_line j var message own ∙ eqb-no var j ne))
     ]
@@ -312,8 +312,8 @@ told_line m tick var message places old new t are ready is own known reads now_s
         (λ place h. goes_crossing m (condition_at m place) var message own ∙ sym (ap (λ (l : List ℕ). is_among l place) reads ∙ among_conditions m var place h)) written
 
 -- a truth goes to none
-pub told_truth : (m : Machine) (tick place : ℕ) (now : Bool) (message : Message) (parts : Components) → message ≡ Truth place now → AreComponents m parts →
+pub told_truth : {X : Type 0} {g : _} (m : Machine) (tick place : ℕ) (now : Bool) (message : Message) (parts : Components X g) → message ≡ Truth place now → AreComponents m parts →
     AreReady m tick (line_at parts) (summing_at parts) (crossing_at parts) → AreTold m tick message parts parts
-told_truth m tick place now message parts is are ready =
+told_truth {X} {g} m tick place now message parts is are ready =
     subst (λ (s : Message). AreTold m tick s parts parts) (sym is)
     (record { parts = are; ruled = λ name ruled. ruled; ready = ready; lines = λ j h. refl; functions = λ j h. refl; crossings = λ k h. refl })

@@ -8,8 +8,8 @@ use Rattle.qss_devs.specs.Standings.{Standing}
 use Rattle.qss_devs.specs.Visits.{world_of}
 
 -- a store at a tick, as it is seen
-abbrev pub standing_of : Machine → ℕ → Store → Option Outcome → Standing
-standing_of m tick s end = record { machine = m; tick = tick; world = world_of tick s; rows = s.rows.items; end = end }
+abbrev pub standing_of : {X : Type 0} {g : _} → Machine → ℕ → Store X g → Option Outcome → Standing
+standing_of {X} {g} m tick s end = record { machine = m; tick = tick; world = world_of tick s; rows = s.rows.items; end = end }
 
 -- the tick at which a call leaves it
 abbrev pub tick_of : ℕ → Outcome → ℕ

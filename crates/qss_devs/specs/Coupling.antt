@@ -31,35 +31,35 @@ abbrev pub no_crossing : Crossing
 no_crossing = record { place = 0; watch = record { rel = Less; tick = 0; value = pos 0; speed = pos 0 }; inputs = []; time = pos 0; gamma = pos 0 }
 
 -- the line of a state's integrator
-abbrev pub line_at : Components → ℕ → Line
-line_at parts j = slice_index_or (map (λ i. i.line) parts.integrators.items) j no_line
+abbrev pub line_at : {X : Type 0} {g : _} → Components X g → ℕ → Line
+line_at {X} {g} parts j = slice_index_or (map (λ i. i.line) parts.integrators.items) j no_line
 
 -- the function of a state's row
-abbrev pub summing_at : Components → ℕ → Summing
-summing_at parts j = slice_index_or (map summing_of parts.functions.items) j no_summing
+abbrev pub summing_at : {X : Type 0} {g : _} → Components X g → ℕ → Summing
+summing_at {X} {g} parts j = slice_index_or (map summing_of parts.functions.items) j no_summing
 
 -- the crossing of a condition
-abbrev pub crossing_at : Components → ℕ → Crossing
-crossing_at parts place = slice_index_or (map crossing_of parts.crossings.items) place no_crossing
+abbrev pub crossing_at : {X : Type 0} {g : _} → Components X g → ℕ → Crossing
+crossing_at {X} {g} parts place = slice_index_or (map crossing_of parts.crossings.items) place no_crossing
 
 -- an integrator of a machine's state
-pub record IsIntegratorOf (m : Machine) (j : ℕ) (i : IntegratorModel) : Type 0 where
+pub record IsIntegratorOf {X : Type 0} {g : _} (m : Machine) (j : ℕ) (i : IntegratorModel X g) : Type 0 where
   pub machine : i.machine.value ≡ m
   pub own : i.var ≡ j
 
 -- a machine's components: an integrator and a function for each state, a crossing for each condition, and who reads what
-pub record AreComponents (m : Machine) (parts : Components) : Type 0 where
+pub record AreComponents {X : Type 0} {g : _} (m : Machine) (parts : Components X g) : Type 0 where
   pub integrators : length parts.integrators.items ≡ state_count m
   pub functions : length parts.functions.items ≡ state_count m
   pub crossings : length parts.crossings.items ≡ length (conditions m)
-  pub own_integrators : (j : ℕ) (d : IntegratorModel) → j < length parts.integrators.items → IsIntegratorOf m j (slice_index_or parts.integrators.items j d)
+  pub own_integrators : (j : ℕ) (d : IntegratorModel X g) → j < length parts.integrators.items → IsIntegratorOf m j (slice_index_or parts.integrators.items j d)
   pub own_functions : All (λ s. s.machine.value ≡ m) parts.functions.items
   pub own_crossings : All (λ c. c.machine.value ≡ m) parts.crossings.items
   pub uses : parts.uses ≡ uses_of m
 
 -- the integrators take their levels by quantizers of a name
-abbrev pub AreRuled : Option Rule → Components → Type 0
-AreRuled name parts = All (λ i. i.quantizer.value.name ≡ name) parts.integrators.items
+abbrev pub AreRuled : {X : Type 0} {g : _} → Option Rule → Components X g → Type 0
+AreRuled {X} {g} name parts = All (λ i. i.quantizer.value.name ≡ name) parts.integrators.items
 
 -- a function may be given a message at a tick; a change of its sum that it did not send yet came at that tick
 pub record IsSummingReady (tick : ℕ) (s : Summing) : Type 0 where
@@ -80,7 +80,7 @@ pub record AreReady (m : Machine) (tick : ℕ) (line : ℕ → Line) (s : ℕ �
   pub crossings : (place : ℕ) → place < length (conditions m) → IsCrossingReady m tick (c place)
 
 -- an integrator that was given a message
-pub record IsGivenLine (s : IntegratorModel) (tick : ℕ) (message : Message) (t : IntegratorModel) : Type 0 where
+pub record IsGivenLine {X : Type 0} {g : _} (s : IntegratorModel X g) (tick : ℕ) (message : Message) (t : IntegratorModel X g) : Type 0 where
   pub machine : t.machine.value ≡ s.machine.value
   pub rule : t.quantizer.value ≡ s.quantizer.value
   pub own : t.var ≡ s.var
@@ -111,7 +111,7 @@ IsOfDiscrete j (Discrete var value) = var ≡ j
 IsOfDiscrete j (Truth condition now) = ⊥
 
 -- components that were given a message where it goes, and may be given another
-pub record AreTold (m : Machine) (tick : ℕ) (message : Message) (old new : Components) : Type 0 where
+pub record AreTold {X : Type 0} {g : _} (m : Machine) (tick : ℕ) (message : Message) (old new : Components X g) : Type 0 where
   pub parts : AreComponents m new
   pub ruled : (name : Option Rule) → AreRuled name old → AreRuled name new
   pub ready : AreReady m tick (line_at new) (summing_at new) (crossing_at new)

@@ -60,7 +60,7 @@ first_crossing m v place condition =
     }
 
 -- the integrator of a state at the start
-pub record IsFirstIntegrator (m : Machine) (q : Quantizer) (j : ℕ) (i : IntegratorModel) : Type 0 where
+pub record IsFirstIntegrator {X : Type 0} {g : _} (m : Machine) (q : Quantizer X g) (j : ℕ) (i : IntegratorModel X g) : Type 0 where
   pub machine : i.machine.value ≡ m
   pub quantizer : i.quantizer.value ≡ q
   pub own : i.var ≡ j

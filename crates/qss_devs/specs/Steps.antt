@@ -38,8 +38,8 @@ abbrev pub IsNamed : Option Rule → Type 0
 IsNamed name = (rule : Rule) × (name ≡ Some rule)
 
 -- components that agree with values at a tick
-abbrev pub Agrees : Machine → ℕ → Values → Components → Type 0
-Agrees m tick v parts = Agree m tick v (line_at parts) (summing_at parts) (crossing_at parts)
+abbrev pub Agrees : {X : Type 0} {g : _} → Machine → ℕ → Values → Components X g → Type 0
+Agrees {X} {g} m tick v parts = Agree m tick v (line_at parts) (summing_at parts) (crossing_at parts)
 
 -- values of each variable, with levels and slopes within their limits
 pub record AreValues (m : Machine) (v : Values) : Type 0 where
@@ -67,7 +67,7 @@ abbrev pub leveled : Machine → Rule → Values → ℕ → Values
 leveled m rule v n = record v { levels = levels_upto m rule v n }
 
 -- the first so many integrators had their turns, and none passes its limit
-pub record AreTakenUpTo (m : Machine) (rule : Rule) (tick : ℕ) (v : Values) (n : ℕ) (parts : Components) (old new : List Row) : Type 0 where
+pub record AreTakenUpTo {X : Type 0} {g : _} (m : Machine) (rule : Rule) (tick : ℕ) (v : Values) (n : ℕ) (parts : Components X g) (old new : List Row) : Type 0 where
   pub agree : Agrees m tick (leveled m rule v n) parts
   pub small : (i : ℕ) → i < n → IsWithin 43 (level_after m rule v i)
   pub rows : new ≡ old ++ flat_map (row_after m rule tick v) (range_with_len 0 n)
@@ -81,19 +81,19 @@ abbrev pub sloped : Machine → Values → ℕ → Values
 sloped m v n = record v { slopes = slopes_upto m v n }
 
 -- the first so many functions had their turns, and no row of them is past its limits
-pub record AreSentUpTo (m : Machine) (tick : ℕ) (v : Values) (n : ℕ) (parts : Components) : Type 0 where
+pub record AreSentUpTo {X : Type 0} {g : _} (m : Machine) (tick : ℕ) (v : Values) (n : ℕ) (parts : Components X g) : Type 0 where
   pub agree : Agrees m tick (sloped m v n) parts
   pub light : (i : ℕ) → i < n → is_overweight m v.levels v.discretes (row_at m i) ≡ false
   pub sent : (i : ℕ) → i < n → (summing_at parts i).changed ≡ None
 
 -- an integrator took its level, and all were told, with a row if it changed, unless it passes its limit
-pub record IsLevelTaken (m : Machine) (rule : Rule) (tick : ℕ) (v : Values) (j : ℕ) (parts : Components) (old new : List Row) (over : Option ℕ) : Type 0 where
+pub record IsLevelTaken {X : Type 0} {g : _} (m : Machine) (rule : Rule) (tick : ℕ) (v : Values) (j : ℕ) (parts : Components X g) (old new : List Row) (over : Option ℕ) : Type 0 where
   pub own_over : over ≡ (if passes 43 (level_after m rule v j) then Some j else None)
   pub agree : over ≡ None → Agrees m tick (record v { levels = slice_set v.levels j (level_after m rule v j) }) parts
   pub rows : over ≡ None → new ≡ old ++ row_after m rule tick v j
 
 -- a function sent the slope of its row, and all were told, unless the row passes its limits
-pub record IsSlopeSent (m : Machine) (tick : ℕ) (v : Values) (j : ℕ) (parts : Components) (over : Option ℕ) : Type 0 where
+pub record IsSlopeSent {X : Type 0} {g : _} (m : Machine) (tick : ℕ) (v : Values) (j : ℕ) (parts : Components X g) (over : Option ℕ) : Type 0 where
   pub own_over : over ≡ (if is_overweight m v.levels v.discretes (row_at m j) then Some j else None)
   pub agree : over ≡ None → Agrees m tick (record v { slopes = slice_set v.slopes j (slope_at m j v.levels v.discretes) }) parts
   pub sent : over ≡ None → (summing_at parts j).changed ≡ None
@@ -103,7 +103,7 @@ abbrev pub AreNear : Machine → Values → Type 0
 AreNear m v = (j : ℕ) → j < state_count m → is_near m j (int_at v.states j) (int_at v.levels j) ≡ true
 
 -- integrators took levels that their rule allows, and all were told, with a row for each that changed, unless one passes its limit
-pub record AreTaken (m : Machine) (name : Option Rule) (tick : ℕ) (v : Values) (parts : Components) (old new : List Row) (over : Option ℕ) : Type 0 where
+pub record AreTaken {X : Type 0} {g : _} (m : Machine) (name : Option Rule) (tick : ℕ) (v : Values) (parts : Components X g) (old new : List Row) (over : Option ℕ) : Type 0 where
   pub levels : List ℤ
   pub allowed : AreNextLevels (IsRuled name) m v.states v.levels levels
   pub own_over : over ≡ first_past 43 levels
@@ -111,7 +111,7 @@ pub record AreTaken (m : Machine) (name : Option Rule) (tick : ℕ) (v : Values)
   pub rows : over ≡ None → new ≡ old ++ level_rows tick v.levels levels v.states
 
 -- functions sent the slopes at levels and discrete values, and all were told, unless a row passes its limits
-pub record AreSent (m : Machine) (tick : ℕ) (v : Values) (parts : Components) (over : Option ℕ) : Type 0 where
+pub record AreSent {X : Type 0} {g : _} (m : Machine) (tick : ℕ) (v : Values) (parts : Components X g) (over : Option ℕ) : Type 0 where
   pub own_over : over ≡ position (is_overweight m v.levels v.discretes) m.rows
   pub agree : over ≡ None → Agrees m tick (record v { slopes = tabulate (state_count m) (λ j. slope_at m j v.levels v.discretes) }) parts
   pub sent : over ≡ None → (j : ℕ) → j < state_count m → (summing_at parts j).changed ≡ None

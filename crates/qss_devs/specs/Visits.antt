@@ -17,15 +17,15 @@ use Rattle.qss_devs.specs.Coupling.{line_at, summing_at, crossing_at, AreCompone
 use Rattle.qss_devs.specs.Steps.{IsTold, Agrees}
 
 -- the states to which the lines of integrators lead at a tick, and their levels
-abbrev pub states_at : ℕ → Components → List ℤ
-states_at tick parts = map (λ i. state_at i.line tick) parts.integrators.items
+abbrev pub states_at : {X : Type 0} {g : _} → ℕ → Components X g → List ℤ
+states_at {X} {g} tick parts = map (λ i. state_at i.line tick) parts.integrators.items
 
-abbrev pub levels_of : Components → List ℤ
-levels_of parts = map (λ i. i.line.level) parts.integrators.items
+abbrev pub levels_of : {X : Type 0} {g : _} → Components X g → List ℤ
+levels_of {X} {g} parts = map (λ i. i.line.level) parts.integrators.items
 
 -- the world at a tick
-abbrev pub world_of : ℕ → Store → World
-world_of tick s = record {
+abbrev pub world_of : {X : Type 0} {g : _} → ℕ → Store X g → World
+world_of {X} {g} tick s = record {
   states = states_at tick s.parts;
   levels = levels_of s.parts;
   discretes = s.work.d;
@@ -34,7 +34,7 @@ world_of tick s = record {
 }
 
 -- components, values within the limits, a flag of each condition, and memory for all rows of a tick
-pub record FitsMachine (m : Machine) (name : Option Rule) (s : Store) : Type 0 where
+pub record FitsMachine {X : Type 0} {g : _} (m : Machine) (name : Option Rule) (s : Store X g) : Type 0 where
   pub parts : AreComponents m s.parts
   pub ruled : AreRuled name s.parts
   pub values : AreValuesOf m s.work
@@ -49,7 +49,7 @@ abbrev pub CrossingsLater : Machine → ℕ → (ℕ → Crossing) → Type 0
 CrossingsLater m tick c = (place next : ℕ) → place < length (conditions m) → IsCrossingNext (c place).watch (Some next) → tick < next
 
 -- a coupled model stands for its world at a tick: so do its components, whose next transitions are all still to come
-pub record Stands (m : Machine) (name : Option Rule) (tick : ℕ) (s : Store) : Type 0 where
+pub record Stands {X : Type 0} {g : _} (m : Machine) (name : Option Rule) (tick : ℕ) (s : Store X g) : Type 0 where
   pub fits : FitsMachine m name s
   pub stand : StandFor m tick (world_of tick s) (line_at s.parts) (summing_at s.parts) (crossing_at s.parts)
   pub left : IsLeft m (world_of tick s)
@@ -62,7 +62,7 @@ abbrev pub arrived_values : Machine → World → Values
 arrived_values m w = record { states = moved_states m w; slopes = slopes_of m w; levels = w.levels; discretes = w.discretes }
 
 -- the handlers of the tick after a world have run: components agree with the values on arrival, and rows say what is to be told
-pub record IsHandled (m : Machine) (name : Option Rule) (tick : ℕ) (w : World) (s : Store) : Type 0 where
+pub record IsHandled {X : Type 0} {g : _} (m : Machine) (name : Option Rule) (tick : ℕ) (w : World) (s : Store X g) : Type 0 where
   pub fits : FitsMachine m name s
   pub left : IsLeft m w
   pub ready : AreReady m tick (line_at s.parts) (summing_at s.parts) (crossing_at s.parts)

@@ -4,7 +4,6 @@ ghost use Rattle.std.specs.Prelude.{◌≡◌, ◌<◌, ◌+◌, ◌^◌, length
 ghost use Rattle.qss_machine.specs.Machines.{state_count, discrete_count};
 ghost use Rattle.qss_quiet.specs.Among.{AreNumbers};
 ghost use Rattle.qss_quiet.specs.Writes.{IsWritten};
-ghost use Rattle.qss_devs.specs.declared.integrator_model.IntegratorModel.{IntegratorModel};
 ghost use Rattle.qss_devs.specs.Messages.{IsMessage, IsTimely};
 ghost use Rattle.qss_devs.specs.Integrators.{IsLineNext};
 ghost use Rattle.qss_devs.specs.Functions.{summing_given};
@@ -90,7 +89,7 @@ fn tell_integrator(
     requires timely { All (λ i. IsTimely i.line.tick
         (IsLineNext i.machine.value i.var i.line) tick) integrators.old }
     requires message { IsMessage m.now msg }
-    ensures { (t : IntegratorModel) × (integrators.new ≡ slice_set integrators.old var t)
+    ensures { (t : _) × (integrators.new ≡ slice_set integrators.old var t)
         × IsGivenLine (slice_index_or integrators.old var t) tick msg t }
 {
     integrators[var as usize].external(tick, msg);

@@ -14,7 +14,7 @@ pub loop-j-preserved : goal.loop-j-preserved
 loop-j-preserved c =
     let j = c.loop-j.j in
     let inv = c.loop-j.invariant in
-    let states : List ℤ = map (λ (i : IntegratorModel). state_at i.line c.args.tick) c.args.integrators.now in
+    let states : List ℤ = map (λ (i : IntegratorModel _ _). state_at i.line c.args.tick) c.args.integrators.now in
     let fits : FitsSigned w128 c.state_of.result = record { sfits = c.state_of.type_inv } in
     let within : j < length c.loop-j.x = omega (arith, inv.as_many, c.loop-j-test.true) in
     record {
@@ -24,6 +24,6 @@ loop-j-preserved c =
 
 pub returns : goal.returns
 returns c =
-    let states : List ℤ = map (λ (i : IntegratorModel). state_at i.line c.args.tick) c.args.integrators.now in
-    let all : length states ≡ length c.args.integrators.now = length-map c.args.integrators.now (λ (i : IntegratorModel). state_at i.line c.args.tick) in
+    let states : List ℤ = map (λ (i : IntegratorModel _ _). state_at i.line c.args.tick) c.args.integrators.now in
+    let all : length states ≡ length c.args.integrators.now = length-map c.args.integrators.now (λ (i : IntegratorModel _ _). state_at i.line c.args.tick) in
     same_lists (pos 0) c.loop-j.x states (c.loop-j.invariant.as_many ∙ sym all) (λ k h. c.loop-j.invariant.each k (omega (arith, h, all, c.loop-j-test.false)))

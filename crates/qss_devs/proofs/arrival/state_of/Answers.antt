@@ -18,4 +18,4 @@ pub returns : goal.returns
 returns c =
     let x : FitsSigned w128 c.value_at.result = record { sfits = c.value_at.type_inv } in
     to_z-of_z w128 c.value_at.result x ∙ c.value_at.ensures
-    ∙ sym (get_or-map (λ (i : IntegratorModel). state_at i.line c.args.tick) c.args.integrators.now c.args.j c.index-integrators-j.result (pos 0) c.requires.known)
+    ∙ sym (get_or-map (λ (i : IntegratorModel _ _). state_at i.line c.args.tick) c.args.integrators.now c.args.j c.index-integrators-j.result (pos 0) c.requires.known)

@@ -22,7 +22,7 @@ set_world_rows-requires-clause-few c =
     )
 
 pub set_world_rows-requires-clause-not_later : goal.set_world_rows-requires-clause-not_later
-set_world_rows-requires-clause-not_later c = subst (All (λ (i : IntegratorModel). i.line.tick ≤ c.args.m.now.last)) (sym c.as_slice.ensures.value) (lines_early c.args.m.now c.args.q.now.name c.args.m.now.last c.args.s.now c.requires)
+set_world_rows-requires-clause-not_later c = subst (All (λ (i : IntegratorModel _ _). i.line.tick ≤ c.args.m.now.last)) (sym c.as_slice.ensures.value) (lines_early c.args.m.now c.args.q.now.name c.args.m.now.last c.args.s.now c.requires)
 
 pub set_world_rows-requires-clause-in_time : goal.set_world_rows-requires-clause-in_time
 set_world_rows-requires-clause-in_time c = c.args.m.now.has_units.last_tick

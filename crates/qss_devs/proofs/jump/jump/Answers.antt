@@ -19,7 +19,7 @@ pub returns : goal.returns
 returns c =
     let m = c.args.m.now in
     let name = c.args.q.now.name in
-    let s : Store = c.args.s.now in
+    let s : Store _ _ = c.args.s.now in
     let tick = c.args.tick in
     let next = c.next_visit-next.result in
     let later : tick < next = c.next_visit-next.ensures.later in

@@ -33,11 +33,11 @@ returns-then-has_risen-clause-dues c more = absurd (omega (arith, more))
 pub returns-clause-later : goal.returns-clause-later
 returns-clause-later c =
     let m = c.args.m.now in
-    let s : Store = c.args.s.now in
+    let s : Store _ _ = c.args.s.now in
     let stands = c.requires.stands in
     let tick = c.args.tick in
-    let lines : All (λ (i : IntegratorModel). (next : ℕ) → IsLineNext i.machine.value i.var i.line (Some next) → tick < next) c.as_slice-integrators.result.now =
-    subst (All (λ (i : IntegratorModel). (next : ℕ) → IsLineNext i.machine.value i.var i.line (Some next) → tick < next)) (sym c.as_slice-integrators.ensures.value)
+    let lines : All (λ (i : IntegratorModel _ _). (next : ℕ) → IsLineNext i.machine.value i.var i.line (Some next) → tick < next) c.as_slice-integrators.result.now =
+    subst (All (λ (i : IntegratorModel _ _). (next : ℕ) → IsLineNext i.machine.value i.var i.line (Some next) → tick < next)) (sym c.as_slice-integrators.ensures.value)
     (λ j d h n is. stands.lines j n (omega (arith, h, stands.fits.parts.integrators)) (line_of m s.parts stands.fits.parts j d (Some n) h is)) in
     let functions : All (λ (f : FunctionModel). (next : ℕ) → f.changed ≡ Some next → tick < next) c.as_slice-functions.result.now =
     subst (All (λ (f : FunctionModel). (next : ℕ) → f.changed ≡ Some next → tick < next)) (sym c.as_slice-functions.ensures.value)
@@ -55,17 +55,17 @@ returns-clause-at_most c = omega (arith, c.least_advance.ensures.within, c.least
 pub returns-clause-lines : goal.returns-clause-lines
 returns-clause-lines c j n h is =
     let m = c.args.m.now in
-    let s : Store = c.args.s.now in
+    let s : Store _ _ = c.args.s.now in
     let parts = c.requires.stands.fits.parts in
     let inside : j < length s.parts.integrators.items = omega (arith, h, parts.integrators) in
-    let d : IntegratorModel = some_element s.parts.integrators.items j inside in
-    let before = subst (All (λ (i : IntegratorModel). (next : ℕ) → IsLineNext i.machine.value i.var i.line (Some next) → c.least_advance-first.result ≤ next)) c.as_slice-integrators.ensures.value c.least_advance-first.ensures.not_past in
+    let d : IntegratorModel _ _ = some_element s.parts.integrators.items j inside in
+    let before = subst (All (λ (i : IntegratorModel _ _). (next : ℕ) → IsLineNext i.machine.value i.var i.line (Some next) → c.least_advance-first.result ≤ next)) c.as_slice-integrators.ensures.value c.least_advance-first.ensures.not_past in
     omega (arith, before j d inside n (of_line m s.parts parts j d (Some n) inside is), c.least_advance.ensures.within, c.least_advance-second.ensures.within)
 
 pub returns-clause-crossings : goal.returns-clause-crossings
 returns-clause-crossings c place n h is =
     let m = c.args.m.now in
-    let s : Store = c.args.s.now in
+    let s : Store _ _ = c.args.s.now in
     let parts = c.requires.stands.fits.parts in
     let inside : place < length s.parts.crossings.items = omega (arith, h, parts.crossings) in
     let d : CrossingModel = some_element s.parts.crossings.items place inside in
@@ -75,7 +75,7 @@ returns-clause-crossings c place n h is =
 pub returns-clause-dues : goal.returns-clause-dues
 returns-clause-dues c more =
     let m = c.args.m.now in
-    let s : Store = c.args.s.now in
+    let s : Store _ _ = c.args.s.now in
     let stands = c.requires.stands in
     let parts = stands.fits.parts in
     let r = c.least_advance.result in
@@ -86,9 +86,9 @@ returns-clause-dues c more =
     let own_lines : (j : ℕ) → j < state_count m → IsLineNext m j (line_at s.parts j) (get_or dl.0 j None) =
     λ j h.
     let inside : j < length s.parts.integrators.items = omega (arith, h, parts.integrators) in
-    let d : IntegratorModel = some_element s.parts.integrators.items j inside in
+    let d : IntegratorModel _ _ = some_element s.parts.integrators.items j inside in
     line_of m s.parts parts j d (get_or dl.0 j None) inside
-    (subst (λ (xs : List IntegratorModel). (h : j < length xs) → IsLineNext (get_or xs j d).machine.value (get_or xs j d).var (get_or xs j d).line (get_or dl.0 j None)) c.as_slice-integrators.ensures.value (dl.2 j d) inside) in
+    (subst (λ (xs : List (IntegratorModel _ _)). (h : j < length xs) → IsLineNext (get_or xs j d).machine.value (get_or xs j d).var (get_or xs j d).line (get_or dl.0 j None)) c.as_slice-integrators.ensures.value (dl.2 j d) inside) in
     let own_crossings : (place : ℕ) → place < length (conditions m) → IsCrossingNext (crossing_at s.parts place).watch (get_or dc.0 place None) =
     λ place h.
     let inside : place < length s.parts.crossings.items = omega (arith, h, parts.crossings) in
@@ -104,8 +104,8 @@ returns-clause-dues c more =
       none_before m c.args.tick (world_of c.args.tick s) s.parts dl.0 dc.0 many count own_lines own_crossings r
           (λ j t h is.
           let inside : j < length s.parts.integrators.items = omega (arith, h, parts.integrators) in
-          let d : IntegratorModel = some_element s.parts.integrators.items j inside in
-          let before = subst (All (λ (i : IntegratorModel). (next : ℕ) → IsLineNext i.machine.value i.var i.line (Some next) → c.least_advance-first.result ≤ next)) c.as_slice-integrators.ensures.value c.least_advance-first.ensures.not_past in
+          let d : IntegratorModel _ _ = some_element s.parts.integrators.items j inside in
+          let before = subst (All (λ (i : IntegratorModel _ _). (next : ℕ) → IsLineNext i.machine.value i.var i.line (Some next) → c.least_advance-first.result ≤ next)) c.as_slice-integrators.ensures.value c.least_advance-first.ensures.not_past in
           omega (arith, before j d inside t (of_line m s.parts parts j d (Some t) inside is), c.least_advance.ensures.within, c.least_advance-second.ensures.within))
           (λ k t h is.
           let inside : k < length s.parts.crossings.items = omega (arith, h, parts.crossings) in

@@ -27,7 +27,7 @@ start_parts-requires-clause-discretes c = c.as_slice-2.ensures.value ∙ ap (λ 
 
 pub set_world_rows-requires-clause-not_later : goal.set_world_rows-requires-clause-not_later
 set_world_rows-requires-clause-not_later c =
-    subst (All (λ (i : IntegratorModel). i.line.tick ≤ 0)) (sym c.as_slice-6.ensures.value)
+    subst (All (λ (i : IntegratorModel _ _). i.line.tick ≤ 0)) (sym c.as_slice-6.ensures.value)
     (λ j d h. let own = ap (λ (l : Line). l.tick) (c.in_ok-parts.ensures.integrators j d h).line in omega (arith, own))
 
 pub set_world_rows-requires-clause-few : goal.set_world_rows-requires-clause-few
@@ -66,8 +66,8 @@ set_world_rows-requires-clause-room c =
 pub returns : goal.returns
 returns c =
     let m : Machine = c.args.m.now in
-    let q : Quantizer = c.args.q.now.value in
-    let s : Store = record {
+    let q : Quantizer _ _ = c.args.q.now.value in
+    let s : Store _ _ = record {
       parts = c.in_ok-parts.parts;
       work = c.in_ok-work.work;
       truths = record { now = c.in_ok-now.now; arrived = c.in_ok-arrived.arrived; settled = c.in_ok-settled.settled };
