@@ -32,6 +32,15 @@ flag_at-due_flags (n ∷ now) (a ∷ arrived) [] k e f h = absurd (omega (arith,
 flag_at-due_flags (n ∷ now) (a ∷ arrived) (s ∷ settled) zero e f h = refl
 flag_at-due_flags (n ∷ now) (a ∷ arrived) (s ∷ settled) (suc k) e f h = flag_at-due_flags now arrived settled k (omega (arith, e)) (omega (arith, f)) (omega (arith, h))
 
+-- as these truths say
+pub due_of : (now arrived settled : List Bool) (k : ℕ) → length arrived ≡ length now → length settled ≡ length now → k < length now →
+    (n a s : Bool) → flag_at now k ≡ n → flag_at arrived k ≡ a → flag_at settled k ≡ s → flag_at (due_flags now arrived settled) k ≡ (n && not (a && s))
+due_of now arrived settled k e f h n a s is_now is_arrived is_settled =
+    flag_at-due_flags now arrived settled k e f h
+    ∙ ap (λ x. x && not (flag_at arrived k && flag_at settled k)) is_now
+    ∙ ap (λ x. n && not (x && flag_at settled k)) is_arrived
+    ∙ ap (λ x. n && not (a && x)) is_settled
+
 -- no flag is set, also past the end
 pub none_set : (flags : List Bool) → position (λ flag. flag) flags ≡ None → (k : ℕ) → flag_at flags k ≡ false
 none_set flags e k = elim (cases_lt k (length flags)) [ inl below ↦ none_passes false (λ flag. flag) flags e k below | inr past ↦ get_or_past flags k false past ]

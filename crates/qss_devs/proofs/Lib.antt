@@ -32,6 +32,7 @@ pub mod AgreeTold
 pub mod NamedSends
 pub mod Turned
 pub mod OwnLevels
+pub mod OwnTurns
 pub mod OwnSlopes
 pub mod LevelsTaken
 pub mod SlopesSent

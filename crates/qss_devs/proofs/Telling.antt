@@ -155,3 +155,35 @@ crossings_by_two m tick message first second old mid new twice goes one two plac
         two.others place f
         ∙ one.others place e
         ∙ sym (if-false (goes_to_crossing m (condition_at m place) message) _ _ (went false (ap (λ x. x || is_among second place) e ∙ f)))
+
+-- the same of lists that are these
+pub functions_moved : (m : Machine) (tick : ℕ) (message : Message) (places : List ℕ) (xs old ys new : List FunctionModel) → xs ≡ old → ys ≡ new →
+    IsWritten no_summing (λ j r. r ≡ summing_given m (get_or (map summing_of xs) j no_summing) tick message) places (map summing_of xs) (map summing_of ys) →
+    IsWritten no_summing (λ j r. r ≡ summing_given m (get_or (map summing_of old) j no_summing) tick message) places (map summing_of old) (map summing_of new)
+functions_moved m tick message places xs old ys new was now written =
+    subst (λ (zs : List FunctionModel). IsWritten no_summing (λ j r. r ≡ summing_given m (get_or (map summing_of old) j no_summing) tick message) places (map summing_of old) (map summing_of zs)) now
+    (subst (λ (zs : List FunctionModel). IsWritten no_summing (λ j r. r ≡ summing_given m (get_or (map summing_of zs) j no_summing) tick message) places (map summing_of zs) (map summing_of ys)) was written)
+
+pub crossings_moved : (m : Machine) (tick : ℕ) (message : Message) (places : List ℕ) (xs old ys new : List CrossingModel) → xs ≡ old → ys ≡ new →
+    IsWritten no_crossing (λ j r. r ≡ crossing_given m (get_or (map crossing_of xs) j no_crossing) tick message) places (map crossing_of xs) (map crossing_of ys) →
+    IsWritten no_crossing (λ j r. r ≡ crossing_given m (get_or (map crossing_of old) j no_crossing) tick message) places (map crossing_of old) (map crossing_of new)
+crossings_moved m tick message places xs old ys new was now written =
+    subst (λ (zs : List CrossingModel). IsWritten no_crossing (λ j r. r ≡ crossing_given m (get_or (map crossing_of old) j no_crossing) tick message) places (map crossing_of old) (map crossing_of zs)) now
+    (subst (λ (zs : List CrossingModel). IsWritten no_crossing (λ j r. r ≡ crossing_given m (get_or (map crossing_of zs) j no_crossing) tick message) places (map crossing_of zs) (map crossing_of ys)) was written)
+
+-- crossings of which some were told may be given another message
+pub crossings_again : (m : Machine) (tick : ℕ) (message : Message) (places : List ℕ) (old new : List CrossingModel) → IsMessage m message →
+    All (λ (c : CrossingModel). IsCrossingReady m tick (crossing_of c)) old →
+    IsWritten no_crossing (λ j r. r ≡ crossing_given m (get_or (map crossing_of old) j no_crossing) tick message) places (map crossing_of old) (map crossing_of new) →
+    All (λ (c : CrossingModel). IsCrossingReady m tick (crossing_of c)) new
+crossings_again m tick message places old new is ready written k d h = by (is_among places k) refl
+  where
+    inside : k < length old
+    inside = omega (arith, h, written.as_many, length-map old crossing_of, length-map new crossing_of)
+
+    was : IsCrossingReady m tick (get_or (map crossing_of old) k no_crossing)
+    was = subst (IsCrossingReady m tick) (sym (get_or-map crossing_of old k d no_crossing inside)) (ready k d inside)
+
+    by : (b : Bool) → is_among places k ≡ b → IsCrossingReady m tick (crossing_of (get_or new k d))
+    by true e = subst (IsCrossingReady m tick) (sym (written.each k e) ∙ get_or-map crossing_of new k d no_crossing h) (crossing_ready_given m tick message (get_or (map crossing_of old) k no_crossing) is was)
+    by false e = subst (IsCrossingReady m tick) (sym (written.others k e) ∙ get_or-map crossing_of new k d no_crossing h) was

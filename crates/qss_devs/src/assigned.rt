@@ -13,7 +13,6 @@ use qss_hand::Work;
 use qss_machine::{Machine, Row, RowKind};
 
 // Tells what a row says.
-#[tactic(none)]
 fn tell_row(m: &Machine, parts: &mut Components, tick: u64, row: &Row)
     requires parts { AreComponents m.now parts.old }
     requires ready { AreReady m.now tick
@@ -50,7 +49,6 @@ fn tell_row(m: &Machine, parts: &mut Components, tick: u64, row: &Row)
 }
 
 /// Tells what rows say that handlers assigned.
-#[tactic(none)]
 pub(crate) fn tell_assigned(m: &Machine, parts: &mut Components, tick: u64, work: &Work)
     requires parts { AreComponents m.now parts.old }
     requires ready { AreReady m.now tick

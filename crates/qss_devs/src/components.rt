@@ -28,7 +28,6 @@ pub struct Components {
 }
 
 // Gives a message to functions.
-#[tactic(none)]
 fn tell_functions(
     m: &Machine,
     functions: &mut [FunctionModel],
@@ -52,7 +51,6 @@ fn tell_functions(
 }
 
 // Gives a message to crossings.
-#[tactic(none)]
 fn tell_crossings(
     m: &Machine,
     crossings: &mut [CrossingModel],
@@ -76,7 +74,6 @@ fn tell_crossings(
 }
 
 // Gives a message to an integrator.
-#[tactic(none)]
 fn tell_integrator(
     m: &Machine,
     integrators: &mut [IntegratorModel],
@@ -96,7 +93,6 @@ fn tell_integrator(
 }
 
 // Tells a state or a slope to the state's integrator and to the crossings that read the state.
-#[tactic(none)]
 fn tell_line(m: &Machine, parts: &mut Components, tick: u64, var: u32, msg: Message)
     requires parts { AreComponents m.now parts.old }
     requires ready { AreReady m.now tick
@@ -112,7 +108,6 @@ fn tell_line(m: &Machine, parts: &mut Components, tick: u64, var: u32, msg: Mess
 }
 
 // Tells a level to the functions that read its state.
-#[tactic(none)]
 fn tell_level(m: &Machine, parts: &mut Components, tick: u64, var: u32, msg: Message)
     requires parts { AreComponents m.now parts.old }
     requires ready { AreReady m.now tick
@@ -128,7 +123,6 @@ fn tell_level(m: &Machine, parts: &mut Components, tick: u64, var: u32, msg: Mes
 
 // Tells the value of a discrete variable to the functions that read it, and to the crossings that read it or its value
 // before the tick.
-#[tactic(none)]
 fn tell_discrete(m: &Machine, parts: &mut Components, tick: u64, var: u32, msg: Message)
     requires parts { AreComponents m.now parts.old }
     requires ready { AreReady m.now tick

@@ -38,8 +38,9 @@ pub(crate) fn make_turn<A: Atomic>(model: &mut A, tick: u64) -> Turn
     requires { (a b : Sent) → A.sends model.old tick a → A.sends model.old tick b → a ≡ b }
     ensures rests { result ≡ Rests
         → (model.new ≡ model.old) × (A.is_next model.old (Some tick) → ⊥) }
-    ensures passes { result ≡ Passes → A.is_next model.old (Some tick)
-        × ((a : Sent) → A.sends model.old tick a → passes_limit a ≡ true) }
+    ensures passes { result ≡ Passes
+        → (model.new ≡ model.old) × A.is_next model.old (Some tick)
+        × ((a : Sent) × A.sends model.old tick a × (passes_limit a ≡ true)) }
     ensures sends { (a : Sent) → result ≡ Sends a → A.is_next model.old (Some tick)
         × A.sends model.old tick a × (passes_limit a ≡ false)
         × A.turns model.old tick a model.new }

@@ -7,7 +7,7 @@ use Rattle.qss_devs.specs.declared.integrator_model.IntegratorModel.{IntegratorM
 use Rattle.qss_devs.proofs.arrival.arrive.Goals as goal
 
 pub first_past-requires-clause-few : goal.first_past-requires-clause-few
-first_past-requires-clause-few c = omega (arith, ap length c.fill_states.ensures, length-map c.args.integrators.now (λ (i : IntegratorModel _ _). state_at i.line c.args.tick), c.requires.few)
+first_past-requires-clause-few g c = omega (arith, ap length c.fill_states.ensures, length-map c.args.integrators.now (λ (i : IntegratorModel _ _). state_at i.line c.args.tick), c.requires.few)
 
 pub returns-clause-over : goal.returns-clause-over
-returns-clause-over c = c.first_past.ensures ∙ ap (first_past 88) c.fill_states.ensures
+returns-clause-over g c = c.first_past.ensures ∙ ap (first_past 88) c.fill_states.ensures

@@ -11,7 +11,7 @@ use Rattle.qss_devs.proofs.arrival.fill_states.Goals as goal
 use mir.Syntax.{w128}
 
 pub loop-j-preserved : goal.loop-j-preserved
-loop-j-preserved c =
+loop-j-preserved g c =
     let j = c.loop-j.j in
     let inv = c.loop-j.invariant in
     let states : List ℤ = map (λ (i : IntegratorModel _ _). state_at i.line c.args.tick) c.args.integrators.now in
@@ -23,7 +23,7 @@ loop-j-preserved c =
     }
 
 pub returns : goal.returns
-returns c =
+returns g c =
     let states : List ℤ = map (λ (i : IntegratorModel _ _). state_at i.line c.args.tick) c.args.integrators.now in
     let all : length states ≡ length c.args.integrators.now = length-map c.args.integrators.now (λ (i : IntegratorModel _ _). state_at i.line c.args.tick) in
     same_lists (pos 0) c.loop-j.x states (c.loop-j.invariant.as_many ∙ sym all) (λ k h. c.loop-j.invariant.each k (omega (arith, h, all, c.loop-j-test.false)))

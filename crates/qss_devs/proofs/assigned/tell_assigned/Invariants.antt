@@ -9,7 +9,7 @@ use Rattle.qss_devs.proofs.assigned.tell_assigned.Given as goal
 
 -- what the rows so far say was told
 abbrev pub invariant-loop-row : goal.invariant-loop-row
-invariant-loop-row l = record {
+invariant-loop-row g l = record {
   parts : AreComponents l.m l.parts;
   ruled : (name : Option Rule) → AreRuled name l.fn.parts → AreRuled name l.parts;
   ready : AreReady l.m l.tick (line_at l.parts) (summing_at l.parts) (crossing_at l.parts);

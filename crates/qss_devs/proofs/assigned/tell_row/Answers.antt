@@ -15,7 +15,7 @@ use Rattle.qss_devs.proofs.assigned.tell_row.Goals as goal
 use mir.Syntax.{w64, w128}
 
 pub tell-requires-clause-message : goal.tell-requires-clause-message
-tell-requires-clause-message c =
+tell-requires-clause-message g c =
     let m = c.args.m.now in
     let row = c.args.row.now in
     let own : IsMessage m (State row.var row.state) = subst (λ (k : RowKind). IsKindTold m k row) c.in-Reinit.is c.requires.told in
@@ -23,7 +23,7 @@ tell-requires-clause-message c =
     simp to_z-of_z own
 
 pub returns-in-Reinit-clause-agree : goal.returns-in-Reinit-clause-agree
-returns-in-Reinit-clause-agree c v each a =
+returns-in-Reinit-clause-agree g c v each a =
     let m = c.args.m.now in
     let row = c.args.row.now in
     let own : IsMessage m (State row.var row.state) = subst (λ (k : RowKind). IsKindTold m k row) c.in-Reinit.is c.requires.told in
@@ -33,7 +33,7 @@ returns-in-Reinit-clause-agree c v each a =
     (agree_state m c.args.tick v each c.args.parts.now c.tell.new.parts row.var row.state own.0 told a)
 
 pub tell-requires-in-Set-clause-message : goal.tell-requires-in-Set-clause-message
-tell-requires-in-Set-clause-message c =
+tell-requires-in-Set-clause-message g c =
     let m = c.args.m.now in
     let row = c.args.row.now in
     let own : IsMessage m (Discrete row.var row.level) = subst (λ (k : RowKind). IsKindTold m k row) c.in-Set.is c.requires.told in
@@ -41,7 +41,7 @@ tell-requires-in-Set-clause-message c =
     simp to_z-of_z own
 
 pub returns-in-Set-clause-agree : goal.returns-in-Set-clause-agree
-returns-in-Set-clause-agree c v each a =
+returns-in-Set-clause-agree g c v each a =
     let m = c.args.m.now in
     let row = c.args.row.now in
     let own : IsMessage m (Discrete row.var row.level) = subst (λ (k : RowKind). IsKindTold m k row) c.in-Set.is c.requires.told in
@@ -51,7 +51,46 @@ returns-in-Set-clause-agree c v each a =
     (agree_discrete m c.args.tick v each c.args.parts.now c.tell-in-Set.new.parts row.var row.level own told a)
 
 pub returns-in_default-clause-agree : goal.returns-in_default-clause-agree
-returns-in_default-clause-agree c v each a =
+returns-in_default-clause-agree g c v each a =
     let m = c.args.m.now in
     let row = c.args.row.now in
     subst (λ (u : Values). Agrees m c.args.tick u c.args.parts.now) (sym (kind_other m v row.kind row c.in_default.not-Set c.in_default.not-Reinit)) a
+
+pub tell-requires-clause-parts : goal.tell-requires-clause-parts
+tell-requires-clause-parts g c = c.requires.parts
+
+pub tell-requires-clause-ready : goal.tell-requires-clause-ready
+tell-requires-clause-ready g c = c.requires.ready
+
+pub tell-requires-in-Set-clause-parts : goal.tell-requires-in-Set-clause-parts
+tell-requires-in-Set-clause-parts g c = c.requires.parts
+
+pub tell-requires-in-Set-clause-ready : goal.tell-requires-in-Set-clause-ready
+tell-requires-in-Set-clause-ready g c = c.requires.ready
+
+pub returns-in-Reinit-clause-parts : goal.returns-in-Reinit-clause-parts
+returns-in-Reinit-clause-parts g c = c.tell.ensures.parts
+
+pub returns-in-Reinit-clause-ruled : goal.returns-in-Reinit-clause-ruled
+returns-in-Reinit-clause-ruled g c = c.tell.ensures.ruled
+
+pub returns-in-Reinit-clause-ready : goal.returns-in-Reinit-clause-ready
+returns-in-Reinit-clause-ready g c = c.tell.ensures.ready
+
+pub returns-in-Set-clause-parts : goal.returns-in-Set-clause-parts
+returns-in-Set-clause-parts g c = c.tell-in-Set.ensures.parts
+
+pub returns-in-Set-clause-ruled : goal.returns-in-Set-clause-ruled
+returns-in-Set-clause-ruled g c = c.tell-in-Set.ensures.ruled
+
+pub returns-in-Set-clause-ready : goal.returns-in-Set-clause-ready
+returns-in-Set-clause-ready g c = c.tell-in-Set.ensures.ready
+
+pub returns-in_default-clause-parts : goal.returns-in_default-clause-parts
+returns-in_default-clause-parts g c = c.requires.parts
+
+pub returns-in_default-clause-ruled : goal.returns-in_default-clause-ruled
+returns-in_default-clause-ruled g c = λ name ruled. ruled
+
+pub returns-in_default-clause-ready : goal.returns-in_default-clause-ready
+returns-in_default-clause-ready g c = c.requires.ready

@@ -5,10 +5,10 @@ use Rattle.qss_devs.proofs.WorldRows.{levels_in, states_in, row_of}
 use Rattle.qss_devs.proofs.ends.add_states.Goals as goal
 
 pub state_row-requires-clause-not_later : goal.state_row-requires-clause-not_later
-state_row-requires-clause-not_later c = c.requires.not_later c.loop-j.j c.index-integrators-j.result c.loop-j-test.true
+state_row-requires-clause-not_later g c = c.requires.not_later c.loop-j.j c.index-integrators-j.result c.loop-j-test.true
 
 pub loop-j-preserved : goal.loop-j-preserved
-loop-j-preserved c =
+loop-j-preserved g c =
     let j = c.loop-j.j in
     let inv = c.loop-j.invariant in
     let integrators = c.args.integrators.now in

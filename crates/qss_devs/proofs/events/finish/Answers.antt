@@ -10,7 +10,7 @@ use Rattle.qss_devs.proofs.WorldRows.{rows_at, lines_early}
 use Rattle.qss_devs.proofs.events.finish.Goals as goal
 
 pub set_world_rows-requires-clause-few : goal.set_world_rows-requires-clause-few
-set_world_rows-requires-clause-few c =
+set_world_rows-requires-clause-few g c =
     omega (
       arith,
       ap length c.as_slice.ensures.value,
@@ -22,13 +22,13 @@ set_world_rows-requires-clause-few c =
     )
 
 pub set_world_rows-requires-clause-not_later : goal.set_world_rows-requires-clause-not_later
-set_world_rows-requires-clause-not_later c = subst (All (λ (i : IntegratorModel _ _). i.line.tick ≤ c.args.m.now.last)) (sym c.as_slice.ensures.value) (lines_early c.args.m.now c.args.q.now.name c.args.m.now.last c.args.s.now c.requires)
+set_world_rows-requires-clause-not_later g c = subst (All (λ (i : IntegratorModel _ _). i.line.tick ≤ c.args.m.now.last)) (sym c.as_slice.ensures.value) (lines_early c.args.m.now c.args.q.now.name c.args.m.now.last c.args.s.now c.requires)
 
 pub set_world_rows-requires-clause-in_time : goal.set_world_rows-requires-clause-in_time
-set_world_rows-requires-clause-in_time c = c.args.m.now.has_units.last_tick
+set_world_rows-requires-clause-in_time g c = c.args.m.now.has_units.last_tick
 
 pub set_world_rows-requires-clause-room : goal.set_world_rows-requires-clause-room
-set_world_rows-requires-clause-room c =
+set_world_rows-requires-clause-room g c =
     omega (
       arith,
       ap length c.as_slice.ensures.value,
@@ -40,6 +40,6 @@ set_world_rows-requires-clause-room c =
     )
 
 pub returns-clause-rows : goal.returns-clause-rows
-returns-clause-rows c =
+returns-clause-rows g c =
     c.set_world_rows.ensures.rows
     ∙ rows_at kind.End c.args.m.now.last c.as_slice.result.now c.as_slice-2.result.now c.args.s.now c.as_slice.ensures.value (c.as_slice-2.ensures.value ∙ ap (λ (v : Values). v.d) c.work.view_is)

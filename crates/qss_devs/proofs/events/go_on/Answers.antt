@@ -26,7 +26,7 @@ no_rows : (v : Vec Row Global) → (vec_len v == 0) ≡ true → v.items ≡ []
 no_rows v e = empty_list v.items (sym v.ok.0 ∙ eqb-true v.len 0 e)
 
 pub loop-tick-init : goal.loop-tick-init
-loop-tick-init c = record {
+loop-tick-init g c = record {
   stands = c.requires.stands;
   later = omega arith;
   in_time = c.requires.in_time;
@@ -34,7 +34,7 @@ loop-tick-init c = record {
 }
 
 pub returns-in-Some-clause-next : goal.returns-in-Some-clause-next
-returns-in-Some-clause-next c =
+returns-in-Some-clause-next g c =
     let Rule = IsRuled c.args.q.now.name in
     let m = c.args.m.now in
     let before = c.loop-tick.invariant.are_silent in
@@ -55,7 +55,7 @@ returns-in-Some-clause-next c =
     )
 
 pub returns-then-not-is_empty-clause-next : goal.returns-then-not-is_empty-clause-next
-returns-then-not-is_empty-clause-next c =
+returns-then-not-is_empty-clause-next g c =
     let Rule = IsRuled c.args.q.now.name in
     let m = c.args.m.now in
     let before = c.loop-tick.invariant.are_silent in
@@ -79,7 +79,7 @@ returns-then-not-is_empty-clause-next c =
     )
 
 pub loop-tick-preserved : goal.loop-tick-preserved
-loop-tick-preserved c =
+loop-tick-preserved g c =
     let Rule = IsRuled c.args.q.now.name in
     let m = c.args.m.now in
     let before = c.loop-tick.invariant.are_silent in
@@ -100,12 +100,12 @@ loop-tick-preserved c =
     }
 
 pub finish-requires : goal.finish-requires
-finish-requires c =
+finish-requires g c =
     let at_last : c.loop-tick.tick ≡ c.args.m.now.last = omega (arith, c.loop-tick-test.false, c.loop-tick.invariant.in_time) in
     subst (λ t. Stands c.args.m.now c.args.q.now.name t c.loop-tick.s) at_last c.loop-tick.invariant.stands
 
 pub returns-clause-next : goal.returns-clause-next
-returns-clause-next c =
+returns-clause-next g c =
     let Rule = IsRuled c.args.q.now.name in
     let m = c.args.m.now in
     let before = c.loop-tick.invariant.are_silent in

@@ -7,7 +7,7 @@ use Rattle.qss_devs.proofs.events.go_on.Given as goal
 
 -- the model stands at the tick, and the ticks up to it had no rows
 abbrev pub invariant-loop-tick : goal.invariant-loop-tick
-invariant-loop-tick l = record {
+invariant-loop-tick g l = record {
   stands : Stands l.m l.q.name l.tick l.s;
   later : l.fn.from ≤ l.tick;
   in_time : l.tick ≤ l.m.last;
@@ -15,4 +15,4 @@ invariant-loop-tick l = record {
 }
 
 abbrev pub decreases-loop-tick : goal.decreases-loop-tick
-decreases-loop-tick l = l.m.last - l.tick
+decreases-loop-tick g l = l.m.last - l.tick

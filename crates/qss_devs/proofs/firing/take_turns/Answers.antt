@@ -14,17 +14,17 @@ use Rattle.qss_devs.proofs.DueFlags.{turn_within, turn, turn_done, turn_over}
 use Rattle.qss_devs.proofs.firing.take_turns.Goals as goal
 
 pub branch_count-count-requires : goal.branch_count-count-requires
-branch_count-count-requires c = omega (arith, c.loop-clause-test.true, ap length c.as_slice.ensures)
+branch_count-count-requires c = omega (arith, c.loop-clause-test.true, ap length c.as_slice-clause-end.ensures)
 
 pub overflow_cast-clause : goal.overflow_cast-clause
-overflow_cast-clause c = omega (arith, c.loop-clause-test.true, ap length c.as_slice.ensures, clauses_few c.args.m.now)
+overflow_cast-clause c = omega (arith, c.loop-clause-test.true, ap length c.as_slice-clause-end.ensures, clauses_few c.args.m.now)
 
 pub take_turn-requires-clause-clause : goal.take_turn-requires-clause-clause
-take_turn-requires-clause-clause c = omega (arith, c.loop-clause-test.true, ap length c.as_slice.ensures)
+take_turn-requires-clause-clause c = omega (arith, c.loop-clause-test.true, ap length c.as_slice-clause-end.ensures)
 
 pub take_turn-requires-clause-inside : goal.take_turn-requires-clause-inside
 take_turn-requires-clause-inside c =
-    let inside : c.loop-clause.clause < length c.args.m.now.clauses = omega (arith, c.loop-clause-test.true, ap length c.as_slice.ensures) in
+    let inside : c.loop-clause.clause < length c.args.m.now.clauses = omega (arith, c.loop-clause-test.true, ap length c.as_slice-clause-end.ensures) in
     omega (arith, turn_within c.args.m.now c.loop-clause.clause c.loop-clause.first inside c.loop-clause.invariant.branches, c.requires.now)
 
 pub take_turn-requires-clause-few : goal.take_turn-requires-clause-few
@@ -32,12 +32,12 @@ take_turn-requires-clause-few c = omega (arith, c.requires.now, conditions_few c
 
 pub take_turn-requires-clause-room : goal.take_turn-requires-clause-room
 take_turn-requires-clause-room c =
-    let inside : c.loop-clause.clause < length c.args.m.now.clauses = omega (arith, c.loop-clause-test.true, ap length c.as_slice.ensures) in
+    let inside : c.loop-clause.clause < length c.args.m.now.clauses = omega (arith, c.loop-clause-test.true, ap length c.as_slice-clause-end.ensures) in
     omega (arith, c.loop-clause.invariant.room, room-drop c.args.m.now.clauses c.loop-clause.clause (record { branches = [] }) inside)
 
 pub overflow_add-first : goal.overflow_add-first
 overflow_add-first c =
-    let inside : c.loop-clause.clause < length c.args.m.now.clauses = omega (arith, c.loop-clause-test.true, ap length c.as_slice.ensures) in
+    let inside : c.loop-clause.clause < length c.args.m.now.clauses = omega (arith, c.loop-clause-test.true, ap length c.as_slice-clause-end.ensures) in
     omega (arith, turn_within c.args.m.now c.loop-clause.clause c.loop-clause.first inside c.loop-clause.invariant.branches, c.branch_count-count.ensures, conditions_few c.args.m.now)
 
 pub loop-clause-preserved : goal.loop-clause-preserved
@@ -49,7 +49,7 @@ loop-clause-preserved c =
     let first = c.loop-clause.first in
     let due : List Bool = due_flags c.args.now.now c.args.arrived.now c.args.settled.now in
     let inv = c.loop-clause.invariant in
-    let inside : i < length m.clauses = omega (arith, c.loop-clause-test.true, ap length c.as_slice.ensures) in
+    let inside : i < length m.clauses = omega (arith, c.loop-clause-test.true, ap length c.as_slice-clause-end.ensures) in
     let values = c.take_turn.ensures.values in
     let calm = ap overflow_of (sym c.in_ok-take_turn.was) ∙ c.take_turn.ensures.over in
     let width : first + c.branch_count-count.result ≡ first + length (clause_at m i).branches = ap (λ n. first + n) c.branch_count-count.ensures in
@@ -80,7 +80,7 @@ returns-in_err-take_turn c =
     let first = c.loop-clause.first in
     let due : List Bool = due_flags c.args.now.now c.args.arrived.now c.args.settled.now in
     let inv = c.loop-clause.invariant in
-    let inside : i < length m.clauses = omega (arith, c.loop-clause-test.true, ap length c.as_slice.ensures) in
+    let inside : i < length m.clauses = omega (arith, c.loop-clause-test.true, ap length c.as_slice-clause-end.ensures) in
     let given : c.from_residual.result ≡ Err c.in_err-take_turn.field-0.0 = search rules in
     let over = ap overflow_of (sym c.in_err-take_turn.was) ∙ c.take_turn.ensures.over in
     let end = turn_over m w0 w due i first inside inv.same_tick inv.same_before c.in_err-take_turn.field-0.0.var over ∙ sym inv.so_far in
@@ -98,7 +98,7 @@ returns c =
     let w0 : Values = c.args.w.now in
     let due : List Bool = due_flags c.args.now.now c.args.arrived.now c.args.settled.now in
     let inv = c.loop-clause.invariant in
-    let done : length m.clauses ≤ c.loop-clause.clause = omega (arith, c.loop-clause-test.false, ap length c.as_slice.ensures) in
+    let done : length m.clauses ≤ c.loop-clause.clause = omega (arith, c.loop-clause-test.false, ap length c.as_slice-clause-end.ensures) in
     let none = ap (λ rest. run_clauses m w0.tick w0.pre c.loop-clause.clause (handling_of c.loop-clause.w) rest (drop c.loop-clause.first due)) (drop_all c.loop-clause.clause m.clauses done) in
     let all : handling_of c.loop-clause.w ≡ run_clauses m w0.tick w0.pre 0 (handling_of w0) m.clauses due = sym (inv.so_far ∙ none) in
     record {

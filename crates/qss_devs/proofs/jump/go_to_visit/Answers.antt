@@ -7,7 +7,7 @@ use Rattle.qss_devs.specs.Visits.{world_of}
 use Rattle.qss_devs.proofs.jump.go_to_visit.Goals as goal
 
 pub returns-clause-visited : goal.returns-clause-visited
-returns-clause-visited c =
+returns-clause-visited g c =
     let quiet = c.jump-before.ensures.silent in
     let are = quiet.1 in
     let t = c.jump-before.result + 1 in (

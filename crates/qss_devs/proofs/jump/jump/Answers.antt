@@ -13,10 +13,10 @@ use Rattle.qss_devs.proofs.Coasting.{Dues, with_arrived, arrived_then, arrived_i
 use Rattle.qss_devs.proofs.jump.jump.Goals as goal
 
 pub overflow_sub-result : goal.overflow_sub-result
-overflow_sub-result c = omega (arith, c.next_visit-next.ensures.later)
+overflow_sub-result g c = omega (arith, c.next_visit-next.ensures.later)
 
 pub returns : goal.returns
-returns c =
+returns g c =
     let m = c.args.m.now in
     let name = c.args.q.now.name in
     let s : Store _ _ = c.args.s.now in

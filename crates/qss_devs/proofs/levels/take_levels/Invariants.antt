@@ -9,7 +9,7 @@ use Rattle.qss_devs.proofs.levels.take_levels.Given as goal
 
 -- the integrators so far had their turns
 abbrev pub invariant-loop-j : goal.invariant-loop-j
-invariant-loop-j l = record {
+invariant-loop-j g l = record {
   parts : AreComponents l.m l.parts;
   ruled : AreRuled l.q.name l.parts;
   ready : AreReady l.m l.tick (line_at l.parts) (summing_at l.parts) (crossing_at l.parts);

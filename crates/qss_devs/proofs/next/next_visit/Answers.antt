@@ -19,19 +19,19 @@ use Rattle.qss_devs.proofs.NextVisits.{some_element, line_of, of_line, watch_of,
 use Rattle.qss_devs.proofs.next.next_visit.Goals as goal
 
 pub has_risen-requires : goal.has_risen-requires
-has_risen-requires c = ap length c.as_slice-arrived.ensures.value ∙ c.requires.stands.fits.arrived ∙ sym (ap length c.as_slice-settled.ensures.value ∙ c.requires.stands.fits.settled)
+has_risen-requires g c = ap length c.as_slice-arrived.ensures.value ∙ c.requires.stands.fits.arrived ∙ sym (ap length c.as_slice-settled.ensures.value ∙ c.requires.stands.fits.settled)
 
 pub returns-then-has_risen-clause-lines : goal.returns-then-has_risen-clause-lines
-returns-then-has_risen-clause-lines c j n h is = omega (arith, c.requires.stands.lines j n h is)
+returns-then-has_risen-clause-lines g c j n h is = omega (arith, c.requires.stands.lines j n h is)
 
 pub returns-then-has_risen-clause-crossings : goal.returns-then-has_risen-clause-crossings
-returns-then-has_risen-clause-crossings c place n h is = omega (arith, c.requires.stands.crossings place n h is)
+returns-then-has_risen-clause-crossings g c place n h is = omega (arith, c.requires.stands.crossings place n h is)
 
 pub returns-then-has_risen-clause-dues : goal.returns-then-has_risen-clause-dues
-returns-then-has_risen-clause-dues c more = absurd (omega (arith, more))
+returns-then-has_risen-clause-dues g c more = absurd (omega (arith, more))
 
 pub returns-clause-later : goal.returns-clause-later
-returns-clause-later c =
+returns-clause-later g c =
     let m = c.args.m.now in
     let s : Store _ _ = c.args.s.now in
     let stands = c.requires.stands in
@@ -50,10 +50,10 @@ returns-clause-later c =
     c.least_advance.ensures.later tick (c.least_advance-second.ensures.later tick (c.least_advance-first.ensures.later tick c.requires.in_time lines) functions) crossings
 
 pub returns-clause-at_most : goal.returns-clause-at_most
-returns-clause-at_most c = omega (arith, c.least_advance.ensures.within, c.least_advance-second.ensures.within, c.least_advance-first.ensures.within)
+returns-clause-at_most g c = omega (arith, c.least_advance.ensures.within, c.least_advance-second.ensures.within, c.least_advance-first.ensures.within)
 
 pub returns-clause-lines : goal.returns-clause-lines
-returns-clause-lines c j n h is =
+returns-clause-lines g c j n h is =
     let m = c.args.m.now in
     let s : Store _ _ = c.args.s.now in
     let parts = c.requires.stands.fits.parts in
@@ -63,7 +63,7 @@ returns-clause-lines c j n h is =
     omega (arith, before j d inside n (of_line m s.parts parts j d (Some n) inside is), c.least_advance.ensures.within, c.least_advance-second.ensures.within)
 
 pub returns-clause-crossings : goal.returns-clause-crossings
-returns-clause-crossings c place n h is =
+returns-clause-crossings g c place n h is =
     let m = c.args.m.now in
     let s : Store _ _ = c.args.s.now in
     let parts = c.requires.stands.fits.parts in
@@ -73,7 +73,7 @@ returns-clause-crossings c place n h is =
     before place d inside n (subst (λ (w : Watch). IsCrossingNext w (Some n)) (watch_of m s.parts parts place d inside) is)
 
 pub returns-clause-dues : goal.returns-clause-dues
-returns-clause-dues c more =
+returns-clause-dues g c more =
     let m = c.args.m.now in
     let s : Store _ _ = c.args.s.now in
     let stands = c.requires.stands in

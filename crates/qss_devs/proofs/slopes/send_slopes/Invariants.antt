@@ -7,7 +7,7 @@ use Rattle.qss_devs.proofs.slopes.send_slopes.Given as goal
 
 -- the functions so far had their turns
 abbrev pub invariant-loop-j : goal.invariant-loop-j
-invariant-loop-j l = record {
+invariant-loop-j g l = record {
   parts : AreComponents l.m l.parts;
   ruled : (name : Option Rule) → AreRuled name l.fn.parts → AreRuled name l.parts;
   ready : AreReady l.m l.tick (line_at l.parts) (summing_at l.parts) (crossing_at l.parts);

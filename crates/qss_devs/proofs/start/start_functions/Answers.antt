@@ -26,7 +26,7 @@ function_of-function-requires-clause-levels c =
 
 pub function_of-function-requires-clause-discretes : goal.function_of-function-requires-clause-discretes
 function_of-function-requires-clause-discretes c =
-    ap length (c.in_ok-discretes.ensures.items ∙ c.as_slice-2.ensures.value) ∙ ap (λ (v : Values). length v.discretes) c.requires.values ∙ (start_each c.args.m.now).discretes
+    ap length (c.in_ok-discretes.ensures.items ∙ c.as_slice-in-loop-j.ensures.value) ∙ ap (λ (v : Values). length v.discretes) c.requires.values ∙ (start_each c.args.m.now).discretes
     ∙ sym (ap discrete_count (c.in_ok-machine.ensures ∙ c.requires.same))
 
 pub function_of-function-requires-clause-small_levels : goal.function_of-function-requires-clause-small_levels
@@ -35,7 +35,7 @@ function_of-function-requires-clause-small_levels c =
 
 pub function_of-function-requires-clause-small_discretes : goal.function_of-function-requires-clause-small_discretes
 function_of-function-requires-clause-small_discretes c =
-    subst (All (IsWithin 43)) (sym (c.in_ok-discretes.ensures.items ∙ c.as_slice-2.ensures.value ∙ ap (λ (v : Values). v.discretes) c.requires.values)) (discretes_start c.args.m.now)
+    subst (All (IsWithin 43)) (sym (c.in_ok-discretes.ensures.items ∙ c.as_slice-in-loop-j.ensures.value ∙ ap (λ (v : Values). v.discretes) c.requires.values)) (discretes_start c.args.m.now)
 
 pub loop-j-init : goal.loop-j-init
 loop-j-init c = record {
@@ -50,7 +50,7 @@ loop-j-preserved c =
     let inv = c.loop-j.invariant in
     let v : Values = start_values c.args.m.now in
     let levels : c.in_ok-levels.levels.items ≡ v.levels = c.in_ok-levels.ensures.items ∙ c.as_slice.ensures.value ∙ ap (λ (w : Values). w.levels) c.requires.values in
-    let discretes : c.in_ok-discretes.discretes.items ≡ v.discretes = c.in_ok-discretes.ensures.items ∙ c.as_slice-2.ensures.value ∙ ap (λ (w : Values). w.discretes) c.requires.values in
+    let discretes : c.in_ok-discretes.discretes.items ≡ v.discretes = c.in_ok-discretes.ensures.items ∙ c.as_slice-in-loop-j.ensures.value ∙ ap (λ (w : Values). w.discretes) c.requires.values in
     let own : IsFirstFunction c.args.m.now c.loop-j.j c.function_of-function.result = record {
       machine = c.function_of-function.ensures.machine ∙ c.in_ok-machine.ensures ∙ c.requires.same;
       summing = c.function_of-function.ensures.summing

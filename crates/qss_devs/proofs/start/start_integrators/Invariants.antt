@@ -5,7 +5,7 @@ use Rattle.qss_devs.proofs.start.start_integrators.Given as goal
 
 -- the integrators so far
 abbrev pub invariant-loop-j : goal.invariant-loop-j
-invariant-loop-j l = record {
+invariant-loop-j g l = record {
   each : EachAt (IsFirstIntegrator l.m l.q.value) l.integrators.items;
   as_many : vec_len l.integrators ≡ l.j;
   within : l.j ≤ length l.v.levels.items;

@@ -2,7 +2,7 @@
 use Rattle.qss_devs.proofs.start_store.start_parts.Goals as goal
 
 pub returns-clause-parts : goal.returns-clause-parts
-returns-clause-parts c = record {
+returns-clause-parts g c = record {
   integrators = c.in_ok-integrators.ensures.count;
   functions = c.in_ok-functions.ensures.count;
   crossings = c.in_ok-crossings.ensures.count;
@@ -13,10 +13,10 @@ returns-clause-parts c = record {
 }
 
 pub returns-clause-integrators : goal.returns-clause-integrators
-returns-clause-integrators c = c.in_ok-integrators.ensures.each
+returns-clause-integrators g c = c.in_ok-integrators.ensures.each
 
 pub returns-clause-functions : goal.returns-clause-functions
-returns-clause-functions c = c.in_ok-functions.ensures.each
+returns-clause-functions g c = c.in_ok-functions.ensures.each
 
 pub returns-clause-crossings : goal.returns-clause-crossings
-returns-clause-crossings c = c.in_ok-crossings.ensures.each
+returns-clause-crossings g c = c.in_ok-crossings.ensures.each

@@ -20,18 +20,18 @@ use Rattle.qss_devs.proofs.FirstStands.{held, AreFirst, first_world, first_stand
 use Rattle.qss_devs.proofs.start_store.start_store.Goals as goal
 
 pub start_parts-requires-clause-states : goal.start_parts-requires-clause-states
-start_parts-requires-clause-states c = c.as_slice.ensures.value ∙ ap (λ (v : Values). v.x) c.work.view_is ∙ ap (λ (v : Values). v.x) c.in_ok-work.ensures
+start_parts-requires-clause-states g c = c.as_slice.ensures.value ∙ ap (λ (v : Values). v.x) c.work.view_is ∙ ap (λ (v : Values). v.x) c.in_ok-work.ensures
 
 pub start_parts-requires-clause-discretes : goal.start_parts-requires-clause-discretes
-start_parts-requires-clause-discretes c = c.as_slice-2.ensures.value ∙ ap (λ (v : Values). v.d) c.work.view_is ∙ ap (λ (v : Values). v.d) c.in_ok-work.ensures
+start_parts-requires-clause-discretes g c = c.as_slice-2.ensures.value ∙ ap (λ (v : Values). v.d) c.work.view_is ∙ ap (λ (v : Values). v.d) c.in_ok-work.ensures
 
 pub set_world_rows-requires-clause-not_later : goal.set_world_rows-requires-clause-not_later
-set_world_rows-requires-clause-not_later c =
+set_world_rows-requires-clause-not_later g c =
     subst (All (λ (i : IntegratorModel _ _). i.line.tick ≤ 0)) (sym c.as_slice-6.ensures.value)
     (λ j d h. let own = ap (λ (l : Line). l.tick) (c.in_ok-parts.ensures.integrators j d h).line in omega (arith, own))
 
 pub set_world_rows-requires-clause-few : goal.set_world_rows-requires-clause-few
-set_world_rows-requires-clause-few c =
+set_world_rows-requires-clause-few g c =
     let m : Machine = c.args.m.now in
     omega (
       arith,
@@ -45,7 +45,7 @@ set_world_rows-requires-clause-few c =
     )
 
 pub set_world_rows-requires-clause-room : goal.set_world_rows-requires-clause-room
-set_world_rows-requires-clause-room c =
+set_world_rows-requires-clause-room g c =
     let m : Machine = c.args.m.now in
     omega (
       arith,
@@ -64,7 +64,7 @@ set_world_rows-requires-clause-room c =
     )
 
 pub returns : goal.returns
-returns c =
+returns g c =
     let m : Machine = c.args.m.now in
     let q : Quantizer _ _ = c.args.q.now.value in
     let s : Store _ _ = record {

@@ -14,7 +14,7 @@ use Rattle.qss_devs.proofs.NamedRows.{named_rows}
 use Rattle.qss_devs.proofs.coupled.Coupled.next_event.Goals as goal
 
 pub returns-clause-rows : goal.returns-clause-rows
-returns-clause-rows c rule named going =
+returns-clause-rows g c rule named going =
     let m : Machine = c.args.self.now.machine.value in
     let from : ℕ = c.args.self.now.tick in
     let s : Store = c.args.self.now.store in
