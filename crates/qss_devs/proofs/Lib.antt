@@ -34,8 +34,10 @@ pub mod Turned
 pub mod OwnLevels
 pub mod OwnTurns
 pub mod OwnSlopes
+pub mod LevelTurns
 pub mod LevelsTaken
 pub mod SlopesSent
 pub mod Readings
+pub mod ReadParts
 pub mod Stays
 pub mod Followed

@@ -2,6 +2,7 @@
 
 ghost use Rattle.std.specs.Prelude.{◌≡◌, ℕ, ◌<◌, Some, true, false};
 ghost use Rattle.qss_devs.specs.declared.message.Message.{Message as Sent};
+ghost use Rattle.qss_devs.specs.declared.turn.Turn.TheVariants.{Rests, Passes, Sends};
 ghost use Rattle.qss_devs.specs.Messages.{passes_limit};
 
 use crate::advance::is_due;
@@ -21,7 +22,6 @@ pub(crate) enum Turn {
 }
 
 // Whether the level or the slope of a message is past its limit.
-#[tactic(none)]
 fn passes_limit(msg: Message) -> bool
     ensures { result ≡ passes_limit msg }
 {

@@ -34,14 +34,15 @@ loop-place-preserved g c =
       inside = omega (arith, h);
       not_past = subst (All (λ a. (next : ℕ) → g.A.Atomic.is_next a (Some next) → c.earlier-least.result ≤ next)) (sym more)
           (All-push (λ a. (next : ℕ) → g.A.Atomic.is_next a (Some next) → c.earlier-least.result ≤ next) (take place models) x
-          (λ k e below n is. omega (arith, inv.not_past k e below n is, c.earlier-least.ensures.within)) c.earlier-least.ensures.not_past);
-      later = λ tick below all. c.earlier-least.ensures.later tick (inv.later tick below all) (all place d h);
+          (λ k e below n is. omega (arith, inv.not_past k e below n is, c.earlier-least.ensures.within))
+          (subst (λ a. (next : ℕ) → g.A.Atomic.is_next a (Some next) → c.earlier-least.result ≤ next) c.index-models-place.is c.earlier-least.ensures.not_past));
+      later = λ tick below all. c.earlier-least.ensures.later tick (inv.later tick below all) (subst (λ a. (next : ℕ) → g.A.Atomic.is_next a (Some next) → tick < next) (sym c.index-models-place.is) (all place d h));
       dues = (
         dues,
         omega (arith, length-append old (due.0 ∷ []), inv.dues.1),
         each_more (λ k a. g.A.Atomic.is_next a (slice_index_or dues k None)) place (take place models) (take (place + 1) models) x more so_many
             (λ k e below. subst (λ (o : Option ℕ). g.A.Atomic.is_next (get_or (take place models) k e) o) (sym (get_or_append_left old (due.0 ∷ []) None k (omega (arith, below, so_many, inv.dues.1)))) (inv.dues.2 k e below))
-            (subst (λ (o : Option ℕ). g.A.Atomic.is_next x o) (sym (get_or_at old due.0 [] None place inv.dues.1)) due.1),
+            (subst (λ (o : Option ℕ). g.A.Atomic.is_next x o) (sym (get_or_at old due.0 [] None place inv.dues.1)) (subst (λ a. g.A.Atomic.is_next a due.0) c.index-models-place.is due.1)),
       );
     }
 

@@ -1,6 +1,7 @@
 -- The functions and the crossings that read a discrete value are told the message.
 use Rattle.std.proofs.Common.{◌≡◌, ℕ, ◌+◌, ◌<◌, List, [], length, get_or, All, refl, sym, ◌∙◌, ap, subst, arith}
 use Rattle.std.proofs.lemmas.List.{with_items_is}
+use Rattle.std.specs.Vec.{with_items}
 use Rattle.qss_machine.specs.Machines.{state_count, discrete_count}
 use Rattle.qss_machine.specs.Uses.{reading_rows, reading_conditions}
 use Rattle.qss_quiet.specs.Among.{AreNumbers}
@@ -16,7 +17,7 @@ use Rattle.qss_devs.proofs.ToldParts.{told_discrete}
 use Rattle.qss_devs.proofs.components.tell_discrete.Goals as goal
 
 pub overflow_cast-before : goal.overflow_cast-before
-overflow_cast-before g c = omega (arith, ap length c.as_slice-before.ensures, c.args.m.now.has_variables.few)
+overflow_cast-before g c = omega (arith, ap length c.as_slice.ensures, c.args.m.now.has_variables.few)
 
 pub rows_of-rows-requires : goal.rows_of-rows-requires
 rows_of-rows-requires g c = omega (arith, c.requires.known, rows_many c.args.m.now c.args.parts.now.uses c.requires.parts.uses)
@@ -68,10 +69,10 @@ pub tell_crossings-requires-clause-in_time : goal.tell_crossings-requires-clause
 tell_crossings-requires-clause-in_time g c = c.requires.ready.in_time
 
 pub overflow_add-var : goal.overflow_add-var
-overflow_add-var g c = omega (arith, c.requires.known, ap length c.as_slice-before.ensures, c.args.m.now.has_variables.few)
+overflow_add-var g c = omega (arith, c.requires.known, ap length c.as_slice.ensures, c.args.m.now.has_variables.few)
 
 pub conditions_of-others-requires : goal.conditions_of-others-requires
-conditions_of-others-requires g c = omega (arith, c.requires.known, ap length c.as_slice-before.ensures, conditions_many c.args.m.now c.args.parts.now.uses c.requires.parts.uses)
+conditions_of-others-requires g c = omega (arith, c.requires.known, ap length c.as_slice.ensures, conditions_many c.args.m.now c.args.parts.now.uses c.requires.parts.uses)
 
 pub tell_crossings-requires-2-clause-places : goal.tell_crossings-requires-2-clause-places
 tell_crossings-requires-2-clause-places g c =
@@ -80,7 +81,7 @@ tell_crossings-requires-2-clause-places g c =
     let var = c.args.var in
     let reads : c.conditions_of-others.result.now ≡ reading_conditions m (var + discrete_count m) =
     c.conditions_of-others.ensures
-    ∙ ap (λ (n : ℕ). get_or uses.1 (var + n) []) (ap length c.as_slice-before.ensures)
+    ∙ ap (λ (n : ℕ). get_or uses.1 (var + n) []) (ap length c.as_slice.ensures)
     ∙ conditions_kept m uses c.requires.parts.uses (var + discrete_count m) (omega (arith, c.requires.known)) in
     subst (AreNumbers (length c.as_mut_slice-3.result.now)) (sym reads)
     (condition_numbers m (var + discrete_count m) (length c.as_mut_slice-3.result.now)
@@ -123,12 +124,13 @@ returns g c =
     let functions = with_items_is old.functions c.tell_functions.new.functions (c.tell_functions.auto.functions ∙ c.as_mut_slice.ensures.len) in
     let crossings = with_items_is old.crossings mid (c.tell_crossings.auto.crossings ∙ c.as_mut_slice-2.ensures.len) in
     let between = c.as_mut_slice-3.ensures.value ∙ crossings in
-    let last = with_items_is _ c.tell_crossings-2.new.crossings (c.tell_crossings-2.auto.crossings ∙ c.as_mut_slice-3.ensures.len) in
+    let last : (with_items (with_items old.crossings mid) c.tell_crossings-2.new.crossings).items ≡ c.tell_crossings-2.new.crossings =
+    with_items_is (with_items old.crossings mid) c.tell_crossings-2.new.crossings (c.tell_crossings-2.auto.crossings ∙ c.as_mut_slice-3.ensures.len) in
     let rows : c.rows_of-rows.result.now ≡ reading_rows m var = c.rows_of-rows.ensures ∙ rows_kept m uses c.requires.parts.uses var c.requires.known in
     let first : c.conditions_of-places.result.now ≡ reading_conditions m var = c.conditions_of-places.ensures ∙ conditions_kept m uses c.requires.parts.uses var (omega (arith, c.requires.known)) in
     let second : c.conditions_of-others.result.now ≡ reading_conditions m (var + discrete_count m) =
     c.conditions_of-others.ensures
-    ∙ ap (λ (n : ℕ). get_or uses.1 (var + n) []) (ap length c.as_slice-before.ensures)
+    ∙ ap (λ (n : ℕ). get_or uses.1 (var + n) []) (ap length c.as_slice.ensures)
     ∙ conditions_kept m uses c.requires.parts.uses (var + discrete_count m) (omega (arith, c.requires.known)) in
     told_discrete m c.args.tick var c.args.msg c.rows_of-rows.result.now c.conditions_of-places.result.now c.conditions_of-others.result.now old _ mid
     c.requires.parts c.requires.ready c.requires.message c.requires.own rows first second refl refl
