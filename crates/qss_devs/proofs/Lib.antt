@@ -31,11 +31,13 @@ pub mod NextVisits
 pub mod AgreeTold
 pub mod NamedSends
 pub mod Turned
+pub mod Overs
 pub mod OwnLevels
 pub mod OwnTurns
 pub mod OwnSlopes
 pub mod LevelTurns
 pub mod LevelsTaken
+pub mod SlopeTurns
 pub mod SlopesSent
 pub mod Readings
 pub mod ReadParts

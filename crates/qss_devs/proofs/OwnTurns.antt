@@ -1,9 +1,10 @@
 -- Components of which one made a transition.
-use Rattle.std.proofs.Common.{◌≡◌, ◌≢◌, ℕ, ◌+◌, ◌<◌, ◌≤◌, ◌^◌, List, length, get_or, set, map, All, refl, sym, ◌∙◌, ap, subst, arith, inl, inr}
+use Rattle.std.proofs.Common.{◌≡◌, ◌≢◌, ℕ, ◌+◌, ◌<◌, ◌≤◌, ◌^◌, List, Vec, length, get_or, set, map, All, refl, sym, ◌∙◌, ap, subst, arith, inl, inr}
 use Rattle.std.proofs.lemmas.Bool.{cases_eq}
-use Rattle.std.proofs.lemmas.List.{get_or-map, length-map, map-set, length-set, get_or-set_same, get_or-set_other, get_or_default}
+use Rattle.std.proofs.lemmas.List.{get_or-map, length-map, map-set, length-set, get_or-set_same, get_or-set_other, get_or_default, with_items_is}
 use Rattle.std.proofs.lemmas.List.Elements.{All-set}
 use Rattle.std.specs.Prelude.{Option, Some, None}
+use Rattle.std.specs.Vec.{with_items}
 use Rattle.qss_machine.specs.declared.system.Machine.{Machine}
 use Rattle.qss_machine.specs.Machines.{state_count}
 use Rattle.qss_machine.specs.Handlers.{conditions}
@@ -21,6 +22,14 @@ use Rattle.qss_devs.specs.Models.{summing_of, crossing_of}
 use Rattle.qss_devs.specs.Coupling.{no_line, no_summing, no_crossing, line_at, summing_at, crossing_at, IsIntegratorOf, AreComponents, AreRuled, IsSummingReady, IsCrossingReady, AreReady}
 use Rattle.qss_devs.proofs.ToldAgain.{line_ready}
 use Rattle.qss_devs.proofs.ToldParts.{integrators_set, line_set}
+
+-- ---- an element of a list that is lent
+
+pub slot_is : {X : Type 0} (xs ys : List X) (j : ℕ) (d s : X) → xs ≡ ys → j < length ys → s ≡ get_or xs j d → s ≡ get_or ys j s
+slot_is {X} xs ys j d s same inside is = is ∙ ap (λ (zs : List X). get_or zs j d) same ∙ get_or_default ys j d s inside
+
+pub slot_set : {X Z : Type 0} (v : Vec X Z) (xs : List X) (j : ℕ) (t : X) → xs ≡ v.items → length xs ≡ v.len → (with_items v (set xs j t)).items ≡ set v.items j t
+slot_set {X} v xs j t same many = with_items_is v (set xs j t) (length-set xs j t ∙ many) ∙ ap (λ (ys : List X). set ys j t) same
 
 -- ---- an integrator
 

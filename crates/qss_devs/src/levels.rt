@@ -1,20 +1,44 @@
 //! Integrators take their levels.
 
-ghost use Rattle.std.specs.Prelude.{◌≡◌, ◌≢◌, ℕ, ◌+◌, ◌<◌, ◌≤◌, None, Some, vec_len, vec_capacity};
+ghost use Rattle.std.specs.Prelude.{◌≡◌, ◌≢◌, ℕ, ◌+◌, ◌<◌, ◌≤◌, None, Some, length, map, slice_index_or, vec_len, vec_capacity};
 ghost use Rattle.qss_machine.specs.Machines.{state_count};
+ghost use Rattle.qss_machine.specs.declared.rows.RowKind.TheVariants as kind;
 ghost use Rattle.qss_quant.specs.declared.rule.Rule.{Rule};
 ghost use Rattle.qss_devs.specs.Integrators.{IsLineNext};
 ghost use Rattle.qss_devs.specs.Agreement.{Values};
-ghost use Rattle.qss_devs.specs.Coupling.{line_at, summing_at, crossing_at, AreComponents, AreRuled, AreReady, LinesLater};
+ghost use Rattle.qss_devs.specs.Coupling.{no_line, line_at, summing_at, crossing_at, AreComponents, AreRuled, AreReady, LinesLater};
 ghost use Rattle.qss_devs.specs.Steps.{Agrees, AreValues, IsLevelTaken, AreTaken, IsNamed};
 
 use crate::components::{Components, tell};
+use crate::integrator_model::IntegratorModel;
 use crate::turn::{Turn, make_turn};
 use qss_machine::{Machine, Row, RowKind};
 use qss_quant::Quantizer;
 
+// The row of a state whose integrator took its level.
+fn level_row(tick: u64, var: u32, integrators: &[IntegratorModel]) -> Row
+    requires { var < length integrators.now }
+    ensures { result ≡ record {
+      tick = tick;
+      kind = kind.Level;
+      var = var;
+      level = (slice_index_or (map (λ i. i.line) integrators.now) var no_line).level;
+      state = (slice_index_or (map (λ i. i.line) integrators.now) var no_line).x;
+    } }
+{
+    let integrator = &integrators[var as usize];
+    let level = integrator.line.level;
+    let state = integrator.line.x;
+    Row {
+        tick,
+        kind: RowKind::Level,
+        var,
+        level,
+        state,
+    }
+}
+
 // An integrator takes its level and tells it, with a row, if it is due. It gives the state whose level passes its limit.
-#[tactic(none)]
 fn take_level(
     m: &Machine,
     q: &Quantizer,
@@ -44,19 +68,12 @@ fn take_level(
     ensures room { vec_capacity rows.new ≡ vec_capacity rows.old }
     ensures count { vec_len rows.new ≤ vec_len rows.old + 1 }
 {
-    let place = j as usize;
     let integrators = parts.integrators.as_mut_slice();
-    match make_turn(&mut integrators[place], tick) {
+    match make_turn(&mut integrators[j as usize], tick) {
         Turn::Rests => None,
         Turn::Passes => Some(j),
         Turn::Sends(msg) => {
-            rows.push_reserved(Row {
-                tick,
-                kind: RowKind::Level,
-                var: j,
-                level: integrators[place].line.level,
-                state: integrators[place].line.x,
-            });
+            rows.push_reserved(level_row(tick, j, parts.integrators.as_slice()));
             tell(m, parts, tick, msg);
             None
         }
@@ -64,7 +81,6 @@ fn take_level(
 }
 
 /// The due integrators take their levels and tell them, by number, with a row each, up to one whose level passes its limit.
-#[tactic(none)]
 pub(crate) fn take_levels(
     m: &Machine,
     q: &Quantizer,

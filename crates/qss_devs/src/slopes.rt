@@ -12,7 +12,6 @@ use crate::turn::{Turn, make_turn};
 use qss_machine::Machine;
 
 // A function sends its sum, if it changed. It gives the state whose row passes its limits.
-#[tactic(none)]
 fn send_slope(m: &Machine, parts: &mut Components, tick: u64, j: u32) -> Option<u32>
     requires parts { AreComponents m.now parts.old }
     requires known { j < state_count m.now }
@@ -42,7 +41,6 @@ fn send_slope(m: &Machine, parts: &mut Components, tick: u64, j: u32) -> Option<
 }
 
 /// The due functions tell their sums, by number, up to one whose sum passes the limit of slopes.
-#[tactic(none)]
 pub(crate) fn send_slopes(m: &Machine, parts: &mut Components, tick: u64) -> Option<u32>
     requires parts { AreComponents m.now parts.old }
     requires ready { AreReady m.now tick

@@ -17,7 +17,8 @@ returns-then-not-is_due g c = record {
 pub returns-in-None : goal.returns-in-None
 returns-in-None g c =
     let due = c.is_due.ensures.due c.if-not-is_due.false in
-    absurd (subst IsSome c.in-None.is ((c.output.ensures.when (Some c.args.tick) due).1 refl))
+    let none : false ≡ true = subst IsSome c.in-None.is ((c.output.ensures.when (Some c.args.tick) due).1 refl) in
+    absurd (cc)
 
 pub returns-then-passes_limit : goal.returns-then-passes_limit
 returns-then-passes_limit g c =
