@@ -43,3 +43,4 @@ pub mod Readings
 pub mod ReadParts
 pub mod Stays
 pub mod Followed
+pub mod Arrivals
