@@ -1,9 +1,10 @@
 -- A coupled model on arrival at the next tick, and what its handlers leave.
-use Rattle.std.proofs.Common.{◌≡◌, ℕ, ◌+◌, ◌<◌, ◌≤◌, ◌^◌, Bool, false, List, [], length, get_or, map, All, ℤ, pos, refl, sym, ◌∙◌, ap, subst, arith}
+use Rattle.std.proofs.Common.{◌≡◌, ℕ, ◌+◌, ◌<◌, ◌≤◌, ◌^◌, Bool, true, false, List, [], length, get_or, map, All, ℤ, pos, ◌+ℤ◌, refl, sym, ◌∙◌, ap, subst, arith}
 use Rattle.std.proofs.lemmas.Int.{ints}
 use Rattle.std.proofs.lemmas.List.{length-map, get_or-map}
 use Rattle.std.proofs.lemmas.List.FromFn.{length-map-range_with_len}
-use Rattle.std.specs.Prelude.{Option, Some, None}
+use Rattle.std.specs.Option.{option_or}
+use Rattle.std.specs.Prelude.{Option, Some, None, is_some, position}
 use Rattle.mu_num.specs.Sizes.{IsWithin, passes}
 use Rattle.mu_num.specs.Ticks.{tick_limit}
 use Rattle.mu_num.proofs.SizeTests.{passes-within}
@@ -14,11 +15,14 @@ use Rattle.qss_machine.specs.Firing.{flag_at}
 use Rattle.qss_machine.specs.Handlers.{Handling, conditions, truths, due_flags, run_clauses}
 use Rattle.qss_machine.specs.Machines.{state_count, discrete_count, slope_at, compares, truth}
 use Rattle.qss_machine.specs.Numbers.{int_at, first_past}
-use Rattle.qss_machine.specs.Ticks.{World, moved_states, handling_at}
+use Rattle.qss_machine.specs.Ticks.{World, moved_states, handling_at, is_overweight, world_unless, Step}
 use Rattle.qss_quant.specs.Lines.{Line, state_at}
 use Rattle.qss_quant.specs.declared.rule.Rule.{Rule}
 use Rattle.qss_cross.specs.Crossing.{holds_at}
+use Rattle.qss_hand.specs.Values.{Values as Kept}
+use Rattle.qss_hand.specs.Works.{AreValuesOf, handling_of}
 use Rattle.qss_hand.proofs.Turns.{clauses_stay}
+use Rattle.qss_quiet.specs.Rules.{IsRuled}
 use Rattle.qss_quiet.specs.Sims.{slopes_of, condition_at}
 use Rattle.qss_quiet.specs.Skips.{world_after}
 use Rattle.qss_quiet.proofs.Firsts.{same_lists}
@@ -89,7 +93,7 @@ module _ {X : Type 0} {g : _} (m : Machine) (name : Option Rule) (tick : ℕ) (s
   moved_stand = components_move m tick 1 w (line_at s.parts) (summing_at s.parts) (crossing_at s.parts) stands.stand
 
   moved_many : length (moved_states m w) ≡ state_count m
-  moved_many = length-map-range_with_len (λ j. int_at w.states j) 0 (state_count m)
+  moved_many = length-map-range_with_len (λ j. int_at w.states j +ℤ slope_at m j w.levels w.discretes) 0 (state_count m)
 
   -- the components agree with the values on arrival
   pub arrived_agree : Agrees m (tick + 1) (arrived_values m w) s.parts
@@ -137,6 +141,27 @@ module _ {X : Type 0} {g : _} (m : Machine) (name : Option Rule) (tick : ℕ) (s
           ∙ ap (λ (xs : List ℤ). truth m (condition_at m k) xs w.discretes (tick + 1)) (sym (moved_is m w))
           ∙ sym (get_or-map (λ (condition : Condition). truth m condition (moved_states m w) w.discretes (tick + 1)) (conditions m) k none false here)
 
+  -- what handlers work on
+  abbrev pub begun : Kept
+  begun = record s.work { x = moved_states m w; pre = s.work.d; tick = tick + 1; log = [] }
+
+  pub begun_fits : (v : Kept) → v ≡ begun → first_past 88 (moved_states m w) ≡ None → AreValuesOf m v
+  begun_fits v is within = subst (AreValuesOf m) (sym is) (record {
+    states = moved_many;
+    discretes = stands.fits.values.discretes;
+    before = stands.fits.values.discretes;
+    small_states = all_within 88 (moved_states m w) within;
+    small_discretes = stands.fits.values.small_discretes;
+    small_before = stands.fits.values.small_discretes;
+    in_time = omega (arith, before, last);
+  })
+
+  pub handled_is : (v : Kept) (now arrived settled : List Bool) → v ≡ begun → first_past 88 (moved_states m w) ≡ None → now ≡ truths m (moved_states m w) w.discretes (tick + 1) → arrived ≡ w.arrived → settled ≡ w.settled →
+      run_clauses m v.tick v.pre 0 (handling_of v) m.clauses (due_flags now arrived settled) ≡ handling_at m (tick + 1) w
+  handled_is v now arrived settled is within of_now of_arrived of_settled =
+      ap (λ (u : Kept). run_clauses m u.tick u.pre 0 (handling_of u) m.clauses (due_flags now arrived settled)) is
+      ∙ handling_is m (tick + 1) w (moved_states m w) w.discretes w.discretes now arrived settled refl refl refl within of_now of_arrived of_settled
+
   -- where no state overflows on arrival, what the crossings read is within the limits
   module _ (within : first_past 88 (moved_states m w) ≡ None) (new : Components X g) (same_lines : (j : ℕ) → j < state_count m → line_at new j ≡ line_at s.parts j)
       (same_summings : (j : ℕ) → j < state_count m → summing_at new j ≡ summing_at s.parts j) (agree : Agrees m (tick + 1) (arrived_values m w) new) (later : CrossingsLater m (tick + 1) (crossing_at new)) where
@@ -165,3 +190,19 @@ module _ {X : Type 0} {g : _} (m : Machine) (name : Option Rule) (tick : ℕ) (s
         small = small_inputs place h;
       };
     }
+
+-- the step of a tick whose handlers overflow
+pub over_step : (m : Machine) (name : Option Rule) (tick : ℕ) (w next : World) (over : Option ℕ) → is_some over ≡ true → over ≡ (handling_at m tick w).overflow →
+    Step (IsRuled name) m tick w (world_unless over next)
+over_step m name tick w next None some is = absurd (cc)
+over_step m name tick w next (Some var) some is = (
+  [],
+  (λ none. absurd (cc)),
+  ap (λ o. world_unless (option_or o (option_or (first_past 43 []) (position (is_overweight m [] (handling_at m tick w).discretes) m.rows))) (record {
+    states = (handling_at m tick w).states;
+    levels = [];
+    discretes = (handling_at m tick w).discretes;
+    arrived = truths m (moved_states m w) w.discretes tick;
+    settled = truths m (handling_at m tick w).states (handling_at m tick w).discretes tick;
+  })) is,
+)

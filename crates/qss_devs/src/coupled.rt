@@ -1,6 +1,6 @@
 //! Coupled models.
 
-ghost use Rattle.std.specs.Prelude.{◌≡◌, ◌≤◌, None, IfOk};
+ghost use Rattle.std.specs.Prelude.{◌≡◌, ◌≤◌, true, is_some, None, IfOk};
 ghost use Rattle.qss_devs.specs.Steps.{IsNamed};
 ghost use Rattle.qss_devs.specs.Visits.{Stands};
 
@@ -22,7 +22,7 @@ pub struct Coupled {
     /// How the run ended, if it has.
     pub end: Option<Outcome>,
     pub store: Store,
-    pub ghost named: { IsNamed quantizer.value.name },
+    pub ghost named: { is_some quantizer.value.name ≡ true },
     pub ghost in_time: { tick ≤ machine.value.last },
     pub ghost stands: { end ≡ None → Stands machine.value quantizer.value.name tick store },
 }

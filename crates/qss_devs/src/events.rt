@@ -13,6 +13,7 @@ use crate::ends::{set_overflow_row, set_world_rows};
 use crate::jump::go_to_visit;
 use crate::outcome::Outcome;
 use crate::store::Store;
+use qss_hand::Work;
 use qss_machine::{Machine, RowKind};
 use qss_quant::Quantizer;
 
@@ -43,6 +44,13 @@ pub(crate) fn go_on(m: &Machine, q: &Quantizer, from: u64, s: &mut Store) -> Out
     Outcome::Done
 }
 
+// The discrete values on which handlers work.
+fn discretes_of(work: &Work) -> &[i64]
+    ensures { result.now ≡ work.now.d }
+{
+    work.d.as_slice()
+}
+
 // The end rows, from the states at the last tick.
 fn finish(m: &Machine, q: &Quantizer, s: &mut Store)
     requires { Stands m.now q.now.name m.now.last s.old }
@@ -53,7 +61,7 @@ fn finish(m: &Machine, q: &Quantizer, s: &mut Store)
         RowKind::End,
         m.last,
         s.parts.integrators.as_slice(),
-        s.work.d.as_slice(),
+        discretes_of(&s.work),
         &mut s.rows,
     );
 }

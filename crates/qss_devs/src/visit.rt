@@ -22,7 +22,6 @@ use qss_machine::{Machine, Row};
 use qss_quant::Quantizer;
 
 // The states to which the lines lead are those on which handlers work. It gives the first that passes its limit.
-#[tactic(none)]
 fn arrive_in(integrators: &[IntegratorModel], tick: u64, work: &mut Work) -> Option<u32>
     requires few { length integrators.now ≤ 4096 }
     requires as_many { length work.old.x ≡ length integrators.now }
@@ -37,7 +36,6 @@ fn arrive_in(integrators: &[IntegratorModel], tick: u64, work: &mut Work) -> Opt
 }
 
 // The rows of handlers are the first of a tick.
-#[tactic(none)]
 fn note_rows(work: &Work, rows: &mut Vec<Row>)
     requires { length work.now.log ≤ vec_capacity rows.old }
     ensures rows { rows.new.items ≡ work.now.log }

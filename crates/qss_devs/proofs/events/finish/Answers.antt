@@ -4,7 +4,6 @@ use Rattle.std.proofs.lemmas.List.{length-map}
 use Rattle.qss_machine.specs.declared.rows.RowKind.TheVariants as kind
 use Rattle.qss_machine.specs.Runs.{state_rows, discrete_rows, world_rows}
 use Rattle.qss_quant.specs.Lines.{state_at}
-use Rattle.qss_hand.specs.Values.{Values}
 use Rattle.qss_devs.specs.declared.integrator_model.IntegratorModel.{IntegratorModel}
 use Rattle.qss_devs.proofs.WorldRows.{rows_at, lines_early}
 use Rattle.qss_devs.proofs.events.finish.Goals as goal
@@ -14,8 +13,7 @@ set_world_rows-requires-clause-few g c =
     omega (
       arith,
       ap length c.as_slice.ensures.value,
-      ap length c.as_slice-2.ensures.value,
-      ap (λ (v : Values). length v.d) c.work.view_is,
+      ap length c.discretes_of.ensures,
       c.requires.fits.parts.integrators,
       c.requires.fits.values.discretes,
       c.args.m.now.has_variables.few,
@@ -32,8 +30,7 @@ set_world_rows-requires-clause-room g c =
     omega (
       arith,
       ap length c.as_slice.ensures.value,
-      ap length c.as_slice-2.ensures.value,
-      ap (λ (v : Values). length v.d) c.work.view_is,
+      ap length c.discretes_of.ensures,
       c.requires.fits.parts.integrators,
       c.requires.fits.values.discretes,
       c.requires.fits.row_room,
@@ -42,4 +39,4 @@ set_world_rows-requires-clause-room g c =
 pub returns-clause-rows : goal.returns-clause-rows
 returns-clause-rows g c =
     c.set_world_rows.ensures.rows
-    ∙ rows_at kind.End c.args.m.now.last c.as_slice.result.now c.as_slice-2.result.now c.args.s.now c.as_slice.ensures.value (c.as_slice-2.ensures.value ∙ ap (λ (v : Values). v.d) c.work.view_is)
+    ∙ rows_at kind.End c.args.m.now.last c.as_slice.result.now c.discretes_of.result.now c.args.s.now c.as_slice.ensures.value c.discretes_of.ensures

@@ -17,13 +17,13 @@ pub returns-clause-rows : goal.returns-clause-rows
 returns-clause-rows g c rule named going =
     let m : Machine = c.args.self.now.machine.value in
     let from : ℕ = c.args.self.now.tick in
-    let s : Store = c.args.self.now.store in
+    let s : Store _ _ = c.args.self.now.store in
     let outcome : Outcome = c.go_on-outcome.result in
-    let after : Store = c.go_on-outcome.new.s in
+    let after : Store _ _ = c.go_on-outcome.new.s in
     let to : ℕ = tick_of m.last outcome in
     let of_machine : c.deref.result.now ≡ m = c.deref.ensures in
     let next : IsNext (IsRuled (Some rule)) (standing_of m from s None) (standing_of m to after (end_of outcome)) outcome =
-    subst (λ name. IsNext (IsRuled name) (standing_of m from s None) (standing_of m to after (end_of outcome)) outcome) (ap (λ (q : Quantizer). q.name) c.deref-2.ensures ∙ named)
+    subst (λ name. IsNext (IsRuled name) (standing_of m from s None) (standing_of m to after (end_of outcome)) outcome) (ap (λ (q : Quantizer _ _). q.name) c.deref-2.ensures ∙ named)
     (subst (λ (n : Machine). IsNext (IsRuled c.deref-2.result.now.name) (standing_of n from s None) (standing_of n (tick_of n.last outcome) after (end_of outcome)) outcome) of_machine c.go_on-outcome.ensures.next) in
     ap (λ (e : Option Outcome). rows_left (level_by rule) (standing_of m from s e)) going
     ∙ named_rows rule m from (world_of from s) s.rows.items outcome to (world_of to after) after.rows.items (end_of outcome) next
