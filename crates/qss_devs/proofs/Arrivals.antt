@@ -36,7 +36,7 @@ use Rattle.qss_devs.specs.Integrators.{IsLineNext}
 use Rattle.qss_devs.specs.Functions.{Summing}
 use Rattle.qss_devs.specs.Crossings.{Crossing, IsCrossingNext, input_at, AreSmallAt}
 use Rattle.qss_devs.specs.Models.{crossing_of}
-use Rattle.qss_devs.specs.Agreement.{Values, Moving, moving_of, Agree, CrossingAgrees, StandFor}
+use Rattle.qss_devs.specs.Agreement.{Values, HasEach, Moving, moving_of, Agree, CrossingAgrees, StandFor}
 use Rattle.qss_devs.specs.Coupling.{line_at, summing_at, crossing_at, no_crossing, AreComponents, IsSummingReady, IsCrossingReady, AreReady, LinesLater}
 use Rattle.qss_devs.specs.Steps.{Agrees}
 use Rattle.qss_devs.specs.Visits.{states_at, world_of, Stands, arrived_values, CrossingsLater}
@@ -99,6 +99,14 @@ module _ {X : Type 0} {g : _} (m : Machine) (name : Option Rule) (tick : ℕ) (s
   pub arrived_agree : Agrees m (tick + 1) (arrived_values m w) s.parts
   arrived_agree =
       subst (λ (xs : List ℤ). Agrees m (tick + 1) (record { states = xs; slopes = slopes_of m w; levels = w.levels; discretes = w.discretes }) s.parts) (sym (moved_is m w)) moved_stand.agree
+
+  pub arrived_each : HasEach m (arrived_values m w)
+  arrived_each = record {
+    states = moved_many;
+    slopes = length-map-range_with_len (λ j. slope_at m j w.levels w.discretes) 0 (state_count m);
+    levels = stands.left.one_each;
+    discretes = discretes_many;
+  }
 
   -- the lines lead to the states on arrival
   pub arrived_states : states_at (tick + 1) s.parts ≡ moved_states m w

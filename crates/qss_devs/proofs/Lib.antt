@@ -44,3 +44,4 @@ pub mod ReadParts
 pub mod Stays
 pub mod Followed
 pub mod Arrivals
+pub mod TickEnds

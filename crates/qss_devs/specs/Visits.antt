@@ -12,7 +12,7 @@ use Rattle.qss_quiet.specs.Sims.{slopes_of}
 use Rattle.qss_devs.specs.declared.components.Components.{Components}
 use Rattle.qss_devs.specs.declared.store.Store.{Store}
 use Rattle.qss_devs.specs.Crossings.{Crossing, IsCrossingNext}
-use Rattle.qss_devs.specs.Agreement.{Values, StandFor}
+use Rattle.qss_devs.specs.Agreement.{Values, HasEach, StandFor}
 use Rattle.qss_devs.specs.Coupling.{line_at, summing_at, crossing_at, AreComponents, AreRuled, AreReady, LinesLater}
 use Rattle.qss_devs.specs.Steps.{IsTold, Agrees}
 
@@ -65,6 +65,7 @@ arrived_values m w = record { states = moved_states m w; slopes = slopes_of m w;
 pub record IsHandled {X : Type 0} {g : _} (m : Machine) (name : Option Rule) (tick : ℕ) (w : World) (s : Store X g) : Type 0 where
   pub fits : FitsMachine m name s
   pub left : IsLeft m w
+  pub each : HasEach m (arrived_values m w)
   pub ready : AreReady m tick (line_at s.parts) (summing_at s.parts) (crossing_at s.parts)
   pub agree : Agrees m tick (arrived_values m w) s.parts
   pub none_over : (handling_at m tick w).overflow ≡ None
@@ -72,4 +73,5 @@ pub record IsHandled {X : Type 0} {g : _} (m : Machine) (name : Option Rule) (ti
   pub discretes : s.work.d ≡ (handling_at m tick w).discretes
   pub log : s.work.log ≡ (handling_at m tick w).rows
   pub told : All (IsTold m) s.work.log
+  pub count : length s.work.log ≤ row_room m.clauses
   pub now : s.truths.now.items ≡ truths m (moved_states m w) w.discretes tick

@@ -15,7 +15,7 @@ use Rattle.qss_devs.specs.declared.integrator_model.IntegratorModel.{IntegratorM
 use Rattle.qss_devs.specs.declared.store.Store.{Store}
 use Rattle.qss_devs.specs.Coupling.{line_at, summing_at, AreRuled}
 use Rattle.qss_devs.specs.Visits.{world_of, arrived_values}
-use Rattle.qss_devs.proofs.Arrivals.{stays_over, arrived_agree, arrived_states, arrived_truths, arrived_ready, begun, begun_fits, handled_is, crossing_timely, crossing_held}
+use Rattle.qss_devs.proofs.Arrivals.{stays_over, arrived_agree, arrived_each, arrived_states, arrived_truths, arrived_ready, begun, begun_fits, handled_is, crossing_timely, crossing_held}
 use Rattle.qss_devs.proofs.Overs.{not_some, clash}
 use Rattle.qss_devs.proofs.WorldRows.{lines_early}
 use Rattle.qss_devs.proofs.visit.handle.Goals as goal
@@ -274,6 +274,7 @@ returns-in-Ok-clause-handled g c =
         row_room = stands.fits.row_room;
       };
       left = stands.left;
+      each = arrived_each m name tick s stands before;
       ready = arrived_ready m name tick s stands before within parts (λ j h. ap (λ (p : Components _ _). line_at p j) kept) (λ j h. ap (λ (p : Components _ _). summing_at p j) kept) agree c.read_crossings.ensures.later;
       agree = agree;
       none_over = sym (c.in-Ok.ensures.over ∙ ap (λ (h : Handling). h.overflow) handled);
@@ -281,6 +282,7 @@ returns-in-Ok-clause-handled g c =
       discretes = ap (λ (u : Kept). u.d) values ∙ ap (λ (h : Handling). h.discretes) handled;
       log = ap (λ (u : Kept). u.log) values ∙ ap (λ (h : Handling). h.rows) handled;
       told = c.in-Ok.ensures.told;
+      count = c.in-Ok.ensures.count;
       now = now_is;
     }
 
