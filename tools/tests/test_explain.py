@@ -15,6 +15,27 @@ from qss_tools.source import Source
 # A source and the line of its refusal, as the tests of the program's own crates hold them.
 PAIR = re.compile(r'\(\s*b?"((?:\\.|[^"\\])*)",\s*b?"(refused: [^"\\]*)\\n",?\s*\)', re.DOTALL)
 
+
+
+def refused_in_transcript():
+    """The sources that runs and prints of the transcript refuse, where they stand there line by line, each with its line of refusal."""
+    texts, name, called, pairs = {}, None, None, set()
+    with open(os.path.join(ROOT, "crates", "transcript", "stdout"), encoding="utf-8") as file:
+        for line in file:
+            mark, _, rest = line[:-1].partition(" ")
+            if mark == "file":
+                name, texts[rest] = rest, ""
+            elif mark in ("|", "+") and texts[name] is not None:
+                texts[name] += rest + ("\n" if mark == "|" else "")
+            elif mark in ("repeat", "front", "copy", "change"):
+                texts[name] = None
+            elif mark == "$":
+                called = line.split()[3] if line.startswith(("$ qss run ", "$ qss print ")) else None
+            elif line.startswith("! refused: ") and texts.get(called):
+                pairs.add((texts[called].encode(), line[2:-1]))
+    return sorted(pairs)
+
+
 BUCK = "model m Real x; equation der(x) = -1000000*x; end m;"
 
 DECAY = ("model decay Real x(start = 64); equation der(x) = -1*x; annotation(experiment(StopTime = 1, QSS_CoefBits = 8,"
@@ -57,16 +78,14 @@ class Places(unittest.TestCase):
                 self.assertTrue(story.text(source).startswith("m.mo:%s: " % place))
 
     def test_refusals_of_the_crates_are_placed(self):
-        """Of all refused sources in the tests of the crates at least 95 in 100 are placed."""
-        found = placed = 0
+        """Of all refused sources in the transcript and in the tests of the crates at least 95 in 100 are placed."""
+        pairs = refused_in_transcript()
         for name in glob.glob(os.path.join(ROOT, "crates", "*_tests", "src", "*.rt")):
             with open(name, encoding="utf-8") as file:
-                for text, line in PAIR.findall(file.read()):
-                    found += 1
-                    source = Source("m.mo", text.encode().decode("unicode_escape").encode("latin-1"))
-                    placed += explain(source, line).at is not None
-        self.assertGreaterEqual(found, 70)
-        self.assertGreaterEqual(100 * placed, 95 * found)
+                pairs += [(text.encode().decode("unicode_escape").encode("latin-1"), line) for text, line in PAIR.findall(file.read())]
+        placed = [explain(Source("m.mo", text), line).at is not None for text, line in pairs]
+        self.assertGreaterEqual(len(pairs), 70)
+        self.assertGreaterEqual(100 * sum(placed), 95 * len(placed))
 
     def test_habits_have_a_way_out(self):
         for line_of_source, line, place, way in HABITS:

@@ -16,7 +16,8 @@ def sources_are_newer():
     """Whether ./qss would build the program again."""
     built = os.path.getmtime(BUILT)
     sources = [path for part in ("src", "specs", "proofs") for path in glob.glob(os.path.join(ROOT, "crates", "*", part, "**"), recursive=True)]
-    return any(os.path.getmtime(path) > built for path in sources if "_tests" + os.sep not in path)
+    beside = ("_tests" + os.sep, os.sep + "transcript" + os.sep)  # crates that the program does not stand on
+    return any(os.path.getmtime(path) > built for path in sources if not any(part in path for part in beside))
 
 
 @unittest.skipUnless(os.path.exists(BUILT), "the program is not built: its tests are left out")
@@ -63,17 +64,18 @@ class WithTheProgram(InFolder):
 
 class Sources(unittest.TestCase):
     def test_the_examples_of_the_gate_are_those_of_the_gallery(self):
-        """The sources in program_tests are the examples, but for their head comments and stop times."""
-        path = os.path.join(ROOT, "crates", "program_tests", "src", "examples.rt")
-        with open(path, encoding="utf-8") as file:
-            gate = file.read()
-        sources = re.findall(r"const (\w+): &str =\s*\"((?:\\.|[^\"\\])*)\";", gate)
+        """The sources in the transcript are the examples, but for their head comments and stop times."""
+        with open(os.path.join(ROOT, "crates", "transcript", "stdin"), encoding="utf-8") as file:
+            script = file.read()
+        calls = script[script.index("\n# Examples run to their ends"):].split("\n\n")[0]
+        sources = re.findall(r"^file (\w+)\.mo\n((?:\| .*\n)+)", calls, re.M)
         self.assertEqual(len(sources), 10)
+        stop = re.compile(r"StopTime = [\d.]+")
         for name, text in sources:
-            with open(os.path.join(ROOT, "examples", name.lower() + ".mo"), encoding="utf-8") as file:
+            with open(os.path.join(ROOT, "examples", name + ".mo"), encoding="utf-8") as file:
                 example = file.read()
-            stop = re.compile(r"StopTime = [\d.]+")
-            self.assertEqual(stop.sub("", text.encode().decode("unicode_escape")), stop.sub("", example[example.index("\nmodel ") + 1:]), name)
+            source = re.sub(r"^\| ", "", text, flags=re.M)
+            self.assertEqual(stop.sub("", source), stop.sub("", example[example.index("\nmodel ") + 1:]), name)
 
 
 if __name__ == "__main__":

@@ -5,8 +5,8 @@ use Prim.Native.Nat.{zero, suc}
 use Rattle.std.proofs.Math.Path.{fun_ext}
 use Rattle.std.proofs.lemmas.Bool.{cases_eq}
 use Rattle.std.proofs.lemmas.Bool.Decides.{nat_tests}
-use Rattle.mu_tree.specs.declared.flat.FlatEquation.{FlatEquation}
-use Rattle.mu_tree.specs.FlatExpression.{FlatModelTree, flat_equation}
+use Rattle.mu_flat.specs.declared.flat.FlatEquation.{FlatEquation}
+use Rattle.mu_flat.specs.FlatExpression.{FlatModelTree, flat_equation}
 use Rattle.mu_forms.specs.declared.fault.AffineErr.{AffineErr}
 use Rattle.mu_forms.specs.declared.form.Sizes.{Sizes}
 use Rattle.mu_forms.specs.declared.form.ExactForm.{ExactForm}

@@ -3,10 +3,10 @@ use Rattle.std.proofs.Common.{◌≡◌, ◌∙◌, ◌<◌, ◌≤◌, ◌+◌,
 use Rattle.std.specs.Prelude.{Some, None, slice_get, ◌⊎◌, Result, Ok}
 use Prim.Native.Nat.{zero, suc}
 use Rattle.std.proofs.lemmas.List.{map_push, length_push}
-use Rattle.mu_tree.specs.declared.flat.FlatStatement.{FlatStatement}
-use Rattle.mu_tree.specs.declared.flat.FlatBranch.{FlatBranch}
-use Rattle.mu_tree.specs.declared.flat.FlatClause.{FlatClause}
-use Rattle.mu_tree.specs.FlatExpression.{FlatModelTree, flat_action, flat_branch, flat_clause}
+use Rattle.mu_flat.specs.declared.flat.FlatStatement.{FlatStatement}
+use Rattle.mu_flat.specs.declared.flat.FlatBranch.{FlatBranch}
+use Rattle.mu_flat.specs.declared.flat.FlatClause.{FlatClause}
+use Rattle.mu_flat.specs.FlatExpression.{FlatModelTree, flat_action, flat_branch, flat_clause}
 use Rattle.mu_forms.specs.declared.fault.AffineErr.{AffineErr}
 use Rattle.mu_forms.specs.declared.form.Sizes.{Sizes}
 use Rattle.mu_forms.specs.declared.form.ExactForm.{ExactForm}

@@ -5,10 +5,10 @@ use Prim.Native.Nat.{zero, suc}
 use Rattle.std.proofs.lemmas.Bool.{cases_eq, cases_lt}
 use Rattle.std.proofs.lemmas.Bool.Decides.{nat_tests}
 use Rattle.std.proofs.lemmas.List.Elements.{All-contains, Contains-append_left, Contains-append_right, Contains-append_cases, Contains-push_cases}
-use Rattle.mu_tree.specs.declared.flat.FlatRole.{FlatRole}
-use Rattle.mu_tree.specs.declared.flat.FlatRole.TheVariants.{State, Discrete, Algebraic}
-use Rattle.mu_tree.specs.FlatExpression.{FlatExpression, Constant, Variable, Previous, Now, Sum, Product, Power, FlatTerms, no_terms, term, FlatFactors, no_factors, factor, FlatVariable, FlatEquationTree, FlatAction, FlatBranchTree, FlatModelTree}
-use Rattle.mu_tree.specs.FlatModels.{IsFlatExpression, AreFlatTerms, AreFlatFactors, IsFlatEquation, IsFlatModel, target_role}
+use Rattle.mu_flat.specs.declared.flat.FlatRole.{FlatRole}
+use Rattle.mu_flat.specs.declared.flat.FlatRole.TheVariants.{State, Discrete, Algebraic}
+use Rattle.mu_flat.specs.FlatExpression.{FlatExpression, Constant, Variable, Previous, Now, Sum, Product, Power, FlatTerms, no_terms, term, FlatFactors, no_factors, factor, FlatVariable, FlatEquationTree, FlatAction, FlatBranchTree, FlatModelTree}
+use Rattle.mu_flat.specs.FlatModels.{IsFlatExpression, AreFlatTerms, AreFlatFactors, IsFlatEquation, IsFlatModel, target_role}
 use Rattle.mu_causal.specs.Causality.{IsReady, Follow, IsOrder}
 use Rattle.mu_causal.specs.Dependencies.{names_of, names_of_terms, names_of_factors, IsAlgebraic, DependsOn, WantsEquation, wants_equation, numbers_from, AreCounted}
 use Rattle.mu_forms.specs.declared.fault.AffineErr.{AffineErr}

@@ -3,10 +3,10 @@ use Rattle.std.proofs.Common.{◌≡◌, ◌∙◌, ◌<◌, ◌+◌, ℕ, List,
 use Rattle.std.specs.Prelude.{Result, Ok, Err}
 use Prim.Native.Nat.{suc}
 use Rattle.std.proofs.Math.Seq.{drop-cons}
-use Rattle.mu_tree.specs.declared.flat.FlatStatement.{FlatStatement}
-use Rattle.mu_tree.specs.declared.flat.FlatBranch.{FlatBranch}
-use Rattle.mu_tree.specs.declared.flat.FlatClause.{FlatClause}
-use Rattle.mu_tree.specs.FlatExpression.{FlatModelTree, flat_action, flat_branch, flat_clause}
+use Rattle.mu_flat.specs.declared.flat.FlatStatement.{FlatStatement}
+use Rattle.mu_flat.specs.declared.flat.FlatBranch.{FlatBranch}
+use Rattle.mu_flat.specs.declared.flat.FlatClause.{FlatClause}
+use Rattle.mu_flat.specs.FlatExpression.{FlatModelTree, flat_action, flat_branch, flat_clause}
 use Rattle.mu_forms.specs.declared.fault.AffineErr.{AffineErr}
 use Rattle.mu_forms.specs.declared.fault.AffineErr.TheVariants.{NotAffine, TimeHere, ConstFault, TooDense, Memory}
 use Rattle.mu_forms.specs.declared.form.Sizes.{Sizes}

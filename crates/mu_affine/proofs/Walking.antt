@@ -5,7 +5,7 @@ use Rattle.std.proofs.lemmas.Bool.{cases_Bool, false≢true, eqb-true}
 use Rattle.std.proofs.lemmas.Bool.Decides.{nat_tests}
 use Rattle.std.proofs.lemmas.Option.{slice_get-get_or}
 use Rattle.mu_num.specs.Fraction.{Fraction}
-use Rattle.mu_tree.specs.FlatExpression.{Variable, Power, FlatExpression, FlatTerms, no_terms, term, FlatFactors, no_factors, factor}
+use Rattle.mu_flat.specs.FlatExpression.{Variable, Power, FlatExpression, FlatTerms, no_terms, term, FlatFactors, no_factors, factor}
 use Rattle.mu_forms.specs.declared.form.Place.{Place}
 use Rattle.mu_forms.specs.declared.form.ExactForm.{ExactForm}
 use Rattle.mu_forms.specs.declared.fault.AffineErr.{AffineErr}

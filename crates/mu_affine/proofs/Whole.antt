@@ -4,10 +4,10 @@ use Rattle.std.specs.Prelude.{slice_get, All, Result, Ok}
 use Rattle.std.proofs.lemmas.Option.{slice_get_within}
 use Rattle.std.proofs.lemmas.List.Elements.{All-nil, All-cons, All-weaker}
 use Rattle.std.proofs.lemmas.List.{length-map}
-use Rattle.mu_tree.specs.declared.flat.FlatModel.{FlatModel}
-use Rattle.mu_tree.specs.declared.flat.FlatRole.TheVariants.{State, Discrete}
-use Rattle.mu_tree.specs.FlatExpression.{flat_model, flat_variable, FlatBranchTree, FlatModelTree}
-use Rattle.mu_tree.specs.FlatModels.{IsFlatEquation, IsFlatAction, IsFlatBranch, IsFlatClause, IsFlatModel}
+use Rattle.mu_flat.specs.declared.flat.FlatModel.{FlatModel}
+use Rattle.mu_flat.specs.declared.flat.FlatRole.TheVariants.{State, Discrete}
+use Rattle.mu_flat.specs.FlatExpression.{flat_model, flat_variable, FlatBranchTree, FlatModelTree}
+use Rattle.mu_flat.specs.FlatModels.{IsFlatEquation, IsFlatAction, IsFlatBranch, IsFlatClause, IsFlatModel}
 use Rattle.mu_causal.specs.Causality.{Follow, IsOrder}
 use Rattle.mu_causal.specs.Dependencies.{IsAlgebraic, DependsOn}
 use Rattle.mu_forms.specs.declared.fault.AffineErr.{AffineErr}

@@ -6,7 +6,7 @@ use Rattle.mu_forms.specs.declared.fault.AffineErr.TheVariants.{TimeHere}
 use Rattle.mu_forms.specs.declared.form.Place.{Place}
 use Rattle.mu_forms.specs.AffineForm.{AffineForm, constant_form, name_form, time_form}
 use Rattle.mu_forms.specs.Parts.{kept, then_form, join_forms, multiply_forms, raise_form}
-use Rattle.mu_tree.specs.FlatExpression.{FlatExpression, Constant, Variable, Previous, Now, Sum, Product, Power, FlatTerms, no_terms, term, FlatFactors, no_factors, factor}
+use Rattle.mu_flat.specs.FlatExpression.{FlatExpression, Constant, Variable, Previous, Now, Sum, Product, Power, FlatTerms, no_terms, term, FlatFactors, no_factors, factor}
 
 -- where an expression stands, and the forms of the algebraic variables by their numbers
 pub record Context : Type 0 where

@@ -3,7 +3,7 @@
 use Rattle.std.specs.Prelude.{ℕ, ◌+◌, ◌^◌, nat_eq, nat_lt, if◌then◌else◌, List, [], ◌∷◌, ◌++◌, Result, Ok, Err}
 use Prim.Native.Nat.{zero, suc}
 use Rattle.mu_num.specs.Fraction.{difference}
-use Rattle.mu_tree.specs.FlatExpression.{FlatExpression, Constant, FlatEquationTree, FlatAction, Assign, Restart, FlatBranchTree, FlatModelTree}
+use Rattle.mu_flat.specs.FlatExpression.{FlatExpression, Constant, FlatEquationTree, FlatAction, Assign, Restart, FlatBranchTree, FlatModelTree}
 use Rattle.mu_forms.specs.declared.fault.AffineErr.{AffineErr}
 use Rattle.mu_forms.specs.declared.fault.AffineErr.TheVariants.{TooDense}
 use Rattle.mu_forms.specs.declared.form.Sizes.{Sizes}

@@ -1,6 +1,6 @@
 -- Forms that are taken one after another.
 use Rattle.std.specs.Prelude.{ℕ, true, false, ◌≡◌, ◌<◌, ◌≤◌, ◌+◌, ◌^◌, nat_lt, if◌then◌else◌, List, [], ◌∷◌, ◌++◌, length, map, slice_get, slice_index_or, All, Option, Some, None, Result, Ok, Err}
-use Rattle.mu_tree.specs.FlatExpression.{FlatExpression, Constant, FlatEquationTree, FlatBranchTree}
+use Rattle.mu_flat.specs.FlatExpression.{FlatExpression, Constant, FlatEquationTree, FlatBranchTree}
 use Rattle.mu_forms.specs.declared.fault.AffineErr.{AffineErr}
 use Rattle.mu_forms.specs.declared.fault.AffineErr.TheVariants.{NotAffine, TimeHere, ConstFault, TooDense, Memory}
 use Rattle.mu_forms.specs.declared.form.Sizes.{Sizes}

@@ -1,7 +1,7 @@
 // The forms that are kept: those of the states, and then those of clauses.
 
 ghost use Rattle.std.specs.Prelude.{◌≡◌, ◌<◌, ◌≤◌, ◌+◌, ◌^◌, [], length, map, All};
-ghost use Rattle.mu_tree.specs.FlatExpression.{flat_model, flat_equation, flat_action, flat_branch, flat_clause};
+ghost use Rattle.mu_flat.specs.FlatExpression.{flat_model, flat_equation, flat_action, flat_branch, flat_clause};
 ghost use Rattle.mu_affine.specs.Solution.{sizes_of};
 ghost use Rattle.mu_affine.specs.Normal.{keep_states, keep_actions, keep_branches, keep_clauses};
 ghost use Rattle.mu_affine.specs.Walks.{AreSolved, IsNumbered, IsNumberedAction};
@@ -10,9 +10,9 @@ ghost use Rattle.mu_affine.specs.Takings.{of_equations, of_clauses, AreFirsts, k
 use crate::clause::{action_form, condition_form};
 use crate::counting::{CountedForms, keep};
 use crate::sides::right_side_form;
+use mu_flat::{FlatBranch, FlatClause, FlatModel, FlatStatement};
 use mu_forms::fault::AffineErr;
 use mu_forms::form::{ExactForm, Place, Sizes};
-use mu_tree::flat::{FlatBranch, FlatClause, FlatModel, FlatStatement};
 use std::alloc::Global;
 
 /// Keeps the forms of the states.

@@ -1,8 +1,8 @@
 // Laws of the forms of flat models.
 
 ghost use Rattle.std.specs.Prelude.{◌≡◌, ℕ, List, Ok};
-ghost use Rattle.mu_tree.specs.FlatExpression.{FlatModelTree};
-ghost use Rattle.mu_tree.specs.FlatModels.{IsFlatModel};
+ghost use Rattle.mu_flat.specs.FlatExpression.{FlatModelTree};
+ghost use Rattle.mu_flat.specs.FlatModels.{IsFlatModel};
 ghost use Rattle.mu_causal.specs.Causality.{IsOrder};
 ghost use Rattle.mu_causal.specs.Dependencies.{AreCounted, IsAlgebraic, DependsOn};
 ghost use Rattle.mu_forms.specs.AffineForm.{AffineForm};

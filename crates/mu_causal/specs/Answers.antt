@@ -1,6 +1,6 @@
 -- What is answered for a graph, and why a flat model has no order.
 use Rattle.std.specs.Prelude.{ℕ, ◌≡◌, List, [], ◌∷◌}
-use Rattle.mu_tree.specs.FlatExpression.{FlatModelTree}
+use Rattle.mu_flat.specs.FlatExpression.{FlatModelTree}
 use Rattle.mu_causal.specs.declared.graph.Causality.{Causality}
 use Rattle.mu_causal.specs.declared.graph.Causality.TheVariants.{Order as InOrder, Loop as InLoop}
 use Rattle.mu_causal.specs.declared.count.Given.{Given}

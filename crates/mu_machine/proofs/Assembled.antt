@@ -2,8 +2,8 @@
 use Rattle.std.proofs.Common.{◌≡◌, ℕ, List, length, take, map, ℤ, pos, sym, ◌∙◌, ap, subst, None}
 use Rattle.std.specs.Prelude.{All}
 use Rattle.mu_forms.specs.declared.form.ExactForm.{ExactForm}
-use Rattle.mu_tree.specs.declared.flat.Settings.{Settings}
-use Rattle.mu_tree.specs.FlatExpression.{FlatModelTree}
+use Rattle.mu_flat.specs.declared.flat.Settings.{Settings}
+use Rattle.mu_flat.specs.FlatExpression.{FlatModelTree}
 use Rattle.qss_machine.specs.declared.parts.StateInfo.{StateInfo}
 use Rattle.qss_machine.specs.declared.parts.DiscreteInfo.{DiscreteInfo}
 use Rattle.qss_machine.specs.declared.parts.SlopeRow.{SlopeRow}

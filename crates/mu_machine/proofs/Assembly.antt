@@ -10,8 +10,8 @@ use Rattle.std.specs.List.Sorted.{IsNonDecreasing}
 use Rattle.mu_num.specs.Fraction.{whole}
 use Rattle.mu_num.specs.Sizes.{IsWithin, passes}
 use Rattle.mu_forms.specs.declared.form.ExactForm.{ExactForm}
-use Rattle.mu_tree.specs.FlatExpression.{FlatVariable, FlatAction, Assign, Restart, FlatBranchTree}
-use Rattle.mu_tree.specs.FlatModels.{rank, IsFlatAction, IsFlatBranch, IsFlatClause}
+use Rattle.mu_flat.specs.FlatExpression.{FlatVariable, FlatAction, Assign, Restart, FlatBranchTree}
+use Rattle.mu_flat.specs.FlatModels.{rank, IsFlatAction, IsFlatBranch, IsFlatClause}
 use Rattle.qss_machine.specs.declared.parts.SlopeRow.{SlopeRow}
 use Rattle.qss_machine.specs.declared.parts.StateInfo.{StateInfo}
 use Rattle.qss_machine.specs.declared.parts.DiscreteInfo.{DiscreteInfo}

@@ -1,7 +1,7 @@
 -- Branches and clauses, field by field.
 use Rattle.std.proofs.Common.{◌≡◌, ℕ, ◌+◌, List, ◌∙◌, ap}
 use Rattle.mu_forms.specs.declared.form.ExactForm.{ExactForm}
-use Rattle.mu_tree.specs.FlatExpression.{FlatBranchTree}
+use Rattle.mu_flat.specs.FlatExpression.{FlatBranchTree}
 use Rattle.qss_machine.specs.declared.parts.Rel.{Rel}
 use Rattle.qss_machine.specs.declared.parts.Form.{Form}
 use Rattle.qss_machine.specs.declared.parts.Action.{Action}

@@ -2,9 +2,9 @@
 use Rattle.std.proofs.Common.{◌≡◌, ℕ, ◌<◌, List, map, take, pos, refl, sym, ◌∙◌, ap, None}
 use Rattle.std.specs.Int.RustNames.{unsigned_abs}
 use Rattle.mu_forms.specs.declared.form.ExactForm.{ExactForm}
-use Rattle.mu_tree.specs.declared.flat.Settings.{Settings}
-use Rattle.mu_tree.specs.FlatExpression.{FlatModelTree}
-use Rattle.mu_tree.specs.FlatModels.{IsFlatModel}
+use Rattle.mu_flat.specs.declared.flat.Settings.{Settings}
+use Rattle.mu_flat.specs.FlatExpression.{FlatModelTree}
+use Rattle.mu_flat.specs.FlatModels.{IsFlatModel}
 use Rattle.qss_machine.specs.declared.system.Machine.{Machine}
 use Rattle.qss_machine.proofs.Fields.{Parts, IsSound, machine_of, same_machine}
 use Rattle.mu_machine.specs.Rounded.{rounded_row, rounded_state, rounded_discrete}

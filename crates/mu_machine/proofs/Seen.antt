@@ -2,9 +2,9 @@
 use Rattle.std.proofs.Common.{◌≡◌, ℕ, ◌+◌, ◌≤◌, List, length, take, drop, map, ℤ, sym, ◌∙◌, ap, arith}
 use Rattle.std.proofs.lemmas.List.{take-map, drop-map, length-map}
 use Rattle.mu_forms.specs.declared.form.ExactForm.{ExactForm}
-use Rattle.mu_tree.specs.declared.flat.FlatVar.{FlatVar}
-use Rattle.mu_tree.specs.declared.flat.Settings.{Settings}
-use Rattle.mu_tree.specs.FlatExpression.{FlatVariable, FlatModelTree, flat_variable}
+use Rattle.mu_flat.specs.declared.flat.FlatVar.{FlatVar}
+use Rattle.mu_flat.specs.declared.flat.Settings.{Settings}
+use Rattle.mu_flat.specs.FlatExpression.{FlatVariable, FlatModelTree, flat_variable}
 use Rattle.qss_machine.specs.declared.parts.StateInfo.{StateInfo}
 use Rattle.qss_machine.specs.declared.parts.DiscreteInfo.{DiscreteInfo}
 use Rattle.mu_machine.specs.declared.fault.MachineErr.TheVariants.{Start, Quantum, Coefficient}

@@ -11,7 +11,7 @@ use Rattle.mu_num.specs.Rounding.{IsCeiling}
 use Rattle.mu_num.proofs.Integers.{mul-above, mul-from_zero}
 use Rattle.mu_num.proofs.Quotients.{ceiling_meets}
 use Rattle.mu_num.proofs.Tests.{int_lt-true}
-use Rattle.mu_tree.specs.declared.flat.Settings.{Settings}
+use Rattle.mu_flat.specs.declared.flat.Settings.{Settings}
 use Rattle.mu_tree.specs.declared.tree.SettingName.TheVariants.{StartTime, StopTime, CoefBits, TickBits, LevelBits}
 use Rattle.qss_machine.specs.Limits.{HasUnits}
 use Rattle.mu_machine.specs.declared.fault.MachineErr.TheVariants.{Setting}

@@ -4,8 +4,8 @@ use Rattle.std.proofs.lemmas.Int.{ints, to_z-of_z}
 use Rattle.std.proofs.lemmas.Bool.{and_parts}
 use Rattle.std.specs.Int.RustNames.{int_le, FitsSigned}
 use Rattle.mu_num.specs.Fraction.{Fraction}
-use Rattle.mu_tree.specs.declared.flat.FlatVar.{FlatVar}
-use Rattle.mu_tree.specs.FlatExpression.{flat_variable}
+use Rattle.mu_flat.specs.declared.flat.FlatVar.{FlatVar}
+use Rattle.mu_flat.specs.FlatExpression.{flat_variable}
 use Rattle.qss_machine.specs.declared.parts.StateInfo.{StateInfo}
 use Rattle.qss_machine.specs.declared.parts.DiscreteInfo.{DiscreteInfo}
 use Rattle.mu_machine.specs.Rounded.{rounded, rounded_down, rounded_state, rounded_discrete}

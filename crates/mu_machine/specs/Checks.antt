@@ -5,9 +5,9 @@ use Rattle.std.specs.Ordering.{int_eq}
 use Rattle.mu_num.specs.Fraction.{Fraction}
 use Rattle.mu_num.specs.Sizes.{passes}
 use Rattle.mu_forms.specs.declared.form.ExactForm.{ExactForm}
-use Rattle.mu_tree.specs.declared.flat.Settings.{Settings}
+use Rattle.mu_flat.specs.declared.flat.Settings.{Settings}
 use Rattle.mu_tree.specs.declared.tree.SettingName.TheVariants.{StartTime, StopTime, CoefBits, TickBits, LevelBits}
-use Rattle.mu_tree.specs.FlatExpression.{FlatVariable, FlatModelTree}
+use Rattle.mu_flat.specs.FlatExpression.{FlatVariable, FlatModelTree}
 use Rattle.qss_machine.specs.declared.parts.SlopeRow.{SlopeRow}
 use Rattle.qss_machine.specs.declared.parts.Form.{Form}
 use Rattle.qss_machine.specs.Limits.{level_below}

@@ -3,9 +3,9 @@ use Rattle.std.specs.Prelude.{◌≡◌, ◌+◌, ◌<◌, true, List, None}
 use Rattle.mu_forms.specs.declared.form.ExactForm.{ExactForm}
 use Rattle.mu_forms.specs.declared.form.Place.{Place}
 use Rattle.mu_forms.specs.Forms.{IsFinished}
-use Rattle.mu_tree.specs.declared.flat.Settings.{Settings}
-use Rattle.mu_tree.specs.FlatExpression.{FlatModelTree}
-use Rattle.mu_tree.specs.FlatModels.{IsFlatModel}
+use Rattle.mu_flat.specs.declared.flat.Settings.{Settings}
+use Rattle.mu_flat.specs.FlatExpression.{FlatModelTree}
+use Rattle.mu_flat.specs.FlatModels.{IsFlatModel}
 use Rattle.qss_machine.specs.declared.system.Machine.{Machine}
 use Rattle.mu_machine.specs.Checks.{machine_fault}
 use Rattle.mu_machine.specs.Machines.{AreNamed, IsRightSide, AreFormsFor, IsMachineOf}

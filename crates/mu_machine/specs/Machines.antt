@@ -4,8 +4,8 @@ use Rattle.std.specs.List.Sorted.{IsStrictlyIncreasing}
 use Rattle.mu_forms.specs.declared.form.ExactEntry.{ExactEntry}
 use Rattle.mu_forms.specs.declared.form.ExactProduct.{ExactProduct}
 use Rattle.mu_forms.specs.declared.form.ExactForm.{ExactForm}
-use Rattle.mu_tree.specs.declared.flat.Settings.{Settings}
-use Rattle.mu_tree.specs.FlatExpression.{FlatModelTree}
+use Rattle.mu_flat.specs.declared.flat.Settings.{Settings}
+use Rattle.mu_flat.specs.FlatExpression.{FlatModelTree}
 use Rattle.qss_machine.specs.declared.system.Machine.{Machine}
 use Rattle.mu_machine.specs.Rounded.{rounded_row, rounded_state, rounded_discrete}
 use Rattle.mu_machine.specs.Places.{state_count, discrete_count, states_of, discretes_of, clause_forms, clauses_of}

@@ -4,9 +4,9 @@ use Rattle.mu_num.specs.Fraction.{whole}
 use Rattle.mu_forms.specs.declared.form.ExactForm.{ExactForm}
 use Rattle.mu_tree.specs.declared.tree.Rel as read
 use Rattle.mu_tree.specs.declared.tree.Rel.TheVariants as reads
-use Rattle.mu_tree.specs.declared.flat.FlatRole.{FlatRole}
-use Rattle.mu_tree.specs.declared.flat.FlatRole.TheVariants.{State, Discrete, Algebraic}
-use Rattle.mu_tree.specs.FlatExpression.{FlatVariable, FlatAction, Assign, Restart, FlatBranchTree}
+use Rattle.mu_flat.specs.declared.flat.FlatRole.{FlatRole}
+use Rattle.mu_flat.specs.declared.flat.FlatRole.TheVariants.{State, Discrete, Algebraic}
+use Rattle.mu_flat.specs.FlatExpression.{FlatVariable, FlatAction, Assign, Restart, FlatBranchTree}
 use Rattle.qss_machine.specs.declared.parts.Rel.{Rel}
 use Rattle.qss_machine.specs.declared.parts.Rel.TheVariants.{Less, LessEq, Greater, GreaterEq}
 use Rattle.qss_machine.specs.declared.parts.Action.{Action}

@@ -6,7 +6,7 @@ use Rattle.mu_num.specs.Rounding.{floor_of, ceiling_of, nearest_of}
 use Rattle.mu_forms.specs.declared.form.ExactEntry.{ExactEntry}
 use Rattle.mu_forms.specs.declared.form.ExactProduct.{ExactProduct}
 use Rattle.mu_forms.specs.declared.form.ExactForm.{ExactForm}
-use Rattle.mu_tree.specs.FlatExpression.{FlatVariable}
+use Rattle.mu_flat.specs.FlatExpression.{FlatVariable}
 use Rattle.qss_machine.specs.declared.parts.Entry.{Entry}
 use Rattle.qss_machine.specs.declared.parts.Product.{Product}
 use Rattle.qss_machine.specs.declared.parts.SlopeRow.{SlopeRow}

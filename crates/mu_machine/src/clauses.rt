@@ -1,7 +1,7 @@
 // Clauses in the units of a machine.
 
 ghost use Rattle.std.specs.Prelude.{◌≡◌, ◌+◌, ◌^◌, ◌<◌, ◌≤◌, None, length, map, sum_by, IfOk, IfErr};
-ghost use Rattle.mu_tree.specs.FlatExpression.{flat_action, flat_branch, flat_clause};
+ghost use Rattle.mu_flat.specs.FlatExpression.{flat_action, flat_branch, flat_clause};
 ghost use Rattle.mu_machine.specs.Rounded.{rounded_form};
 ghost use Rattle.mu_machine.specs.Places.{action_of, actions_of, branch_forms, branch_of, clause_forms, clauses_of, form_at, placed, rel_of};
 ghost use Rattle.mu_machine.specs.Checks.{IsRefusal, first_failed, form_checks};
@@ -9,9 +9,9 @@ ghost use Rattle.mu_machine.specs.Checks.{IsRefusal, first_failed, form_checks};
 use crate::fault::MachineErr;
 use crate::rows::rounded_form;
 use crate::units::Units;
+use mu_flat::{FlatBranch, FlatClause, FlatStatement};
 use mu_forms::form::ExactForm;
 use mu_io::Items;
-use mu_tree::flat::{FlatBranch, FlatClause, FlatStatement};
 use mu_tree::tree::Rel as ReadRel;
 use qss_machine::{Action, BranchInfo, ClauseInfo, Condition, Form, Rel};
 use std::alloc::Global;

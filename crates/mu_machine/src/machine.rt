@@ -2,8 +2,8 @@
 
 ghost use Rattle.std.specs.Prelude.{◌≡◌, ◌+◌, ◌^◌, length, pos, IfOk, IfErr};
 ghost use Rattle.qss_machine.specs.Limits.{AreVariables, AreRows, AreClauses};
-ghost use Rattle.mu_tree.specs.FlatExpression.{flat_model};
-ghost use Rattle.mu_tree.specs.FlatModels.{IsFlatModel};
+ghost use Rattle.mu_flat.specs.FlatExpression.{flat_model};
+ghost use Rattle.mu_flat.specs.FlatModels.{IsFlatModel};
 ghost use Rattle.mu_machine.specs.Checks.{IsRefusal, machine_checks};
 ghost use Rattle.mu_machine.specs.Machines.{AreFormsFor, IsMachineOf};
 
@@ -12,9 +12,9 @@ use crate::fault::MachineErr;
 use crate::rows::{check_starts, rows_of};
 use crate::units::{Units, units_of};
 use crate::variables::{discretes_of, kinds_of, levels_of, states_of, values_of};
+use mu_flat::{FlatModel, Settings};
 use mu_forms::form::Forms;
 use mu_io::Items;
-use mu_tree::flat::{FlatModel, Settings};
 use qss_machine::{ClauseInfo, DiscreteInfo, Machine, SlopeRow, StateInfo};
 use std::alloc::Global;
 

@@ -7,8 +7,8 @@ ghost use Rattle.mu_machine.specs.Checks.{bits_of, first_failed, is_bits, last_o
 
 use crate::fault::MachineErr;
 use crate::numbers::rounded_up;
+use mu_flat::Settings;
 use mu_num::Ratio;
-use mu_tree::flat::Settings;
 use mu_tree::tree::SettingName;
 
 /// The bits of a machine's units, and its last tick.

@@ -2,7 +2,7 @@
 
 ghost use Rattle.std.specs.Prelude.{◌≡◌, ◌+◌, ◌<◌, ◌≤◌, true, false, None, length, map, All, IfOk, IfErr, IfNone, IfSome};
 ghost use Rattle.mu_num.specs.Sizes.{IsWithin};
-ghost use Rattle.mu_tree.specs.FlatExpression.{flat_variable};
+ghost use Rattle.mu_flat.specs.FlatExpression.{flat_variable};
 ghost use Rattle.mu_machine.specs.Rounded.{rounded, rounded_down, rounded_state, rounded_discrete};
 ghost use Rattle.mu_machine.specs.Places.{is_state, is_discrete, state_count, discrete_count, states_of, discretes_of};
 ghost use Rattle.mu_machine.specs.Checks.{IsRefusal, checks, first_failed, is_quantum, is_start, is_value, start_level};
@@ -11,8 +11,8 @@ ghost use Rattle.mu_machine.specs.declared.fault.MachineErr.TheVariants.{Start, 
 use crate::fault::MachineErr;
 use crate::numbers::{rounded, rounded_down};
 use crate::units::Units;
+use mu_flat::{FlatRole, FlatVar};
 use mu_num::{Ratio, floor_div, passes, unit};
-use mu_tree::flat::{FlatRole, FlatVar};
 use qss_machine::{DiscreteInfo, StateInfo};
 use std::alloc::{AllocError, Global};
 

@@ -4,7 +4,7 @@ use Rattle.std.specs.List.{list_any}
 use Rattle.mu_num.specs.Fraction.{Fraction, whole}
 use Rattle.mu_tree.specs.declared.tree.SettingName.{SettingName}
 use Rattle.mu_tree.specs.declared.tree.SettingName.TheVariants as setting
-use Rattle.mu_tree.specs.declared.flat.Settings.{Settings}
+use Rattle.mu_flat.specs.declared.flat.Settings.{Settings}
 use Rattle.mu_tree.specs.ModelTree.{Declaration, Setting, ModelTree, equations_of, statements_of, clauses_of}
 use Rattle.mu_names.specs.declared.fault.NameErr.{NameErr}
 use Rattle.mu_names.specs.declared.fault.NameErr.TheVariants.{EndName, Duplicate, Memory}

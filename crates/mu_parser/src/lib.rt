@@ -1,10 +1,4 @@
-//! Reads the model that tokens spell, token by token, with a stack of its own.
+//! Reads the model that tokens spell.
 #![tactic(auto)]
 
-mod declaration;
-mod expression;
-mod item;
-mod model;
 pub mod parse;
-mod section;
-mod sum;

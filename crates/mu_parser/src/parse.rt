@@ -8,12 +8,11 @@ ghost use Rattle.mu_grammar.specs.Fronts.{Gives, IsFault};
 ghost use Rattle.mu_grammar.specs.Models.{SpellsModel};
 ghost use Rattle.mu_grammar.specs.Symbols.{symbols};
 
-use crate::model::{Next, advance};
-use crate::section::state::{State, Then};
 pub use mu_grammar::fault::ParseErr;
 use mu_grammar::shape::Fixed;
 use mu_grammar::symbol::Symbol;
 use mu_lexer::token::Token;
+use mu_states::model::{Next, State, Then, advance};
 use mu_tree::tree::Model;
 use std::alloc::Global;
 

@@ -1,13 +1,15 @@
 // Copies, and the canonical text of each construct.
 
-use mu_io::Name;
-use mu_num::Ratio;
-use mu_tree::canonical::write_model;
-use mu_tree::expr::{Expr, Factor, Ref, Term};
-use mu_tree::flat::{
+use mu_copy::flat::copy_flat_model;
+use mu_copy::tree::copy_model;
+use mu_flat::{
     FlatBranch, FlatClause, FlatEquation, FlatExpr, FlatFactor, FlatModel, FlatRole, FlatStatement,
     FlatTerm, FlatVar, Settings,
 };
+use mu_io::Name;
+use mu_num::Ratio;
+use mu_print::write_model;
+use mu_tree::expr::{Expr, Factor, Ref, Term};
 use mu_tree::tree::{Decl, Equation, Model, Prefix, Rel, SettingItem, SettingName};
 use std::alloc::{AllocError, Global};
 use std::test::Fail;
@@ -148,7 +150,8 @@ fn out_of_order(alloc: Global) -> Result<Model, AllocError> {
 #[test]
 fn copied_model(rt: HostRuntime) -> Result<(), Fail> {
     let alloc = rt.alloc();
-    let copy = out_of_order(alloc)?.copy(alloc)?;
+    let model = out_of_order(alloc)?;
+    let copy = copy_model(alloc, &model)?;
     let text = write_model(alloc, &copy)?;
     let expected =
         b"model m Real x ( start = 1 ) ;\nReal a ;\nReal b ;\nequation der ( x ) = a ;\na = 2 * b ;\nb = - x ;\nannotation ( experiment ( StopTime = 1 , QSS_Quantum = 1 ) ) ;\nend m ;\n";
@@ -244,7 +247,8 @@ fn flat(alloc: Global) -> Result<FlatModel, AllocError> {
 #[test]
 fn copied_flat_model(rt: HostRuntime) -> Result<(), Fail> {
     let alloc = rt.alloc();
-    let copy = flat(alloc)?.copy(alloc)?;
+    let model = flat(alloc)?;
+    let copy = copy_flat_model(alloc, &model)?;
     assert_eq!(rt; copy.vars.len(), 1);
     assert_eq!(rt; copy.vars[0].name.bytes(), b"x[1]".as_slice());
     assert_eq!(rt; copy.equations.len(), 1);

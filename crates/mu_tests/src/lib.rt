@@ -1,14 +1,10 @@
-//! Tests of the language's crates: numbers, files, tokens, sources read as models and printed again.
+//! Tests of the language's crates: numbers, files, tokens, copies of models.
 #![tactic(auto)]
 
 #[cfg(test)]
 mod canonical;
 #[cfg(test)]
-mod models;
-#[cfg(test)]
 mod numbers;
-#[cfg(test)]
-mod printed;
 #[cfg(test)]
 mod shelves;
 #[cfg(test)]

@@ -1,6 +1,6 @@
-// The table of tokens and faults.
+// The table of tokens.
 
-use mu_lexer::lex::{LexErr, lex};
+use mu_lexer::lex::lex;
 use mu_lexer::token::{Kind, Mark, Token, Word};
 use std::alloc::Global;
 use std::process::Abort;
@@ -129,23 +129,4 @@ fn marks(rt: HostRuntime) -> Result<(), Fail> {
             (Kind::Mark(Mark::Minus), 9, 10),
         ],
     )
-}
-
-#[test]
-fn faults(rt: HostRuntime) {
-    let alloc = rt.alloc();
-    let table: [(&[u8], LexErr); 8] = [
-        (b"model m $", LexErr::NoToken { at: 8 }),
-        (b"x \xc3\xa9 $", LexErr::NoToken { at: 2 }),
-        (b"model m /* x", LexErr::OpenComment { at: 8 }),
-        (b"/*/", LexErr::OpenComment { at: 0 }),
-        (b"a \"b", LexErr::OpenString { at: 2 }),
-        (b"\"\\\"", LexErr::OpenString { at: 0 }),
-        (b"\"a\" \"b\\", LexErr::OpenString { at: 4 }),
-        (b"1 \\ /*", LexErr::NoToken { at: 2 }),
-    ];
-    for (source, fault) in table {
-        assert!(rt; source.len() <= 1 << 20);
-        assert_eq!(rt; lex(alloc, source).err(), Some(fault));
-    }
 }

@@ -1,2 +1,1 @@
-pub mod FlatShapes
 pub mod Shapes

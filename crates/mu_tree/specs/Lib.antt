@@ -1,6 +1,4 @@
 pub mod Bare
 pub mod Canonical
 pub mod Expression
-pub mod FlatExpression
-pub mod FlatModels
 pub mod ModelTree

@@ -1,8 +1,5 @@
-// The syntax trees of models.
+//! The syntax trees of models, and what they say as plain data.
 #![tactic(auto)]
 
-pub mod canonical;
 pub mod expr;
-pub mod flat;
 pub mod tree;
-mod write;

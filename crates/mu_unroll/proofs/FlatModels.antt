@@ -6,11 +6,11 @@ use Rattle.std.proofs.lemmas.List.{length-map}
 use Rattle.std.proofs.lemmas.List.Elements.{All-contains}
 use Prim.Native.Nat.{zero, suc}
 use Rattle.mu_num.specs.Fraction.{Fraction}
-use Rattle.mu_tree.specs.declared.flat.FlatRole.{FlatRole}
-use Rattle.mu_tree.specs.declared.flat.FlatRole.TheVariants as flat_role
+use Rattle.mu_flat.specs.declared.flat.FlatRole.{FlatRole}
+use Rattle.mu_flat.specs.declared.flat.FlatRole.TheVariants as flat_role
 use Rattle.mu_tree.specs.Expression.{Expression, Reference}
-use Rattle.mu_tree.specs.FlatExpression.{FlatExpression, FlatVariable, FlatEquationTree, FlatBranchTree, FlatModelTree}
-use Rattle.mu_tree.specs.FlatModels.{IsFlatExpression, IsFlatClause, IsFlatModel}
+use Rattle.mu_flat.specs.FlatExpression.{FlatExpression, FlatVariable, FlatEquationTree, FlatBranchTree, FlatModelTree}
+use Rattle.mu_flat.specs.FlatModels.{IsFlatExpression, IsFlatClause, IsFlatModel}
 use Rattle.mu_tree.specs.ModelTree.{Range, EquationTree, Derivative, Algebraic, EachEquation, EquationTrees, no_equations, equation_then, StatementTree, Assign, Restart, EachStatement, StatementTrees, no_statements, statement_then, equations_of, statements_of, clauses_of, ModelTree}
 use Rattle.mu_causal.specs.Dependencies.{IsNumbered, names_of}
 use Rattle.mu_names.specs.declared.scope.Known.{Known}

@@ -5,13 +5,13 @@ use Rattle.std.proofs.lemmas.Int.{ints}
 use Rattle.std.proofs.lemmas.List.Elements.{All-append, All-nil, All-cons}
 use Rattle.mu_num.specs.Fraction.{Fraction}
 use Rattle.mu_num.specs.Decimal.{decimal_value}
-use Rattle.mu_tree.specs.declared.flat.FlatRole.{FlatRole}
-use Rattle.mu_tree.specs.declared.flat.FlatRole.TheVariants.{State, Discrete, Algebraic}
+use Rattle.mu_flat.specs.declared.flat.FlatRole.{FlatRole}
+use Rattle.mu_flat.specs.declared.flat.FlatRole.TheVariants.{State, Discrete, Algebraic}
 use Rattle.mu_tree.specs.Expression.{Expression, Number, Variable, Now, Previous, Sum, Product, Power, Reference, Whole, Element, Terms, no_terms, term, Factors, no_factors, factor}
-use Rattle.mu_tree.specs.FlatExpression.{FlatExpression, FlatSigned, FlatScaled, FlatVariable, flat_terms_of, flat_factors_of}
-use Rattle.mu_tree.specs.FlatModels.{IsFlatExpression, AreFlatTerms, AreFlatFactors}
-use Rattle.mu_tree.specs.FlatExpression as trees
-use Rattle.mu_tree.specs.FlatModels as flat
+use Rattle.mu_flat.specs.FlatExpression.{FlatExpression, FlatSigned, FlatScaled, FlatVariable, flat_terms_of, flat_factors_of}
+use Rattle.mu_flat.specs.FlatModels.{IsFlatExpression, AreFlatTerms, AreFlatFactors}
+use Rattle.mu_flat.specs.FlatExpression as trees
+use Rattle.mu_flat.specs.FlatModels as flat
 use Rattle.mu_causal.specs.Dependencies.{names_of, names_of_terms, names_of_factors}
 use Rattle.mu_unroll.specs.declared.fault.UnrollErr.{UnrollErr}
 use Rattle.mu_unroll.specs.declared.fault.UnrollErr.TheVariants.{Index}

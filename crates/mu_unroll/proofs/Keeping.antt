@@ -5,13 +5,13 @@ use Rattle.std.proofs.lemmas.Bool.Decides.{nat_tests}
 use Rattle.std.proofs.lemmas.List.Elements.{All-nil, All-push, All-head, All-tail}
 use Rattle.std.proofs.lemmas.List.Sums.{sum_by_push, sum_by-cons}
 use Prim.Native.Nat.{zero, suc}
-use Rattle.mu_tree.specs.declared.flat.FlatRole.{FlatRole}
-use Rattle.mu_tree.specs.declared.flat.FlatRole.TheVariants.{State, Discrete}
+use Rattle.mu_flat.specs.declared.flat.FlatRole.{FlatRole}
+use Rattle.mu_flat.specs.declared.flat.FlatRole.TheVariants.{State, Discrete}
 use Rattle.mu_tree.specs.Expression.{Expression, Reference}
-use Rattle.mu_tree.specs.FlatExpression.{FlatExpression, FlatVariable, FlatEquationTree, FlatAction, FlatBranchTree}
-use Rattle.mu_tree.specs.FlatExpression as trees
-use Rattle.mu_tree.specs.FlatModels.{HasRole, IsFlatExpression, IsFlatAction, IsFlatBranch, IsFlatClause, action_nodes, target_role}
-use Rattle.mu_tree.specs.FlatModels as flat
+use Rattle.mu_flat.specs.FlatExpression.{FlatExpression, FlatVariable, FlatEquationTree, FlatAction, FlatBranchTree}
+use Rattle.mu_flat.specs.FlatExpression as trees
+use Rattle.mu_flat.specs.FlatModels.{HasRole, IsFlatExpression, IsFlatAction, IsFlatBranch, IsFlatClause, action_nodes, target_role}
+use Rattle.mu_flat.specs.FlatModels as flat
 use Rattle.mu_tree.specs.ModelTree.{Range, EquationTree, Derivative, Algebraic, EachEquation, EquationTrees, no_equations, equation_then, StatementTree, Assign, Restart, EachStatement, StatementTrees, no_statements, statement_then, BranchTree, ClauseTree, Branches, EachClause, ClauseTrees, no_clauses, clause_then, statements_of}
 use Rattle.mu_unroll.specs.declared.counts.Counts.{Counts}
 use Rattle.mu_unroll.specs.declared.fault.UnrollErr.{UnrollErr}

@@ -3,10 +3,10 @@ use Rattle.std.proofs.Common.{◌≡◌, ◌∙◌, ℕ, ◌+◌, ◌^◌, List,
 use Rattle.std.specs.Prelude.{ℤ, pos, ◌+ℤ◌, nat_lt, Bool, true, false, if◌then◌else◌, Option, Some, None, Result, Ok, Err, option_to_list}
 use Prim.Native.Nat.{zero, suc}
 use Rattle.mu_num.specs.Fraction.{Fraction}
-use Rattle.mu_tree.specs.declared.flat.FlatRole.{FlatRole}
-use Rattle.mu_tree.specs.declared.flat.FlatRole.TheVariants as flat_role
+use Rattle.mu_flat.specs.declared.flat.FlatRole.{FlatRole}
+use Rattle.mu_flat.specs.declared.flat.FlatRole.TheVariants as flat_role
 use Rattle.mu_tree.specs.Expression.{Expression, Reference}
-use Rattle.mu_tree.specs.FlatExpression.{FlatExpression, FlatVariable, FlatEquationTree, FlatAction, FlatBranchTree, FlatModelTree}
+use Rattle.mu_flat.specs.FlatExpression.{FlatExpression, FlatVariable, FlatEquationTree, FlatAction, FlatBranchTree, FlatModelTree}
 use Rattle.mu_tree.specs.ModelTree.{Range, EquationTree, Derivative, Algebraic, EachEquation, EquationTrees, no_equations, equation_then, StatementTree, Assign, Restart, EachStatement, StatementTrees, no_statements, statement_then, BranchTree, ClauseTree, Branches, EachClause, ClauseTrees, no_clauses, clause_then, equations_of, statements_of, clauses_of, ModelTree}
 use Rattle.mu_names.specs.declared.scope.Known.{Known}
 use Rattle.mu_unroll.specs.declared.counts.Counts.{Counts}

@@ -6,8 +6,8 @@ use Rattle.std.proofs.Math.Path.{fun_ext}
 use Rattle.std.proofs.Math.Seq.{take-suc}
 use Rattle.std.proofs.lemmas.List.{take-append-drop}
 use Prim.Native.Nat.{zero, suc}
-use Rattle.mu_tree.specs.declared.flat.FlatRole.{FlatRole}
-use Rattle.mu_tree.specs.declared.flat.FlatRole.TheVariants.{State, Discrete, Algebraic}
+use Rattle.mu_flat.specs.declared.flat.FlatRole.{FlatRole}
+use Rattle.mu_flat.specs.declared.flat.FlatRole.TheVariants.{State, Discrete, Algebraic}
 use Rattle.mu_names.specs.declared.scope.Known.{Known}
 use Rattle.mu_names.specs.Tables.{added_at}
 use Rattle.mu_unroll.specs.declared.place.Meant.{Meant}

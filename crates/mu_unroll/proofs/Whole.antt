@@ -1,9 +1,9 @@
 -- The whole of unrolling, by its steps.
 use Rattle.std.proofs.Common.{◌≡◌, ◌∙◌, ℕ, ◌+◌, ◌^◌, List, IfOk, refl, sym, ap, ap₂, subst}
 use Rattle.std.specs.Prelude.{nat_lt, Bool, true, false, if◌then◌else◌, Result, Ok, Err}
-use Rattle.mu_tree.specs.declared.flat.FlatModel.{FlatModel}
-use Rattle.mu_tree.specs.FlatExpression.{FlatVariable, FlatModelTree, flat_model}
-use Rattle.mu_tree.specs.FlatModels.{IsFlatModel}
+use Rattle.mu_flat.specs.declared.flat.FlatModel.{FlatModel}
+use Rattle.mu_flat.specs.FlatExpression.{FlatVariable, FlatModelTree, flat_model}
+use Rattle.mu_flat.specs.FlatModels.{IsFlatModel}
 use Rattle.mu_tree.specs.ModelTree.{ModelTree}
 use Rattle.mu_causal.specs.Dependencies.{IsNumbered}
 use Rattle.mu_names.specs.declared.scope.Known.{Known}

@@ -2,11 +2,11 @@
 use Rattle.std.specs.Prelude.{ℕ, ℤ, pos, ◌+◌, ◌-◌, ◌&&◌, int_le, unsigned_abs, Bool, true, false, if◌then◌else◌, List, [], ◌∷◌, Option, Some, None, Result, Ok, Err}
 use Rattle.mu_num.specs.Fraction.{Fraction}
 use Rattle.mu_num.specs.Decimal.{decimal_value}
-use Rattle.mu_tree.specs.declared.flat.FlatRole.{FlatRole}
-use Rattle.mu_tree.specs.declared.flat.FlatRole.TheVariants as flat_role
+use Rattle.mu_flat.specs.declared.flat.FlatRole.{FlatRole}
+use Rattle.mu_flat.specs.declared.flat.FlatRole.TheVariants as flat_role
 use Rattle.mu_tree.specs.Expression.{Expression, Number, Variable, Now, Previous, Sum, Product, Power, Reference, Whole, Element, Terms, no_terms, term, Factors, no_factors, factor}
-use Rattle.mu_tree.specs.FlatExpression.{FlatExpression, FlatSigned, FlatScaled, flat_terms_of, flat_factors_of, Constant}
-use Rattle.mu_tree.specs.FlatExpression as flat
+use Rattle.mu_flat.specs.FlatExpression.{FlatExpression, FlatSigned, FlatScaled, flat_terms_of, flat_factors_of, Constant}
+use Rattle.mu_flat.specs.FlatExpression as flat
 use Rattle.mu_unroll.specs.declared.fault.UnrollErr.{UnrollErr}
 use Rattle.mu_unroll.specs.declared.fault.UnrollErr.TheVariants.{Index}
 use Rattle.mu_unroll.specs.declared.place.Found.{Found}

@@ -3,9 +3,9 @@ use Rattle.std.specs.Prelude.{ℕ, ◌+◌, ◌≤◌, Bool, true, false, bytes_
 use Rattle.std.specs.Fmt.{decimal}
 use Prim.Native.Nat.{zero, suc}
 use Rattle.mu_num.specs.Fraction.{Fraction}
-use Rattle.mu_tree.specs.declared.flat.FlatRole.{FlatRole}
-use Rattle.mu_tree.specs.declared.flat.FlatRole.TheVariants as flat
-use Rattle.mu_tree.specs.FlatExpression.{FlatVariable}
+use Rattle.mu_flat.specs.declared.flat.FlatRole.{FlatRole}
+use Rattle.mu_flat.specs.declared.flat.FlatRole.TheVariants as flat
+use Rattle.mu_flat.specs.FlatExpression.{FlatVariable}
 use Rattle.mu_names.specs.declared.scope.Known.{Known}
 use Rattle.mu_names.specs.declared.standing.Role.{Role}
 use Rattle.mu_names.specs.declared.standing.Role.TheVariants as role

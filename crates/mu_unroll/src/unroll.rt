@@ -2,8 +2,8 @@
 
 ghost use Rattle.std.specs.Prelude.{◌≡◌, map, Ok, IfOk, IfErr};
 ghost use Rattle.mu_tree.specs.Expression.{expression, reference};
-ghost use Rattle.mu_tree.specs.FlatExpression.{flat_action, flat_branch, flat_clause, flat_equation, flat_model, flat_variable};
-ghost use Rattle.mu_tree.specs.FlatModels.{IsFlatModel, target_role};
+ghost use Rattle.mu_flat.specs.FlatExpression.{flat_action, flat_branch, flat_clause, flat_equation, flat_model, flat_variable};
+ghost use Rattle.mu_flat.specs.FlatModels.{IsFlatModel, target_role};
 ghost use Rattle.mu_tree.specs.ModelTree.{branch, clause, clauses_of, equation, equations_of, model, statement, statements_of};
 ghost use Rattle.mu_causal.specs.Dependencies.{IsNumbered};
 ghost use Rattle.mu_unroll.specs.Faults.{IsFault};
@@ -19,12 +19,10 @@ use crate::flatten::{flatten, found, number_of_kind};
 use crate::place::{Found, LoopVar, Meant, inner_loops};
 use crate::value::{bounds_of, constant_value};
 use crate::variables::{are_too_many, declared_names, scalars_in};
+use mu_flat::{FlatBranch, FlatClause, FlatEquation, FlatModel, FlatRole, FlatStatement, FlatVar};
 use mu_names::scope::Scope;
 use mu_num::Ratio;
 use mu_tree::expr::{Expr, Ref};
-use mu_tree::flat::{
-    FlatBranch, FlatClause, FlatEquation, FlatModel, FlatRole, FlatStatement, FlatVar,
-};
 use mu_tree::tree::{Branch, Clause, Equation, Model, Statement};
 use std::alloc::Global;
 use std::collections::BTreeMap;

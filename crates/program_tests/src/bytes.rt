@@ -1,7 +1,4 @@
 // Answers to bytes, with texts that were worked out by hand.
-use crate::certifying::text;
-use crate::runs::DECAY;
-use crate::traces::{HALVES, PROPOSED};
 use mu_io::MemSink;
 use qss_top::{
     Given, GivenRuns, Outcome, answer_certificate, answer_comparison, answer_source, answer_trace,
@@ -11,6 +8,18 @@ use qss_words::{Share, Task};
 use std::alloc::Global;
 use std::process::Abort;
 use std::test::Fail;
+
+// A decay, what is proposed for it, a certificate of it, and a trace with two places to a tick.
+const DECAY: &str =
+    "model decay Real x(start = 64); equation der(x) = -1*x; annotation(experiment(StopTime = 1, QSS_CoefBits = 8, QSS_TickBits = 4, QSS_LevelBits = 0, QSS_Quantum = 4)); end decay;";
+
+const PROPOSED: &str =
+    "form,3\nP,8453\np,8453\nmu,2163968\nlambda,256\nh1,1\nG1,0\nh2,1\nG2,0\nc,0\nR,34623488\nZ,64\nS,5\nsigmaR,175281408\nC,2738772\nsigmaC,701125632\nE,18\nstart1,262144\nstart2,262144\nQ,4\n";
+
+const CERTIFICATE: &str =
+    "form,1\nP,1\np,1\nmu,128\nlambda,384\nh1,1\nG1,0\nh2,1\nG2,0\nc,0\nR,4096\nZ,64\nS,5\nsigmaR,41472\nC,432\nsigmaC,165888\nE,21\n";
+
+const HALVES: &str = "trace,1\nscale,1\nrefine,2\nQ,4\nat,262144,64\nat,253952,62\nat,246016,60\n";
 
 // A sink in which all texts here have room.
 fn sink(alloc: Global) -> Result<MemSink, Fail> {
@@ -52,13 +61,12 @@ fn bytes_are_answered(rt: HostRuntime) -> Result<(), Fail> {
     let outcome = answer_trace(alloc, model, HALVES.as_bytes(), &mut out);
     let summary = "places,scale,refine\n3,1,2\n";
     assert_became(&rt, alloc, &outcome, &out, (0, summary, ""))?;
-    let plain = text(alloc, "1", "")?;
     let runs = GivenRuns {
         one: Given::First,
         two: Given::Traced(HALVES.as_bytes()),
     };
     let mut out = sink(alloc)?;
-    let outcome = answer_comparison(alloc, model, plain.as_bytes(), runs, &mut out);
+    let outcome = answer_comparison(alloc, model, CERTIFICATE.as_bytes(), runs, &mut out);
     let both = "common,place1,place2,greatest,bound\n2,1,2,65536,7247757312\n";
     assert_became(&rt, alloc, &outcome, &out, (0, both, ""))
 }

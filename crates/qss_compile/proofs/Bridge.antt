@@ -9,7 +9,7 @@ use Rattle.mu_forms.specs.declared.form.Forms.{Forms}
 use Rattle.mu_machine.proofs.Finished.{named_for, right_side_for}
 use Rattle.mu_machine.specs.Machines.{AreFormsFor, AreNamed, IsRightSide}
 use Rattle.mu_machine.specs.Places.{is_state, is_discrete, state_count, discrete_count, clause_forms}
-use Rattle.mu_tree.specs.FlatExpression.{FlatModelTree}
+use Rattle.mu_flat.specs.FlatExpression.{FlatModelTree}
 
 -- the forms of a flat model are laid out as a machine wants them
 pub forms_for : (m : FlatModelTree) (order : List ℕ) (f : Forms) → AreForms m order f → AreFormsFor f.forms m

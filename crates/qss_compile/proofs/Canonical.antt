@@ -24,7 +24,7 @@ use Rattle.mu_forms.specs.declared.form.Forms.{Forms}
 use Rattle.mu_forms.specs.declared.form.ExactProduct.{ExactProduct}
 use Rattle.mu_forms.proofs.Rows.{IsKeyOrder, level_self, nat_order, pair_order}
 use Rattle.mu_num.specs.Fraction.{Fraction}
-use Rattle.mu_tree.specs.FlatExpression.{FlatModelTree}
+use Rattle.mu_flat.specs.FlatExpression.{FlatModelTree}
 
 -- 0 is no coefficient
 zero_is_none : (a : Fraction) → a ≡ none → is_nonzero a ≡ true → ⊥

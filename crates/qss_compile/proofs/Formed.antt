@@ -14,8 +14,8 @@ use Rattle.mu_forms.specs.declared.fault.AffineErr.{AffineErr}
 use Rattle.mu_forms.specs.declared.form.ExactForm.{ExactForm}
 use Rattle.mu_forms.specs.declared.form.Forms.{Forms}
 use Rattle.mu_forms.specs.declared.form.Place.{Place}
-use Rattle.mu_tree.specs.FlatExpression.{FlatEquationTree, FlatAction, FlatBranchTree, FlatModelTree}
-use Rattle.mu_tree.specs.FlatModels.{IsFlatEquation, IsFlatAction, IsFlatBranch, IsFlatClause, IsFlatModel}
+use Rattle.mu_flat.specs.FlatExpression.{FlatEquationTree, FlatAction, FlatBranchTree, FlatModelTree}
+use Rattle.mu_flat.specs.FlatModels.{IsFlatEquation, IsFlatAction, IsFlatBranch, IsFlatClause, IsFlatModel}
 use Rattle.qss_compile.proofs.Lengths.{taken_of, made, solve_all_kept, keep_length, keep_states_length, keep_actions_length, keep_branches_length}
 use Rattle.qss_compile.proofs.Listing.{IsTidy, form_listed}
 use Rattle.qss_compile.proofs.Tidy.{AreTidy, Gives, constant_tidy, form_gives, condition_gives, action_gives}

@@ -9,7 +9,7 @@ use Rattle.mu_forms.specs.AffineForm.{AffineForm}
 use Rattle.mu_forms.specs.declared.fault.AffineErr.{AffineErr}
 use Rattle.mu_forms.specs.declared.form.Sizes.{Sizes}
 use Rattle.mu_machine.specs.Places.{branch_forms}
-use Rattle.mu_tree.specs.FlatExpression.{FlatAction, FlatBranchTree, FlatModelTree}
+use Rattle.mu_flat.specs.FlatExpression.{FlatAction, FlatBranchTree, FlatModelTree}
 
 -- of two steps that succeed the first one does
 pub taken_of : {A B : Type 0} (r : Result A AffineErr) (next : A → Result B AffineErr) (b : B) → then_take r next ≡ Ok b → (a : A) × (r ≡ Ok a) × (next a ≡ Ok b)

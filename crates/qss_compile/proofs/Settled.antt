@@ -18,7 +18,7 @@ use Rattle.mu_num.specs.declared.NumErr.{NumErr}
 use Rattle.mu_num.specs.declared.NumErr.TheVariants.{Range, ZeroDivisor}
 use Rattle.mu_tree.specs.Expression.{Expression, Number, Variable, Now, Previous, Sum, Product, Power, Reference, Whole, Element, Terms, no_terms, term, Factors, no_factors, factor}
 use Rattle.mu_tree.specs.ModelTree.{Declaration, Setting, ModelTree}
-use Rattle.mu_tree.specs.declared.flat.Settings.{Settings}
+use Rattle.mu_flat.specs.declared.flat.Settings.{Settings}
 use Rattle.mu_tree.specs.declared.tree.SettingName.{SettingName}
 use Rattle.mu_tree.specs.declared.tree.SettingName.TheVariants as setting
 

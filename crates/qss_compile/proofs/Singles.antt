@@ -31,10 +31,10 @@ use Rattle.mu_names.specs.Least.{place, number, is_before, IsLeastFault}
 use Rattle.mu_names.specs.Roles.{model_faults, scope_of}
 use Rattle.mu_names.specs.declared.fault.NameErr.{NameErr}
 use Rattle.mu_names.specs.declared.fault.NameErr.TheVariants as naming
-use Rattle.mu_tree.specs.FlatExpression.{FlatModelTree}
+use Rattle.mu_flat.specs.FlatExpression.{FlatModelTree}
 use Rattle.mu_tree.specs.ModelTree.{ModelTree}
 use Rattle.mu_unroll.specs.Unrolling.{unrolled}
-use Rattle.mu_tree.specs.declared.flat.Settings.{Settings}
+use Rattle.mu_flat.specs.declared.flat.Settings.{Settings}
 use Rattle.mu_machine.proofs.OneMachine.{one_machine}
 use Rattle.qss_compile.specs.Causes.{of_lexer, of_parser, of_names, of_unrolling, of_order, of_forms, of_rounding, without_names, with_names}
 use Rattle.qss_compile.specs.Laws.{AreAlike}

@@ -27,7 +27,7 @@ use Rattle.mu_num.proofs.Lowest.{lowest_terms}
 use Rattle.mu_num.specs.Fraction.{Fraction, whole, sum, difference, product, quotient, sign, power, checked, lowest, least_denominator, least_multiplier, is_small, IsReduced}
 use Rattle.mu_num.specs.declared.NumErr.{NumErr}
 use Rattle.mu_num.specs.declared.NumErr.TheVariants.{Range, ZeroDivisor}
-use Rattle.mu_tree.specs.FlatExpression.{FlatExpression, Constant, Variable, Previous, Now, Sum, Product, Power, FlatTerms, no_terms, term, FlatFactors, no_factors, factor, FlatAction, Assign, Restart, FlatBranchTree}
+use Rattle.mu_flat.specs.FlatExpression.{FlatExpression, Constant, Variable, Previous, Now, Sum, Product, Power, FlatTerms, no_terms, term, FlatFactors, no_factors, factor, FlatAction, Assign, Restart, FlatBranchTree}
 use Rattle.qss_compile.proofs.Listing.{IsTidy}
 
 -- lowest terms over 0 are whole

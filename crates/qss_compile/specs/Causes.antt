@@ -14,7 +14,7 @@ use Rattle.mu_forms.specs.declared.fault.AffineErr.{AffineErr}
 use Rattle.mu_forms.specs.declared.fault.AffineErr.TheVariants as forming
 use Rattle.mu_machine.specs.declared.fault.MachineErr.{MachineErr}
 use Rattle.mu_machine.specs.declared.fault.MachineErr.TheVariants as rounding
-use Rattle.mu_tree.specs.FlatExpression.{FlatModelTree}
+use Rattle.mu_flat.specs.FlatExpression.{FlatModelTree}
 use Rattle.qss_compile.specs.declared.fault.ModelErr.{ModelErr}
 use Rattle.qss_compile.specs.declared.fault.ModelErr.TheVariants.{Lex, Parse, Names, Unroll, Causal, Affine, Machine, Memory}
 use Rattle.qss_compile.specs.declared.fault.Refused.{Refused}

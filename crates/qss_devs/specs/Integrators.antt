@@ -18,10 +18,11 @@ LeavesAt m var line tick = IsAway (level_unit m) (state_at line tick) line.level
 abbrev pub IsLineNext : Machine → ℕ → Line → Option ℕ → Type 0
 IsLineNext m var line next = MatchBool (is_near m var line.x line.level) (FirstAfter (LeavesAt m var line) line.tick next) (next ≡ Some line.tick)
 
--- it then sends a level that its rule allows for the state there
-pub record SendsLevel (m : Machine) (name : Option Rule) (var : ℕ) (line : Line) (tick : ℕ) (sent : Message) : Type 0 where
+-- it then sends a level that its rule allows for the state there, and that the rule's function may answer for this state, the old level and the unit
+pub record SendsLevel (m : Machine) (name : Option Rule) (Answers : ℤ → ℤ → ℤ → ℤ → Type 0) (var : ℕ) (line : Line) (tick : ℕ) (sent : Message) : Type 0 where
   pub level : ℤ
   pub allowed : IsAnswer name (state_at line tick) line.level (level_unit m) level
+  pub ruled : Answers (state_at line tick) line.level (level_unit m) level
   pub told : sent ≡ Level var level
 
 -- and takes that level, at that tick, with the state there

@@ -13,7 +13,7 @@ ghost use Rattle.qss_devs.specs.Integrators.{IsLineNext, line_moved, line_told};
 use crate::atomic::Atomic;
 use crate::message::Message;
 use qss_machine::Machine;
-use qss_quant::{Integrator, Quantizer, in_units};
+use qss_quant::{Integrator, LevelRule, Quantizer, in_units};
 use qss_quiet::{leaving, next_level};
 use std::rc::Rc;
 
@@ -85,7 +85,10 @@ fn next_of(m: &Machine, var: u32, line: &Integrator) -> Option<u64>
 fn level_at(m: &Machine, q: &Quantizer, var: u32, line: &Integrator, tick: u64) -> i128
     requires known { var < state_count m.now }
     requires next { IsLineNext m.now var line.now (Some tick) }
-    ensures { IsAnswer q.now.name (state_at line.now tick) line.now.level (level_unit m.now) result }
+    ensures allowed { IsAnswer q.now.name (state_at line.now tick) line.now.level
+        (level_unit m.now) result }
+    ensures ruled { LevelRule.post q.now.rule (state_at line.now tick) line.now.level
+        (level_unit m.now) result }
 {
     let level = line.level;
     let x = line.value_at(tick);
@@ -188,7 +191,9 @@ impl Atomic for IntegratorModel {
     ghost is_next = { λ i next. IsLineNext i.machine.value i.var i.line next };
 
     ghost sends = { λ i tick sent.
-        SendsLevel i.machine.value i.quantizer.value.name i.var i.line tick sent };
+        SendsLevel i.machine.value i.quantizer.value.name
+        (λ state old unit new. LevelRule.post i.quantizer.value.rule state old unit new)
+        i.var i.line tick sent };
 
     ghost turns = { λ i tick sent j. (j.machine.value ≡ i.machine.value)
         × (j.quantizer.value ≡ i.quantizer.value) × (j.var ≡ i.var)

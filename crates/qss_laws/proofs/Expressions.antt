@@ -19,8 +19,8 @@ use Rattle.mu_names.specs.declared.standing.Wanted.TheVariants as wanted
 use Rattle.mu_num.specs.Fraction.{Fraction}
 use Rattle.mu_tree.specs.Expression.{Expression, Number, Variable, Now, Previous, Sum, Product, Power, Reference, Whole, Element, Terms, no_terms, term, Factors, no_factors, factor}
 use Rattle.mu_tree.specs.ModelTree.{Range, EquationTree, Derivative, Algebraic as PlainEquation, EachEquation, EquationTrees, no_equations, equation_then, StatementTree, Assign, Restart, EachStatement, StatementTrees, no_statements, statement_then, BranchTree, ClauseTree, Branches, EachClause, ClauseTrees, no_clauses, clause_then, equations_of, statements_of, clauses_of}
-use Rattle.mu_tree.specs.declared.flat.FlatRole.{FlatRole}
-use Rattle.mu_tree.specs.declared.flat.FlatRole.TheVariants as flat_role
+use Rattle.mu_flat.specs.declared.flat.FlatRole.{FlatRole}
+use Rattle.mu_flat.specs.declared.flat.FlatRole.TheVariants as flat_role
 use Rattle.mu_unroll.specs.Flattening.{constants_in, element_found, found, index_in, whole_found}
 use Rattle.mu_unroll.specs.Places.{constant_of, kind_of, meant_in}
 use Rattle.mu_unroll.specs.Unrolling.{declared_in, inside}

@@ -20,11 +20,11 @@ use Rattle.mu_names.specs.declared.standing.Wanted.{Wanted}
 use Rattle.mu_names.specs.declared.standing.Wanted.TheVariants as wanted
 use Rattle.mu_num.specs.Fraction.{Fraction, whole}
 use Rattle.mu_tree.specs.Expression.{Expression, Reference, Whole, Element}
-use Rattle.mu_tree.specs.FlatExpression.{FlatAction, FlatEquationTree, FlatExpression}
-use Rattle.mu_tree.specs.FlatExpression as flat
+use Rattle.mu_flat.specs.FlatExpression.{FlatAction, FlatEquationTree, FlatExpression}
+use Rattle.mu_flat.specs.FlatExpression as flat
 use Rattle.mu_tree.specs.ModelTree.{Declaration, EquationTree, Derivative, Algebraic as PlainEquation, EachEquation, EquationTrees, no_equations, equation_then, StatementTree, Assign, Restart, EachStatement, StatementTrees, no_statements, statement_then, BranchTree, ClauseTree, Branches, EachClause, ClauseTrees, no_clauses, clause_then, equations_of, statements_of, clauses_of}
-use Rattle.mu_tree.specs.declared.flat.FlatRole.{FlatRole}
-use Rattle.mu_tree.specs.declared.flat.FlatRole.TheVariants as flat_role
+use Rattle.mu_flat.specs.declared.flat.FlatRole.{FlatRole}
+use Rattle.mu_flat.specs.declared.flat.FlatRole.TheVariants as flat_role
 use Rattle.mu_tree.specs.declared.tree.Prefix.{Prefix}
 use Rattle.mu_tree.specs.declared.tree.Prefix.TheVariants as prefixes
 use Rattle.mu_unroll.proofs.Stepping.{each_then}

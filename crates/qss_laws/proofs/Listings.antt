@@ -2,7 +2,7 @@
 use Rattle.std.proofs.Common.{◌≡◌, IfOk, subst}
 use Rattle.std.specs.Prelude.{Result, Ok}
 use Rattle.mu_names.specs.Roles.{scope_of}
-use Rattle.mu_tree.specs.FlatExpression.{FlatModelTree}
+use Rattle.mu_flat.specs.FlatExpression.{FlatModelTree}
 use Rattle.mu_tree.specs.ModelTree.{ModelTree}
 use Rattle.mu_unroll.proofs.Listed.{listed_right}
 use Rattle.mu_unroll.specs.Listing.{listed}

@@ -15,10 +15,10 @@ use Rattle.mu_names.specs.declared.scope.Known.{Known}
 use Rattle.mu_names.specs.declared.scope.Valued.{Valued}
 use Rattle.mu_num.specs.Fraction.{Fraction}
 use Rattle.mu_machine.specs.Rounded.{rounded_discrete, rounded_state}
-use Rattle.mu_tree.specs.FlatExpression.{FlatEquationTree, FlatBranchTree, FlatModelTree, FlatVariable}
+use Rattle.mu_flat.specs.FlatExpression.{FlatEquationTree, FlatBranchTree, FlatModelTree, FlatVariable}
 use Rattle.mu_tree.specs.ModelTree.{Declaration, ModelTree, clauses_of, equations_of, statements_of}
-use Rattle.mu_tree.specs.declared.flat.FlatRole.{FlatRole}
-use Rattle.mu_tree.specs.declared.flat.FlatRole.TheVariants.{State, Discrete, Algebraic}
+use Rattle.mu_flat.specs.declared.flat.FlatRole.{FlatRole}
+use Rattle.mu_flat.specs.declared.flat.FlatRole.TheVariants.{State, Discrete, Algebraic}
 use Rattle.mu_unroll.proofs.Stepping.{any_answer, each_then}
 use Rattle.mu_unroll.specs.Listing.{StartValue, listed, listed_clauses, listed_equations, listed_starts, started}
 use Rattle.mu_unroll.specs.Places.{elements_from, has_kind, scalar, scalars_in, scalars_of, scalars_of_kind}

@@ -4,8 +4,8 @@ use Rattle.std.specs.Prelude.{Result}
 use Rattle.mu_grammar.proofs.ReadBackModels.{models_read_back}
 use Rattle.mu_grammar.specs.Symbols.{symbols}
 use Rattle.mu_names.specs.Roles.{scope_of}
-use Rattle.mu_tree.specs.FlatExpression.{FlatModelTree}
-use Rattle.mu_tree.specs.FlatModels.{IsFlatModel}
+use Rattle.mu_flat.specs.FlatExpression.{FlatModelTree}
+use Rattle.mu_flat.specs.FlatModels.{IsFlatModel}
 use Rattle.mu_tree.specs.ModelTree.{ModelTree}
 use Rattle.mu_unroll.proofs.FlatModels.{flat_model_right}
 use Rattle.mu_unroll.specs.WellFormed.{IsWellFormed}

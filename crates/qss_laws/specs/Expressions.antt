@@ -3,7 +3,7 @@ use Rattle.std.specs.Prelude.{◌≡◌, Bool, true, false, ℕ, ℤ, List, [], 
 use Rattle.mu_names.specs.Roles.{scope_of}
 use Rattle.mu_tree.specs.Expression.{Expression, Number, Variable, Now, Previous, Sum, Product, Power, Reference, Whole, Element, Terms, no_terms, term, Factors, no_factors, factor}
 use Rattle.mu_tree.specs.ModelTree.{Range, EquationTree, Derivative, Algebraic, EachEquation, EquationTrees, no_equations, equation_then, StatementTree, Assign, Restart, EachStatement, StatementTrees, no_statements, statement_then, BranchTree, ClauseTree, Branches, EachClause, ClauseTrees, no_clauses, clause_then, equations_of, statements_of, clauses_of, ModelTree}
-use Rattle.mu_tree.specs.declared.flat.FlatRole.TheVariants as flat_role
+use Rattle.mu_flat.specs.declared.flat.FlatRole.TheVariants as flat_role
 use Rattle.mu_unroll.specs.Flattening.{constants_in, found, number_of_kind}
 use Rattle.mu_unroll.specs.Places.{meant_in}
 use Rattle.mu_unroll.specs.Unrolling.{declared_in, inside}

@@ -2,7 +2,7 @@
 use Rattle.std.specs.Prelude.{◌≡◌, true, false, ℕ, ℤ, List, [], ◌∷◌, IfOk, Result}
 use Rattle.mu_names.specs.Roles.{scope_of}
 use Rattle.mu_tree.specs.ModelTree.{EquationTree, Derivative, Algebraic, EachEquation, EquationTrees, no_equations, equation_then, StatementTree, Assign, Restart, EachStatement, StatementTrees, no_statements, statement_then, BranchTree, ClauseTree, Branches, EachClause, ClauseTrees, no_clauses, clause_then, equations_of, statements_of, clauses_of, ModelTree}
-use Rattle.mu_tree.specs.declared.flat.FlatRole.TheVariants as flat_role
+use Rattle.mu_flat.specs.declared.flat.FlatRole.TheVariants as flat_role
 use Rattle.mu_unroll.specs.Flattening.{found}
 use Rattle.mu_unroll.specs.Listing.{the_action, the_equation}
 use Rattle.mu_unroll.specs.Places.{meant_in}

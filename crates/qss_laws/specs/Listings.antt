@@ -1,7 +1,7 @@
 -- The flat model of a source as the listing of its tree.
 use Rattle.std.specs.Prelude.{◌≡◌, ℕ, List, Ok}
 use Rattle.mu_names.specs.Roles.{scope_of}
-use Rattle.mu_tree.specs.FlatExpression.{FlatModelTree}
+use Rattle.mu_flat.specs.FlatExpression.{FlatModelTree}
 use Rattle.mu_tree.specs.ModelTree.{ModelTree}
 use Rattle.mu_unroll.specs.Listing.{listed}
 use Rattle.qss_compile.specs.Meanings.{SpellsTree, FlatSource, FlatMeans, IsFlatOf, TreeMeans, Means}

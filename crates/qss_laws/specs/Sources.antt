@@ -6,7 +6,7 @@ use Rattle.mu_lexer.specs.Reading.{AreTokens}
 use Rattle.mu_lexer.specs.declared.token.Token.{Token}
 use Rattle.mu_tree.specs.Bare.{bare_model}
 use Rattle.mu_tree.specs.Canonical.{canonical_text}
-use Rattle.mu_tree.specs.FlatModels.{IsFlatModel}
+use Rattle.mu_flat.specs.FlatModels.{IsFlatModel}
 use Rattle.mu_tree.specs.ModelTree.{ModelTree}
 use Rattle.mu_unroll.specs.WellFormed.{IsWellFormed}
 use Rattle.qss_compile.specs.Meanings.{FlatSource, IsFlatOf, SpellsTree}

@@ -4,12 +4,12 @@ ghost use Rattle.std.specs.Prelude.{◌≡◌, ◌<◌};
 ghost use Rattle.mu_num.specs.Sizes.{IsWithin};
 ghost use Rattle.qss_machine.specs.Machines.{state_count, level_unit, quantum_of};
 ghost use Rattle.qss_machine.specs.Ticks.{IsNextLevel};
-ghost use Rattle.qss_quant.specs.Lines.{IsNear};
+ghost use Rattle.qss_quant.specs.Lines.{IsNear, IsAway};
 ghost use Rattle.qss_quiet.specs.Rules.{IsRuled};
 ghost use Rattle.qss_quiet.specs.Sims.{IsDue};
 
 use qss_machine::Machine;
-use qss_quant::{Integrator, Quantizer};
+use qss_quant::{Integrator, LevelRule, Quantizer};
 
 /// The first tick after its own at which a state's line leaves the quantum of its level.
 pub fn leaving(m: &Machine, j: u32, line: &Integrator) -> Option<u64>
@@ -27,7 +27,9 @@ pub fn next_level(m: &Machine, q: &Quantizer, j: u32, x: i128, level: i64, unit:
     requires small_state { IsWithin 89 x }
     requires small_level { IsWithin 43 level }
     requires unit { unit ≡ level_unit m.now }
-    ensures { IsNextLevel (IsRuled q.now.name) m.now j x level result }
+    ensures next { IsNextLevel (IsRuled q.now.name) m.now j x level result }
+    ensures ruled { IsAway unit x level (quantum_of m.now j level)
+        → LevelRule.post q.now.rule x level unit result }
 {
     let quantum = m.quantum_at(j, level);
     q.level(x, level, quantum, unit)

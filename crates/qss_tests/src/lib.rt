@@ -4,13 +4,7 @@
 #[cfg(test)]
 mod agendas;
 #[cfg(test)]
-mod answers;
-#[cfg(test)]
 mod certificate_lines;
-#[cfg(test)]
-mod certificates;
-#[cfg(test)]
-mod checks;
 #[cfg(test)]
 mod crossings;
 #[cfg(test)]

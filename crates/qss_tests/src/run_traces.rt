@@ -1,8 +1,7 @@
 // Traces of a machine's own runs, and runs that have none.
 
-ghost use Rattle.std.specs.Prelude.{◌≡◌, ◌∷◌, [], pos, ◌^◌, IfOk};
+ghost use Rattle.std.specs.Prelude.{◌≡◌, ◌∷◌, [], pos, negsuc, ◌^◌, IfOk};
 
-use crate::checks::{decay, decay_states};
 use crate::lists::{none, one};
 use cert_check::scope;
 use mu_io::{Items, Name};
@@ -11,6 +10,49 @@ use qss_trace::Trace;
 use run_trace::{TraceOver, first_trace, second_trace};
 use std::alloc::{AllocError, Global};
 use std::test::Fail;
+
+// A state that starts at 262144 and has the quantum 4.
+fn decay_states(alloc: Global) -> Result<Items<StateInfo>, AllocError>
+    ensures { IfOk result (λ states. states ≡ record { name = 120 ∷ []; x0 = pos 262144; quantum = pos 4 } ∷ []) }
+{
+    let name = Name::new(alloc, b"x")?;
+    let state = StateInfo {
+        name,
+        x0: 262144,
+        quantum: 4,
+    };
+    one(alloc, state)
+}
+
+// A right side of minus 256 times the state.
+fn decay_rows(alloc: Global) -> Result<Items<SlopeRow>, AllocError>
+    ensures { IfOk result (λ rows. rows ≡ record { entries = record { var = 0; coef = negsuc 255 } ∷ []; products = []; beta = pos 0 } ∷ []) }
+{
+    let entries = one(alloc, Entry { var: 0, coef: -256 })?;
+    let row = SlopeRow {
+        entries,
+        products: none(alloc),
+        beta: 0,
+    };
+    one(alloc, row)
+}
+
+// Decay by 256/4096 of the level in a tick, with the quantum 4.
+fn decay(alloc: Global) -> Result<Machine, AllocError> {
+    let states = decay_states(alloc)?;
+    let rows = decay_rows(alloc)?;
+    Ok(Machine {
+        p: 8,
+        k: 4,
+        f: 0,
+        last: 16,
+        states,
+        discretes: none(alloc),
+        rows,
+        clauses: none(alloc),
+        relative: 0,
+    })
+}
 
 // The trace of a run, where the machine is one that may be traced.
 fn traced(alloc: Global, m: &Machine, second_order: bool) -> Result<Trace, TraceOver> {

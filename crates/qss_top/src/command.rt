@@ -17,7 +17,7 @@ use crate::machine::{Job, by_machine};
 use crate::outcome::Outcome;
 use crate::source::model_of;
 use mu_io::{ReadErr, Shelf, Sink, WriteErr, read_all, write_all};
-use mu_tree::canonical::write_model;
+use mu_print::write_model;
 use mu_tree::tree::Model;
 use qss_words::{Request, Task, read_words};
 use std::alloc::Global;

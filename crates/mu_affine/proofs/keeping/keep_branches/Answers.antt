@@ -1,8 +1,8 @@
 use Rattle.std.proofs.Common.{◌≡◌, ◌∙◌, length, map, sym, ap, subst}
 use Rattle.std.specs.Prelude.{Result, Ok, All}
 use Rattle.std.proofs.lemmas.Result.{err_from_is_err_and}
-use Rattle.mu_tree.specs.declared.flat.FlatBranch.{FlatBranch}
-use Rattle.mu_tree.specs.FlatExpression.{flat_action, flat_branch}
+use Rattle.mu_flat.specs.declared.flat.FlatBranch.{FlatBranch}
+use Rattle.mu_flat.specs.FlatExpression.{flat_action, flat_branch}
 use Rattle.mu_forms.specs.declared.fault.AffineErr.{AffineErr}
 use Rattle.mu_forms.specs.declared.form.ExactForm.{ExactForm}
 use Rattle.mu_forms.specs.AffineForm.{AffineForm, coefficient_count}

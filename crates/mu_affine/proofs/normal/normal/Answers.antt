@@ -1,8 +1,8 @@
 use Rattle.std.proofs.Common.{◌≡◌, ◌∙◌, ◌<◌, ℕ, List, length, map, refl, sym, ap, subst}
 use Rattle.std.specs.Prelude.{All, Ok}
 use Rattle.std.proofs.lemmas.Result.{err_from_is_err_and}
-use Rattle.mu_tree.specs.declared.flat.FlatRole.TheVariants.{State, Discrete}
-use Rattle.mu_tree.specs.FlatExpression.{FlatModelTree, flat_model, flat_variable, flat_clause}
+use Rattle.mu_flat.specs.declared.flat.FlatRole.TheVariants.{State, Discrete}
+use Rattle.mu_flat.specs.FlatExpression.{FlatModelTree, flat_model, flat_variable, flat_clause}
 use Rattle.mu_forms.specs.declared.fault.AffineErr.{AffineErr}
 use Rattle.mu_forms.specs.declared.form.Forms.{Forms}
 use Rattle.mu_forms.specs.declared.form.Sizes.{Sizes}

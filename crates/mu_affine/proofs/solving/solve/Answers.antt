@@ -2,7 +2,7 @@ use Rattle.std.proofs.Common.{◌≡◌, ◌∙◌, ◌<◌, length, length-set,
 use Rattle.std.specs.Prelude.{Ok}
 use Rattle.std.specs.Vec.{with_item}
 use Rattle.std.proofs.lemmas.Result.{err_from_is_err_and}
-use Rattle.mu_tree.specs.FlatExpression.{flat_model, flat_equation}
+use Rattle.mu_flat.specs.FlatExpression.{flat_model, flat_equation}
 use Rattle.mu_forms.specs.declared.fault.AffineErr.{AffineErr}
 use Rattle.mu_forms.specs.declared.form.ExactForm.{ExactForm}
 use Rattle.mu_forms.specs.AffineForm.{coefficient_count}

@@ -1,5 +1,5 @@
 use Rattle.std.proofs.Common.{length, refl, sym, ap}
-use Rattle.mu_tree.specs.FlatExpression.{flat_model}
+use Rattle.mu_flat.specs.FlatExpression.{flat_model}
 use Rattle.mu_affine.specs.declared.counting.CountedForms.{CountedForms}
 use Rattle.mu_affine.specs.Normal.{solve_all}
 use Rattle.mu_affine.proofs.InOrder.{nothing_solved, zeros_solved}

@@ -1,5 +1,5 @@
 use Rattle.std.proofs.Common.{◌≡◌, ◌∙◌, map, ap}
-use Rattle.mu_tree.specs.FlatExpression.{flat_model, flat_variable, FlatVariable}
+use Rattle.mu_flat.specs.FlatExpression.{flat_model, flat_variable, FlatVariable}
 use Rattle.mu_causal.specs.Causality.{IsOrder, IsCycle}
 use Rattle.mu_causal.specs.Dependencies.{IsAlgebraic, DependsOn}
 use Rattle.mu_causal.specs.Flat.{IsGraphOf, is_known}

@@ -2,8 +2,8 @@ use Rattle.std.proofs.Common.{◌≡◌, ◌+◌, length, take, sym, ◌∙◌, 
 use Rattle.std.proofs.lemmas.List.{take_all, length-take-le}
 use Rattle.std.proofs.lemmas.Result.{err_from_is_err_and}
 use Rattle.std.specs.Prelude.{sum_by}
-use Rattle.mu_tree.specs.declared.flat.FlatStatement.{FlatStatement}
-use Rattle.mu_tree.specs.FlatExpression.{FlatAction, flat_action}
+use Rattle.mu_flat.specs.declared.flat.FlatStatement.{FlatStatement}
+use Rattle.mu_flat.specs.FlatExpression.{FlatAction, flat_action}
 use Rattle.mu_machine.specs.Places.{action_of, placed}
 use Rattle.mu_machine.proofs.Placing.{forms_turn, forms_refused, placed_turn, ones}
 use Rattle.mu_machine.proofs.Turns.{placed_map}

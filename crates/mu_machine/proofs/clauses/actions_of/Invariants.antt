@@ -1,6 +1,6 @@
 use Rattle.std.proofs.Common.{◌≡◌, None, take}
-use Rattle.mu_tree.specs.declared.flat.FlatStatement.{FlatStatement}
-use Rattle.mu_tree.specs.FlatExpression.{flat_action}
+use Rattle.mu_flat.specs.declared.flat.FlatStatement.{FlatStatement}
+use Rattle.mu_flat.specs.FlatExpression.{flat_action}
 use Rattle.mu_machine.specs.Places.{action_of, placed}
 use Rattle.mu_machine.specs.Checks.{first_failed, form_checks}
 use Rattle.mu_machine.proofs.clauses.actions_of.Given as goal

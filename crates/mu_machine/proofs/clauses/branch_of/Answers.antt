@@ -1,8 +1,8 @@
 use Rattle.std.proofs.Common.{◌≡◌, ◌+◌, ℕ, List, length, map, sym, ◌∙◌, ap, arith}
 use Rattle.std.proofs.lemmas.List.{length-map}
 use Rattle.std.proofs.lemmas.Result.{err_from_is_err_and}
-use Rattle.mu_tree.specs.declared.flat.FlatStatement.{FlatStatement}
-use Rattle.mu_tree.specs.FlatExpression.{flat_action, flat_branch}
+use Rattle.mu_flat.specs.declared.flat.FlatStatement.{FlatStatement}
+use Rattle.mu_flat.specs.FlatExpression.{flat_action, flat_branch}
 use Rattle.mu_machine.specs.Places.{actions_of}
 use Rattle.mu_machine.specs.Checks.{first_failed, form_checks}
 use Rattle.mu_machine.proofs.Branches.{branch_made}

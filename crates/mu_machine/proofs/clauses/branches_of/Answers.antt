@@ -2,8 +2,8 @@ use Rattle.std.proofs.Common.{◌+◌, ℕ, sym, ◌∙◌, ap, arith}
 use Rattle.std.proofs.lemmas.List.{take_all, length-map}
 use Rattle.std.proofs.lemmas.Result.{err_from_is_err_and}
 use Rattle.std.specs.Prelude.{sum_by}
-use Rattle.mu_tree.specs.declared.flat.FlatBranch.{FlatBranch}
-use Rattle.mu_tree.specs.FlatExpression.{flat_action, flat_branch}
+use Rattle.mu_flat.specs.declared.flat.FlatBranch.{FlatBranch}
+use Rattle.mu_flat.specs.FlatExpression.{flat_action, flat_branch}
 use Rattle.mu_machine.specs.Places.{branch_forms, branch_of, placed}
 use Rattle.mu_machine.specs.Checks.{first_failed, form_checks}
 use Rattle.mu_machine.proofs.Placing.{place_turn, place_within, placed_turn, none_turn, refused_turn}

@@ -1,6 +1,6 @@
 use Rattle.std.proofs.Common.{◌≡◌, ◌+◌, None, take, sum_by}
-use Rattle.mu_tree.specs.declared.flat.FlatBranch.{FlatBranch}
-use Rattle.mu_tree.specs.FlatExpression.{flat_branch}
+use Rattle.mu_flat.specs.declared.flat.FlatBranch.{FlatBranch}
+use Rattle.mu_flat.specs.FlatExpression.{flat_branch}
 use Rattle.mu_machine.specs.Places.{branch_forms, branch_of, placed}
 use Rattle.mu_machine.specs.Checks.{first_failed, form_checks}
 use Rattle.mu_machine.proofs.clauses.branches_of.Given as goal

@@ -2,8 +2,8 @@ use Rattle.std.proofs.Common.{ℕ, sym, ◌∙◌, ap, arith}
 use Rattle.std.proofs.lemmas.List.{take_all}
 use Rattle.std.proofs.lemmas.Result.{err_from_is_err_and}
 use Rattle.std.specs.Prelude.{sum_by}
-use Rattle.mu_tree.specs.declared.flat.FlatClause.{FlatClause}
-use Rattle.mu_tree.specs.FlatExpression.{flat_clause}
+use Rattle.mu_flat.specs.declared.flat.FlatClause.{FlatClause}
+use Rattle.mu_flat.specs.FlatExpression.{flat_clause}
 use Rattle.mu_machine.specs.Places.{clause_forms, clause_of, placed}
 use Rattle.mu_machine.specs.Checks.{first_failed, form_checks}
 use Rattle.mu_machine.proofs.Branches.{clause_made}

@@ -1,6 +1,6 @@
 use Rattle.std.proofs.Common.{◌≡◌, ◌+◌, None, take, sum_by}
-use Rattle.mu_tree.specs.declared.flat.FlatClause.{FlatClause}
-use Rattle.mu_tree.specs.FlatExpression.{flat_clause}
+use Rattle.mu_flat.specs.declared.flat.FlatClause.{FlatClause}
+use Rattle.mu_flat.specs.FlatExpression.{flat_clause}
 use Rattle.mu_machine.specs.Places.{clause_forms, clause_of, placed}
 use Rattle.mu_machine.specs.Checks.{first_failed, form_checks}
 use Rattle.mu_machine.proofs.clauses.clauses_of.Given as goal

@@ -4,9 +4,9 @@ use Rattle.std.proofs.lemmas.Result.{err_from_is_err_and}
 use Rattle.std.specs.Prelude.{All, sum_by}
 use Rattle.mu_num.specs.Sizes.{IsWithin}
 use Rattle.mu_forms.specs.declared.form.ExactForm.{ExactForm}
-use Rattle.mu_tree.specs.declared.flat.FlatVar.{FlatVar}
-use Rattle.mu_tree.specs.declared.flat.FlatClause.{FlatClause}
-use Rattle.mu_tree.specs.FlatExpression.{flat_clause, flat_model, flat_variable}
+use Rattle.mu_flat.specs.declared.flat.FlatVar.{FlatVar}
+use Rattle.mu_flat.specs.declared.flat.FlatClause.{FlatClause}
+use Rattle.mu_flat.specs.FlatExpression.{flat_clause, flat_model, flat_variable}
 use Rattle.mu_machine.specs.Rounded.{rounded, rounded_row, rounded_state, rounded_discrete}
 use Rattle.mu_machine.specs.Places.{state_count, discrete_count, states_of, discretes_of, clause_forms, clauses_of}
 use Rattle.mu_machine.specs.Checks.{Check, IsRefusal, bits_of, first_failed, form_checks, start_level}

@@ -1,6 +1,6 @@
 use Rattle.std.proofs.Common.{◌≡◌, map, take}
-use Rattle.mu_tree.specs.declared.flat.FlatVar.{FlatVar}
-use Rattle.mu_tree.specs.FlatExpression.{flat_variable}
+use Rattle.mu_flat.specs.declared.flat.FlatVar.{FlatVar}
+use Rattle.mu_flat.specs.FlatExpression.{flat_variable}
 use Rattle.mu_machine.specs.Rounded.{rounded_discrete}
 use Rattle.mu_machine.proofs.variables.discretes_of.Given as goal
 

@@ -1,5 +1,5 @@
 use Rattle.std.proofs.Common.{◌≡◌, ◌+◌, ◌-◌, take, drop, map, ◌∙◌, ap, arith, ℕ}
-use Rattle.mu_tree.specs.FlatExpression.{flat_variable}
+use Rattle.mu_flat.specs.FlatExpression.{flat_variable}
 use Rattle.mu_machine.proofs.Seen.{counts_within, states_seen, discretes_seen}
 use Rattle.mu_machine.proofs.variables.kinds_of.Goals as goal
 

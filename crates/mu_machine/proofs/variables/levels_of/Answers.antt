@@ -3,7 +3,7 @@ use Rattle.std.proofs.lemmas.Int.{ints, to_z-of_z}
 use Rattle.std.proofs.lemmas.List.Elements.{All-push}
 use Rattle.std.specs.Int.RustNames.{unsigned_abs, FitsSigned}
 use Rattle.mu_num.specs.Sizes.{IsWithin}
-use Rattle.mu_tree.specs.declared.flat.FlatVar.{FlatVar}
+use Rattle.mu_flat.specs.declared.flat.FlatVar.{FlatVar}
 use Rattle.mu_machine.specs.declared.fault.MachineErr.TheVariants.{Start}
 use Rattle.mu_machine.specs.Checks.{is_start, start_level}
 use Rattle.mu_machine.proofs.Failing.{fail_turn, pass_turn, checks_done}

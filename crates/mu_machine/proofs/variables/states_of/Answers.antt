@@ -1,8 +1,8 @@
 use Rattle.std.proofs.Common.{◌∙◌, arith}
 use Rattle.std.proofs.lemmas.Int.{to_z-of_z}
 use Rattle.std.specs.Int.RustNames.{FitsSigned}
-use Rattle.mu_tree.specs.declared.flat.FlatVar.{FlatVar}
-use Rattle.mu_tree.specs.FlatExpression.{flat_variable}
+use Rattle.mu_flat.specs.declared.flat.FlatVar.{FlatVar}
+use Rattle.mu_flat.specs.FlatExpression.{flat_variable}
 use Rattle.mu_machine.specs.declared.fault.MachineErr.TheVariants.{Quantum}
 use Rattle.mu_machine.specs.Rounded.{rounded_state}
 use Rattle.mu_machine.specs.Checks.{is_quantum}

@@ -1,6 +1,6 @@
 use Rattle.std.proofs.Common.{◌≡◌, None, map, take}
-use Rattle.mu_tree.specs.declared.flat.FlatVar.{FlatVar}
-use Rattle.mu_tree.specs.FlatExpression.{flat_variable}
+use Rattle.mu_flat.specs.declared.flat.FlatVar.{FlatVar}
+use Rattle.mu_flat.specs.FlatExpression.{flat_variable}
 use Rattle.mu_machine.specs.declared.fault.MachineErr.TheVariants.{Quantum}
 use Rattle.mu_machine.specs.Rounded.{rounded_state}
 use Rattle.mu_machine.specs.Checks.{checks, first_failed, is_quantum}

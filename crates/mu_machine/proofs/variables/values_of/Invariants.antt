@@ -1,7 +1,7 @@
 use Rattle.std.proofs.Common.{◌≡◌, None, map, take}
 use Rattle.std.specs.Prelude.{All}
 use Rattle.mu_num.specs.Sizes.{IsWithin}
-use Rattle.mu_tree.specs.declared.flat.FlatVar.{FlatVar}
+use Rattle.mu_flat.specs.declared.flat.FlatVar.{FlatVar}
 use Rattle.mu_machine.specs.declared.fault.MachineErr.TheVariants.{Start}
 use Rattle.mu_machine.specs.Rounded.{rounded}
 use Rattle.mu_machine.specs.Checks.{checks, first_failed, is_value}

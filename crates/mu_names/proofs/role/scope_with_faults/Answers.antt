@@ -2,7 +2,7 @@ use Rattle.std.proofs.Common.{◌≡◌, ◌∙◌, ◌∷◌, [], List, ℕ, le
 use Rattle.std.specs.Prelude.{Option, bytes_eq, if◌then◌else◌}
 use Rattle.std.proofs.Math.Path.{fun_ext}
 use Rattle.mu_num.specs.Fraction.{Fraction}
-use Rattle.mu_tree.specs.declared.flat.Settings.{Settings}
+use Rattle.mu_flat.specs.declared.flat.Settings.{Settings}
 use Rattle.mu_tree.specs.ModelTree.{model, declaration, setting, statement, equation, clause, statements_of, equations_of, clauses_of}
 use Rattle.mu_names.specs.declared.fault.NameErr.TheVariants.{EndName}
 use Rattle.mu_names.specs.declared.scope.Known.{Known}

@@ -1,7 +1,7 @@
 use Rattle.std.proofs.Common.{◌≡◌, ◌∙◌, ◌+◌, ◌++◌, ◌∷◌, [], List, ℕ, map, drop, ap, sym, subst, arith, rules}
 use Rattle.std.specs.Prelude.{Result, Ok, Err}
 use Rattle.mu_tree.specs.Expression.{expression}
-use Rattle.mu_tree.specs.FlatExpression.{flat_variable}
+use Rattle.mu_flat.specs.FlatExpression.{flat_variable}
 use Rattle.mu_tree.specs.ModelTree.{statement, statements_of, range, EachStatement, Range}
 use Rattle.mu_names.proofs.Shapes.{statements_from, statement-For}
 use Rattle.mu_unroll.specs.Places.{meant_in}
@@ -16,7 +16,7 @@ use Rattle.std.specs.Prelude.{ℤ, ◌≤◌, ◌^◌, ◌≤ℤ◌, unsigned_ab
 use Rattle.mu_tree.specs.declared.expr.Expr.{Expr}
 use Rattle.mu_tree.specs.declared.tree.Statement.{Statement, the_lemmas}
 use Rattle.mu_tree.specs.declared.tree.Statement as trees
-use Rattle.mu_tree.specs.FlatExpression.{FlatEquationTree, FlatAction, FlatVariable, FlatBranchTree}
+use Rattle.mu_flat.specs.FlatExpression.{FlatEquationTree, FlatAction, FlatVariable, FlatBranchTree}
 use Rattle.mu_unroll.specs.declared.fault.UnrollErr.{UnrollErr}
 use Rattle.mu_unroll.specs.declared.place.LoopVar.{LoopVar}
 use Rattle.mu_unroll.specs.declared.place.Meant.{Meant}

@@ -1,5 +1,5 @@
 use Rattle.std.proofs.Common.{◌≡◌, map, drop}
-use Rattle.mu_tree.specs.FlatExpression.{flat_action}
+use Rattle.mu_flat.specs.FlatExpression.{flat_action}
 use Rattle.mu_tree.specs.ModelTree.{statement, statements_of}
 use Rattle.mu_unroll.specs.Bounds.{IsNear}
 use Rattle.mu_unroll.specs.Tables.{meant_at}

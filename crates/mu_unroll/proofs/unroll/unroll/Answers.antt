@@ -1,6 +1,6 @@
 use Rattle.std.proofs.Common.{◌≡◌, ◌∙◌, ◌^◌, List, ℕ, map, sym, ap}
 use Rattle.std.specs.Prelude.{nat_lt, false, Result}
-use Rattle.mu_tree.specs.FlatExpression.{FlatModelTree, flat_variable}
+use Rattle.mu_flat.specs.FlatExpression.{FlatModelTree, flat_variable}
 use Rattle.mu_tree.specs.ModelTree.{ModelTree, model}
 use Rattle.mu_names.specs.declared.scope.Known.{Known}
 use Rattle.mu_unroll.specs.declared.fault.UnrollErr.{UnrollErr}

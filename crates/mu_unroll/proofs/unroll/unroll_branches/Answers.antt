@@ -1,5 +1,5 @@
 use Rattle.std.proofs.Common.{◌≡◌, ◌∙◌, ◌+◌, map, drop, ap, sym}
-use Rattle.mu_tree.specs.FlatExpression.{flat_branch}
+use Rattle.mu_flat.specs.FlatExpression.{flat_branch}
 use Rattle.mu_tree.specs.ModelTree.{branch}
 use Rattle.mu_names.proofs.Shapes.{branches_from}
 use Rattle.mu_unroll.specs.Tables.{meant_at}

@@ -42,8 +42,8 @@ level-requires-clause-quantum g c =
     rw (to_z-of_z w64 c.quantum_at-quantum.result quantum)
     (subst (IsPositiveWithin 43) (sym own) (quantum_fits c.args.m.now c.args.j c.args.level c.requires.state c.requires.small_level))
 
-pub returns : goal.returns
-returns g c =
+pub returns-clause-next : goal.returns-clause-next
+returns-clause-next g c =
     let m = c.args.m.now in
     let one = level_unit m in
     let old = c.args.level in
@@ -58,3 +58,15 @@ returns g c =
     let taken : IsAway one c.args.x old (quantum_of m c.args.j old) → IsAnswer c.args.q.now.name c.args.x old one c.level.result =
     λ away. taken_by c.args.q.now.name one c.args.x old (quantum_of m c.args.j old) c.level.result (simp to_z-of_z at c.level.ensures.taken) c.requires.unit own away in
     subst (IsNextLevel (IsRuled c.args.q.now.name) m c.args.j c.args.x old) (sym (to_z-of_z w128 c.level.result answer)) (next_by c.args.q.now.name m c.args.j c.args.x old c.level.result kept taken)
+
+pub returns-clause-ruled : goal.returns-clause-ruled
+returns-clause-ruled g c away =
+    let old = c.args.level in
+    let x : FitsSigned w128 c.args.x = omega (arith, ints, c.requires.small_state) in
+    let level : FitsSigned w64 old = omega (arith, ints, c.requires.small_level) in
+    let unit : FitsSigned w128 c.args.unit = record { sfits = c.ranges.unit.sfits } in
+    let quantum : FitsSigned w64 c.quantum_at-quantum.result = record { sfits = c.quantum_at-quantum.type_inv } in
+    let answer : FitsSigned w128 c.level.result = record { sfits = c.level.type_inv } in
+    let own : c.quantum_at-quantum.result ≡ quantum_of c.args.m.now c.args.j old = rw (to_z-of_z w64 old level) at c.quantum_at-quantum.ensures in
+    let ruled = simp to_z-of_z at c.level.ensures.ruled in
+    rw (to_z-of_z w128 c.level.result answer) (ruled (subst (λ q. IsAway c.args.unit c.args.x old q) (sym own) away))

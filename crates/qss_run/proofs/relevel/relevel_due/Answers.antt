@@ -27,7 +27,7 @@ loop-state-preserved g c =
     let answer : FitsSigned w128 c.next_level.result = record { sfits = c.next_level.type_inv } in
     let here : IsNextLevel (IsRuled c.args.q.now.name) m j (int_at c.args.x.now j) (int_at c.args.levels.now j) c.next_level.result =
     subst (λ old. IsNextLevel (IsRuled c.args.q.now.name) m j (int_at c.args.x.now j) old c.next_level.result) (to_z-of_z w64 (int_at c.args.levels.now j) level)
-    (subst (λ z. IsNextLevel (IsRuled c.args.q.now.name) m j z (to_z w64 (of_z w64 (int_at c.args.levels.now j))) c.next_level.result) (to_z-of_z w128 (int_at c.args.x.now j) x) c.next_level.ensures) in
+    (subst (λ z. IsNextLevel (IsRuled c.args.q.now.name) m j z (to_z w64 (of_z w64 (int_at c.args.levels.now j))) c.next_level.result) (to_z-of_z w128 (int_at c.args.x.now j) x) c.next_level.ensures.next) in
     let within : j < length c.loop-state.fresh = omega (arith, inside, inv.as_many, c.requires.fresh) in
     written_more (pos 0) (λ k new. IsNextLevel (IsRuled c.args.q.now.name) m k (int_at c.args.x.now k) (int_at c.args.levels.now k) new) moved c.args.fresh.now c.loop-state.fresh i _ h within inv
     (subst (IsNextLevel (IsRuled c.args.q.now.name) m j (int_at c.args.x.now j) (int_at c.args.levels.now j)) (sym (to_z-of_z w128 c.next_level.result answer)) here)

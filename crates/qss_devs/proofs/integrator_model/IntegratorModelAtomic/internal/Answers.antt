@@ -32,7 +32,7 @@ taken-self-requires-clause-close g c =
     let i = c.args.self.now in
     let level : FitsSigned w128 c.level_at-level.result = record { sfits = c.level_at-level.type_inv } in
     rw (to_z-of_z w128 c.level_at-level.result level)
-    (subst (λ (m : Machine). Free (level_unit m) (state_at i.line c.in-Some.tick) i.line.level c.level_at-level.result) c.deref.ensures c.level_at-level.ensures.close)
+    (subst (λ (m : Machine). Free (level_unit m) (state_at i.line c.in-Some.tick) i.line.level c.level_at-level.result) c.deref.ensures c.level_at-level.ensures.allowed.close)
 
 pub taken-self-requires-clause-small : goal.taken-self-requires-clause-small
 taken-self-requires-clause-small g c =
@@ -43,8 +43,9 @@ taken-self-requires-clause-small g c =
     let next : IsLineNext m i.var i.line (Some c.in-Some.tick) = subst (IsLineNext m i.var i.line) c.in-Some.is c.advance.ensures.next in
     let allowed : IsAnswer i.quantizer.value.name (state_at i.line c.in-Some.tick) i.line.level (level_unit m) answer =
     subst (λ q. IsAnswer q (state_at i.line c.in-Some.tick) i.line.level (level_unit m) answer) (ap (λ q. q.name) c.deref-in-Some.ensures)
-    (subst (λ (s : Machine). IsAnswer c.deref-in-Some.result.now.name (state_at i.line c.in-Some.tick) i.line.level (level_unit s) answer) c.deref.ensures c.level_at-level.ensures) in
-    rw (to_z-of_z w128 answer level) (c.requires.small c.in-Some.tick (Level i.var answer) next (record { level = answer; allowed = allowed; told = refl }))
+    (subst (λ (s : Machine). IsAnswer c.deref-in-Some.result.now.name (state_at i.line c.in-Some.tick) i.line.level (level_unit s) answer) c.deref.ensures c.level_at-level.ensures.allowed) in
+    let ruled = rw (c.deref-in-Some.ensures, c.deref.ensures) at c.level_at-level.ensures.ruled in
+    rw (to_z-of_z w128 answer level) (c.requires.small c.in-Some.tick (Level i.var answer) next (record { level = answer; allowed = allowed; ruled = ruled; told = refl }))
 
 pub returns-in-Some-clause-turned : goal.returns-in-Some-clause-turned
 returns-in-Some-clause-turned g c tick is =
@@ -54,10 +55,11 @@ returns-in-Some-clause-turned g c tick is =
     let level : FitsSigned w128 answer = record { sfits = c.level_at-level.type_inv } in
     let allowed : IsAnswer i.quantizer.value.name (state_at i.line c.in-Some.tick) i.line.level (level_unit m) answer =
     subst (λ q. IsAnswer q (state_at i.line c.in-Some.tick) i.line.level (level_unit m) answer) (ap (λ q. q.name) c.deref-in-Some.ensures)
-    (subst (λ (s : Machine). IsAnswer c.deref-in-Some.result.now.name (state_at i.line c.in-Some.tick) i.line.level (level_unit s) answer) c.deref.ensures c.level_at-level.ensures) in
+    (subst (λ (s : Machine). IsAnswer c.deref-in-Some.result.now.name (state_at i.line c.in-Some.tick) i.line.level (level_unit s) answer) c.deref.ensures c.level_at-level.ensures.allowed) in
+    let ruled = rw (c.deref-in-Some.ensures, c.deref.ensures) at c.level_at-level.ensures.ruled in
     let taken = simp to_z-of_z at c.taken-self.ensures.taken in
     rw (same_tick tick c.in-Some.tick c.advance.result (c.advance.ensures.only (Some tick) is) c.in-Some.is)
-    (Level i.var answer, record { level = answer; allowed = allowed; told = refl }, (refl, refl, refl, record { level = answer; told = refl; taken = taken }))
+    (Level i.var answer, record { level = answer; allowed = allowed; ruled = ruled; told = refl }, (refl, refl, refl, record { level = answer; told = refl; taken = taken }))
 
 pub returns-in-Some-clause-later : goal.returns-in-Some-clause-later
 returns-in-Some-clause-later g c tick next is after =

@@ -31,8 +31,9 @@ returns-clause-what g c tick is =
     let level : FitsSigned w128 answer = record { sfits = c.level_at-level.type_inv } in
     let allowed : IsAnswer i.quantizer.value.name (state_at i.line c.in_ok-tick.tick) i.line.level (level_unit m) answer =
     subst (λ q. IsAnswer q (state_at i.line c.in_ok-tick.tick) i.line.level (level_unit m) answer) (ap (λ q. q.name) c.deref-2.ensures)
-    (subst (λ (s : Machine). IsAnswer c.deref-2.result.now.name (state_at i.line c.in_ok-tick.tick) i.line.level (level_unit s) answer) c.deref.ensures c.level_at-level.ensures) in
-    rw (same_tick tick c.in_ok-tick.tick c.advance.result (c.advance.ensures.only (Some tick) is) c.in_ok-tick.was, to_z-of_z w128 answer level) (record { level = answer; allowed = allowed; told = refl })
+    (subst (λ (s : Machine). IsAnswer c.deref-2.result.now.name (state_at i.line c.in_ok-tick.tick) i.line.level (level_unit s) answer) c.deref.ensures c.level_at-level.ensures.allowed) in
+    let ruled = rw (c.deref-2.ensures, c.deref.ensures) at c.level_at-level.ensures.ruled in
+    rw (same_tick tick c.in_ok-tick.tick c.advance.result (c.advance.ensures.only (Some tick) is) c.in_ok-tick.was, to_z-of_z w128 answer level) (record { level = answer; allowed = allowed; ruled = ruled; told = refl })
 
 pub returns-in_err-tick-clause-what : goal.returns-in_err-tick-clause-what
 returns-in_err-tick-clause-what g c tick is = absurd (none_next tick c.advance.result (c.advance.ensures.only (Some tick) is) c.in_err-tick.was)

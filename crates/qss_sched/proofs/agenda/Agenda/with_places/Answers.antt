@@ -1,10 +1,20 @@
--- At the start each rank is at its place's number.
-use Rattle.std.proofs.Common.{arith}
-use Rattle.std.proofs.lemmas.Grind.{common_steps}
-use Rattle.qss_sched.proofs.Agendas.{agenda_at_start}
+-- Nothing is due, near or far.
+use Rattle.std.proofs.Common.{sym, ◌∙◌}
+use Rattle.qss_sched.proofs.Agendas.{length_joined, start_first}
 use Rattle.qss_sched.proofs.agenda.Agenda.with_places.Goals as goal
 
 pub invariant_of-result : goal.invariant_of-result
-invariant_of-result c = agenda_at_start c.in_ok-due.due.items c.in_ok-ranks.ranks.items c.in_ok-positions.positions.items c.args.n
-    c.ranges.n.fits (grind (arith, common_steps)) (grind (arith, common_steps)) (grind (arith, common_steps))
-    c.in_ok-due.ensures.none c.in_ok-ranks.ensures.each c.in_ok-positions.ensures.each
+invariant_of-result c =
+    let many = c.in_ok-near.ensures.places ∙ sym c.in_ok-far.ensures.places in
+    record {
+      apart = record { as_many = many; apart = λ place tick e. c.in_ok-far.ensures.none place };
+      is_first = start_first c.in_ok-near.near c.in_ok-far.far many c.in_ok-near.ensures.none c.in_ok-far.ensures.none;
+    }
+
+pub returns-clause-places : goal.returns-clause-places
+returns-clause-places c =
+    length_joined c.in_ok-near.near c.in_ok-far.far (c.in_ok-near.ensures.places ∙ sym c.in_ok-far.ensures.places) ∙ c.in_ok-near.ensures.places
+
+pub returns-clause-none : goal.returns-clause-none
+returns-clause-none c =
+    start_first c.in_ok-near.near c.in_ok-far.far (c.in_ok-near.ensures.places ∙ sym c.in_ok-far.ensures.places) c.in_ok-near.ensures.none c.in_ok-far.ensures.none

@@ -1,0 +1,2 @@
+pub mod FlatExpression
+pub mod FlatModels

@@ -1,0 +1,10 @@
+use Rattle.program_tests.proofs.large.one_state_changes_among_thousands.Goals as goal
+
+pub unreachable-assert_eq : goal.unreachable-assert_eq
+unreachable-assert_eq g c = c.assert_eq-assert_failed.result
+
+pub unreachable-assert_eq-2 : goal.unreachable-assert_eq-2
+unreachable-assert_eq-2 g c = c.assert_eq-assert_failed-2.result
+
+pub unreachable-assert_eq-3 : goal.unreachable-assert_eq-3
+unreachable-assert_eq-3 g c = c.assert_eq-assert_failed-3.result

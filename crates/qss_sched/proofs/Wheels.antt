@@ -1,0 +1,90 @@
+-- A due tick comes into a wheel, and which of them is the first.
+use Rattle.std.proofs.Common.{◌≡◌, ◌≢◌, ℕ, ◌+◌, ◌-◌, ◌%◌, ◌<◌, ◌≤◌, inl, inr, List, Option, Some, None, ◌⊎◌, length, refl, sym, ◌∙◌, ap, arith}
+use Rattle.std.proofs.lemmas.Bool.{cases_eq, cases_lt}
+use Rattle.std.proofs.lemmas.List.{get_or-set_same, get_or-set_other}
+use Rattle.std.specs.Prelude.{slice_set}
+use Rattle.qss_sched.specs.Ranks.{due_at, AreTicks, IsLeast, HasNone}
+use Rattle.qss_sched.specs.Wheels.{place_bit, AreOthersKept, HasNoPlace, IsEarliest, IsWheel}
+
+pub came_in : (due new_due : List (Option ℕ)) (places new_places : List ℕ) (base place tick : ℕ) →
+    IsWheel due places base → place < length due → place < 4096 → base ≤ tick → tick < base + 64 → due_at due place ≡ None → new_due ≡ slice_set due place (Some tick) → AreTicks new_due →
+    place_bit new_places (tick % 64) place ≡ 1 →
+    AreOthersKept places new_places (tick % 64) place →
+    IsWheel new_due new_places base
+came_in due new_due places new_places base place tick a inside few from until none put small there others = record {
+  small = small;
+  near = λ p t e.
+      elim (cases_eq p place) [
+        | inl same ↦ let is = own p t same e in (omega (arith, is), omega (arith, is), omega (arith, same))
+        | inr apart ↦ a.near p t (old p t apart e)
+      ];
+  held = λ p t e.
+      elim (cases_eq p place) [
+        | inl same ↦ ap (λ k. place_bit new_places (k % 64) p) (own p t same e) ∙ (ap (place_bit new_places (tick % 64)) same ∙ there)
+        | inr apart ↦
+            let o = old p t apart e in
+            others (t % 64) p (omega arith) (a.near p t o).2 (λ same. absurd (apart same)) ∙ a.held p t o
+      ];
+  owed = λ s p hs hp bit.
+      elim (cases_eq p place) [
+        | inl same ↦ own_due s p hs hp same bit
+        | inr apart ↦
+            let d = a.owed s p hs hp (sym (others s p hs hp (λ same. absurd (apart same))) ∙ bit) in
+            (d.0, (ap (λ l. due_at l p) put ∙ get_or-set_other due place p (Some tick) None apart) ∙ d.1, d.2)
+      ];
+}
+  where
+    new_due_is : due_at new_due place ≡ Some tick
+    new_due_is = ap (λ l. due_at l place) put ∙ get_or-set_same due place (Some tick) None inside
+
+    own : (p t : ℕ) → p ≡ place → due_at new_due p ≡ Some t → t ≡ tick
+    own p t same e = let both : Some t ≡ Some tick = sym e ∙ (ap (due_at new_due) same ∙ new_due_is) in cc
+
+    old : (p t : ℕ) → p ≢ place → due_at new_due p ≡ Some t → due_at due p ≡ Some t
+    old p t apart e = sym (ap (λ l. due_at l p) put ∙ get_or-set_other due place p (Some tick) None apart) ∙ e
+
+    own_due : (s p : ℕ) → s < 64 → p < 4096 → p ≡ place → place_bit new_places s p ≡ 1 → (t : ℕ) × (due_at new_due p ≡ Some t) × (t % 64 ≡ s)
+    own_due s p hs hp same bit =
+        elim (cases_eq s (tick % 64)) [
+          | inl e ↦ (tick, ap (due_at new_due) same ∙ new_due_is, sym e)
+          | inr n ↦
+              let d = a.owed s p hs hp (sym (others s p hs hp (λ _. n)) ∙ bit) in
+              let both : Some d.0 ≡ None = sym d.1 ∙ (ap (due_at due) same ∙ none) in
+              absurd (cc)
+        ]
+
+-- where no place is at a slot nothing is due
+pub none_due : (due : List (Option ℕ)) (places : List ℕ) (base : ℕ) → IsWheel due places base → HasNoPlace places → HasNone due
+none_due due places base a none place = by_due (due_at due place) refl
+  where
+    by_due : (d : Option ℕ) → due_at due place ≡ d → due_at due place ≡ None
+    by_due None e = e
+    by_due (Some tick) e =
+        let no = none (tick % 64) place (omega arith) (a.near place tick e).2 in
+        absurd (omega (arith, a.held place tick e, no))
+
+pub first_due : (due : List (Option ℕ)) (places : List ℕ) (base place tick : ℕ) → IsWheel due places base →
+    IsEarliest places (base % 64) place → due_at due place ≡ Some tick → IsLeast due tick place
+first_due due places base place tick a f e = record {
+  has = e;
+  least = λ other t g. by_order other t g (cases_lt (t - base) f.later);
+  first = λ other g. f.is_first.first other (a.near other tick g).2 (ap (λ s. place_bit places s other) (sym same) ∙ a.held other tick g);
+}
+  where
+    same : tick % 64 ≡ (base % 64 + f.later) % 64
+    same =
+        let d = a.owed ((base % 64 + f.later) % 64) place (omega arith) f.is_first.within f.is_first.there in
+        let both : Some d.0 ≡ Some tick = sym d.1 ∙ e in
+        let ticks : d.0 ≡ tick = cc in
+        ap (λ t. t % 64) (sym ticks) ∙ d.2
+
+    tick_is : tick ≡ base + f.later
+    tick_is = let n = a.near place tick e in omega (arith, n.0, n.1, f.within, same)
+
+    by_order : (other t : ℕ) → due_at due other ≡ Some t → (t - base < f.later) ⊎ (f.later ≤ t - base) → tick ≤ t
+    by_order other t g (inl early) =
+        let n = a.near other t g in
+        let slot_is : (base % 64 + (t - base)) % 64 ≡ t % 64 = omega (arith, n.0) in
+        let none = f.none (t - base) other early n.2 in
+        absurd (omega (arith, ap (λ s. place_bit places s other) slot_is, none, a.held other t g))
+    by_order other t g (inr late) = let n = a.near other t g in omega (arith, n.0, tick_is)

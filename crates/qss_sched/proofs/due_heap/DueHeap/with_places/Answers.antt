@@ -1,0 +1,10 @@
+-- At the start each rank is at its place's number.
+use Rattle.std.proofs.Common.{arith}
+use Rattle.std.proofs.lemmas.Grind.{common_steps}
+use Rattle.qss_sched.proofs.DueHeaps.{heap_at_start}
+use Rattle.qss_sched.proofs.due_heap.DueHeap.with_places.Goals as goal
+
+pub invariant_of-result : goal.invariant_of-result
+invariant_of-result c = heap_at_start c.in_ok-due.due.items c.in_ok-ranks.ranks.items c.in_ok-positions.positions.items c.args.n
+    c.ranges.n.fits (grind (arith, common_steps)) (grind (arith, common_steps)) (grind (arith, common_steps))
+    c.in_ok-due.ensures.none c.in_ok-ranks.ensures.each c.in_ok-positions.ensures.each

@@ -1,0 +1,81 @@
+ghost use Rattle.std.specs.Prelude.{ℕ, Option};
+
+use crate::heap::replace;
+use crate::ranks::{
+    is_same, no_ticks, numbers_below, place_of, put_tick, rank_of, ranks_without_ticks, tick_of,
+};
+use std::alloc::{AllocError, Global};
+use std::marker::Model;
+
+/// Due ticks by place in a heap, of which the least is at hand.
+#[derive(Drop)]
+pub(crate) struct DueHeap {
+    due: Vec<Option<u64>>,
+    ranks: Vec<u128>,
+    positions: Vec<u32>,
+}
+
+impl Model for DueHeap {
+    ghost use Rattle.std.specs.Prelude.{ℕ, List, Option};
+    ghost use Rattle.qss_sched.specs.Heaps.{IsDueHeap};
+
+    ghost Value = { List (Option ℕ) };
+
+    ghost view = { λ a. a.due.items };
+
+    ghost invariant = { λ a. IsDueHeap a.due.items a.ranks.items a.positions.items };
+}
+
+impl DueHeap {
+    ghost use Rattle.std.specs.Prelude.{◌≡◌, ◌<◌, IfOk, MatchOption, length, slice_set};
+    ghost use Rattle.qss_sched.specs.Ranks.{IsLeast, HasNone};
+
+    /// A heap of n places without due ticks. It takes all the memory that it ever needs.
+    pub(crate) fn with_places(alloc: Global, n: u32) -> Result<DueHeap, AllocError>
+        ensures places { IfOk result (λ heap. length heap ≡ n) }
+        ensures none { IfOk result HasNone }
+    {
+        let due = no_ticks(alloc, n)?;
+        let ranks = ranks_without_ticks(alloc, n)?;
+        let positions = numbers_below(alloc, n)?;
+        Ok(DueHeap {
+            due,
+            ranks,
+            positions,
+        })
+    }
+
+    /// Gives a place this due tick.
+    pub(crate) fn set(&mut self, place: u32, due: Option<u64>)
+        requires { place < length self.old }
+        ensures { self.new ≡ slice_set self.old place due }
+    {
+        if !is_same(tick_of(&self.due, place), due) {
+            self.change(place, due);
+        }
+    }
+
+    // Gives a place this due tick, and moves it along one path.
+    fn change(&mut self, place: u32, due: Option<u64>)
+        requires { place < length self.old }
+        ensures { self.new ≡ slice_set self.old place due }
+    {
+        put_tick(&mut self.due, place, due);
+        replace(&mut self.ranks, &mut self.positions, rank_of(due, place));
+    }
+
+    /// The least due tick and the least place that has it.
+    pub(crate) fn next(&self) -> Option<(u64, u32)>
+        ensures { MatchOption result (HasNone self.now) (λ first. IsLeast self.now first.0 first.1) }
+    {
+        if self.ranks.is_empty() {
+            return None;
+        }
+        let place = place_of(self.ranks[0]);
+        let tick = tick_of(&self.due, place);
+        match tick {
+            Some(tick) => Some((tick, place)),
+            None => None,
+        }
+    }
+}

@@ -1,0 +1,144 @@
+ghost use Rattle.std.specs.Prelude.{◌≡◌, ℕ, ◌+◌, ◌<◌, ◌≤◌, Option, None, Some, length, slice_set};
+ghost use Rattle.qss_sched.specs.Ranks.{due_at};
+ghost use Rattle.qss_sched.specs.Wheels.{IsWheel};
+
+use crate::marks::{Marks, NEAR_PLACES, SLOTS};
+use crate::ranks::{is_same, no_ticks, put_tick, tick_of};
+use std::alloc::{AllocError, Global};
+use std::marker::Model;
+
+/// Near due ticks by place: those among the 64 ticks from a base on, of places below 4096. A slot
+/// is a tick modulo 64, and the marks are of the places at their slots.
+#[derive(Drop)]
+pub(crate) struct Wheel {
+    due: Vec<Option<u64>>,
+    marks: Marks,
+    base: u64,
+}
+
+impl Model for Wheel {
+    ghost use Rattle.std.specs.Prelude.{ℕ, List, Option};
+    ghost use Rattle.qss_sched.specs.Wheels.{IsWheel};
+
+    ghost Value = { List (Option ℕ) };
+
+    ghost view = { λ w. w.due.items };
+
+    ghost invariant = { λ w. IsWheel w.due.items w.marks w.base };
+}
+
+// A place has no near due tick any more.
+#[inline(always)]
+fn take_out(due: &mut [Option<u64>], marks: &mut Marks, place: u32)
+    requires place { place < length due.old }
+    requires wheel { (base : ℕ) × IsWheel due.old marks.old base }
+    ensures due { due.new ≡ slice_set due.old place None }
+    ensures wheel { (base : ℕ) → IsWheel due.old marks.old base
+        → IsWheel due.new marks.new base }
+{
+    if let Some(tick) = tick_of(due, place) {
+        put_tick(due, place, None);
+        marks.leave(place, (tick % SLOTS as u64) as u32);
+    }
+}
+
+// A place that has no near due tick takes this one.
+#[inline(always)]
+fn put_in(due: &mut [Option<u64>], marks: &mut Marks, place: u32, tick: u64)
+    requires place { place < length due.old }
+    requires near { place < 4096 }
+    requires none { due_at due.old place ≡ None }
+    requires wheel { (base : ℕ) × IsWheel due.old marks.old base }
+    ensures due { due.new ≡ slice_set due.old place (Some tick) }
+    ensures wheel { (base : ℕ) → base ≤ tick → tick < base + 64
+        → IsWheel due.old marks.old base → IsWheel due.new marks.new base }
+{
+    put_tick(due, place, Some(tick));
+    marks.enter(place, (tick % SLOTS as u64) as u32);
+}
+
+// A place takes this near due tick in place of its own.
+#[inline(always)]
+fn move_to(due: &mut [Option<u64>], marks: &mut Marks, place: u32, tick: u64)
+    requires place { place < length due.old }
+    requires near { place < 4096 }
+    requires wheel { (base : ℕ) × IsWheel due.old marks.old base }
+    ensures due { due.new ≡ slice_set due.old place (Some tick) }
+    ensures wheel { (base : ℕ) → base ≤ tick → tick < base + 64
+        → IsWheel due.old marks.old base → IsWheel due.new marks.new base }
+{
+    take_out(due, marks, place);
+    put_in(due, marks, place, tick);
+}
+
+impl Wheel {
+    ghost use Rattle.std.specs.Prelude.{◌≡◌, ◌<◌, ◌≤◌, ℕ, if◌then◌else◌, IfOk, None, Some, length, slice_set};
+    ghost use Rattle.qss_sched.specs.Ranks.{due_at, IsLeast, HasNone};
+    ghost use Rattle.qss_sched.specs.Agendas.{IsFirst};
+
+    /// A wheel of n places without due ticks.
+    pub(crate) fn with_places(alloc: Global, n: u32) -> Result<Wheel, AllocError>
+        ensures places { IfOk result (λ wheel. length wheel ≡ n) }
+        ensures none { IfOk result HasNone }
+    {
+        let due = no_ticks(alloc, n)?;
+        let marks = Marks::without_places(alloc)?;
+        Ok(Wheel {
+            due,
+            marks,
+            base: 0,
+        })
+    }
+
+    /// Nothing is due before this tick: the wheel's base moves on to it, never back.
+    #[inline(always)]
+    pub(crate) fn advance(&mut self, tick: u64)
+        requires { (place due : ℕ) → due_at self.old place ≡ Some due → tick ≤ due }
+        ensures { self.new ≡ self.old }
+    {
+        if self.base <= tick {
+            self.base = tick;
+        }
+    }
+
+    /// Gives a place this due tick and says so, or says that the tick is not near: then nothing
+    /// changed.
+    #[inline(always)]
+    pub(crate) fn accept(&mut self, place: u32, tick: u64) -> bool
+        requires { place < length self.old }
+        ensures { self.new ≡ (if result then slice_set self.old place (Some tick) else self.old) }
+    {
+        if place >= NEAR_PLACES || tick < self.base || tick - self.base >= SLOTS as u64 {
+            return false;
+        }
+        if !is_same(tick_of(&self.due, place), Some(tick)) {
+            move_to(&mut self.due, &mut self.marks, place, tick);
+        }
+        true
+    }
+
+    /// A place has no near due tick any more.
+    #[inline(always)]
+    pub(crate) fn clear(&mut self, place: u32)
+        requires { place < length self.old }
+        ensures { self.new ≡ slice_set self.old place None }
+    {
+        take_out(&mut self.due, &mut self.marks, place);
+    }
+
+    /// The least near due tick and the least place that has it.
+    #[inline(always)]
+    pub(crate) fn first(&self) -> Option<(u64, u32)>
+        ensures { IsFirst self.now result }
+    {
+        let from = (self.base % SLOTS as u64) as u32;
+        let place = match self.marks.first(from) {
+            Some(place) => place,
+            None => return None,
+        };
+        match tick_of(&self.due, place) {
+            Some(tick) => Some((tick, place)),
+            None => None,
+        }
+    }
+}

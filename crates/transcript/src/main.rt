@@ -1,0 +1,39 @@
+//! Plays a script of calls of the program over files in memory, and writes it with the answers.
+//! docs/TRANSCRIPT.md has the form of a script.
+#![tactic(auto)]
+
+mod call;
+mod files;
+mod line;
+mod script;
+
+use anyhow::Context;
+use line::read_line;
+use script::Script;
+use std::alloc::Global;
+use std::io::{self, BufRead, BufReader, BufWriter, Write};
+
+// What a line of a script answers.
+fn answer(alloc: Global, script: &mut Script, line: &str) -> anyhow::Result<Vec<u8>> {
+    let words: Vec<&str> = line.split_ascii_whitespace().collect(alloc)?;
+    let line = read_line(line, &words).context("no line of a script")?;
+    script.obey(line)
+}
+
+fn main(rt: HostRuntime) -> anyhow::Result<()> {
+    let alloc = rt.alloc();
+    let mut script = Script::new(alloc);
+    let mut out = BufWriter::new(alloc, io::writer(&rt))?;
+    let lines = BufReader::new(alloc, rt.reader())?.lines(alloc);
+    for (above, line) in lines.enumerate() {
+        let line = line?;
+        writeln!(out, "{line}")?;
+        let answer = answer(alloc, &mut script, line.as_str()).context(format_args!(
+            "line {}",
+            above.saturating_add(1)
+        ))?;
+        out.write_all(&answer)?;
+    }
+    out.flush()?;
+    Ok(())
+}
