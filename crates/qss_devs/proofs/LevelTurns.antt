@@ -83,19 +83,19 @@ module _ {X : Type 0} {g : _} (m : Machine) (name : Option Rule) (tick j : ℕ) 
       still_later next found = rests_later next (subst (λ (l : Line). IsLineNext m j l (Some next)) (kept_lines j) found)
 
     -- what it would send passes its limit
-    pub passes_taken : (sent : Message) → IsLineNext s.machine.value s.var s.line (Some tick) → SendsLevel s.machine.value s.quantizer.value.name s.var s.line tick sent → passes_limit sent ≡ true →
+    pub passes_taken : {Answers : ℤ → ℤ → ℤ → ℤ → Type 0} (sent : Message) → IsLineNext s.machine.value s.var s.line (Some tick) → SendsLevel s.machine.value s.quantizer.value.name Answers s.var s.line tick sent → passes_limit sent ≡ true →
         (rule : Rule) (v : Values) (rows : List Row) → name ≡ Some rule → AreValues m v → Agrees m tick v old → IsLevelTaken m rule tick v j mid rows rows (Some j)
-    passes_taken sent next sends past rule v rows named values a =
+    passes_taken {Answers} sent next sends past rule v rows named values a =
         let now : IsLineNext m j (line_at old j) (Some tick) = of_line m j old s are known is (λ k var l. IsLineNext k var l (Some tick)) next in
-        let told : SendsLevel m name j (line_at old j) tick sent =
-        of_line m j old s are known is (λ k var l. SendsLevel k name var l tick sent)
-        (subst (λ (o : Option Rule). SendsLevel s.machine.value o s.var s.line tick sent) (own_rule m j old s are known is name ruled) sends) in
+        let told : SendsLevel m name Answers j (line_at old j) tick sent =
+        of_line m j old s are known is (λ k var l. SendsLevel k name Answers var l tick sent)
+        (subst (λ (o : Option Rule). SendsLevel s.machine.value o Answers s.var s.line tick sent) (own_rule m j old s are known is name ruled) sends) in
         let level : sent ≡ Level j (level_after m rule v j) = due_level m rule tick v j (line_at old j) (a.integrators j known) name sent named now told in
         taken_passes m rule tick v j mid rows (sym (ap passes_limit level) ∙ past)
 
   -- ---- one that took a level
 
-  module _ (sent : Message) (next : IsLineNext s.machine.value s.var s.line (Some tick)) (sends : SendsLevel s.machine.value s.quantizer.value.name s.var s.line tick sent) (small : passes_limit sent ≡ false)
+  module _ {Answers : ℤ → ℤ → ℤ → ℤ → Type 0} (sent : Message) (next : IsLineNext s.machine.value s.var s.line (Some tick)) (sends : SendsLevel s.machine.value s.quantizer.value.name Answers s.var s.line tick sent) (small : passes_limit sent ≡ false)
       (machine : t.machine.value ≡ s.machine.value) (quantizer : t.quantizer.value ≡ s.quantizer.value) (var : t.var ≡ s.var) (takes : TakesLevel s.var s.line tick sent t.line) where
     pub sent_parts : AreComponents m mid
     sent_parts = integrator_turned m j old s are known is mid t set_is same_functions same_crossings same_uses machine var
@@ -132,9 +132,9 @@ module _ {X : Type 0} {g : _} (m : Machine) (name : Option Rule) (tick j : ℕ) 
           after ≡ before ++ record { tick = tick; kind = kind.Level; var = j; level = t.line.level; state = t.line.x } ∷ [] → IsLevelTaken m rule tick v j new before after None
       sent_taken rule v before after named values a row_is =
           let now : IsLineNext m j (line_at old j) (Some tick) = of_line m j old s are known is (λ k var l. IsLineNext k var l (Some tick)) next in
-          let own_sends : SendsLevel m name j (line_at old j) tick sent =
-          of_line m j old s are known is (λ k var l. SendsLevel k name var l tick sent)
-          (subst (λ (o : Option Rule). SendsLevel s.machine.value o s.var s.line tick sent) (own_rule m j old s are known is name ruled) sends) in
+          let own_sends : SendsLevel m name Answers j (line_at old j) tick sent =
+          of_line m j old s are known is (λ k var l. SendsLevel k name Answers var l tick sent)
+          (subst (λ (o : Option Rule). SendsLevel s.machine.value o Answers s.var s.line tick sent) (own_rule m j old s are known is name ruled) sends) in
           let turned : line_at mid j ≡ t.line = line_turned m j old s are known is mid t set_is same_functions same_crossings same_uses in
           let own_takes : TakesLevel j (line_at old j) tick sent (line_at mid j) =
           subst (λ (l : Line). TakesLevel j (line_at old j) tick sent l) (sym turned) (of_line m j old s are known is (λ k var l. TakesLevel var l tick sent t.line) takes) in

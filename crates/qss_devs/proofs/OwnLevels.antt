@@ -108,7 +108,7 @@ module _ (m : Machine) (rule : Rule) (tick : ℕ) (v : Values) (j : ℕ) (line :
   rest_level early in_time later = if-true (is_near m j (int_at v.states j) (int_at v.levels j)) _ _ (sym near_is ∙ rests_near m j line tick early in_time later)
 
   -- one that is due takes the level of the rule
-  pub due_level : (name : Option Rule) (sent : Message) → name ≡ Some rule → IsLineNext m j line (Some tick) → SendsLevel m name j line tick sent → sent ≡ Level j (level_after m rule v j)
+  pub due_level : {Answers : ℤ → ℤ → ℤ → ℤ → Type 0} (name : Option Rule) (sent : Message) → name ≡ Some rule → IsLineNext m j line (Some tick) → SendsLevel m name Answers j line tick sent → sent ≡ Level j (level_after m rule v j)
   due_level name sent named next sends =
       let away : is_near m j (int_at v.states j) (int_at v.levels j) ≡ false = sym near_is ∙ due_away m j line tick next in
       let level : sends.level ≡ level_after m rule v j =
@@ -119,7 +119,7 @@ module _ (m : Machine) (rule : Rule) (tick : ℕ) (v : Values) (j : ℕ) (line :
       sends.told ∙ ap (λ (l : ℤ). Level j l) level
 
   -- which is another one
-  pub due_changes : (name : Option Rule) (sent : Message) → name ≡ Some rule → j < state_count m → IsLineNext m j line (Some tick) → SendsLevel m name j line tick sent →
+  pub due_changes : {Answers : ℤ → ℤ → ℤ → ℤ → Type 0} (name : Option Rule) (sent : Message) → name ≡ Some rule → j < state_count m → IsLineNext m j line (Some tick) → SendsLevel m name Answers j line tick sent →
       int_eq (int_at v.levels j) (level_after m rule v j) ≡ false
   due_changes name sent named known next sends = by (int_eq (int_at v.levels j) (level_after m rule v j)) refl
     where
@@ -166,13 +166,13 @@ taken_passes {X} {g} m rule tick v j parts rows past = record {
   rows = λ e. absurd (cc);
 }
 
-pub taken_sends : {X : Type 0} {g : _} (m : Machine) (rule : Rule) (tick : ℕ) (v : Values) (j : ℕ) (old mid new : Components X g) (before after : List Row) (name : Option Rule) (sent : Message) →
-    HasEach m v → j < state_count m → Agrees m tick v old → name ≡ Some rule → IsLineNext m j (line_at old j) (Some tick) → SendsLevel m name j (line_at old j) tick sent → passes_limit sent ≡ false →
+pub taken_sends : {X : Type 0} {g : _} {Answers : ℤ → ℤ → ℤ → ℤ → Type 0} (m : Machine) (rule : Rule) (tick : ℕ) (v : Values) (j : ℕ) (old mid new : Components X g) (before after : List Row) (name : Option Rule) (sent : Message) →
+    HasEach m v → j < state_count m → Agrees m tick v old → name ≡ Some rule → IsLineNext m j (line_at old j) (Some tick) → SendsLevel m name Answers j (line_at old j) tick sent → passes_limit sent ≡ false →
     TakesLevel j (line_at old j) tick sent (line_at mid j) → ((i : ℕ) → i ≢ j → line_at mid i ≡ line_at old i) →
     ((i : ℕ) → summing_at mid i ≡ summing_at old i) → ((place : ℕ) → crossing_at mid place ≡ crossing_at old place) → AreTold m tick sent mid new →
     after ≡ before ++ record { tick = tick; kind = kind.Level; var = j; level = (line_at mid j).level; state = (line_at mid j).x } ∷ [] →
     IsLevelTaken m rule tick v j new before after None
-taken_sends {X} {g} m rule tick v j old mid new before after name sent each known a named next sends small takes others functions crossings told row_is =
+taken_sends {X} {g} {Answers} m rule tick v j old mid new before after name sent each known a named next sends small takes others functions crossings told row_is =
     let own : LineAgrees tick v j (line_at old j) = a.integrators j known in
     let is : sent ≡ Level j (level_after m rule v j) = due_level m rule tick v j (line_at old j) own name sent named next sends in
     let same : Level j takes.level ≡ Level j (level_after m rule v j) = sym takes.told ∙ is in

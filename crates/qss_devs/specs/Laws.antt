@@ -101,11 +101,11 @@ pub record MessagesKeepAgreement : Type 0 where
   pub truth : (m : Machine) (tick place : ℕ) (v : Values) (line : ℕ → Line) (s : ℕ → Summing) (c turned : ℕ → Crossing) →
       Agree m tick v line s c → ((k : ℕ) → k ≢ place → turned k ≡ c k) → turned place ≡ crossing_turned (c place) tick → Agree m tick v line s turned
 
--- an integrator whose quantizer has a name sends one message at a tick
+-- an integrator whose quantizer has a name sends one message, whatever is known of the rule's function at a tick
 abbrev pub NamedSendsOne : Type 0
 NamedSendsOne =
     (m : Machine) (rule : Rule) (var : ℕ) (line : Line) (tick : ℕ) (a b : Message) →
-    SendsLevel m (Some rule) var line tick a → SendsLevel m (Some rule) var line tick b → a ≡ b
+    SendsLevel m (Some rule) (λ state old unit new. Unit {0}) var line tick a → SendsLevel m (Some rule) (λ state old unit new. Unit {0}) var line tick b → a ≡ b
 
 -- components that stand for a world, with the ticks of their next transitions, are lines, watches and due ticks that stand for it
 abbrev pub ComponentsStand : Type 0

@@ -8,10 +8,9 @@ use Rattle.qss_machine.specs.declared.rows.Row.{Row}
 use Rattle.qss_quant.specs.declared.rule.Rule.{Rule}
 use Rattle.qss_devs.specs.declared.integrator_model.IntegratorModel.{IntegratorModel}
 use Rattle.qss_quant.specs.Lines.{Line}
-use Rattle.qss_devs.specs.Integrators.{SendsLevel}
 use Rattle.qss_devs.specs.Coupling.{no_line, line_at}
 use Rattle.qss_devs.proofs.LevelTurns.{kept_lines, kept_parts, kept_ruled, kept_ready, rests_taken, still_later, passes_taken, sent_parts, sent_ruled, sent_ready, sent_message, sent_later, sent_others, sent_taken}
-use Rattle.qss_devs.proofs.NamedSends.{named_sends_one}
+use Rattle.qss_devs.proofs.NamedSends.{one_sent}
 use Rattle.qss_devs.proofs.OwnTurns.{own_rule, line_turned, slot_is, slot_set}
 use Rattle.qss_devs.proofs.levels.take_level.Goals as goal
 
@@ -32,9 +31,7 @@ make_turn-requires g c =
     let is : s ≡ get_or old.integrators.items j s = slot_is xs old.integrators.items j c.index-integrators-j.result s c.as_mut_slice-integrators.ensures.value inside refl in
     let named : s.quantizer.value.name ≡ Some c.requires.named.0 = own_rule m j old s c.requires.parts c.requires.known is name c.requires.ruled ∙ c.requires.named.1 in
     λ a b first second.
-    named_sends_one s.machine.value c.requires.named.0 s.var s.line tick a b
-    (subst (λ (o : Option Rule). SendsLevel s.machine.value o s.var s.line tick a) named first)
-    (subst (λ (o : Option Rule). SendsLevel s.machine.value o s.var s.line tick b) named second)
+    one_sent s.machine.value s.quantizer.value.name c.requires.named.0 s.var s.line tick a b named first second
 
 pub push_reserved-requires : goal.push_reserved-requires
 push_reserved-requires g c =
