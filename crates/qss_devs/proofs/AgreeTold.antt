@@ -1,18 +1,16 @@
 -- Components that were told a message agree with what it tells.
-use Rattle.std.proofs.Common.{◌≡◌, ◌≢◌, ℕ, ◌+◌, ◌-◌, ◌<◌, ◌≤◌, List, [], ◌∷◌, length, get_or, set, take, ℤ, refl, sym, ◌∙◌, ap, subst, arith}
-use Rattle.std.proofs.lemmas.List.{length-set, take_more}
+use Rattle.std.proofs.Common.{◌≡◌, ◌≢◌, ℕ, ◌+◌, ◌-◌, ◌<◌, List, [], ◌∷◌, length, get_or, take, ℤ, refl, sym, ◌∙◌, ap, subst}
+use Rattle.std.proofs.lemmas.List.{length-set}
 use Rattle.std.proofs.lemmas.List.Sums.{fold_more}
-use Rattle.std.specs.Prelude.{fold}
 use Rattle.qss_machine.specs.declared.rows.Row.{Row}
 use Rattle.qss_machine.specs.declared.rows.RowKind.{RowKind}
 use Rattle.qss_machine.specs.declared.rows.RowKind.TheVariants as kind
 use Rattle.qss_machine.specs.declared.system.Machine.{Machine}
-use Rattle.qss_machine.specs.Machines.{state_count, discrete_count}
+use Rattle.qss_machine.specs.Machines.{state_count}
 use Rattle.qss_machine.specs.Handlers.{conditions}
 use Rattle.qss_quant.specs.Lines.{Line, state_at}
 use Rattle.qss_quiet.specs.Sims.{condition_at}
 use Rattle.qss_devs.specs.declared.components.Components.{Components}
-use Rattle.qss_devs.specs.declared.message.Message.{Message}
 use Rattle.qss_devs.specs.declared.message.Message.TheVariants.{Slope, State, Level, Discrete}
 use Rattle.qss_devs.specs.Messages.{IsMessage}
 use Rattle.qss_devs.specs.Functions.{Summing, sum_of, summing_sent}
@@ -20,7 +18,7 @@ use Rattle.qss_devs.specs.Crossings.{Crossing}
 use Rattle.qss_devs.specs.Agreement.{Values, HasEach, LineAgrees, SummingAgrees, CrossingAgrees, Agree}
 use Rattle.qss_devs.specs.Laws.{values_given, kind_told, rows_told, crossings_given, lines_given, functions_given}
 use Rattle.qss_devs.specs.Coupling.{line_at, summing_at, crossing_at, AreTold}
-use Rattle.qss_devs.specs.Steps.{Agrees, IsKindTold, IsTold}
+use Rattle.qss_devs.specs.Steps.{Agrees}
 use Rattle.qss_devs.proofs.Keeping.{messages_keep_agreement}
 
 -- agreement is one of each component

@@ -1,12 +1,10 @@
 -- A coupled model on arrival at the next tick, and what its handlers leave.
-use Rattle.std.proofs.Common.{◌≡◌, ℕ, ◌+◌, ◌<◌, ◌≤◌, ◌^◌, Bool, true, false, List, [], length, get_or, map, All, ℤ, pos, ◌+ℤ◌, refl, sym, ◌∙◌, ap, subst, arith}
-use Rattle.std.proofs.lemmas.Int.{ints}
+use Rattle.std.proofs.Common.{◌≡◌, ℕ, ◌+◌, ◌<◌, ◌≤◌, ◌^◌, Bool, true, false, List, [], length, get_or, All, ℤ, pos, ◌+ℤ◌, refl, sym, ◌∙◌, ap, subst, arith}
 use Rattle.std.proofs.lemmas.List.{length-map, get_or-map}
 use Rattle.std.proofs.lemmas.List.FromFn.{length-map-range_with_len}
 use Rattle.std.specs.Option.{option_or}
 use Rattle.std.specs.Prelude.{Option, Some, None, is_some, position}
 use Rattle.mu_num.specs.Sizes.{IsWithin, passes}
-use Rattle.mu_num.specs.Ticks.{tick_limit}
 use Rattle.mu_num.proofs.SizeTests.{passes-within}
 use Rattle.qss_machine.specs.declared.parts.Condition.{Condition}
 use Rattle.qss_machine.specs.declared.parts.Rel.TheVariants.{Less}
@@ -33,14 +31,11 @@ use Rattle.qss_devs.specs.declared.input.Input.{Input}
 use Rattle.qss_devs.specs.declared.store.Store.{Store}
 use Rattle.qss_devs.specs.Messages.{IsTimely}
 use Rattle.qss_devs.specs.Integrators.{IsLineNext}
-use Rattle.qss_devs.specs.Functions.{Summing}
-use Rattle.qss_devs.specs.Crossings.{Crossing, IsCrossingNext, input_at, AreSmallAt}
-use Rattle.qss_devs.specs.Models.{crossing_of}
-use Rattle.qss_devs.specs.Agreement.{Values, HasEach, Moving, moving_of, Agree, CrossingAgrees, StandFor}
-use Rattle.qss_devs.specs.Coupling.{line_at, summing_at, crossing_at, no_crossing, AreComponents, IsSummingReady, IsCrossingReady, AreReady, LinesLater}
+use Rattle.qss_devs.specs.Crossings.{IsCrossingNext, input_at, AreSmallAt}
+use Rattle.qss_devs.specs.Agreement.{HasEach, Moving, StandFor}
+use Rattle.qss_devs.specs.Coupling.{line_at, summing_at, crossing_at, AreComponents, IsSummingReady, AreReady}
 use Rattle.qss_devs.specs.Steps.{Agrees}
 use Rattle.qss_devs.specs.Visits.{states_at, world_of, Stands, arrived_values, CrossingsLater}
-use Rattle.qss_devs.proofs.Coasting.{at_twice}
 use Rattle.qss_devs.proofs.Followed.{states_are}
 use Rattle.qss_devs.proofs.Standing.{components_move, crossings_tell}
 use Rattle.qss_devs.proofs.Stays.{holds_still}

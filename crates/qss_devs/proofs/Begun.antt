@@ -22,7 +22,7 @@ use Rattle.qss_machine.specs.declared.system.Machine.{Machine}
 use Rattle.qss_machine.specs.Numbers.{int_at}
 use Rattle.qss_machine.specs.Limits.{IsBounded}
 use Rattle.qss_machine.specs.Slopes.{weight_of}
-use Rattle.qss_machine.specs.Machines.{state_count, discrete_count, level_unit, row_at, slope_at, start_states, start_discretes}
+use Rattle.qss_machine.specs.Machines.{state_count, discrete_count, level_unit, row_at, slope_at, start_discretes}
 use Rattle.qss_machine.specs.Handlers.{conditions}
 use Rattle.qss_machine.specs.Firing.{first_place}
 use Rattle.qss_hand.specs.Works.{clause_at, branch_at}
@@ -37,7 +37,7 @@ use Rattle.qss_quiet.proofs.Starts.{levels_at_start, levels_are, levels_start, s
 use Rattle.qss_devs.specs.declared.input.Input.{Input}
 use Rattle.qss_devs.specs.Functions.{Summing}
 use Rattle.qss_devs.specs.Crossings.{Crossing, AreParts}
-use Rattle.qss_devs.specs.Agreement.{Values, HasEach, Moving, moving_of, entry_of, InputAgrees, LineAgrees, SummingAgrees, CrossingAgrees, StandFor}
+use Rattle.qss_devs.specs.Agreement.{HasEach, Moving, moving_of, entry_of, InputAgrees, LineAgrees, SummingAgrees, CrossingAgrees, StandFor}
 use Rattle.qss_devs.specs.Starts.{start_values, first_line, first_summing, first_input, first_crossing, EachAt}
 use Rattle.qss_devs.proofs.Inputs.{IsGiven, scaled_small}
 use Rattle.qss_devs.proofs.Moving.{no_ticks}

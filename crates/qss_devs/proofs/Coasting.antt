@@ -8,7 +8,7 @@ use Rattle.std.specs.Prelude.{Option, Some, nat_lt, if◌then◌else◌}
 use Rattle.mu_num.specs.Ticks.{tick_limit}
 use Rattle.qss_machine.specs.declared.system.Machine.{Machine}
 use Rattle.qss_machine.specs.Numbers.{int_at}
-use Rattle.qss_machine.specs.Machines.{state_count, discrete_count, slope_at}
+use Rattle.qss_machine.specs.Machines.{state_count, slope_at}
 use Rattle.qss_machine.specs.Handlers.{conditions, truths}
 use Rattle.qss_machine.specs.Ticks.{World}
 use Rattle.qss_quant.specs.declared.rule.Rule.{Rule}

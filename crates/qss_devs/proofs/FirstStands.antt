@@ -1,33 +1,29 @@
 -- What a coupled model keeps at the start stands for the world there.
-use Rattle.std.proofs.Common.{◌≡◌, ℕ, ◌+◌, ◌-◌, ◌≤◌, ◌<◌, Bool, false, List, [], ◌∷◌, length, get_or, map, ℤ, pos, ◌+ℤ◌, ◌*ℤ◌, All, refl, sym, ◌∙◌, ap, subst, arith}
+use Rattle.std.proofs.Common.{◌≡◌, ℕ, ◌+◌, ◌≤◌, ◌<◌, Bool, false, List, [], ◌∷◌, length, get_or, map, ℤ, pos, All, sym, ◌∙◌, ap, subst, arith}
 use Rattle.std.proofs.lemmas.List.{get_or-map, length-map}
 use Rattle.std.specs.Prelude.{Some, vec_capacity}
 use Rattle.mu_num.specs.Sizes.{IsWithin}
-use Rattle.mu_num.specs.Ticks.{FirstAfter}
 use Rattle.qss_machine.specs.declared.parts.DiscreteInfo.{DiscreteInfo}
 use Rattle.qss_machine.specs.declared.parts.StateInfo.{StateInfo}
 use Rattle.qss_machine.specs.declared.system.Machine.{Machine}
 use Rattle.qss_machine.specs.Numbers.{int_at}
-use Rattle.qss_machine.specs.Machines.{state_count, discrete_count, level_unit, quantum_of, start_states, start_discretes, compares, truth}
+use Rattle.qss_machine.specs.Machines.{state_count, discrete_count, start_states, start_discretes, compares, truth}
 use Rattle.qss_machine.specs.Handlers.{conditions, truths}
-use Rattle.qss_machine.specs.Firing.{flag_at}
 use Rattle.qss_machine.specs.Ticks.{World, start_world}
 use Rattle.qss_machine.proofs.Near.{start_near}
 use Rattle.qss_quant.specs.declared.quantizer.Quantizer.{Quantizer}
-use Rattle.qss_quant.specs.Lines.{Line, IsNear, state_at}
-use Rattle.qss_cross.specs.Crossing.{Watch, holds_at}
+use Rattle.qss_quant.specs.Lines.{Line, state_at}
+use Rattle.qss_cross.specs.Crossing.{holds_at}
 use Rattle.qss_hand.specs.Values.{Values}
-use Rattle.qss_hand.specs.Works.{AreValuesOf, row_room}
+use Rattle.qss_hand.specs.Works.{row_room}
 use Rattle.qss_quiet.specs.Sims.{condition_at}
 use Rattle.qss_quiet.proofs.Firsts.{same_lists}
 use Rattle.qss_quiet.proofs.Flags.{truths_are}
 use Rattle.qss_quiet.proofs.Starts.{levels_at_start, levels_start, states_start, discretes_start, count_start, light_at}
 use Rattle.qss_devs.specs.declared.crossing_model.CrossingModel.{CrossingModel}
-use Rattle.qss_devs.specs.declared.function_model.FunctionModel.{FunctionModel}
 use Rattle.qss_devs.specs.declared.integrator_model.IntegratorModel.{IntegratorModel}
 use Rattle.qss_devs.specs.declared.store.Store.{Store}
 use Rattle.qss_devs.specs.Integrators.{IsLineNext}
-use Rattle.qss_devs.specs.Functions.{Summing}
 use Rattle.qss_devs.specs.Crossings.{Crossing, IsCrossingNext}
 use Rattle.qss_devs.specs.Models.{summing_of, crossing_of}
 use Rattle.qss_devs.specs.Agreement.{StandFor}

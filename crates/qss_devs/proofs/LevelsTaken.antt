@@ -1,5 +1,5 @@
 -- Integrators that take their levels one after another.
-use Rattle.std.proofs.Common.{◌≡◌, ◌≢◌, ℕ, zero, suc, ◌+◌, ◌≤◌, ◌<◌, ◌^◌, Bool, true, false, List, [], ◌∷◌, ◌++◌, length, get_or, set, flat_map, ℤ, pos, ◌<ℤ◌, ◌≤ℤ◌, inl, inr, refl, sym, ◌∙◌, ap, subst, arith, append-nil, append_assoc, add-one}
+use Rattle.std.proofs.Common.{◌≡◌, ℕ, zero, suc, ◌+◌, ◌≤◌, ◌<◌, Bool, true, false, List, [], ◌∷◌, ◌++◌, length, set, flat_map, ℤ, pos, ◌<ℤ◌, inl, inr, refl, sym, ◌∙◌, ap, subst, arith, append-nil, append_assoc}
 use Rattle.std.proofs.lemmas.Bool.{cases_eq, cases_lt}
 use Rattle.std.proofs.lemmas.Grind.{flat_map-append}
 use Rattle.std.proofs.lemmas.Int.{ints}
@@ -7,7 +7,7 @@ use Rattle.std.proofs.lemmas.List.{length-set}
 use Rattle.std.proofs.lemmas.List.FromFn.{length-map-range_with_len}
 use Rattle.std.specs.List.{range_with_len}
 use Rattle.std.specs.Ordering.{int_eq}
-use Rattle.std.specs.Prelude.{Option, Some, None, MatchBool, All, if◌then◌else◌}
+use Rattle.std.specs.Prelude.{Option, Some, None, MatchBool, if◌then◌else◌}
 use Rattle.mu_num.specs.Levels.{Free}
 use Rattle.mu_num.specs.Sizes.{IsWithin, passes}
 use Rattle.mu_num.proofs.NearLevels.{floor-free, near-free, inward-free}
@@ -17,8 +17,7 @@ use Rattle.qss_machine.specs.declared.rows.Row.{Row}
 use Rattle.qss_machine.specs.declared.rows.RowKind.TheVariants as kind
 use Rattle.qss_machine.specs.declared.system.Machine.{Machine}
 use Rattle.qss_machine.specs.Machines.{state_count, level_unit}
-use Rattle.qss_machine.specs.Numbers.{int_at, tabulate, first_past}
-use Rattle.qss_machine.specs.Runs.{level_rows}
+use Rattle.qss_machine.specs.Numbers.{int_at, tabulate}
 use Rattle.qss_machine.specs.Ticks.{is_near, IsNextLevel, AreNextLevels}
 use Rattle.qss_quant.specs.declared.rule.Rule.{Rule}
 use Rattle.qss_quant.specs.declared.rule.Rule.TheVariants.{Floor, Near, Inward}

@@ -1,14 +1,14 @@
 -- The level that an integrator takes at a tick, or keeps.
-use Rattle.std.proofs.Common.{◌≡◌, ◌≢◌, ℕ, zero, suc, ◌+◌, ◌-◌, ◌≤◌, ◌<◌, ◌^◌, Bool, true, false, List, [], ◌∷◌, ◌++◌, get_or, set, ℤ, pos, ◌+ℤ◌, inl, inr, refl, sym, ◌∙◌, ap, subst, arith, append-nil}
+use Rattle.std.proofs.Common.{◌≡◌, ◌≢◌, ℕ, zero, suc, ◌+◌, ◌-◌, ◌≤◌, ◌<◌, ◌^◌, Bool, true, false, List, [], ◌∷◌, ◌++◌, set, ℤ, pos, inl, inr, refl, sym, ◌∙◌, ap, subst, arith, append-nil}
 use Rattle.std.proofs.lemmas.Bool.{cases_lt}
 use Rattle.std.proofs.lemmas.Bool.Decides.{Decides-int_eq}
 use Rattle.std.proofs.lemmas.Int.{ints}
 use Rattle.std.proofs.lemmas.List.{set-get_or}
 use Rattle.std.specs.Ordering.{int_eq}
-use Rattle.std.specs.Prelude.{Option, Some, None, MatchBool, if◌then◌else◌}
+use Rattle.std.specs.Prelude.{Option, Some, None, MatchBool}
 use Rattle.mu_num.specs.Levels.{Free}
 use Rattle.mu_num.specs.Sizes.{IsWithin, passes}
-use Rattle.mu_num.specs.Ticks.{FirstAfter, IsFirstAfter, tick_limit}
+use Rattle.mu_num.specs.Ticks.{FirstAfter, IsFirstAfter}
 use Rattle.mu_num.proofs.SizeTests.{within-passes}
 use Rattle.mu_num.proofs.Tests.{int_lt-false, int_lt-true, int_lt-no, if-true, if-false}
 use Rattle.qss_machine.specs.declared.rows.Row.{Row}
@@ -18,7 +18,7 @@ use Rattle.qss_machine.specs.Machines.{state_count, level_unit, quantum_of}
 use Rattle.qss_machine.specs.Numbers.{int_at}
 use Rattle.qss_machine.specs.Ticks.{is_near}
 use Rattle.qss_quant.specs.declared.rule.Rule.{Rule}
-use Rattle.qss_quant.specs.Lines.{Line, state_at, IsAway, IsNear}
+use Rattle.qss_quant.specs.Lines.{Line, state_at, IsNear}
 use Rattle.qss_quant.specs.Rules.{level_by}
 use Rattle.qss_quiet.proofs.Changes.{leaving_changes_level}
 use Rattle.qss_devs.specs.declared.components.Components.{Components}

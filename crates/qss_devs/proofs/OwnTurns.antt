@@ -1,13 +1,12 @@
 -- Components of which one made a transition.
-use Rattle.std.proofs.Common.{◌≡◌, ◌≢◌, ℕ, ◌+◌, ◌<◌, ◌≤◌, ◌^◌, List, Vec, length, get_or, set, map, All, refl, sym, ◌∙◌, ap, subst, arith, inl, inr}
+use Rattle.std.proofs.Common.{◌≡◌, ◌≢◌, ℕ, ◌<◌, List, Vec, length, get_or, set, map, All, refl, sym, ◌∙◌, ap, subst, arith, inl, inr}
 use Rattle.std.proofs.lemmas.Bool.{cases_eq}
 use Rattle.std.proofs.lemmas.List.{get_or-map, length-map, map-set, length-set, get_or-set_same, get_or-set_other, get_or_default, with_items_is}
 use Rattle.std.proofs.lemmas.List.Elements.{All-set}
-use Rattle.std.specs.Prelude.{Option, Some, None}
+use Rattle.std.specs.Prelude.{Option}
 use Rattle.std.specs.Vec.{with_items}
 use Rattle.qss_machine.specs.declared.system.Machine.{Machine}
 use Rattle.qss_machine.specs.Machines.{state_count}
-use Rattle.qss_machine.specs.Handlers.{conditions}
 use Rattle.qss_quant.specs.declared.rule.Rule.{Rule}
 use Rattle.qss_quant.specs.Lines.{Line}
 use Rattle.qss_devs.specs.declared.components.Components.{Components}
@@ -17,10 +16,8 @@ use Rattle.qss_devs.specs.declared.integrator_model.IntegratorModel.{IntegratorM
 use Rattle.qss_devs.specs.Messages.{IsTimely}
 use Rattle.qss_devs.specs.Integrators.{IsLineNext}
 use Rattle.qss_devs.specs.Functions.{Summing}
-use Rattle.qss_devs.specs.Crossings.{Crossing}
 use Rattle.qss_devs.specs.Models.{summing_of, crossing_of}
 use Rattle.qss_devs.specs.Coupling.{no_line, no_summing, no_crossing, line_at, summing_at, crossing_at, IsIntegratorOf, AreComponents, AreRuled, IsSummingReady, IsCrossingReady, AreReady}
-use Rattle.qss_devs.proofs.ToldAgain.{line_ready}
 use Rattle.qss_devs.proofs.ToldParts.{integrators_set, line_set}
 
 -- ---- an element of a list that is lent

@@ -1,12 +1,11 @@
 -- Components whose crossings were read on arrival at a tick.
-use Rattle.std.proofs.Common.{◌≡◌, ℕ, ◌<◌, Bool, false, List, length, get_or, map, All, refl, sym, ◌∙◌, ap, subst, arith}
+use Rattle.std.proofs.Common.{◌≡◌, ℕ, ◌<◌, Bool, false, List, length, get_or, map, All, sym, ◌∙◌, ap, subst, arith}
 use Rattle.std.proofs.lemmas.List.{get_or-map, length-map}
 use Rattle.std.specs.Prelude.{Some}
 use Rattle.qss_machine.specs.declared.system.Machine.{Machine}
 use Rattle.qss_machine.specs.Firing.{flag_at}
 use Rattle.qss_machine.specs.Handlers.{conditions}
 use Rattle.qss_machine.specs.Machines.{compares}
-use Rattle.qss_quant.specs.Lines.{Line}
 use Rattle.qss_quiet.specs.Sims.{condition_at}
 use Rattle.qss_quiet.proofs.Firsts.{same_lists}
 use Rattle.qss_devs.specs.declared.components.Components.{Components}
@@ -16,8 +15,8 @@ use Rattle.qss_devs.specs.declared.integrator_model.IntegratorModel.{IntegratorM
 use Rattle.qss_devs.specs.Messages.{IsTimely}
 use Rattle.qss_devs.specs.Crossings.{Crossing, IsCrossingNext, IsRead}
 use Rattle.qss_devs.specs.Models.{summing_of, crossing_of}
-use Rattle.qss_devs.specs.Agreement.{Values, LineAgrees, SummingAgrees, CrossingAgrees}
-use Rattle.qss_devs.specs.Coupling.{no_line, no_summing, no_crossing, line_at, summing_at, crossing_at, IsIntegratorOf, AreComponents}
+use Rattle.qss_devs.specs.Agreement.{Values, LineAgrees, SummingAgrees}
+use Rattle.qss_devs.specs.Coupling.{no_line, no_summing, no_crossing, crossing_at, IsIntegratorOf, AreComponents}
 use Rattle.qss_devs.specs.Steps.{Agrees}
 use Rattle.qss_devs.specs.Visits.{CrossingsLater}
 use Rattle.qss_devs.proofs.Coasting.{at_twice}

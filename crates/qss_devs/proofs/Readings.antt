@@ -1,15 +1,14 @@
 -- Crossings that were read on arrival at a tick.
-use Rattle.std.proofs.Common.{◌≡◌, ◌≢◌, ℕ, ◌+◌, ◌≤◌, ◌<◌, Bool, List, [], ◌∷◌, length, get_or, map, set, All, inl, inr, refl, sym, ◌∙◌, ap, subst, arith}
+use Rattle.std.proofs.Common.{◌≡◌, ◌≢◌, ℕ, ◌+◌, ◌≤◌, ◌<◌, List, length, get_or, set, inl, inr, refl, sym, ◌∙◌, ap, subst, arith}
 use Rattle.std.proofs.lemmas.Bool.{cases_lt}
-use Rattle.std.proofs.lemmas.List.{get_or-map, get_or-set_same, get_or-set_other, get_or_default, length-map, length-set}
+use Rattle.std.proofs.lemmas.List.{get_or-set_same, get_or-set_other, get_or_default, length-set}
 use Rattle.std.specs.Prelude.{Option, Some, None, IsSome, IfSome}
 use Rattle.qss_machine.specs.declared.parts.Condition.{Condition}
 use Rattle.qss_machine.specs.declared.system.Machine.{Machine}
-use Rattle.qss_machine.specs.Machines.{compares}
-use Rattle.qss_cross.specs.Crossing.{holds_at, value_at}
+use Rattle.qss_cross.specs.Crossing.{value_at}
 use Rattle.qss_devs.specs.declared.crossing_model.CrossingModel.{CrossingModel}
 use Rattle.qss_devs.specs.declared.message.Message.{Message}
-use Rattle.qss_devs.specs.Crossings.{Crossing, crossing_turned, IsCrossingNext, IsRead}
+use Rattle.qss_devs.specs.Crossings.{Crossing, IsCrossingNext, IsRead}
 use Rattle.qss_devs.specs.Models.{crossing_of}
 use Rattle.qss_devs.specs.Agreement.{Values, CrossingAgrees}
 use Rattle.qss_devs.proofs.Moving.{no_ticks}

@@ -1,10 +1,10 @@
 -- A crossing holds up to its next transition as at its own tick.
-use Rattle.std.proofs.Common.{◌≡◌, ◌≢◌, ℕ, zero, suc, ◌+◌, ◌-◌, ◌≤◌, ◌<◌, pos, ◌+ℤ◌, ◌*ℤ◌, inl, inr, refl, sym, ◌∙◌, ap, arith}
+use Rattle.std.proofs.Common.{◌≡◌, ◌≢◌, ℕ, zero, suc, ◌+◌, ◌-◌, ◌≤◌, ◌<◌, inl, inr, ◌∙◌, ap, arith}
 use Rattle.std.proofs.lemmas.Bool.{cases_lt}
 use Rattle.std.specs.Prelude.{Some}
 use Rattle.mu_num.specs.Ticks.{IsFirstAfter, tick_limit}
 use Rattle.qss_machine.specs.Machines.{compares}
-use Rattle.qss_cross.specs.Crossing.{Watch, value_at, holds_at}
+use Rattle.qss_cross.specs.Crossing.{Watch, holds_at}
 use Rattle.qss_quiet.proofs.Silence.{same_flag}
 use Rattle.qss_devs.specs.Crossings.{IsCrossingNext}
 use Rattle.qss_devs.proofs.Moving.{no_ticks}

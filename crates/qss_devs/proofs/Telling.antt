@@ -1,9 +1,9 @@
 -- Functions and crossings that are told a message, one after another.
-use Rattle.std.proofs.Common.{◌≡◌, ◌≢◌, ℕ, ◌+◌, ◌<◌, ◌≤◌, ◌^◌, Bool, true, false, List, [], ◌∷◌, length, get_or, set, take, map, All, refl, sym, ◌∙◌, ap, subst, arith}
+use Rattle.std.proofs.Common.{◌≡◌, ℕ, ◌+◌, ◌<◌, ◌^◌, Bool, true, false, List, length, get_or, set, take, map, All, refl, sym, ◌∙◌, ap, subst, arith}
 use Rattle.std.proofs.lemmas.List.{get_or-map, length-map, map-set}
 use Rattle.std.proofs.lemmas.List.Elements.{All-set}
 use Rattle.mu_num.proofs.Tests.{if-true, if-false}
-use Rattle.std.specs.Prelude.{◌||◌, if◌then◌else◌}
+use Rattle.std.specs.Prelude.{◌||◌}
 use Rattle.qss_machine.specs.declared.system.Machine.{Machine}
 use Rattle.qss_machine.specs.Machines.{state_count}
 use Rattle.qss_machine.specs.Handlers.{conditions}
@@ -17,7 +17,7 @@ use Rattle.qss_devs.specs.declared.function_model.FunctionModel.{FunctionModel}
 use Rattle.qss_devs.specs.declared.message.Message.{Message}
 use Rattle.qss_devs.specs.Messages.{IsMessage, IsTimely}
 use Rattle.qss_devs.specs.Functions.{Summing, summing_given}
-use Rattle.qss_devs.specs.Crossings.{Crossing, IsCrossingNext, AreSmallAt, crossing_given}
+use Rattle.qss_devs.specs.Crossings.{Crossing, IsCrossingNext, crossing_given}
 use Rattle.qss_devs.specs.Models.{summing_of, crossing_of}
 use Rattle.qss_devs.specs.Laws.{goes_to_function, goes_to_crossing, functions_given, crossings_given}
 use Rattle.qss_devs.specs.Coupling.{no_summing, no_crossing, IsSummingReady, IsCrossingReady}

@@ -1,9 +1,8 @@
 -- What a tick leaves, after its handlers.
-use Rattle.std.proofs.Common.{◌≡◌, ℕ, ◌+◌, ◌<◌, ◌≤◌, ◌^◌, ◌++◌, Bool, true, false, List, [], length, get_or, map, All, ℤ, pos, refl, sym, ◌∙◌, ap, subst, arith}
+use Rattle.std.proofs.Common.{◌≡◌, ℕ, ◌<◌, true, List, [], length, map, ℤ, pos, refl, sym, ◌∙◌, ap, subst, arith}
 use Rattle.std.proofs.lemmas.List.FromFn.{length-map-range_with_len}
 use Rattle.std.specs.Prelude.{Option, Some, None, is_some, Ok, Err, position}
 use Rattle.mu_num.specs.Sizes.{IsWithin}
-use Rattle.mu_num.specs.Ticks.{tick_limit}
 use Rattle.mu_num.proofs.Tests.{int_lt-yes}
 use Rattle.qss_machine.specs.declared.parts.SlopeRow.{SlopeRow}
 use Rattle.qss_machine.specs.declared.rows.Row.{Row}
@@ -11,7 +10,7 @@ use Rattle.qss_machine.specs.declared.system.Machine.{Machine}
 use Rattle.qss_machine.specs.Handlers.{truths}
 use Rattle.qss_machine.specs.Machines.{state_count, discrete_count, slope_at, compares}
 use Rattle.qss_machine.specs.Numbers.{int_at, tabulate, first_past}
-use Rattle.qss_machine.specs.Ticks.{World, moved_states, handling_at, is_near, is_overweight, world_unless, Step}
+use Rattle.qss_machine.specs.Ticks.{World, moved_states, is_overweight, world_unless, Step}
 use Rattle.qss_quant.specs.declared.rule.Rule.{Rule}
 use Rattle.qss_quiet.specs.Rules.{IsRuled}
 use Rattle.qss_quiet.specs.Skips.{IsLeft}
@@ -29,7 +28,6 @@ use Rattle.qss_devs.specs.Visits.{states_at, levels_of, arrived_values, IsHandle
 use Rattle.qss_devs.proofs.Arrivals.{all_within}
 use Rattle.qss_devs.proofs.Followed.{handled_values, told_all, handled_fit, step_level, step_slope, step_done, states_are, levels_are, settled_are}
 use Rattle.qss_devs.proofs.OwnSlopes.{light_slope}
-use Rattle.qss_devs.proofs.Overs.{clash}
 use Rattle.qss_devs.proofs.Sent.{settled_stand}
 
 -- the variable that overflows, where one does

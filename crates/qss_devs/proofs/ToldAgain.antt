@@ -1,5 +1,5 @@
 -- Components that were given a message may be given another.
-use Rattle.std.proofs.Common.{◌≡◌, ℕ, ◌+◌, ◌-◌, ◌<◌, ◌≤◌, ◌^◌, Bool, true, false, List, [], ◌∷◌, length, get_or, map, All, ℤ, pos, ◌+ℤ◌, ◌*ℤ◌, refl, sym, ◌∙◌, ap, subst, arith}
+use Rattle.std.proofs.Common.{◌≡◌, ℕ, ◌+◌, ◌<◌, ◌≤◌, ◌^◌, Bool, true, false, List, [], ◌∷◌, length, get_or, map, ℤ, pos, ◌*ℤ◌, refl, sym, ◌∙◌, ap, subst, arith}
 use Rattle.std.proofs.lemmas.List.{get_or-map, length-map}
 use Rattle.std.specs.Ordering.{int_eq}
 use Rattle.std.specs.Option.{option_or}
@@ -16,8 +16,8 @@ use Rattle.qss_devs.specs.declared.message.Message.{Message}
 use Rattle.qss_devs.specs.declared.message.Message.TheVariants.{Slope, State, Level, Discrete, Truth}
 use Rattle.qss_devs.specs.Messages.{IsMessage, IsTimely}
 use Rattle.qss_devs.specs.Integrators.{LeavesAt, IsLineNext, line_moved, line_told, line_given}
-use Rattle.qss_devs.specs.Functions.{Summing, sum_at, sum_of, change_by, levels_told, discretes_told, summing_given}
-use Rattle.qss_devs.specs.Crossings.{Crossing, IsCrossingNext, input_at, input_given, form_at, speed_by, crossing_given, AreSmallAt}
+use Rattle.qss_devs.specs.Functions.{Summing, sum_at, sum_of, levels_told, discretes_told, summing_given}
+use Rattle.qss_devs.specs.Crossings.{Crossing, input_at, input_given, form_at, speed_by, crossing_given}
 use Rattle.qss_devs.specs.Coupling.{IsSummingReady, IsCrossingReady}
 use Rattle.qss_devs.proofs.Moving.{no_ticks}
 

@@ -1,9 +1,9 @@
 -- Components of which some were told a message.
-use Rattle.std.proofs.Common.{◌≡◌, ◌≢◌, ℕ, ◌+◌, ◌<◌, ◌≤◌, ◌^◌, Bool, true, false, List, [], ◌∷◌, length, get_or, set, take, map, All, refl, sym, ◌∙◌, ap, subst, arith, inl, inr}
+use Rattle.std.proofs.Common.{◌≡◌, ◌≢◌, ℕ, ◌+◌, ◌<◌, Bool, false, List, length, get_or, set, map, All, refl, sym, ◌∙◌, ap, subst, arith, inl, inr}
 use Rattle.std.proofs.lemmas.Bool.{cases_eq}
 use Rattle.std.proofs.lemmas.List.{get_or-map, length-map, map-set, length-set, get_or-set_same, get_or-set_other}
 use Rattle.std.proofs.lemmas.List.Elements.{All-set}
-use Rattle.std.specs.Prelude.{◌||◌, ◌==◌, Option, if◌then◌else◌}
+use Rattle.std.specs.Prelude.{◌||◌, ◌==◌}
 use Rattle.mu_num.proofs.Tests.{if_cases, if-true, if-false, eqb-yes, eqb-no}
 use Rattle.qss_machine.specs.declared.parts.Condition.{Condition}
 use Rattle.qss_machine.specs.declared.system.Machine.{Machine}
@@ -24,11 +24,11 @@ use Rattle.qss_devs.specs.declared.message.Message.{Message}
 use Rattle.qss_devs.specs.declared.message.Message.TheVariants.{Slope, State, Level, Discrete, Truth}
 use Rattle.qss_devs.specs.Messages.{IsMessage, IsTimely}
 use Rattle.qss_devs.specs.Integrators.{IsLineNext, line_given}
-use Rattle.qss_devs.specs.Functions.{Summing, summing_given}
+use Rattle.qss_devs.specs.Functions.{summing_given}
 use Rattle.qss_devs.specs.Crossings.{Crossing, crossing_given}
 use Rattle.qss_devs.specs.Models.{summing_of, crossing_of}
 use Rattle.qss_devs.specs.Laws.{goes_to_integrator, goes_to_function, goes_to_crossing, lines_given, functions_given, crossings_given}
-use Rattle.qss_devs.specs.Coupling.{no_line, no_summing, no_crossing, line_at, summing_at, crossing_at, IsIntegratorOf, AreComponents, AreRuled, IsSummingReady, IsCrossingReady, AreReady, IsGivenLine, IsOfLine, IsOfLevel, IsOfDiscrete, AreTold}
+use Rattle.qss_devs.specs.Coupling.{no_line, no_summing, no_crossing, line_at, summing_at, crossing_at, IsIntegratorOf, AreComponents, IsSummingReady, IsCrossingReady, AreReady, IsGivenLine, IsOfLine, IsOfLevel, IsOfDiscrete, AreTold}
 use Rattle.qss_devs.proofs.ToldAgain.{summing_ready_given, crossing_ready_given, line_ready_given, told_twice}
 use Rattle.qss_devs.proofs.Readers.{among_conditions}
 use Rattle.qss_devs.proofs.Telling.{functions_by, crossings_by, crossings_by_two}

@@ -1,8 +1,8 @@
 -- The rows of handlers tell what may be sent as messages.
-use Rattle.std.proofs.Common.{◌≡◌, ℕ, ◌+◌, ◌<◌, ◌≤◌, Bool, false, List, [], ◌∷◌, ◌++◌, ℤ, pos, set, ◌-◌, arith}
+use Rattle.std.proofs.Common.{ℕ, ◌+◌, ◌<◌, ◌≤◌, Bool, List, [], ◌∷◌, ◌++◌, ℤ, pos, set, ◌-◌, arith}
 use Rattle.std.proofs.lemmas.Bool.Decides.{nat_tests}
 use Rattle.std.proofs.lemmas.List.Elements.{All-push}
-use Rattle.std.specs.Prelude.{All, Option, Some, IsTrue}
+use Rattle.std.specs.Prelude.{All, Some, IsTrue}
 use Rattle.mu_num.proofs.SizeTests.{passes-within}
 use Rattle.mu_num.proofs.Tests.{if_cases}
 use Rattle.mu_num.specs.Sizes.{passes}

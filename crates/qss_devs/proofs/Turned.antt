@@ -1,5 +1,5 @@
 -- A message whose level or slope is within its limit.
-use Rattle.std.proofs.Common.{◌≡◌, ℕ, false, ℤ, arith}
+use Rattle.std.proofs.Common.{◌≡◌, false}
 use Rattle.mu_num.proofs.SizeTests.{passes-within}
 use Rattle.qss_devs.specs.declared.message.Message.{Message}
 use Rattle.qss_devs.specs.declared.message.Message.TheVariants.{Slope, State, Level, Discrete, Truth}

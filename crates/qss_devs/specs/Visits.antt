@@ -5,7 +5,7 @@ use Rattle.qss_machine.specs.Machines.{state_count, discrete_count}
 use Rattle.qss_machine.specs.Handlers.{conditions, truths}
 use Rattle.qss_machine.specs.Ticks.{World, moved_states, handling_at}
 use Rattle.qss_quant.specs.declared.rule.Rule.{Rule}
-use Rattle.qss_quant.specs.Lines.{Line, state_at}
+use Rattle.qss_quant.specs.Lines.{state_at}
 use Rattle.qss_hand.specs.Works.{AreValuesOf, row_room}
 use Rattle.qss_quiet.specs.Skips.{IsLeft}
 use Rattle.qss_quiet.specs.Sims.{slopes_of}

@@ -1,5 +1,5 @@
 -- The next transition is not before the earlier tick.
-use Rattle.std.proofs.Common.{◌≡◌, ℕ, ◌<◌, ◌≤◌, sym, subst, arith}
+use Rattle.std.proofs.Common.{◌≡◌, ℕ, subst, arith}
 use Rattle.std.specs.Prelude.{Option, Some}
 use Rattle.qss_devs.proofs.Ticks.{same_tick, none_next}
 use Rattle.qss_devs.proofs.advance.earlier.Goals as goal

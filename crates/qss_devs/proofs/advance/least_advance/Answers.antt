@@ -1,5 +1,5 @@
 -- One more model.
-use Rattle.std.proofs.Common.{◌≡◌, ℕ, ◌+◌, ◌<◌, ◌≤◌, ◌++◌, ◌∷◌, [], List, All, length, get_or, take, sym, ◌∙◌, ap, subst, arith}
+use Rattle.std.proofs.Common.{◌≡◌, ℕ, ◌+◌, ◌<◌, ◌≤◌, ◌++◌, ◌∷◌, [], List, All, length, get_or, take, sym, subst, arith}
 use Rattle.std.proofs.lemmas.List.{get_or_append_left, get_or_at, length-append, length-take-le, take_all, take_more}
 use Rattle.std.proofs.lemmas.List.Elements.{All-push}
 use Rattle.std.specs.Prelude.{Option, Some, None, slice_index_or}

@@ -1,5 +1,5 @@
 -- One more state, and all of them.
-use Rattle.std.proofs.Common.{◌≡◌, ◌<◌, List, ℤ, length, map, pos, set, sym, ◌∙◌, ap, arith}
+use Rattle.std.proofs.Common.{◌≡◌, ◌<◌, List, ℤ, length, map, pos, sym, ◌∙◌, arith}
 use Rattle.std.proofs.lemmas.Int.{to_z-of_z}
 use Rattle.std.proofs.lemmas.List.{length-map, length-set}
 use Rattle.std.specs.Int.RustNames.{FitsSigned}

@@ -1,8 +1,7 @@
 -- A crossing that changes at the tick says so and moves; another holds as it did.
-use Rattle.std.proofs.Common.{◌≡◌, ◌≢◌, ℕ, ◌<◌, ◌≤◌, inl, inr, refl, sym, ◌∙◌, ap, subst, arith}
-use Rattle.std.specs.Prelude.{Option, Some}
+use Rattle.std.proofs.Common.{◌≡◌, ◌≢◌, ℕ, ◌≤◌, inl, inr, refl, sym, ◌∙◌, subst, arith}
+use Rattle.std.specs.Prelude.{Some}
 use Rattle.qss_cross.specs.Crossing.{holds_at}
-use Rattle.qss_devs.specs.declared.message.Message.{Message}
 use Rattle.qss_devs.specs.declared.message.Message.TheVariants.{Truth}
 use Rattle.qss_devs.specs.Messages.{HasSmallLevel}
 use Rattle.qss_devs.specs.Crossings.{IsCrossingNext}

@@ -1,5 +1,5 @@
 -- The line's state is the one of its number.
-use Rattle.std.proofs.Common.{◌≡◌, pos, ℤ, get_or, sym, ◌∙◌, ap, arith}
+use Rattle.std.proofs.Common.{pos, sym, ◌∙◌, arith}
 use Rattle.std.proofs.lemmas.Int.{to_z-of_z}
 use Rattle.std.proofs.lemmas.List.{get_or-map}
 use Rattle.std.specs.Int.RustNames.{FitsSigned}

@@ -1,11 +1,11 @@
 -- One row more is told.
-use Rattle.std.proofs.Common.{◌≡◌, ℕ, ◌+◌, ◌<◌, List, length, get_or, take, pos, All, refl, sym, ◌∙◌, ap, subst, arith}
-use Rattle.std.proofs.lemmas.List.{get_or_default, take_all}
+use Rattle.std.proofs.Common.{get_or, take, pos, subst}
+use Rattle.std.proofs.lemmas.List.{get_or_default}
 use Rattle.qss_machine.specs.declared.rows.Row.{Row}
 use Rattle.qss_machine.specs.declared.rows.RowKind.TheVariants as kind
 use Rattle.qss_devs.specs.Agreement.{Values}
 use Rattle.qss_devs.specs.Laws.{rows_told}
-use Rattle.qss_devs.specs.Steps.{IsTold, Agrees}
+use Rattle.qss_devs.specs.Steps.{Agrees}
 use Rattle.qss_devs.proofs.AgreeTold.{rows_each, told_more}
 use Rattle.qss_devs.proofs.assigned.tell_assigned.Goals as goal
 

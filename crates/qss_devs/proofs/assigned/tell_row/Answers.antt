@@ -2,7 +2,6 @@
 use Rattle.std.proofs.Common.{sym, subst, arith}
 use Rattle.std.proofs.lemmas.Int.{ints, to_z-of_z}
 use Rattle.std.specs.Int.RustNames.{FitsSigned}
-use Rattle.qss_machine.specs.declared.rows.RowKind.TheVariants as kind
 use Rattle.qss_machine.specs.declared.rows.RowKind.{RowKind}
 use Rattle.qss_devs.specs.declared.message.Message.TheVariants.{State, Discrete}
 use Rattle.qss_devs.specs.Messages.{IsMessage}

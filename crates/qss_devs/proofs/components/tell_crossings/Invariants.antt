@@ -1,4 +1,4 @@
-use Rattle.std.proofs.Common.{◌≡◌, get_or, map, take, All, length}
+use Rattle.std.proofs.Common.{◌≡◌, get_or, map, take, All}
 use Rattle.qss_quiet.specs.Writes.{IsWritten}
 use Rattle.qss_devs.specs.Crossings.{crossing_given}
 use Rattle.qss_devs.specs.Models.{crossing_of}

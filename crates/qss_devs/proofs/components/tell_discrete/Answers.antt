@@ -1,8 +1,8 @@
 -- The functions and the crossings that read a discrete value are told the message.
-use Rattle.std.proofs.Common.{◌≡◌, ℕ, ◌+◌, ◌<◌, List, [], length, get_or, All, refl, sym, ◌∙◌, ap, subst, arith}
+use Rattle.std.proofs.Common.{◌≡◌, ℕ, ◌+◌, [], length, get_or, All, refl, sym, ◌∙◌, ap, subst, arith}
 use Rattle.std.proofs.lemmas.List.{with_items_is}
 use Rattle.std.specs.Vec.{with_items}
-use Rattle.qss_machine.specs.Machines.{state_count, discrete_count}
+use Rattle.qss_machine.specs.Machines.{discrete_count}
 use Rattle.qss_machine.specs.Uses.{reading_rows, reading_conditions}
 use Rattle.qss_quiet.specs.Among.{AreNumbers}
 use Rattle.qss_quiet.proofs.KeptReaders.{rows_many, rows_kept, conditions_many, conditions_kept}

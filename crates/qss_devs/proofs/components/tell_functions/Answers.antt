@@ -1,5 +1,5 @@
 -- One more function is told the message.
-use Rattle.std.proofs.Common.{◌≡◌, ℕ, ◌<◌, List, length, get_or, map, sym, ◌∙◌, ap, subst, refl, arith}
+use Rattle.std.proofs.Common.{◌≡◌, ◌<◌, List, length, get_or, map, sym, subst, refl, arith}
 use Rattle.std.proofs.lemmas.List.{get_or_default}
 use Rattle.qss_quiet.proofs.Writes.{written_all}
 use Rattle.qss_machine.specs.declared.system.Machine.{Machine}

@@ -1,5 +1,5 @@
 -- The integrator of a state is told the message.
-use Rattle.std.proofs.Common.{◌≡◌, ℕ, get_or, set, sym, refl, subst}
+use Rattle.std.proofs.Common.{get_or, sym, refl, subst}
 use Rattle.std.proofs.lemmas.List.{get_or_default}
 use Rattle.qss_machine.specs.declared.system.Machine.{Machine}
 use Rattle.qss_devs.specs.declared.integrator_model.IntegratorModel.{IntegratorModel}

@@ -1,7 +1,6 @@
 -- The functions that read a level are told the message.
-use Rattle.std.proofs.Common.{◌≡◌, ℕ, ◌+◌, ◌<◌, List, length, All, refl, sym, ◌∙◌, ap, subst, arith}
+use Rattle.std.proofs.Common.{◌≡◌, length, All, refl, sym, ◌∙◌, ap, subst, arith}
 use Rattle.std.proofs.lemmas.List.{with_items_is}
-use Rattle.qss_machine.specs.Machines.{state_count, discrete_count}
 use Rattle.qss_machine.specs.Uses.{reading_rows}
 use Rattle.qss_quiet.specs.Among.{AreNumbers}
 use Rattle.qss_quiet.proofs.KeptReaders.{rows_many, rows_kept}

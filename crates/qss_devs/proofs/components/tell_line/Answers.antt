@@ -1,7 +1,6 @@
 -- An integrator and the crossings that read its state are told the message.
-use Rattle.std.proofs.Common.{◌≡◌, ℕ, ◌+◌, ◌<◌, List, length, get_or, set, All, refl, sym, ◌∙◌, ap, subst, arith}
+use Rattle.std.proofs.Common.{◌≡◌, List, length, get_or, set, All, refl, sym, ◌∙◌, ap, subst, arith}
 use Rattle.std.proofs.lemmas.List.{with_items_is}
-use Rattle.qss_machine.specs.Machines.{state_count, discrete_count}
 use Rattle.qss_machine.specs.Uses.{reading_conditions}
 use Rattle.qss_quiet.specs.Among.{AreNumbers}
 use Rattle.qss_quiet.proofs.KeptReaders.{conditions_many, conditions_kept}

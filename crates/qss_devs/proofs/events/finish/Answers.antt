@@ -1,9 +1,6 @@
 -- The rows are those of the world.
-use Rattle.std.proofs.Common.{◌≡◌, ◌≤◌, ◌++◌, ℕ, List, length, map, All, sym, ◌∙◌, ap, subst, arith}
-use Rattle.std.proofs.lemmas.List.{length-map}
+use Rattle.std.proofs.Common.{◌≤◌, length, All, sym, ◌∙◌, ap, subst, arith}
 use Rattle.qss_machine.specs.declared.rows.RowKind.TheVariants as kind
-use Rattle.qss_machine.specs.Runs.{state_rows, discrete_rows, world_rows}
-use Rattle.qss_quant.specs.Lines.{state_at}
 use Rattle.qss_devs.specs.declared.integrator_model.IntegratorModel.{IntegratorModel}
 use Rattle.qss_devs.proofs.WorldRows.{rows_at, lines_early}
 use Rattle.qss_devs.proofs.events.finish.Goals as goal

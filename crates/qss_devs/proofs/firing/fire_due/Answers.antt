@@ -1,6 +1,5 @@
 -- The rows of the handlers may be told, and there is room for them.
-use Rattle.std.proofs.Common.{◌≡◌, List, Bool, [], length, All, sym, ◌∙◌, ap, subst, arith}
-use Rattle.qss_machine.specs.declared.rows.Row.{Row}
+use Rattle.std.proofs.Common.{List, Bool, length, All, sym, ◌∙◌, ap, subst, arith}
 use Rattle.qss_machine.specs.Handlers.{due_flags}
 use Rattle.qss_hand.specs.Values.{Values}
 use Rattle.qss_hand.specs.Works.{handling_of}

@@ -1,6 +1,5 @@
 -- The first flag that is set.
-use Rattle.std.proofs.Common.{◌≡◌, ◌+◌, ◌<◌, ◌≤◌, List, Bool, length, false, true, sym, ◌∙◌, arith, below_more}
-use Rattle.qss_machine.specs.Firing.{flag_at}
+use Rattle.std.proofs.Common.{◌≡◌, ◌<◌, List, Bool, length, false, sym, ◌∙◌, arith, below_more}
 use Rattle.qss_machine.specs.Handlers.{due_flags}
 use Rattle.qss_quiet.proofs.Firsts.{first_is}
 use Rattle.qss_quiet.proofs.Ranges.{position-none}

@@ -4,7 +4,7 @@ use Rattle.std.proofs.lemmas.List.{drop_all}
 use Rattle.std.proofs.lemmas.List.Sums.{sum_by_more}
 use Rattle.std.specs.Prelude.{Err}
 use Rattle.qss_machine.specs.declared.parts.ClauseInfo.{ClauseInfo}
-use Rattle.qss_machine.specs.Handlers.{Handling, conditions, due_flags, run_clauses}
+use Rattle.qss_machine.specs.Handlers.{Handling, due_flags, run_clauses}
 use Rattle.qss_hand.specs.Values.{Values}
 use Rattle.qss_hand.specs.Works.{handling_of, values_after, overflow_of, clause_at}
 use Rattle.qss_hand.proofs.AfterStatements.{from_start, all_done}

@@ -1,11 +1,10 @@
 -- An integrator that is due sends its level.
-use Rattle.std.proofs.Common.{◌≡◌, ◌≢◌, ℕ, ◌+◌, ◌<◌, List, [], ◌∷◌, ◌++◌, length, get_or, map, set, refl, sym, ◌∙◌, ap, subst, arith}
+use Rattle.std.proofs.Common.{◌≡◌, ◌<◌, List, [], ◌∷◌, ◌++◌, length, get_or, map, set, refl, ◌∙◌, ap, arith}
 use Rattle.std.proofs.lemmas.List.{length-set}
-use Rattle.std.specs.Prelude.{Option, Some}
+use Rattle.std.specs.Prelude.{Some}
 use Rattle.std.specs.Vec.{with_items}
 use Rattle.qss_machine.specs.declared.rows.RowKind.TheVariants as kind
 use Rattle.qss_machine.specs.declared.rows.Row.{Row}
-use Rattle.qss_quant.specs.declared.rule.Rule.{Rule}
 use Rattle.qss_devs.specs.declared.integrator_model.IntegratorModel.{IntegratorModel}
 use Rattle.qss_quant.specs.Lines.{Line}
 use Rattle.qss_devs.specs.Coupling.{no_line, line_at}

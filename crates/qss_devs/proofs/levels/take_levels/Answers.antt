@@ -1,15 +1,13 @@
 -- One more integrator has its turn.
-use Rattle.std.proofs.Common.{◌≡◌, ◌≢◌, ℕ, ◌+◌, ◌<◌, ◌≤◌, List, length, true, false, inl, inr, refl, sym, ◌∙◌, ap, subst, arith}
+use Rattle.std.proofs.Common.{◌≡◌, ℕ, ◌<◌, length, inl, inr, refl, sym, ◌∙◌, ap, subst, arith}
 use Rattle.std.proofs.lemmas.Bool.{cases_eq}
-use Rattle.std.specs.Prelude.{Option, Some, None, is_some}
+use Rattle.std.specs.Prelude.{Option, Some, None}
 use Rattle.mu_num.specs.Sizes.{passes}
 use Rattle.qss_machine.specs.Machines.{state_count}
 use Rattle.qss_quant.specs.Lines.{Line}
-use Rattle.qss_quant.specs.declared.rule.Rule.{Rule}
 use Rattle.qss_devs.specs.Integrators.{IsLineNext}
-use Rattle.qss_devs.specs.Agreement.{Values}
 use Rattle.qss_devs.specs.Coupling.{line_at}
-use Rattle.qss_devs.specs.Steps.{AreValues, AreTakenUpTo, AreTaken, IsLevelTaken, level_after, leveled}
+use Rattle.qss_devs.specs.Steps.{AreTakenUpTo, AreTaken, IsLevelTaken, level_after, leveled}
 use Rattle.qss_devs.proofs.Overs.{not_some, clash, over_is}
 use Rattle.qss_devs.proofs.LevelsTaken.{taken_none, taken_more, taken_all, taken_over, leveled_values}
 use Rattle.qss_devs.proofs.levels.take_levels.Goals as goal

@@ -1,8 +1,7 @@
 -- The least of the next transitions.
-use Rattle.std.proofs.Common.{◌≡◌, ℕ, ◌+◌, ◌<◌, ◌≤◌, Bool, false, List, All, length, get_or, sym, ◌∙◌, ap, subst, arith}
+use Rattle.std.proofs.Common.{◌≡◌, ℕ, ◌<◌, ◌≤◌, Bool, false, List, All, length, get_or, sym, ◌∙◌, ap, subst, arith}
 use Rattle.std.specs.List.{list_any}
-use Rattle.std.specs.Prelude.{Option, Some, None}
-use Rattle.qss_machine.specs.declared.system.Machine.{Machine}
+use Rattle.std.specs.Prelude.{Some, None}
 use Rattle.qss_machine.specs.Machines.{state_count}
 use Rattle.qss_machine.specs.Handlers.{conditions, due_flags}
 use Rattle.qss_cross.specs.Crossing.{Watch}
@@ -13,7 +12,7 @@ use Rattle.qss_devs.specs.declared.integrator_model.IntegratorModel.{IntegratorM
 use Rattle.qss_devs.specs.declared.store.Store.{Store}
 use Rattle.qss_devs.specs.Integrators.{IsLineNext}
 use Rattle.qss_devs.specs.Crossings.{IsCrossingNext}
-use Rattle.qss_devs.specs.Coupling.{line_at, summing_at, crossing_at}
+use Rattle.qss_devs.specs.Coupling.{line_at, crossing_at}
 use Rattle.qss_devs.specs.Visits.{world_of}
 use Rattle.qss_devs.proofs.NextVisits.{some_element, line_of, of_line, watch_of, summing_of_place, due_of, none_before, are_next}
 use Rattle.qss_devs.proofs.next.next_visit.Goals as goal

@@ -1,5 +1,5 @@
 -- A branch is due again where its condition became true.
-use Rattle.std.proofs.Common.{◌<◌, sym, ◌∙◌, arith, below_more}
+use Rattle.std.proofs.Common.{sym, ◌∙◌, arith, below_more}
 use Rattle.qss_devs.proofs.Risen.{none_due, some_due}
 use Rattle.qss_devs.proofs.rising.has_risen.Goals as goal
 

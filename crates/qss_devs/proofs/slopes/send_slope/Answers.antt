@@ -1,5 +1,5 @@
 -- A function that is due sends its sum.
-use Rattle.std.proofs.Common.{◌≡◌, ℕ, ◌<◌, List, length, get_or, set, refl, sym, ◌∙◌, ap, arith}
+use Rattle.std.proofs.Common.{◌≡◌, ◌<◌, List, length, get_or, set, refl, sym, ◌∙◌, ap, arith}
 use Rattle.std.specs.Vec.{with_items}
 use Rattle.qss_devs.specs.declared.function_model.FunctionModel.{FunctionModel}
 use Rattle.qss_devs.proofs.OwnTurns.{slot_is, slot_set}

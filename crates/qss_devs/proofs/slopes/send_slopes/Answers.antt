@@ -1,10 +1,9 @@
 -- One more function has its turn.
-use Rattle.std.proofs.Common.{◌≡◌, ℕ, ◌+◌, ◌<◌, ◌≤◌, length, true, false, refl, sym, ◌∙◌, ap, subst, arith}
-use Rattle.std.specs.Prelude.{Option, Some, None, is_some}
+use Rattle.std.proofs.Common.{◌≡◌, ℕ, ◌<◌, length, sym, ◌∙◌, ap, subst, arith}
+use Rattle.std.specs.Prelude.{Option, Some, None}
 use Rattle.qss_machine.specs.Machines.{state_count, row_at}
 use Rattle.qss_machine.specs.Ticks.{is_overweight}
-use Rattle.qss_devs.specs.Agreement.{Values}
-use Rattle.qss_devs.specs.Steps.{AreValues, AreSentUpTo, AreSent, IsSlopeSent, sloped}
+use Rattle.qss_devs.specs.Steps.{AreSentUpTo, AreSent, IsSlopeSent, sloped}
 use Rattle.qss_devs.proofs.Overs.{not_some, clash, over_is}
 use Rattle.qss_devs.proofs.SlopesSent.{sent_none, sent_more, sent_all, sent_over, sloped_values}
 use Rattle.qss_devs.proofs.slopes.send_slopes.Goals as goal

@@ -1,18 +1,17 @@
 -- One more crossing.
-use Rattle.std.proofs.Common.{◌≡◌, ◌+◌, ◌<◌, ◌≤◌, List, [], ◌∷◌, length, map, All, refl, sym, ◌∙◌, ap, subst, arith}
+use Rattle.std.proofs.Common.{◌≡◌, ◌<◌, List, [], ◌∷◌, length, map, All, refl, sym, ◌∙◌, ap, subst, arith}
 use Rattle.std.proofs.lemmas.List.{length-append}
 use Rattle.mu_num.specs.Sizes.{IsWithin}
 use Rattle.qss_machine.specs.declared.parts.Condition.{Condition}
 use Rattle.qss_machine.specs.declared.system.Machine.{Machine}
-use Rattle.qss_machine.specs.Machines.{state_count, discrete_count}
-use Rattle.qss_machine.specs.Firing.{first_place}
+use Rattle.qss_machine.specs.Machines.{state_count}
 use Rattle.qss_cross.specs.Crossing.{Watch}
-use Rattle.qss_hand.specs.Works.{clause_at, branch_at}
+use Rattle.qss_hand.specs.Works.{clause_at}
 use Rattle.qss_quiet.specs.Sims.{condition_at}
 use Rattle.qss_devs.specs.declared.crossing_model.CrossingModel.{CrossingModel}
 use Rattle.qss_devs.specs.declared.input.Input.{Input}
 use Rattle.qss_devs.specs.Crossings.{Crossing, input_at, form_at, speed_by, IsInput, AreParts, StaysIfDiscrete}
-use Rattle.qss_devs.specs.Starts.{start_values, first_input, first_crossing, IsFirstCrossing, IsFirstAt}
+use Rattle.qss_devs.specs.Starts.{start_values, first_input, IsFirstCrossing, IsFirstAt}
 use Rattle.qss_devs.proofs.Inputs.{IsGiven}
 use Rattle.qss_devs.proofs.Begun.{each_more, inputs_given, first_parts, own_condition, places_more, places_few}
 use Rattle.qss_devs.proofs.start.add_crossings.Goals as goal

@@ -1,5 +1,5 @@
 -- The crossings of all clauses.
-use Rattle.std.proofs.Common.{◌≡◌, ◌≤◌, length, ◌∙◌, ap, arith}
+use Rattle.std.proofs.Common.{length, ◌∙◌, ap, arith}
 use Rattle.qss_devs.specs.Starts.{IsFirstAt}
 use Rattle.qss_devs.proofs.Begun.{each_none, places_all}
 use Rattle.qss_devs.proofs.start.start_crossings.Goals as goal

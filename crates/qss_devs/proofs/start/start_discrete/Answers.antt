@@ -1,5 +1,5 @@
 -- The discrete value in the unit of states.
-use Rattle.std.proofs.Common.{◌≡◌, ◌-◌, ◌<◌, length, ℕ, ℤ, pos, ◌*ℤ◌, sym, ◌∙◌, ap, subst, arith}
+use Rattle.std.proofs.Common.{◌≡◌, ◌-◌, ◌<◌, length, ℕ, ℤ, ◌*ℤ◌, sym, ◌∙◌, ap, subst, arith}
 use Rattle.std.proofs.lemmas.Int.{to_z-of_z}
 use Rattle.std.specs.Int.RustNames.{FitsSigned}
 use Rattle.std.specs.Prelude.{nat_lt, if◌then◌else◌}

@@ -5,7 +5,6 @@ use Rattle.mu_num.specs.Sizes.{IsWithin}
 use Rattle.qss_machine.specs.declared.system.Machine.{Machine}
 use Rattle.qss_machine.specs.Machines.{state_count, discrete_count}
 use Rattle.qss_quiet.proofs.Starts.{levels_start, discretes_start}
-use Rattle.qss_devs.specs.Functions.{Summing}
 use Rattle.qss_devs.specs.Agreement.{Values}
 use Rattle.qss_devs.specs.Starts.{start_values, IsFirstFunction}
 use Rattle.qss_devs.proofs.Begun.{start_each, each_more, each_none}

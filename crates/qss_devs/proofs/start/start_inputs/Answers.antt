@@ -1,10 +1,10 @@
 -- One more input.
-use Rattle.std.proofs.Common.{◌≡◌, ◌+◌, ◌<◌, ◌++◌, ◌∷◌, [], List, length, get_or, map, take, pos, sym, ◌∙◌, ap, subst, arith}
+use Rattle.std.proofs.Common.{◌+◌, ◌<◌, ◌++◌, ◌∷◌, [], List, length, get_or, map, take, pos, sym, ◌∙◌, ap, subst, arith}
 use Rattle.std.proofs.lemmas.List.{map-append, take_all, take_more}
 use Rattle.qss_machine.specs.declared.parts.Entry.{Entry}
 use Rattle.qss_machine.specs.Machines.{state_count, discrete_count}
 use Rattle.qss_devs.specs.declared.input.Input.{Input}
-use Rattle.qss_devs.specs.Starts.{start_values, first_input, entry_at}
+use Rattle.qss_devs.specs.Starts.{start_values, first_input}
 use Rattle.qss_devs.proofs.start.start_inputs.Goals as goal
 
 abbrev none : Entry

@@ -1,6 +1,6 @@
 -- A model that is due sends its message, and makes its transition, unless what it sends passes its limit.
 use Rattle.std.proofs.Common.{◌≡◌, ℕ, true, false, refl, sym, ◌∙◌, ap, subst}
-use Rattle.std.specs.Prelude.{Option, Some, None, IsSome, IfSome}
+use Rattle.std.specs.Prelude.{Option, Some, IsSome, IfSome}
 use Rattle.qss_devs.specs.declared.message.Message.{Message}
 use Rattle.qss_devs.specs.Messages.{HasSmallLevel, passes_limit}
 use Rattle.qss_devs.proofs.Turned.{level_small}

@@ -1,19 +1,19 @@
 -- A tick, after its handlers.
-use Rattle.std.proofs.Common.{◌≡◌, ℕ, ◌+◌, ◌<◌, ◌≤◌, ◌++◌, Bool, List, length, map, ℤ, refl, sym, ◌∙◌, ap, subst, arith}
+use Rattle.std.proofs.Common.{◌≡◌, ℕ, ◌++◌, Bool, List, length, map, ℤ, sym, ◌∙◌, ap, subst, arith}
 use Rattle.std.proofs.lemmas.List.{length-map}
-use Rattle.std.specs.Prelude.{Option, Some, None}
+use Rattle.std.specs.Prelude.{Option, None}
 use Rattle.qss_machine.specs.declared.rows.Row.{Row}
 use Rattle.qss_machine.specs.Handlers.{truths}
-use Rattle.qss_machine.specs.Machines.{state_count, discrete_count, compares}
+use Rattle.qss_machine.specs.Machines.{compares}
 use Rattle.qss_machine.specs.Runs.{level_rows, tick_rows}
-use Rattle.qss_machine.specs.Ticks.{World, handling_at}
+use Rattle.qss_machine.specs.Ticks.{World}
 use Rattle.qss_quiet.specs.Skips.{IsLeft}
 use Rattle.qss_devs.specs.declared.components.Components.{Components}
 use Rattle.qss_devs.specs.declared.crossing_model.CrossingModel.{CrossingModel}
 use Rattle.qss_devs.specs.declared.store.Store.{Store}
 use Rattle.qss_devs.specs.Agreement.{StandFor}
 use Rattle.qss_devs.specs.Coupling.{line_at, summing_at, crossing_at}
-use Rattle.qss_devs.specs.Visits.{states_at, levels_of, world_of, IsHandled}
+use Rattle.qss_devs.specs.Visits.{states_at, levels_of, world_of}
 use Rattle.qss_devs.proofs.Overs.{not_some, clash}
 use Rattle.qss_devs.proofs.TickEnds.{handled, handled_fits, handled_agree, levels_step, taken_values, taken_agree, taken_fits, taken_near, slopes_step, ended, ended_stand, ended_left, ended_crossings, ended_states, ended_levels, ended_settled, ended_step}
 use Rattle.qss_devs.proofs.visit.follow.Goals as goal

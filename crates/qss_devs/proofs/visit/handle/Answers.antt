@@ -1,13 +1,12 @@
 -- The handlers of the next tick.
-use Rattle.std.proofs.Common.{◌≡◌, ℕ, ◌+◌, ◌<◌, ◌≤◌, Bool, List, [], length, get_or, map, All, ℤ, refl, sym, ◌∙◌, ap, subst, arith}
+use Rattle.std.proofs.Common.{◌≡◌, ◌+◌, ◌≤◌, Bool, List, [], length, map, All, ℤ, refl, sym, ◌∙◌, ap, subst, arith}
 use Rattle.std.proofs.lemmas.List.{with_items_is}
-use Rattle.std.specs.Prelude.{Option, Some, None}
+use Rattle.std.specs.Prelude.{None}
 use Rattle.std.specs.Vec.{with_items}
 use Rattle.qss_machine.specs.Firing.{flag_at}
 use Rattle.qss_machine.specs.Handlers.{Handling, conditions, truths}
-use Rattle.qss_machine.specs.Machines.{state_count}
 use Rattle.qss_machine.specs.Numbers.{first_past}
-use Rattle.qss_machine.specs.Ticks.{World, moved_states, handling_at}
+use Rattle.qss_machine.specs.Ticks.{World, moved_states}
 use Rattle.qss_quant.specs.Lines.{state_at}
 use Rattle.qss_hand.specs.Values.{Values as Kept}
 use Rattle.qss_devs.specs.declared.components.Components.{Components}

@@ -1,10 +1,6 @@
 -- The handlers of a tick, and what follows from them.
-use Rattle.std.proofs.Common.{◌≡◌, ℕ, ◌+◌, ◌<◌, List, refl, sym, ◌∙◌, ap, subst, arith}
-use Rattle.std.specs.Option.{option_or}
-use Rattle.std.specs.Prelude.{Option, Some, None, Result, Err}
-use Rattle.qss_machine.specs.Ticks.{World, Step, world_unless, handling_at}
-use Rattle.qss_quiet.specs.Rules.{IsRuled}
-use Rattle.qss_devs.specs.Visits.{world_of, IsHandled}
+use Rattle.std.proofs.Common.{◌+◌, sym, ◌∙◌, arith}
+use Rattle.qss_devs.specs.Visits.{world_of}
 use Rattle.qss_devs.proofs.Arrivals.{over_step}
 use Rattle.qss_devs.proofs.Overs.{not_some, clash}
 use Rattle.qss_devs.proofs.visit.visit.Goals as goal

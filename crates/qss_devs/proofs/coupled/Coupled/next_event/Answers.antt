@@ -1,5 +1,5 @@
 -- Under a rule with a name the rows of a call are the first of those that were to come.
-use Rattle.std.proofs.Common.{◌≡◌, ℕ, ◌≤◌, ◌++◌, sym, ◌∙◌, ap, subst, arith}
+use Rattle.std.proofs.Common.{◌≡◌, ℕ, ◌++◌, sym, ◌∙◌, ap, subst}
 use Rattle.std.specs.Prelude.{Option, Some, None}
 use Rattle.qss_machine.specs.declared.system.Machine.{Machine}
 use Rattle.qss_quant.specs.declared.quantizer.Quantizer.{Quantizer}
@@ -7,7 +7,7 @@ use Rattle.qss_quant.specs.Rules.{level_by}
 use Rattle.qss_quiet.specs.Rules.{IsRuled}
 use Rattle.qss_devs.specs.declared.outcome.Outcome.{Outcome}
 use Rattle.qss_devs.specs.declared.store.Store.{Store}
-use Rattle.qss_devs.specs.Visits.{world_of, Stands}
+use Rattle.qss_devs.specs.Visits.{world_of}
 use Rattle.qss_devs.specs.Calls.{standing_of, tick_of, end_of}
 use Rattle.qss_devs.specs.Events.{IsNext, rows_left}
 use Rattle.qss_devs.proofs.NamedRows.{named_rows}
