@@ -1,5 +1,5 @@
 //! Components of a machine as models of their own: quantized integrators, static functions and crossings, which tell each
-//! other what changes by messages.
+//! other what changes by messages; and the run of the machine as a coupled model of them.
 #![tactic(auto)]
 
 mod advance;
