@@ -130,7 +130,7 @@ class Seeds(InFolder):
     def test_parts_take_the_place_of_those_that_are_there(self):
         first, second = parts(1, 1, 1)
         self.assertEqual(digest("ab"), 31 * 97 + 98)
-        self.assertTrue(first.script.startswith("\n" + FIRST + "# Of 2 models 1 mean a machine. Rows of their runs: level 6, overflow 6, start 24.\nfile heavy.mo\n+ model m "))
+        self.assertTrue(first.script.startswith("\n" + FIRST + "# Of 2 models 1 mean a machine. Rows of their runs: level 7, overflow 7, start 28.\nfile heavy.mo\n+ model m "))
         self.assertIn("\n$ qss run heavy.mo --rule near --relative 2048 > rows\n! overflow: x0 at tick 2\n[status 6]\n$ sum rows\n", first.answers)
         self.assertIn("\n$ qss run2 past-at-once.mo > rows\n! overflow: x at tick 0\n[status 6]\n", second.answers)
         whole = replaced(self.file("stdin", "# A\n\n# B\nfile b\n"), FIRST, first.script)
