@@ -54,7 +54,7 @@ at_own tick i e = let z : tick - i.tick ≡ 0 = omega (arith, e) in rw z (omega 
 at_rest : (tick : ℕ) (i : Input) → i.speed ≡ pos 0 → input_at tick i ≡ i.at
 at_rest tick i e = rw e (omega (arith, ints))
 
-scaled_small : (m : Machine) (value : ℤ) → IsWithin 43 value → IsWithin 88 (value *ℤ level_unit m)
+pub scaled_small : (m : Machine) (value : ℤ) → IsWithin 43 value → IsWithin 88 (value *ℤ level_unit m)
 scaled_small m value small =
     let unit : unsigned_abs (level_unit m) ≤ 2 ^ 44 = omega (arith, ints, unit_low m, unit_high m) in
     let size : unsigned_abs value * unsigned_abs (level_unit m) ≤ 2 ^ 43 * 2 ^ 44 = mul-le-mul small unit in

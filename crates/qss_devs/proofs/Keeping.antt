@@ -17,7 +17,8 @@ use Rattle.qss_quiet.specs.Sims.{condition_at}
 use Rattle.qss_devs.specs.declared.message.Message.TheVariants.{Slope, State, Level, Discrete}
 use Rattle.qss_devs.specs.Integrators.{line_given}
 use Rattle.qss_devs.specs.Functions.{Summing, sum_of, summing_sent, summing_with, summing_given}
-use Rattle.qss_devs.specs.Crossings.{Crossing, crossing_given}
+use Rattle.qss_cross.specs.Crossing.{value_at}
+use Rattle.qss_devs.specs.Crossings.{Crossing, crossing_given, crossing_turned}
 use Rattle.qss_devs.specs.Agreement.{Values, HasEach, LineAgrees, SummingAgrees, CrossingAgrees}
 use Rattle.qss_devs.specs.Laws.{values_given, MessagesKeepAgreement}
 use Rattle.qss_devs.proofs.Moving.{no_ticks}
@@ -233,6 +234,21 @@ module _ (m : Machine) (tick var : ℕ) (value : ℤ) (v : Values) (each : HasEa
       unread_row : (g : ℕ) → state_count m + g ≡ var → row_reads (state_count m + g) (row_at m j) ≡ true → row_reads var (row_at m j) ≡ false → ⊥
       unread_row g e read none = let same = ap (λ k. row_reads k (row_at m j)) e in absurd (cc)
 
+-- a crossing that moves to the tick
+turned_crossing : (m : Machine) (tick : ℕ) (v : Values) (place : ℕ) (condition : Condition) (c : Crossing) → CrossingAgrees m tick v place condition c →
+    CrossingAgrees m tick v place condition (crossing_turned c tick)
+turned_crossing m tick v place condition c a = record {
+  own = a.own;
+  own_rel = a.own_rel;
+  own_time = a.own_time;
+  own_constant = a.own_constant;
+  entries = a.entries;
+  not_later = omega arith;
+  lines = a.lines;
+  here = no_ticks (value_at c.watch tick) c.watch.speed tick ∙ a.here;
+  own_speed = a.own_speed;
+}
+
 pub messages_keep_agreement : MessagesKeepAgreement
 messages_keep_agreement = record {
   slope = λ m tick var v line s sent c each known a others own.
@@ -258,5 +274,15 @@ messages_keep_agreement = record {
         (λ e. ap taken e ∙ own ∙ ap (λ (i : ℕ). record { tick = tick; x = state_at (line i) tick; slope = (line i).slope; level = level }) (sym e));
     functions = λ j h. level_function m tick var level v each known j (s j) (a.functions j h);
     crossings = λ place h. level_crossing m tick var level v each known place (condition_at m place) (c place) (a.crossings place h);
+  };
+  truth = λ m tick place v line s c turned a others own. record {
+    integrators = a.integrators;
+    functions = a.functions;
+    crossings = λ k h. elim (cases_eq k place) [
+      | inl e ↦
+          subst (CrossingAgrees m tick v k (condition_at m k)) (sym (ap turned e ∙ own ∙ ap (λ (i : ℕ). crossing_turned (c i) tick) (sym e)))
+          (turned_crossing m tick v k (condition_at m k) (c k) (a.crossings k h))
+      | inr ne ↦ subst (CrossingAgrees m tick v k (condition_at m k)) (sym (others k ne)) (a.crossings k h)
+    ];
   };
 }

@@ -2,7 +2,7 @@
 use Rattle.std.proofs.Common.{◌≡◌, ℕ, ◌+◌, ◌≤◌, ◌<◌, ◌^◌, Bool, true, false, [], pos, All, refl, sym, ◌∙◌, ap, subst, arith}
 use Rattle.std.proofs.lemmas.List.FromFn.{length-map-range_with_len}
 use Rattle.std.specs.List.{list_all}
-use Rattle.std.specs.Prelude.{None, not, ◌||◌}
+use Rattle.std.specs.Prelude.{None, not, ◌||◌, if◌then◌else◌}
 use Rattle.mu_num.specs.Sizes.{IsWithin, passes}
 use Rattle.mu_num.proofs.Tests.{if-true, if-false}
 use Rattle.qss_machine.specs.declared.parts.Product.{Product}
@@ -17,14 +17,14 @@ use Rattle.qss_quiet.proofs.Firsts.{same_lists}
 use Rattle.qss_quiet.proofs.Quiet.{int_at-tabulate, tabulate-same}
 use Rattle.qss_quiet.proofs.Ranges.{position-none}
 use Rattle.qss_quiet.proofs.SameSlopes.{mode_same, slope_same, weight_same}
-use Rattle.qss_devs.specs.Functions.{Summing, sum_at}
+use Rattle.qss_devs.specs.Functions.{Summing, sum_at, sum_of}
 use Rattle.qss_devs.specs.Agreement.{Values, HasEach, SummingAgrees, Agree}
 use Rattle.qss_devs.specs.Laws.{SettledStand}
 
 abbrev no_row : SlopeRow
 no_row = record { entries = []; products = []; beta = pos 0 }
 
-module _ (m : Machine) (tick : ℕ) (v : Values) (each : HasEach m v) (j : ℕ) (h : j < state_count m) (s : Summing) (a : SummingAgrees m tick v j s) (none : s.changed ≡ None) (small : IsWithin 88 (int_at v.slopes j)) where
+module _ (m : Machine) (tick : ℕ) (v : Values) (each : HasEach m v) (j : ℕ) (h : j < state_count m) (s : Summing) (a : SummingAgrees m tick v j s) where
   known : All (λ (product : Product). (state_count m ≤ product.discrete) × (product.discrete < state_count m + discrete_count m)) (row_at m j).products
   known = (m.has_rows.each j no_row (omega (arith, h, m.has_rows.one_each))).products.of_discretes
 
@@ -45,24 +45,32 @@ module _ (m : Machine) (tick : ℕ) (v : Values) (each : HasEach m v) (j : ℕ) 
       ap (λ fits. not fits || passes 88 (weight_of m.f (row_at m j) s.levels s.discretes)) modes
       ∙ ap (λ z. not (mode_fits m.f (state_count m) (row_at m j) v.discretes) || passes 88 z) weight
 
-  total : sum_at m j s.levels s.discretes ≡ int_at v.slopes j
-  total = ap (λ row. sum_at m row s.levels s.discretes) (sym a.own) ∙ a.own_sum none
+  -- its sum is that at the values with which it agrees
+  pub sum_same : sum_of m s ≡ sum_at m j v.levels v.discretes
+  sum_same =
+      ap (λ row. sum_at m row s.levels s.discretes) a.own
+      ∙ ap (λ b. if b then pos (2 ^ 88 + 1) else slope_at m j s.levels s.discretes) heavy
+      ∙ ap (λ z. if is_overweight m v.levels v.discretes (row_at m j) then pos (2 ^ 88 + 1) else z) slope
 
-  light : is_overweight m s.levels s.discretes (row_at m j) ≡ false
-  light = by (is_overweight m s.levels s.discretes (row_at m j)) refl
-    where
-      by : (b : Bool) → is_overweight m s.levels s.discretes (row_at m j) ≡ b → is_overweight m s.levels s.discretes (row_at m j) ≡ false
-      by false e = e
-      by true e =
-          let past : sum_at m j s.levels s.discretes ≡ pos (2 ^ 88 + 1) = if-true (is_overweight m s.levels s.discretes (row_at m j)) _ _ e in
-          let within : IsWithin 88 (pos (2 ^ 88 + 1)) = subst (IsWithin 88) (sym total ∙ past) small in
-          absurd (omega (arith, within))
+  module _ (none : s.changed ≡ None) (small : IsWithin 88 (int_at v.slopes j)) where
+    total : sum_at m j s.levels s.discretes ≡ int_at v.slopes j
+    total = ap (λ row. sum_at m row s.levels s.discretes) (sym a.own) ∙ a.own_sum none
 
-  still_light : is_overweight m v.levels v.discretes (row_at m j) ≡ false
-  still_light = sym heavy ∙ light
+    light : is_overweight m s.levels s.discretes (row_at m j) ≡ false
+    light = by (is_overweight m s.levels s.discretes (row_at m j)) refl
+      where
+        by : (b : Bool) → is_overweight m s.levels s.discretes (row_at m j) ≡ b → is_overweight m s.levels s.discretes (row_at m j) ≡ false
+        by false e = e
+        by true e =
+            let past : sum_at m j s.levels s.discretes ≡ pos (2 ^ 88 + 1) = if-true (is_overweight m s.levels s.discretes (row_at m j)) _ _ e in
+            let within : IsWithin 88 (pos (2 ^ 88 + 1)) = subst (IsWithin 88) (sym total ∙ past) small in
+            absurd (omega (arith, within))
 
-  own_slope : int_at v.slopes j ≡ slope_at m j v.levels v.discretes
-  own_slope = sym total ∙ if-false (is_overweight m s.levels s.discretes (row_at m j)) _ _ light ∙ slope
+    pub still_light : is_overweight m v.levels v.discretes (row_at m j) ≡ false
+    still_light = sym heavy ∙ light
+
+    pub own_slope : int_at v.slopes j ≡ slope_at m j v.levels v.discretes
+    own_slope = sym total ∙ if-false (is_overweight m s.levels s.discretes (row_at m j)) _ _ light ∙ slope
 
 pub settled_stand : SettledStand
 settled_stand m tick w slopes line s c each agree sent small = (

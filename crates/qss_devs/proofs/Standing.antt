@@ -167,7 +167,7 @@ due_of m tick j line found early later next = by (is_near m j line.x line.level)
         absurd (omega (arith, later line.tick own, early))
 
 -- a watch still has the truth that it had at its tick, where it changes later
-still_holds : (w : Watch) (tick : ℕ) (found : Option ℕ) → w.tick ≤ tick → tick ≤ tick_limit → ((next : ℕ) → found ≡ Some next → tick < next) → IsCrossingNext w found →
+pub still_holds : (w : Watch) (tick : ℕ) (found : Option ℕ) → w.tick ≤ tick → tick ≤ tick_limit → ((next : ℕ) → found ≡ Some next → tick < next) → IsCrossingNext w found →
     holds_at w tick ≡ compares w.rel w.value
 still_holds w tick found early in_time later next = elim (cases_lt w.tick tick) [ inl after ↦ by found after next later | inr past ↦ own (omega (arith, early, past)) ]
   where

@@ -27,16 +27,16 @@ set_other xs i j z h = get_or-set_other xs i j z (pos 0) h
 -- ---- a variable by its kind
 
 module _ (m : Machine) (v : Values) (var : ℕ) where
-  moving_state : var < state_count m → moving_of m v var ≡ record { at = int_at v.states var; speed = int_at v.slopes var }
+  pub moving_state : var < state_count m → moving_of m v var ≡ record { at = int_at v.states var; speed = int_at v.slopes var }
   moving_state h = let test : nat_lt var (state_count m) ≡ true = grind (arith, nat_tests) in if-true (nat_lt var (state_count m)) _ _ test
 
-  moving_discrete : state_count m ≤ var → var < state_count m + discrete_count m → moving_of m v var ≡ record { at = int_at v.discretes (var - state_count m) *ℤ level_unit m; speed = pos 0 }
+  pub moving_discrete : state_count m ≤ var → var < state_count m + discrete_count m → moving_of m v var ≡ record { at = int_at v.discretes (var - state_count m) *ℤ level_unit m; speed = pos 0 }
   moving_discrete h k =
       let first : nat_lt var (state_count m) ≡ false = grind (arith, nat_tests) in
       let second : nat_lt var (state_count m + discrete_count m) ≡ true = grind (arith, nat_tests) in
       if-false (nat_lt var (state_count m)) _ _ first ∙ if-true (nat_lt var (state_count m + discrete_count m)) _ _ second
 
-  moving_before : state_count m + discrete_count m ≤ var → moving_of m v var ≡ record { at = int_at v.discretes (var - (state_count m + discrete_count m)) *ℤ level_unit m; speed = pos 0 }
+  pub moving_before : state_count m + discrete_count m ≤ var → moving_of m v var ≡ record { at = int_at v.discretes (var - (state_count m + discrete_count m)) *ℤ level_unit m; speed = pos 0 }
   moving_before h =
       let first : nat_lt var (state_count m) ≡ false = grind (arith, nat_tests) in
       let second : nat_lt var (state_count m + discrete_count m) ≡ false = grind (arith, nat_tests) in

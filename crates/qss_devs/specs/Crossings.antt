@@ -1,5 +1,5 @@
 -- A crossing: the form of a condition along the lines of the variables that it names.
-use Rattle.std.specs.Prelude.{◌≡◌, ◌≢◌, ℕ, ◌+◌, ◌-◌, ◌*◌, ◌^◌, ◌<◌, ◌≤◌, ◌||◌, ◌==◌, List, map, ℤ, pos, ◌+ℤ◌, ◌*ℤ◌, unsigned_abs, sum_by, All, Option, if◌then◌else◌}
+use Rattle.std.specs.Prelude.{◌≡◌, ◌≢◌, ℕ, ◌+◌, ◌-◌, ◌*◌, ◌^◌, ◌<◌, ◌≤◌, ◌||◌, ◌==◌, ◌⊎◌, List, map, ℤ, pos, ◌+ℤ◌, ◌*ℤ◌, unsigned_abs, sum_by, All, Option, if◌then◌else◌}
 use Rattle.mu_num.specs.Sizes.{IsWithin}
 use Rattle.mu_num.specs.Ticks.{FirstAfter}
 use Rattle.qss_machine.specs.declared.system.Machine.{Machine}
@@ -38,6 +38,10 @@ IsCrossingNext w next = FirstAfter (λ tick. holds_at w tick ≢ compares w.rel 
 -- it then moves there
 abbrev pub crossing_turned : Crossing → ℕ → Crossing
 crossing_turned c tick = record c { watch = record { rel = c.watch.rel; tick = tick; value = value_at c.watch tick; speed = c.watch.speed } }
+
+-- on arrival at a tick it stays, or makes its transition there
+abbrev pub IsRead : ℕ → Crossing → Crossing → Type 0
+IsRead tick old new = (new ≡ old) ⊎ (new ≡ crossing_turned old tick)
 
 -- what a message makes of an input; a discrete variable is read as it is and as it was before the tick, which is the same outside the handlers
 abbrev pub input_given : Machine → ℕ → Message → Input → Input

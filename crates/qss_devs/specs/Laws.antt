@@ -1,5 +1,5 @@
 -- What ties messages to the values of variables.
-use Rattle.std.specs.Prelude.{◌≡◌, ◌≢◌, ℕ, ◌+◌, ◌-◌, ◌<◌, ◌≤◌, Bool, false, ◌||◌, ◌==◌, slice_set, List, [], fold, length, ℤ, pos, ◌+ℤ◌, ◌*ℤ◌, Option, None, position, if◌then◌else◌}
+use Rattle.std.specs.Prelude.{◌≡◌, ◌≢◌, ℕ, ◌+◌, ◌-◌, ◌<◌, ◌≤◌, Bool, false, ◌||◌, ◌==◌, slice_set, List, [], fold, length, ℤ, pos, ◌+ℤ◌, ◌*ℤ◌, Option, Some, None, position, if◌then◌else◌}
 use Rattle.mu_num.specs.Sizes.{IsWithin}
 use Rattle.mu_num.specs.Ticks.{tick_limit}
 use Rattle.qss_machine.specs.declared.parts.Condition.{Condition}
@@ -12,6 +12,7 @@ use Rattle.qss_machine.specs.Machines.{state_count, discrete_count, row_at, trut
 use Rattle.qss_machine.specs.Handlers.{conditions, truths, run_clauses}
 use Rattle.qss_machine.specs.Ticks.{World, is_overweight}
 use Rattle.qss_machine.specs.Uses.{row_reads, condition_reads}
+use Rattle.qss_quant.specs.declared.rule.Rule.{Rule}
 use Rattle.qss_quant.specs.Lines.{Line, state_at}
 use Rattle.qss_cross.specs.Crossing.{holds_at}
 use Rattle.qss_quiet.specs.Skips.{IsLeft, world_after}
@@ -19,9 +20,9 @@ use Rattle.qss_quiet.specs.Sims.{condition_at, StandsFor}
 use Rattle.qss_devs.specs.declared.message.Message.{Message}
 use Rattle.qss_devs.specs.declared.message.Message.TheVariants.{Slope, State, Level, Discrete, Truth}
 use Rattle.qss_devs.specs.Messages.{IsMessage}
-use Rattle.qss_devs.specs.Integrators.{line_given}
+use Rattle.qss_devs.specs.Integrators.{SendsLevel, line_given}
 use Rattle.qss_devs.specs.Functions.{Summing, sum_of, summing_sent, summing_given}
-use Rattle.qss_devs.specs.Crossings.{Crossing, crossing_given}
+use Rattle.qss_devs.specs.Crossings.{Crossing, crossing_given, crossing_turned}
 use Rattle.qss_devs.specs.Agreement.{Values, HasEach, Agree, StandFor, AreNext}
 
 -- the values that a message tells
@@ -96,6 +97,15 @@ pub record MessagesKeepAgreement : Type 0 where
       taken var ≡ record { tick = tick; x = state_at (line var) tick; slope = (line var).slope; level = level } →
       let told = Level var level in
       Agree m tick (values_given m v told) taken (functions_given m tick told s) c
+  -- a truth goes to none; the crossing that sent it has moved
+  pub truth : (m : Machine) (tick place : ℕ) (v : Values) (line : ℕ → Line) (s : ℕ → Summing) (c turned : ℕ → Crossing) →
+      Agree m tick v line s c → ((k : ℕ) → k ≢ place → turned k ≡ c k) → turned place ≡ crossing_turned (c place) tick → Agree m tick v line s turned
+
+-- an integrator whose quantizer has a name sends one message, whatever is known of the rule's function at a tick
+abbrev pub NamedSendsOne : Type 0
+NamedSendsOne =
+    (m : Machine) (rule : Rule) (var : ℕ) (line : Line) (tick : ℕ) (a b : Message) →
+    SendsLevel m (Some rule) (λ state old unit new. Unit {0}) var line tick a → SendsLevel m (Some rule) (λ state old unit new. Unit {0}) var line tick b → a ≡ b
 
 -- components that stand for a world, with the ticks of their next transitions, are lines, watches and due ticks that stand for it
 abbrev pub ComponentsStand : Type 0

@@ -1,6 +1,6 @@
 -- Messages to components, from one another and from handlers, and when a component may be given one.
-use Rattle.std.specs.Prelude.{ℕ, ◌+◌, ◌^◌, ◌<◌, ◌≤◌, Option, Some}
-use Rattle.mu_num.specs.Sizes.{IsWithin}
+use Rattle.std.specs.Prelude.{ℕ, ◌+◌, ◌^◌, ◌<◌, ◌≤◌, Bool, false, Option, Some}
+use Rattle.mu_num.specs.Sizes.{IsWithin, passes}
 use Rattle.qss_machine.specs.declared.system.Machine.{Machine}
 use Rattle.qss_machine.specs.Machines.{state_count, discrete_count}
 use Rattle.qss_devs.specs.declared.message.Message.{Message}
@@ -21,6 +21,14 @@ HasSmallLevel (Slope var slope) = Unit {0}
 HasSmallLevel (State var state) = Unit {0}
 HasSmallLevel (Discrete var value) = Unit {0}
 HasSmallLevel (Truth condition now) = Unit {0}
+
+-- whether the level or the slope of a message is past its limit
+abbrev pub passes_limit : Message → Bool
+passes_limit (Slope var slope) = passes 88 slope
+passes_limit (State var state) = false
+passes_limit (Level var level) = passes 43 level
+passes_limit (Discrete var value) = false
+passes_limit (Truth condition now) = false
 
 -- a tick below 2^32 that is not before a component's own one and not past its next transition
 pub record IsTimely (own : ℕ) (IsNext : Option ℕ → Type 0) (tick : ℕ) : Type 0 where

@@ -111,8 +111,8 @@ fn turned(watch: &Detector, tick: u64) -> Detector
     next
 }
 
-// A watch of a form whose inputs are these, from a tick on.
-fn watch_of(
+/// A watch of a form whose inputs are these, from a tick on.
+pub(crate) fn watch_of(
     m: &Machine,
     watch: &Detector,
     inputs: &[Input],

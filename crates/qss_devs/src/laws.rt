@@ -1,6 +1,6 @@
 // Laws of components, each the contract of a function that does nothing.
 
-ghost use Rattle.qss_devs.specs.Laws.{AgreementLasts, MessagesKeepAgreement, ComponentsStand, ComponentsMove, CrossingsTell, RowsTellHandlers, SettledStand};
+ghost use Rattle.qss_devs.specs.Laws.{AgreementLasts, MessagesKeepAgreement, ComponentsStand, ComponentsMove, CrossingsTell, RowsTellHandlers, SettledStand, NamedSendsOne};
 
 /// Components that are not touched agree with what their variables become.
 pub fn agreement_lasts()
@@ -35,4 +35,9 @@ pub fn crossings_tell()
 /// The rows of handlers tell what the handlers did.
 pub fn rows_tell_handlers()
     ensures { RowsTellHandlers }
+{}
+
+/// An integrator whose quantizer has a name sends one message.
+pub fn named_sends_one()
+    ensures { NamedSendsOne }
 {}

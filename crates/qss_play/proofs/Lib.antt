@@ -10,5 +10,6 @@ mod Ends2
 mod FromStart
 mod RuledRuns
 mod SecondRuns
+mod CoupledRuns
 mod Counting
 mod RuleAnswers

@@ -1,6 +1,8 @@
 //! Runs a machine by events, and writes its rows as they come.
 #![tactic(auto)]
 
+mod coupled_playing;
+mod coupled_run;
 mod events;
 mod played;
 mod playing;
@@ -14,6 +16,7 @@ mod tallying;
 mod writing;
 mod written;
 
+pub use coupled_playing::play_coupled;
 pub use played::Played;
 pub use playing::play;
 pub use second_playing::play2;

@@ -26,7 +26,7 @@ use Rattle.trace_answer.specs.Laws.{IsJudged}
 use Rattle.trace_answer.specs.declared.stop.Stop.{Stop}
 use Rattle.propose_answer.proofs.Sameness.{one_proposed}
 use Rattle.qss_generate.specs.Source.{source}
-use Rattle.qss_words.specs.Commands.{RunOptions, Command, run_model, print_model, certify_model, upgrade_model, generate_model, check_model, propose_model, second_model, compare_runs, Side, first_run, second_run, traced, command_of, files_of}
+use Rattle.qss_words.specs.Commands.{RunOptions, plain_options, Command, run_model, print_model, certify_model, upgrade_model, generate_model, check_model, propose_model, second_model, compare_runs, coupled_model, Side, first_run, second_run, traced, command_of, files_of}
 use Rattle.qss_top.specs.Answers.{Answer, Told, Reply, refusal, printed, printed_text, summed, usage, quiet, too_long, answered, absent, untold, IsSourceRefusal, IsTreeRefusal, IsSourceMachine, IsSourceTree, IsMachineAnswer, IsRunAnswer, IsPrintAnswer, IsGenerationAnswer, uncertifying, certificate_answer, IsCertificateAnswer, IsCertifyAnswer, IsUpgradeAnswer, IsCheckAnswer, trace_answer, IsProposeAnswer, proposal_answer, second_for, IsSecondAnswer, Says, ReadsThen, Finds, Reads, InScope, ByMachine, ReadsText, ReadsBoth, SaysOn, stop_answer, text_answer, Stage, OnRun, OnSide, OnBoth, OnSides, Compares, OnGiven, ComparesGiven, CommandLeadsTo, Defines}
 use Rattle.qss_top.specs.Laws.{AnswersExist}
 use Rattle.qss_top.specs.TopCall.{Replies}
@@ -79,6 +79,10 @@ propose_answer bytes = machine_answer 0 (omega arith) IsProposeAnswer some_propo
 -- each machine has a second-order run, or clauses
 pub second_answer : (bytes : List ℕ) → (answer : Answer) × IsMachineAnswer 0 IsSecondAnswer bytes answer
 second_answer bytes = machine_answer 0 (omega arith) IsSecondAnswer (λ m. (second_for m (length m.clauses), refl)) bytes
+
+-- each machine has a run without options
+pub plain_answer : (bytes : List ℕ) → (answer : Answer) × IsRunAnswer plain_options bytes answer
+plain_answer bytes = machine_answer 0 (omega arith) (λ m such. such ≡ printed plain_options m) (λ m. (printed plain_options m, refl)) bytes
 
 read_told : (name : List ℕ) (Is : List ℕ → Answer → Type 0) → ((bytes : List ℕ) → (answer : Answer) × Is bytes answer) → (found : Option (List ℕ)) → (told : Told) × ReadsThen name (λ bytes. Says (Is bytes)) found told
 read_told name Is some None = (record { arrivals = name ∷ []; reply = absent }, refl)
@@ -164,6 +168,7 @@ command_told (upgrade_model model certificate) few files = both_told 0 (omega ar
 command_told (check_model model trace) few files = both_told 0 (omega arith) model trace (SaysOn IsCheckAnswer) (Some files) (answer_told IsCheckAnswer some_check (Some files))
 command_told (propose_model model) few files = file_told model (IsMachineAnswer 0 IsProposeAnswer) propose_answer files
 command_told (second_model model) few files = file_told model (IsMachineAnswer 0 IsSecondAnswer) second_answer files
+command_told (coupled_model model) few files = file_told model (IsRunAnswer plain_options) plain_answer files
 command_told (compare_runs model certificate one two) few files = both_told 0 (omega arith) model certificate (Compares one two) (Some files) (comparison_told one two (Some files))
 command_told (generate_model seed cells) few files =
     let answer = generation_answer seed cells in
@@ -269,6 +274,9 @@ refuses_long (propose_model model) bytes long =
 refuses_long (second_model model) bytes long =
     bytes_reply model (λ bytes. Says (IsMachineAnswer 0 IsSecondAnswer bytes)) bytes
     (says_reply (IsMachineAnswer 0 IsSecondAnswer bytes) (refusal ends.ModelRefused too_long, inl (long_for IsRefused bytes long)))
+refuses_long (coupled_model model) bytes long =
+    bytes_reply model (λ bytes. Says (IsRunAnswer plain_options bytes)) bytes
+    (says_reply (IsRunAnswer plain_options bytes) (refusal ends.ModelRefused too_long, inl (long_for IsRefused bytes long)))
 refuses_long (generate_model seed cells) bytes long = says_reply (IsGenerationAnswer seed cells) (generation_answer seed cells)
 
 -- what holds of each answer is so of each reply

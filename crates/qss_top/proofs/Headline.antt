@@ -1,4 +1,4 @@
--- The headline's statements on `run`, `run2` and `certify`.
+-- The headline's statements on `run`, `devs`, `run2` and `certify`.
 use Rattle.std.proofs.Common.{◌≡◌, ℕ, List, [], ◌∷◌, length, refl, sym, ap, ◌∙◌, subst, inl, inr, Some}
 use Rattle.std.specs.declared.option.Option.{Option}
 use Rattle.mu_io.specs.Files.{Files}
@@ -20,9 +20,9 @@ use Rattle.cert_answer.specs.Answers.{IsRead, IsCertification, certified, writte
 use Rattle.cert_answer.proofs.Sameness.{one_each}
 use Rattle.cert_answer.proofs.Bounds.{accepted_text}
 use Rattle.cert_lines.specs.Bounds.{bounds_text}
-use Rattle.qss_words.specs.Commands.{Command, run_model, certify_model, second_model, command_of}
+use Rattle.qss_words.specs.Commands.{Command, plain_options, run_model, certify_model, second_model, coupled_model, command_of}
 use Rattle.qss_top.specs.Answers.{Answer, Told, IsTold, CommandLeadsTo, Defines, answered, printed, quiet, certificate_answer, second_for}
-use Rattle.qss_top.specs.Headline.{RunPrintsTheRun, Run2PrintsTheRun, CertifyAcceptsExactly}
+use Rattle.qss_top.specs.Headline.{RunPrintsTheRun, DevsAnswersAsRun, Run2PrintsTheRun, CertifyAcceptsExactly}
 use Rattle.qss_top.specs.declared.status.Status.TheVariants as ends
 use Rattle.qss_top.proofs.Certified.{refusal_status}
 use Rattle.qss_top.proofs.Sameness.{answers_are_unique}
@@ -39,6 +39,22 @@ run_prints words files told h model options is source there m means =
     let whole : Told = record { arrivals = model ∷ []; reply = answered (printed options m) } in
     defined words files (run_model model options) told whole h is
     (Some source, sym there, (later, (printed options m, inr (m, means, refl), refl), refl))
+
+-- what both commands lead to is the same
+pub devs_as_run : DevsAnswersAsRun
+devs_as_run words others files told model is plain = (forward, backward)
+  where
+    forward : IsTold words (Some files) told → IsTold others (Some files) told
+    forward h =
+        let P : Option Command → Type 0 = λ found. Defines found (Some files) told in
+        let leads : CommandLeadsTo (coupled_model model) (Some files) told = subst P is h in
+        subst P (sym plain) leads
+
+    backward : IsTold others (Some files) told → IsTold words (Some files) told
+    backward h =
+        let P : Option Command → Type 0 = λ found. Defines found (Some files) told in
+        let leads : CommandLeadsTo (run_model model plain_options) (Some files) told = subst P plain h in
+        subst P (sym is) leads
 
 pub second_prints : Run2PrintsTheRun
 second_prints words files told h model is source there m means =

@@ -21,7 +21,7 @@ use Rattle.trace_answer.specs.declared.stop.Stop.{Stop}
 use Rattle.propose_answer.proofs.Sameness.{one_proposed}
 use Rattle.qss_machine.specs.declared.system.Machine.{Machine}
 use Rattle.qss_generate.specs.Source.{source}
-use Rattle.qss_words.specs.Commands.{RunOptions, Command, run_model, print_model, certify_model, upgrade_model, generate_model, check_model, propose_model, second_model, compare_runs, Side, first_run, second_run, traced, command_of}
+use Rattle.qss_words.specs.Commands.{RunOptions, plain_options, Command, run_model, print_model, certify_model, upgrade_model, generate_model, check_model, propose_model, second_model, compare_runs, coupled_model, Side, first_run, second_run, traced, command_of}
 use Rattle.qss_top.specs.Answers.{Answer, Told, printed, printed_text, summed, IsSourceRefusal, IsTreeRefusal, IsSourceTree, IsMachineAnswer, IsRunAnswer, IsPrintAnswer, IsSummedAnswer, IsGenerationAnswer, answered, uncertifying, certificate_answer, IsCertificateAnswer, IsCertifyAnswer, IsUpgradeAnswer, IsCheckAnswer, trace_answer, IsProposeAnswer, proposal_answer, IsSecondAnswer, Says, ReadsThen, Reads, InScope, ByMachine, ReadsBoth, SaysOn, stop_answer, text_answer, Stage, OnRun, OnSide, OnBoth, OnSides, Compares, CommandLeadsTo, Defines}
 use Rattle.qss_top.specs.Laws.{AnswersAreUnique}
 use Rattle.qss_top.proofs.Sources.{one_source_refusal, one_tree_refusal, one_source_machine, one_source_tree, source_fine, tree_fine}
@@ -160,6 +160,8 @@ one_command (propose_model model) files s t p q =
     one_file model (λ bytes. Says (IsMachineAnswer 0 IsProposeAnswer bytes)) (λ bytes. one_says (IsMachineAnswer 0 IsProposeAnswer bytes) (one_proposing bytes)) files s t p q
 one_command (second_model model) files s t p q =
     one_file model (λ bytes. Says (IsMachineAnswer 0 IsSecondAnswer bytes)) (λ bytes. one_says (IsMachineAnswer 0 IsSecondAnswer bytes) (one_second bytes)) files s t p q
+one_command (coupled_model model) files s t p q =
+    one_file model (λ bytes. Says (IsRunAnswer plain_options bytes)) (λ bytes. one_says (IsRunAnswer plain_options bytes) (one_run plain_options bytes)) files s t p q
 one_command (generate_model seed cells) files s t p q = one_says (IsGenerationAnswer seed cells) (one_summed cells (source seed cells)) s t p q
 
 one_told : (command : Option Command) (files : Option Files) (s t : Told) → Defines command files s → Defines command files t → s ≡ t

@@ -9,7 +9,7 @@ use Rattle.mu_tree.specs.ModelTree.{ModelTree}
 use Rattle.qss_compile.specs.Meanings.{IsUnspelled, IsRefused}
 use Rattle.qss_compile.specs.declared.fault.Refused.{Refused}
 use Rattle.qss_top.specs.Answers.{Answer, Told, Message, Tells, refusal, refused as refused_line, printed_text, too_long, usage, answered, IsRefusalFor, IsTreeRefusal, IsSourceTree, IsPrintAnswer, IsGenerationAnswer, Says, Reads, CommandLeadsTo}
-use Rattle.qss_words.specs.Commands.{generate_model, files_of}
+use Rattle.qss_words.specs.Commands.{plain_options, generate_model, files_of}
 use Rattle.qss_words.specs.Requests.{command_with, options_in}
 use Rattle.qss_top.specs.Tasks.{IsTaskAnswer}
 use Rattle.qss_words.specs.declared.request.Task.{Task}
@@ -18,7 +18,7 @@ use Rattle.qss_top.specs.Outcomes.{IsOutcome, Meets, Serves, IsRefusedFor, statu
 use Rattle.qss_top.specs.declared.outcome.Outcome.{Outcome}
 use Rattle.qss_top.specs.declared.outcome.Outcome.TheVariants as outcome
 use Rattle.qss_top.specs.declared.status.Status.TheVariants as ends
-use Rattle.qss_top.proofs.Existence.{MayReply, says_reply, run_answer, print_answer, propose_answer, second_answer, generation_answer, bytes_of, longer}
+use Rattle.qss_top.proofs.Existence.{MayReply, says_reply, run_answer, plain_answer, print_answer, propose_answer, second_answer, generation_answer, bytes_of, longer}
 use Rattle.qss_top.proofs.Sameness.{one_run, one_print, one_proposing, one_second}
 use Rattle.qss_top.proofs.Serving.{says_served, read_served, fault_served, memory_served, long_served, unwritten, uncut, untold_memory}
 use Rattle.qss_top.proofs.Sources.{one_refusal, long_for, short_for, tree_fine}
@@ -57,6 +57,7 @@ file_answer (tasks.Run options) bytes = run_answer (options_in options) options.
 file_answer tasks.Print bytes = print_answer bytes
 file_answer tasks.Propose bytes = propose_answer bytes
 file_answer tasks.Second bytes = second_answer bytes
+file_answer tasks.Coupled bytes = plain_answer bytes
 
 -- each source may be answered, where files are not told
 file_reply : (task : Task) (bytes : List ℕ) → MayReply (Says (IsTaskAnswer task bytes))
@@ -72,6 +73,7 @@ task_served (tasks.Run options) name files what old new out_before out_now befor
 task_served tasks.Print name files what old new out_before out_now before now h = h
 task_served tasks.Propose name files what old new out_before out_now before now h = h
 task_served tasks.Second name files what old new out_before out_now before now h = h
+task_served tasks.Coupled name files what old new out_before out_now before now h = h
 
 pub source_served : (task : Task) (name : List ℕ) (files : Option Files) (bytes : List ℕ) (what : Outcome) (old new : Option (List ℕ)) (out_before out_now : ℕ) (before now : List ℕ → ℕ)
     → OnlyCounts name before now → now name ≡ before name → IfSome files (λ fs. file_of fs name ≡ Some bytes) → what ≢ outcome.ReadFault
@@ -86,12 +88,14 @@ long_answered (tasks.Run options) bytes h = inl (long_for IsRefused bytes h)
 long_answered tasks.Print bytes h = inl (long_for IsUnspelled bytes h)
 long_answered tasks.Propose bytes h = inl (long_for IsRefused bytes h)
 long_answered tasks.Second bytes h = inl (long_for IsRefused bytes h)
+long_answered tasks.Coupled bytes h = inl (long_for IsRefused bytes h)
 
 one_task : (task : Task) (bytes : List ℕ) (a b : Answer) → IsTaskAnswer task bytes a → IsTaskAnswer task bytes b → a ≡ b
 one_task (tasks.Run options) bytes a b p q = one_run (options_in options) bytes a b p q
 one_task tasks.Print bytes a b p q = one_print bytes a b p q
 one_task tasks.Propose bytes a b p q = one_proposing bytes a b p q
 one_task tasks.Second bytes a b p q = one_second bytes a b p q
+one_task tasks.Coupled bytes a b p q = one_run plain_options bytes a b p q
 
 pub too_long_answer : (task : Task) (bytes : List ℕ) (a : Answer) → 2 ^ 20 < length bytes → IsTaskAnswer task bytes a → a ≡ refusal ends.ModelRefused too_long
 too_long_answer task bytes a h answers = one_task task bytes a (refusal ends.ModelRefused too_long) answers (long_answered task bytes h)

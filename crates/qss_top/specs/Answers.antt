@@ -41,7 +41,7 @@ use Rattle.propose_answer.specs.declared.ending.ProposalRefusal.{ProposalRefusal
 use Rattle.qss_order2.specs.Runs.{Past, Run2}
 use Rattle.qss_trace.specs.declared.trace.Trace.{Trace}
 use Rattle.qss_play.specs.Plays2.{near_run, text2_of}
-use Rattle.qss_words.specs.Commands.{RunOptions, Command, run_model, print_model, certify_model, upgrade_model, generate_model, check_model, propose_model, second_model, compare_runs, Side, first_run, second_run, traced, command_of, files_of}
+use Rattle.qss_words.specs.Commands.{RunOptions, plain_options, Command, run_model, print_model, certify_model, upgrade_model, generate_model, check_model, propose_model, second_model, compare_runs, coupled_model, Side, first_run, second_run, traced, command_of, files_of}
 use Rattle.qss_top.specs.Shares.{IsShared}
 use Rattle.qss_top.specs.declared.status.Status.{Status}
 use Rattle.qss_top.specs.declared.status.Status.TheVariants as ends
@@ -386,6 +386,7 @@ CommandLeadsTo (check_model model trace) files told = ReadsBoth 0 model trace (S
 CommandLeadsTo (propose_model model) files told = Reads files model (λ bytes. Says (IsMachineAnswer 0 IsProposeAnswer bytes)) told
 CommandLeadsTo (second_model model) files told = Reads files model (λ bytes. Says (IsMachineAnswer 0 IsSecondAnswer bytes)) told
 CommandLeadsTo (compare_runs model certificate one two) files told = ReadsBoth 0 model certificate (Compares one two) files told
+CommandLeadsTo (coupled_model model) files told = Reads files model (λ bytes. Says (IsRunAnswer plain_options bytes)) told
 CommandLeadsTo (generate_model seed cells) files told = Says (IsGenerationAnswer seed cells) told
 
 -- for some bytes that the command reads, the answer to it is such a one

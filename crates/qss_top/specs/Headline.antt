@@ -1,4 +1,4 @@
--- The headline: what `run` and `run2` print, and when `certify` accepts.
+-- The headline: what `run`, `devs` and `run2` print, and when `certify` accepts.
 use Rattle.std.specs.Prelude.{◌≡◌, ℕ, List, [], ◌∷◌, length, Some, ◌↔◌}
 use Rattle.mu_io.specs.Files.{Files, file_of}
 use Rattle.qss_machine.specs.declared.system.Machine.{Machine}
@@ -9,7 +9,7 @@ use Rattle.cert_check.specs.Systems.{system_of}
 use Rattle.cert_check.specs.declared.certificate.Certificate.{Certificate}
 use Rattle.cert_answer.specs.Answers.{IsRead}
 use Rattle.cert_lines.specs.Bounds.{bounds_text}
-use Rattle.qss_words.specs.Commands.{RunOptions, run_model, certify_model, second_model, command_of}
+use Rattle.qss_words.specs.Commands.{RunOptions, plain_options, run_model, certify_model, second_model, coupled_model, command_of}
 use Rattle.qss_top.specs.Answers.{Told, IsTold, IsSourceMachine, answered, printed, quiet, second_for}
 use Rattle.qss_top.specs.declared.status.Status.TheVariants as ends
 
@@ -21,6 +21,12 @@ RunPrintsTheRun =
     (model : List ℕ) (options : RunOptions) → command_of words ≡ Some (run_model model options) →
     (source : List ℕ) → file_of files model ≡ Some source → (m : Machine) → IsSourceMachine options.share source m →
     told ≡ record { arrivals = model ∷ []; reply = answered (printed options m) }
+
+-- `devs` answers as `run` does without options, also where the source is refused or the file is absent
+abbrev pub DevsAnswersAsRun : Type 0
+DevsAnswersAsRun =
+    (words others : List (List ℕ)) (files : Files) (told : Told) (model : List ℕ) → command_of words ≡ Some (coupled_model model) → command_of others ≡ Some (run_model model plain_options) →
+    IsTold words (Some files) told ↔ IsTold others (Some files) told
 
 -- `run2` answers with the header and the rows of the second-order run of the machine that the file's bytes mean, with status 0, or 6 where that run overflows;
 -- a machine with clauses is refused with status 1, and it is told how many they are

@@ -1,6 +1,7 @@
 -- What is done with a model, and what is answered.
 use Rattle.std.specs.Prelude.{◌≡◌, Bool, true, false, ℕ, List}
 use Rattle.qss_machine.specs.declared.system.Machine.{Machine}
+use Rattle.qss_words.specs.Commands.{plain_options}
 use Rattle.qss_words.specs.Requests.{options_in}
 use Rattle.qss_words.specs.declared.request.Task.{Task}
 use Rattle.qss_words.specs.declared.request.Task.TheVariants as task
@@ -15,6 +16,7 @@ use Rattle.qss_top.specs.declared.machine.Job.TheVariants as jobs
 abbrev pub job_goes : Job → Bool
 job_goes (jobs.Run options) = true
 job_goes jobs.Second = true
+job_goes jobs.Coupled = true
 job_goes _ = false
 
 -- the share of the levels that quanta then have
@@ -28,11 +30,13 @@ IsJobAnswer (jobs.Run options) m answer = answer ≡ printed (options_in options
 IsJobAnswer (jobs.Sum cells) m answer = answer ≡ summed cells m
 IsJobAnswer jobs.Propose m answer = IsProposeAnswer m answer
 IsJobAnswer jobs.Second m answer = IsSecondAnswer m answer
+IsJobAnswer jobs.Coupled m answer = answer ≡ printed plain_options m
 
 -- whether what is done with a model writes as it goes
 abbrev pub task_goes : Task → Bool
 task_goes (task.Run options) = true
 task_goes task.Second = true
+task_goes task.Coupled = true
 task_goes _ = false
 
 -- the answer to the bytes of a model
@@ -41,6 +45,7 @@ IsTaskAnswer (task.Run options) bytes answer = IsRunAnswer (options_in options) 
 IsTaskAnswer task.Print bytes answer = IsPrintAnswer bytes answer
 IsTaskAnswer task.Propose bytes answer = IsMachineAnswer 0 IsProposeAnswer bytes answer
 IsTaskAnswer task.Second bytes answer = IsMachineAnswer 0 IsSecondAnswer bytes answer
+IsTaskAnswer task.Coupled bytes answer = IsRunAnswer plain_options bytes answer
 
 -- a run that is compared
 abbrev pub given_in : GivenRun → Given

@@ -116,6 +116,7 @@ pub(crate) fn on_source<O: Sink>(alloc: Global, task: Task, bytes: &[u8], out: &
         Task::Print => print_source(alloc, bytes, out),
         Task::Propose => by_machine(alloc, Job::Propose, bytes, out),
         Task::Second => by_machine(alloc, Job::Second, bytes, out),
+        Task::Coupled => by_machine(alloc, Job::Coupled, bytes, out),
     }
 }
 

@@ -1,7 +1,7 @@
 // Laws on what is told.
 ghost use Rattle.qss_top.specs.CertifiedRuns.{CertifiedRunsStayNear};
 ghost use Rattle.qss_top.specs.ComparedRuns.{ComparedRunsStayNear};
-ghost use Rattle.qss_top.specs.Headline.{RunPrintsTheRun, Run2PrintsTheRun, CertifyAcceptsExactly};
+ghost use Rattle.qss_top.specs.Headline.{RunPrintsTheRun, DevsAnswersAsRun, Run2PrintsTheRun, CertifyAcceptsExactly};
 ghost use Rattle.qss_top.specs.Laws.{AnswersAreUnique, AnswersExist};
 ghost use Rattle.qss_top.specs.ProposedRuns.{ProposedRunsStayNear};
 
@@ -19,6 +19,11 @@ pub fn answers_exist()
 /// words name, as far as their filter passes them.
 pub fn run_prints_the_run()
     ensures { RunPrintsTheRun }
+{}
+
+/// Law: `devs` answers as `run` does without options, whatever the files are.
+pub fn devs_answers_as_run()
+    ensures { DevsAnswersAsRun }
 {}
 
 /// Law: `run2` answers with the header and the rows of the second-order run of the machine that the file's bytes mean, and

@@ -5,6 +5,7 @@ mod bytes;
 mod certificate;
 mod command;
 mod comparison;
+mod coupled;
 mod generation;
 mod given;
 mod laws;
@@ -21,7 +22,8 @@ pub use bytes::{
 pub use given::{Given, GivenRuns};
 pub use laws::{
     answers_are_unique, answers_exist, certified_runs_stay_near, certify_accepts_exactly,
-    compared_runs_stay_near, proposed_runs_stay_near, run_prints_the_run, run2_prints_the_run,
+    compared_runs_stay_near, devs_answers_as_run, proposed_runs_stay_near, run_prints_the_run,
+    run2_prints_the_run,
 };
 pub use outcome::{Outcome, report};
 pub use run_trace::{TraceOver, first_trace, second_trace};

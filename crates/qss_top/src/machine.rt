@@ -8,6 +8,7 @@ ghost use Rattle.qss_top.specs.Statuses.{leaves_out};
 ghost use Rattle.qss_top.specs.Tasks.{job_goes, job_share, IsJobAnswer};
 ghost use Rattle.qss_words.specs.Requests.{options_in};
 
+use crate::coupled::coupled_machine;
 use crate::generation::sum_machine;
 use crate::outcome::Outcome;
 use crate::second::second_machine;
@@ -19,14 +20,15 @@ use qss_play::{Played, play};
 use qss_words::{Options, Share};
 use std::alloc::{AllocError, Global};
 
-/// What is done with a machine: its run is written, the run of so many cells is summed up, a certificate is proposed, or its
-/// second-order run is written.
+/// What is done with a machine: its run is written, the run of so many cells is summed up, a certificate is proposed, its
+/// second-order run is written, or its run as a coupled model.
 #[derive(Clone, Copy, Debug)]
 pub enum Job<'a> {
     Run(Options<'a>),
     Sum(u32),
     Propose,
     Second,
+    Coupled,
 }
 
 /// Does this with the machine that a source means.
@@ -72,6 +74,7 @@ fn on_machine<O: Sink>(alloc: Global, job: Job, m: Machine, out: &mut O) -> Outc
         Job::Sum(cells) => sum_machine(alloc, cells, m, out),
         Job::Propose => propose_machine(alloc, &m, out),
         Job::Second => second_machine(alloc, m, out),
+        Job::Coupled => coupled_machine(alloc, m, out),
     }
 }
 

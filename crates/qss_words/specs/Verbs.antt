@@ -3,7 +3,7 @@ use Rattle.std.specs.Prelude.{Bool, true, ◌||◌, not, ℕ, List, bytes_eq, co
 use Rattle.clap.specs.Words.{Row}
 use Rattle.clap.specs.Takes.{is_given}
 use Rattle.qss_words.specs.declared.verb.Verb.{Verb}
-use Rattle.qss_words.specs.declared.verb.Verb.TheVariants.{Run, Print, Certify, Upgrade, Generate, Check, Propose, Second, Compare}
+use Rattle.qss_words.specs.declared.verb.Verb.TheVariants.{Run, Print, Certify, Upgrade, Generate, Check, Propose, Second, Compare, Devs}
 
 -- the verb of this name
 abbrev pub verb_named : List ℕ → Option Verb
@@ -16,7 +16,8 @@ verb_named name =
     else (if bytes_eq name (codes "check") then Some Check
     else (if bytes_eq name (codes "propose") then Some Propose
     else (if bytes_eq name (codes "run2") then Some Second
-    else (if bytes_eq name (codes "compare") then Some Compare else None))))))))
+    else (if bytes_eq name (codes "compare") then Some Compare
+    else (if bytes_eq name (codes "devs") then Some Devs else None)))))))))
 
 -- whether an option was written that goes with a run alone
 abbrev pub has_run_options : List Row → Bool

@@ -18,6 +18,7 @@ pub enum Verb {
     Propose,
     Second,
     Compare,
+    Devs,
 }
 
 /// The verb of this name.
@@ -42,6 +43,8 @@ pub(crate) fn verb_named(name: &str) -> Option<Verb>
         Some(Verb::Second)
     } else if name == "compare" {
         Some(Verb::Compare)
+    } else if name == "devs" {
+        Some(Verb::Devs)
     } else {
         None
     }

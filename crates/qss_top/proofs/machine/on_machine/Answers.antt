@@ -20,3 +20,8 @@ pub returns-in-Second-clause-outcome : goal.returns-in-Second-clause-outcome
 returns-in-Second-clause-outcome g c answer h =
     subst (λ (a : Answer). IsOutcome a c.second_machine.result (g.O.Sink.written c.args.out.now) (g.O.Sink.written c.second_machine.new.out) (g.O.Sink.faults c.args.out.now) (g.O.Sink.faults c.second_machine.new.out))
     (sym (rw c.in-Second.is at h)) c.second_machine.ensures.outcome
+
+pub returns-in-Coupled-clause-outcome : goal.returns-in-Coupled-clause-outcome
+returns-in-Coupled-clause-outcome g c answer h =
+    subst (λ (a : Answer). IsOutcome a c.coupled_machine.result (g.O.Sink.written c.args.out.now) (g.O.Sink.written c.coupled_machine.new.out) (g.O.Sink.faults c.args.out.now) (g.O.Sink.faults c.coupled_machine.new.out))
+    (sym (rw c.in-Coupled.is at h)) c.coupled_machine.ensures.outcome

@@ -1,0 +1,153 @@
+"""The command `seed-calls`: two parts of the transcript (docs/TRANSCRIPT.md), of models that seeds give, with the answers that are worked
+out tick by tick."""
+import os
+from collections import Counter
+from multiprocessing import Pool
+
+from .by_ticks import first_order, second_order
+from .fault import FINE, Fault, Words, read_bytes
+from .output import Output
+from .program import ROOT
+from .seeds import HEAVY, RARE, plain_source, source
+
+FOLDER = os.path.join(ROOT, "crates", "transcript")
+SEEDS, SECOND_SEEDS = 440, 300
+FIRST = "# Models that seeds give, run by each rule, and by `floor` as coupled models too: as tools/seed-calls writes them, with the answers of tools/by-ticks.\n"
+SECOND = "# Models without clauses that seeds give, and four rare ones, run in second order: as those above.\n"
+# The rules, with shares of a level's size that a quantum is at least, in 4096ths.
+SETTINGS = (("floor", 0), ("near", 0), ("inward", 0), ("floor", 300), ("near", 2048), ("inward", 64))
+
+
+def digest(text):
+    """The digest of a text, as docs/TRANSCRIPT.md defines it."""
+    found = 0
+    for byte in text.encode():
+        found = (31 * found + byte) % 2 ** 32
+    return found
+
+
+class Part:
+    """Lines of the script, the same with their answers, and how many rows of each event were summed."""
+
+    def __init__(self, text=""):
+        self.script = self.answers = text
+        self.counts = Counter()
+
+    def say(self, text):
+        """Lines that answer nothing."""
+        self.script += text
+        self.answers += text
+
+    def add(self, other):
+        self.script += other.script
+        self.answers += other.answers
+        self.counts += other.counts
+
+    def call(self, words, answer):
+        """A call, shown whole where it wrote nothing, and else summed."""
+        self.counts.update(answer.counts)
+        self.say("$ qss %s%s\n" % (words, " > rows" if answer.text else ""))
+        self.answers += "! " + answer.line if answer.line else ""
+        self.answers += "[status %d]\n" % answer.status if answer.status else ""
+        if answer.text:
+            self.say("$ sum rows\n")
+            self.answers += "%d bytes, digest %d\n" % (len(answer.text), digest(answer.text))
+
+
+def file(name, text):
+    """The lines that make a file."""
+    return Part("file %s\n+ %s\n" % (name, text))
+
+
+def first_calls(name, text):
+    """A model and its runs by each rule, the first also as a coupled model. One that means no machine has no further runs."""
+    part = file(name, text)
+    for rule, share in SETTINGS:
+        words = "run %s --rule %s" % (name, rule) + (" --relative %d" % share if share else "")
+        answer = first_order(name, text.encode(), rule, share)
+        part.call(words, answer)
+        if (rule, share) == SETTINGS[0]:
+            part.call("devs " + name, answer)
+        if not answer.text:
+            break
+    part.counts["model"] += bool(answer.text)
+    return part
+
+
+def second_calls(name, text):
+    """A model without clauses and its run of second order."""
+    part = file(name, text)
+    answer = second_order(name, text.encode())
+    part.call("run2 " + name, answer)
+    part.counts["model"] += bool(answer.text)
+    return part
+
+
+def seed_calls(seed):
+    return first_calls("seed-%d.mo" % seed, source(seed))
+
+
+def plain_calls(seed):
+    return second_calls("plain-%d.mo" % seed, plain_source(seed))
+
+
+def joined(heading, parts):
+    """A part of the transcript, with what its runs have in all."""
+    found = Part()
+    for part in parts:
+        found.add(part)
+    whole = Part("\n" + heading)
+    whole.say("# Of %d models %d mean a machine. Rows of their runs: %s.\n" % (
+        len(parts), found.counts.pop("model"), ", ".join("%s %d" % item for item in sorted(found.counts.items()))))
+    whole.add(found)
+    return whole
+
+
+def worked(calls, seeds, jobs):
+    """The calls of each seed."""
+    if jobs == 1:
+        return [calls(seed) for seed in range(seeds)]
+    with Pool(jobs) as pool:
+        return pool.map(calls, range(seeds), 4)
+
+
+def parts(seeds, second_seeds, jobs):
+    """Both parts, with so many seeds."""
+    first = joined(FIRST, [first_calls("heavy.mo", HEAVY)] + worked(seed_calls, seeds, jobs))
+    rare = [second_calls(name + ".mo", text) for name, text in RARE.items()]
+    return first, joined(SECOND, rare + worked(plain_calls, second_seeds, jobs))
+
+
+def replaced(path, heading, text):
+    """The text of a file with another part behind its heading, or with one more at its end."""
+    held = read_bytes(path).decode()
+    begin = held.find("\n" + heading)
+    if begin < 0:
+        return held + text
+    end = held.find("\n\n# ", begin + 1)
+    return held[:begin] + text + (held[end + 1:] if end >= 0 else "")
+
+
+def number(text):
+    if not (text.isascii() and text.isdigit()):
+        raise Fault("'%s' is no whole number" % text)
+    return int(text)
+
+
+def tool(arguments):
+    words = Words(prog="seed-calls", description="Writes the two parts of the transcript that have models from seeds, with the answers "
+                  "of by-ticks, in the place of those that are there or behind all else.")
+    words.add_argument("--seeds", default=str(SEEDS), metavar="N", help="how many seeds, from 0 on, give a model (default: %d)" % SEEDS)
+    words.add_argument("--second", default=str(SECOND_SEEDS), metavar="N",
+                       help="how many give one without clauses (default: %d)" % SECOND_SEEDS)
+    words.add_argument("--jobs", default="1", metavar="N", help="how many seeds are worked on at once (default: 1)")
+    words.add_argument("--folder", default=FOLDER, metavar="PATH", help="where stdin and stdout stand (default: crates/transcript)")
+    given = words.parse_args(arguments)
+    found = parts(number(given.seeds), number(given.second), max(1, number(given.jobs)))
+    for heading, part in zip((FIRST, SECOND), found):
+        for name, text in (("stdin", part.script), ("stdout", part.answers)):
+            path = os.path.join(given.folder, name)
+            whole = replaced(path, heading, text)
+            with Output(path) as output:
+                output.write(whole)
+    return FINE
