@@ -111,8 +111,9 @@ fn turned(watch: &Detector, tick: u64) -> Detector
     next
 }
 
-/// A watch of a form whose inputs are these, from a tick on.
-pub(crate) fn watch_of(
+/// A watch of a form whose inputs are these, from a tick below 2^32 on, with the comparison of another watch: the form's
+/// value there and its change in a tick, in units of 2^-(f+2p+k). The inputs are within 2^88 at the tick.
+pub fn watch_of(
     m: &Machine,
     watch: &Detector,
     inputs: &[Input],

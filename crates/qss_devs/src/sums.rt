@@ -29,8 +29,8 @@ fn times(value: i64, unit: i128) -> i128
     i128::from(value) * unit
 }
 
-/// A discrete value in the unit of states.
-pub(crate) fn scaled(value: i64, unit_bits: u8) -> i128
+/// A discrete value of at most 2^43 in the unit of states, which is 2^-unit_bits of its own.
+pub fn scaled(value: i64, unit_bits: u8) -> i128
     requires value { IsWithin 43 value }
     requires unit { unit_bits ≤ 44 }
     ensures value { result ≡ value *ℤ pos (2 ^ unit_bits) }

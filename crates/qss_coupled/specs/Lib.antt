@@ -1,0 +1,8 @@
+pub mod Starts
+pub mod Coupling
+pub mod Steps
+pub mod Visits
+pub mod Flags
+pub mod Standings
+pub mod Events
+pub mod Calls
