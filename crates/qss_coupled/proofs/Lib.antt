@@ -6,7 +6,6 @@ pub mod ToldParts
 pub mod DueFlags
 pub mod ToldRows
 pub mod Risen
-pub mod NamedRows
 pub mod Coasting
 pub mod WorldRows
 pub mod FirstStands

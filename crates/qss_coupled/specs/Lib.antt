@@ -3,6 +3,4 @@ pub mod Coupling
 pub mod Steps
 pub mod Visits
 pub mod Flags
-pub mod Standings
-pub mod Events
 pub mod Calls

@@ -5,11 +5,11 @@ ghost use Rattle.qss_coupled.specs.Steps.{IsNamed};
 ghost use Rattle.qss_coupled.specs.Visits.{Stands};
 
 use crate::events::go_on;
-use crate::outcome::Outcome;
 use crate::start_store::start_store;
 use crate::store::Store;
 use qss_machine::{Machine, Row};
 use qss_quant::Quantizer;
+use qss_quiet::Outcome;
 use std::alloc::{AllocError, Global};
 use std::rc::Rc;
 
@@ -45,8 +45,8 @@ impl Coupled {
     ghost use Rattle.qss_quant.specs.declared.rule.Rule.{Rule};
     ghost use Rattle.qss_quant.specs.Rules.{level_by};
     ghost use Rattle.qss_quiet.specs.Rules.{IsRuled};
-    ghost use Rattle.qss_coupled.specs.declared.outcome.Outcome.{Outcome};
-    ghost use Rattle.qss_coupled.specs.Events.{IsNext, rows_left};
+    ghost use Rattle.qss_quiet.specs.declared.outcome.Outcome.{Outcome};
+    ghost use Rattle.qss_quiet.specs.Events.{IsNext, rows_left};
     ghost use Rattle.qss_coupled.specs.Calls.{standing_of};
 
     /// A coupled model at tick 0, with the start rows. It takes all the memory that it ever needs.

@@ -6,16 +6,17 @@ ghost use Rattle.qss_machine.specs.declared.rows.RowKind.TheVariants as kind;
 ghost use Rattle.qss_machine.specs.Runs.{world_rows};
 ghost use Rattle.qss_coupled.specs.Steps.{IsNamed};
 ghost use Rattle.qss_coupled.specs.Visits.{world_of, Stands};
-ghost use Rattle.qss_coupled.specs.Events.{IsNext};
-ghost use Rattle.qss_coupled.specs.Calls.{standing_of, tick_of, end_of};
+ghost use Rattle.qss_quiet.specs.Events.{IsNext};
+ghost use Rattle.qss_quiet.specs.Outcomes.{tick_of, end_of};
+ghost use Rattle.qss_coupled.specs.Calls.{standing_of};
 
 use crate::ends::{set_overflow_row, set_world_rows};
 use crate::jump::go_to_visit;
-use crate::outcome::Outcome;
 use crate::store::Store;
 use qss_hand::Work;
 use qss_machine::{Machine, RowKind};
 use qss_quant::Quantizer;
+use qss_quiet::Outcome;
 
 /// Goes on to the next tick with rows, to an overflow, or to the last tick.
 pub(crate) fn go_on(m: &Machine, q: &Quantizer, from: u64, s: &mut Store) -> Outcome

@@ -14,7 +14,6 @@ mod jump;
 mod levels;
 mod limits;
 mod next;
-mod outcome;
 mod rising;
 mod settling;
 mod slopes;
@@ -27,6 +26,6 @@ mod visit;
 
 pub use components::Components;
 pub use coupled::Coupled;
-pub use outcome::Outcome;
+pub use qss_quiet::Outcome;
 pub use start_values::StartValues;
 pub use store::{Store, Truths};

@@ -24,3 +24,4 @@ pub mod Writes
 pub mod DueRows
 pub mod DueFirsts
 pub mod NextLevels
+pub mod NamedRows

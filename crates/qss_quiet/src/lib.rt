@@ -1,8 +1,10 @@
-//! Ticks at which nothing happens, for simulators that skip them, and how a state takes its levels.
+//! Ticks at which nothing happens, for simulators that skip them, what comes next in a run, and how a state takes its
+//! levels.
 #![tactic(auto)]
 
 mod laws;
 mod levels;
+mod outcome;
 
 pub use laws::{
     goes_to_next_visit, leaving_changes_level, only_due_states_pass, quiet_tick_is_forced,
@@ -10,3 +12,4 @@ pub use laws::{
     slopes_follow_levels, stands_still_until_due,
 };
 pub use levels::{leaving, next_level};
+pub use outcome::Outcome;

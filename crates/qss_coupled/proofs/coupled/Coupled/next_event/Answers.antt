@@ -5,12 +5,13 @@ use Rattle.qss_machine.specs.declared.system.Machine.{Machine}
 use Rattle.qss_quant.specs.declared.quantizer.Quantizer.{Quantizer}
 use Rattle.qss_quant.specs.Rules.{level_by}
 use Rattle.qss_quiet.specs.Rules.{IsRuled}
-use Rattle.qss_coupled.specs.declared.outcome.Outcome.{Outcome}
+use Rattle.qss_quiet.specs.declared.outcome.Outcome.{Outcome}
 use Rattle.qss_coupled.specs.declared.store.Store.{Store}
 use Rattle.qss_coupled.specs.Visits.{world_of}
-use Rattle.qss_coupled.specs.Calls.{standing_of, tick_of, end_of}
-use Rattle.qss_coupled.specs.Events.{IsNext, rows_left}
-use Rattle.qss_coupled.proofs.NamedRows.{named_rows}
+use Rattle.qss_coupled.specs.Calls.{standing_of}
+use Rattle.qss_quiet.specs.Events.{IsNext, rows_left}
+use Rattle.qss_quiet.specs.Outcomes.{tick_of, end_of}
+use Rattle.qss_quiet.proofs.NamedRows.{named_rows}
 use Rattle.qss_coupled.proofs.coupled.Coupled.next_event.Goals as goal
 
 pub returns-clause-rows : goal.returns-clause-rows

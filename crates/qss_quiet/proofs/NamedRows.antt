@@ -8,13 +8,13 @@ use Rattle.qss_machine.specs.Ticks.{World, Step, step}
 use Rattle.qss_machine.specs.Runs.{last_world, tick_rows, world_rows}
 use Rattle.qss_quant.specs.declared.rule.Rule.{Rule}
 use Rattle.qss_quant.specs.Rules.{level_by}
-use Rattle.qss_coupled.specs.declared.outcome.Outcome.{Outcome}
-use Rattle.qss_coupled.specs.declared.outcome.Outcome.TheVariants.{Events, Done, Over}
+use Rattle.qss_quiet.specs.declared.outcome.Outcome.{Outcome}
+use Rattle.qss_quiet.specs.declared.outcome.Outcome.TheVariants.{Events, Done, Over}
 use Rattle.qss_quiet.specs.Rules.{IsRuled}
 use Rattle.qss_quiet.specs.Skips.{rows_from}
-use Rattle.qss_coupled.specs.Standings.{Standing}
+use Rattle.qss_quiet.specs.Standings.{Standing}
 use Rattle.qss_quiet.specs.Silent.{LeadsSilently}
-use Rattle.qss_coupled.specs.Events.{IsNext, unless_ended, rows_left}
+use Rattle.qss_quiet.specs.Events.{IsNext, unless_ended, rows_left}
 use Rattle.qss_quiet.proofs.Silences.{silent_rows, named_step}
 use Rattle.qss_quiet.proofs.Skipped.{rows_of_visits}
 

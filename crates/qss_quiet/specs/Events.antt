@@ -1,13 +1,13 @@
--- How a simulator goes from one event to the next.
+-- How a simulator goes from one event of a run to the next.
 use Rattle.std.specs.Prelude.{◌≡◌, ◌≢◌, ℕ, ◌+◌, ◌-◌, ◌≤◌, List, [], ◌∷◌, length, ℤ, pos, Option, Some, None, Ok, Err}
 use Rattle.qss_machine.specs.declared.rows.Row.{Row}
 use Rattle.qss_machine.specs.declared.rows.RowKind.TheVariants as kind
 use Rattle.qss_machine.specs.Ticks.{World, Step}
 use Rattle.qss_machine.specs.Runs.{last_world, tick_rows, world_rows}
 use Rattle.qss_quiet.specs.Skips.{rows_from}
-use Rattle.qss_run.specs.declared.outcome.Outcome.{Outcome}
-use Rattle.qss_run.specs.declared.outcome.Outcome.TheVariants.{Events, Done, Over}
-use Rattle.qss_run.specs.Standings.{Standing}
+use Rattle.qss_quiet.specs.declared.outcome.Outcome.{Outcome}
+use Rattle.qss_quiet.specs.declared.outcome.Outcome.TheVariants.{Events, Done, Over}
+use Rattle.qss_quiet.specs.Standings.{Standing}
 use Rattle.qss_quiet.specs.Silent.{LeadsSilently}
 
 -- after these worlds without rows comes a tick with rows

@@ -11,10 +11,10 @@ pub enum Outcome {
 
 impl Outcome {
     ghost use Rattle.std.specs.Prelude.{◌≡◌};
-    ghost use Rattle.qss_coupled.specs.Calls.{tick_of, end_of};
+    ghost use Rattle.qss_quiet.specs.Outcomes.{tick_of, end_of};
 
     /// The tick at which a call with this answer leaves a simulator, where the last tick is this.
-    pub(crate) fn tick(self, last: u64) -> u64
+    pub fn tick(self, last: u64) -> u64
         ensures { result ≡ tick_of last self }
     {
         match self {
@@ -25,7 +25,7 @@ impl Outcome {
     }
 
     /// How the run has ended after a call with this answer, if it has.
-    pub(crate) fn end(self) -> Option<Outcome>
+    pub fn end(self) -> Option<Outcome>
         ensures { result ≡ end_of self }
     {
         match self {
