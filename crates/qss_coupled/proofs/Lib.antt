@@ -5,7 +5,6 @@ pub mod Telling
 pub mod ToldParts
 pub mod DueFlags
 pub mod ToldRows
-pub mod Risen
 pub mod Coasting
 pub mod WorldRows
 pub mod FirstStands

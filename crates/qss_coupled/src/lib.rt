@@ -14,7 +14,6 @@ mod jump;
 mod levels;
 mod limits;
 mod next;
-mod rising;
 mod settling;
 mod slopes;
 mod start;

@@ -11,10 +11,10 @@ ghost use Rattle.qss_coupled.specs.Coupling.{line_at, crossing_at};
 ghost use Rattle.qss_coupled.specs.Visits.{world_of, Stands};
 
 use crate::advance::least_advance;
-use crate::rising::has_risen;
 use crate::store::Store;
 use qss_machine::Machine;
 use qss_quant::Quantizer;
+use qss_quiet::has_risen;
 
 /// The next tick to go to: the next one where a condition became true through the handlers, else the least tick of the next
 /// transitions of components, or the last tick where none is before it.

@@ -25,3 +25,4 @@ pub mod DueRows
 pub mod DueFirsts
 pub mod NextLevels
 pub mod NamedRows
+pub mod Risen

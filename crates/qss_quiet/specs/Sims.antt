@@ -1,5 +1,5 @@
 -- What a simulator keeps about the world that it stands for.
-use Rattle.std.specs.Prelude.{◌≡◌, ◌≢◌, ℕ, ◌+◌, ◌-◌, ◌<◌, ◌≤◌, Bool, List, [], length, ℤ, pos, Option, Some, None, slice_index_or, if◌then◌else◌}
+use Rattle.std.specs.Prelude.{◌≡◌, ◌≢◌, ℕ, ◌+◌, ◌-◌, ◌<◌, ◌≤◌, Bool, not, ◌&&◌, List, [], length, ℤ, pos, Option, Some, None, slice_index_or, if◌then◌else◌}
 use Rattle.std.specs.List.{list_any}
 use Rattle.mu_num.specs.Ticks.{FirstAfter, tick_limit}
 use Rattle.qss_machine.specs.declared.parts.Condition.{Condition}
@@ -48,6 +48,10 @@ pub record IsWatchOf (m : Machine) (tick : ℕ) (w : World) (place : ℕ) (watch
 -- the first tick after now at which a watch is not as its condition was after the last handlers
 abbrev pub IsChange : ℕ → Bool → Watch → Option ℕ → Type 0
 IsChange tick settled watch found = FirstAfter (λ t. holds_at watch t ≢ settled) tick found
+
+-- whether the condition at a place became true through the handlers
+abbrev pub became_true : List Bool → List Bool → ℕ → Bool
+became_true arrived settled place = flag_at settled place && not (flag_at arrived place)
 
 -- whether a condition became true through the handlers
 abbrev pub rises : World → Bool

@@ -5,6 +5,7 @@
 mod laws;
 mod levels;
 mod outcome;
+mod rising;
 
 pub use laws::{
     goes_to_next_visit, leaving_changes_level, only_due_states_pass, quiet_tick_is_forced,
@@ -13,3 +14,4 @@ pub use laws::{
 };
 pub use levels::{leaving, next_level};
 pub use outcome::Outcome;
+pub use rising::has_risen;

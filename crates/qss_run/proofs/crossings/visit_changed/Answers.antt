@@ -20,11 +20,10 @@ use Rattle.qss_run.specs.declared.shifts.RowSum.TheVariants.{Slope}
 use Rattle.qss_run.specs.declared.store.Store.{Store}
 use Rattle.qss_run.specs.Handlings.{states_with, is_reinitialized, AreAssigned, IsHandled, AreMovedTo}
 use Rattle.qss_quiet.specs.Among.{is_among, IsOff}
-use Rattle.qss_run.specs.Moves.{became_true}
 use Rattle.qss_run.specs.Places.{line_at, watch_at, IsWatched}
 use Rattle.qss_run.specs.Renewals.{renewals_from}
 use Rattle.qss_quiet.specs.Rules.{IsRuled}
-use Rattle.qss_quiet.specs.Sims.{condition_at, weights_at}
+use Rattle.qss_quiet.specs.Sims.{condition_at, weights_at, became_true}
 use Rattle.qss_run.specs.Stores.{states_at, handling_from, world_of}
 use Rattle.qss_run.specs.Touches.{touches_at}
 use Rattle.qss_run.proofs.AfterHandlers.{same_worlds}

@@ -4,7 +4,7 @@ use Rattle.std.proofs.lemmas.Bool.{cases_Bool, or_parts}
 use Rattle.std.specs.List.{list_any}
 use Rattle.std.specs.Prelude.{not, ◌&&◌}
 use Rattle.qss_machine.specs.Handlers.{due_flags}
-use Rattle.qss_coupled.specs.Flags.{became_true}
+use Rattle.qss_quiet.specs.Sims.{became_true}
 
 due_then : (arrived settled : Bool) → (settled && not arrived) ≡ false → (settled && not (arrived && settled)) ≡ false
 due_then true true e = refl

@@ -1,6 +1,6 @@
 use Rattle.std.proofs.Common.{◌≡◌, ℕ, ◌<◌, true, false}
-use Rattle.qss_run.specs.Moves.{became_true}
-use Rattle.qss_run.proofs.rising.rises.Given as goal
+use Rattle.qss_quiet.specs.Sims.{became_true}
+use Rattle.qss_quiet.proofs.rising.has_risen.Given as goal
 
 -- whether one of the conditions so far became true
 abbrev pub invariant-loop-place : goal.invariant-loop-place
