@@ -1,11 +1,10 @@
 -- A coupled model on arrival at the next tick, and what its handlers leave.
-use Rattle.std.proofs.Common.{◌≡◌, ℕ, ◌+◌, ◌<◌, ◌≤◌, ◌^◌, Bool, true, false, List, [], length, get_or, All, ℤ, pos, ◌+ℤ◌, refl, sym, ◌∙◌, ap, subst, arith}
+use Rattle.std.proofs.Common.{◌≡◌, ℕ, ◌+◌, ◌<◌, ◌≤◌, ◌^◌, Bool, true, false, List, [], length, get_or, ℤ, pos, ◌+ℤ◌, refl, sym, ◌∙◌, ap, subst, arith}
 use Rattle.std.proofs.lemmas.List.{length-map, get_or-map}
 use Rattle.std.proofs.lemmas.List.FromFn.{length-map-range_with_len}
 use Rattle.std.specs.Option.{option_or}
 use Rattle.std.specs.Prelude.{Option, Some, None, is_some, position}
-use Rattle.mu_num.specs.Sizes.{IsWithin, passes}
-use Rattle.mu_num.proofs.SizeTests.{passes-within}
+use Rattle.mu_num.specs.Sizes.{IsWithin}
 use Rattle.qss_machine.specs.declared.parts.Condition.{Condition}
 use Rattle.qss_machine.specs.declared.parts.Rel.TheVariants.{Less}
 use Rattle.qss_machine.specs.declared.system.Machine.{Machine}
@@ -25,7 +24,7 @@ use Rattle.qss_quiet.specs.Sims.{slopes_of, condition_at}
 use Rattle.qss_quiet.specs.Skips.{world_after}
 use Rattle.qss_quiet.proofs.Firsts.{same_lists}
 use Rattle.qss_quiet.proofs.Quiet.{moved_is}
-use Rattle.qss_quiet.proofs.Ranges.{none_passes}
+use Rattle.qss_quiet.proofs.Overs.{all_within}
 use Rattle.qss_devs.specs.declared.input.Input.{Input}
 use Rattle.qss_devs.specs.Messages.{IsTimely}
 use Rattle.qss_devs.specs.Integrators.{IsLineNext}
@@ -40,10 +39,6 @@ use Rattle.qss_coupled.specs.Steps.{Agrees}
 use Rattle.qss_coupled.specs.Visits.{states_at, world_of, Stands, arrived_values, CrossingsLater}
 use Rattle.qss_coupled.proofs.Followed.{states_are}
 use Rattle.qss_coupled.proofs.Stays.{holds_still}
-
--- no number passes
-pub all_within : (bits : ℕ) (xs : List ℤ) → first_past bits xs ≡ None → All (IsWithin bits) xs
-all_within bits xs e k z h = passes-within bits (get_or xs k z) (none_passes z (passes bits) xs e k h)
 
 -- where a state overflowed on arrival no branch fires
 pub stays_over : (m : Machine) (tick : ℕ) (w : World) (o : Option ℕ) → o ≡ first_past 88 (moved_states m w) → (o ≡ None → ⊥) → o ≡ (handling_at m tick w).overflow

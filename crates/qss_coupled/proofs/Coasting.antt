@@ -1,10 +1,9 @@
 -- A coupled model just before its next visit.
-use Rattle.std.proofs.Common.{◌≡◌, ℕ, zero, suc, ◌+◌, ◌-◌, ◌≤◌, ◌<◌, Bool, true, false, List, [], ◌∷◌, length, get_or, map, ℤ, pos, ◌+ℤ◌, ◌*ℤ◌, refl, sym, ◌∙◌, ap, subst, arith}
+use Rattle.std.proofs.Common.{◌≡◌, ℕ, zero, suc, ◌+◌, ◌-◌, ◌≤◌, ◌<◌, Bool, List, [], ◌∷◌, length, get_or, map, ℤ, pos, ◌+ℤ◌, ◌*ℤ◌, refl, sym, ◌∙◌, ap, subst, arith}
 use Rattle.std.proofs.Common.{Vec, Global}
-use Rattle.std.proofs.lemmas.Bool.Decides.{nat_tests}
 use Rattle.std.proofs.lemmas.List.{length-map}
 use Rattle.std.proofs.lemmas.List.FromFn.{length-map-range_with_len}
-use Rattle.std.specs.Prelude.{Option, Some, nat_lt, if◌then◌else◌}
+use Rattle.std.specs.Prelude.{Option, Some}
 use Rattle.mu_num.specs.Ticks.{tick_limit}
 use Rattle.qss_machine.specs.declared.system.Machine.{Machine}
 use Rattle.qss_machine.specs.Numbers.{int_at}
@@ -19,7 +18,7 @@ use Rattle.qss_quiet.specs.Skips.{states_after, world_after}
 use Rattle.qss_quiet.proofs.Firsts.{same_lists}
 use Rattle.qss_quiet.proofs.Quiet.{int_at-tabulate}
 use Rattle.qss_quiet.proofs.Silence.{line_more, silence, stands_still}
-use Rattle.qss_quiet.proofs.Silences.{quiet_worlds, quiet_leads}
+use Rattle.qss_quiet.proofs.Silences.{quiet_worlds, quiet_leads, arrived_then}
 use Rattle.qss_devs.specs.declared.integrator_model.IntegratorModel.{IntegratorModel}
 use Rattle.qss_devs.specs.Integrators.{IsLineNext}
 use Rattle.qss_devs.specs.Crossings.{IsCrossingNext}
@@ -34,11 +33,6 @@ pub at_twice : {X Y Z : Type 0} (f : X → Y) (g : Y → Z) (xs : List X) (j : �
 at_twice f g [] j d e h = absurd (omega (arith, h))
 at_twice f g (x ∷ xs) zero d e h = refl
 at_twice f g (x ∷ xs) (suc j) d e h = at_twice f g xs j d e (omega (arith, h))
-
--- the truths on arrival after so many ticks without a change
-abbrev pub arrived_then : ℕ → List Bool → List Bool → List Bool
-arrived_then zero arrived settled = arrived
-arrived_then (suc ticks) arrived settled = settled
 
 -- what was kept, with other truths on arrival
 abbrev pub with_arrived : {X : Type 0} {g : _} → Store X g → Vec Bool Global → Store X g
@@ -144,11 +138,3 @@ module _ {X : Type 0} {g : _} (m : Machine) (name : Option Rule) (tick : ℕ) (s
       (standing (omega (arith, before, m.has_units.last_tick)) (tick + suc k + 1) d) (omega arith) (omega (arith, before, m.has_units.last_tick))
       (λ place t e. omega (arith, d.none place t e)) in
       quiet_leads Rule m tick (world_of tick s) (suc k) stands.left quiet.0 (λ t positive below. quiet.1 t positive (omega (arith, below)))
-
-pub arrived_if : (tick next k : ℕ) (arrived settled : List Bool) → tick + k ≡ next - 1 → tick < next → (if nat_lt (tick + 1) next then settled else arrived) ≡ arrived_then k arrived settled
-arrived_if tick next zero arrived settled e later =
-    let no : nat_lt (tick + 1) next ≡ false = grind (arith, nat_tests) in
-    ap (λ b. if b then settled else arrived) no
-arrived_if tick next (suc k) arrived settled e later =
-    let yes : nat_lt (tick + 1) next ≡ true = grind (arith, nat_tests) in
-    ap (λ b. if b then settled else arrived) yes

@@ -1,5 +1,5 @@
 -- The flags of due branches, and those of one clause among all.
-use Rattle.std.proofs.Common.{◌≡◌, ℕ, zero, suc, ◌+◌, ◌-◌, ◌<◌, ◌≤◌, Bool, false, ◌&&◌, List, [], ◌∷◌, length, take, drop, refl, sym, ◌∙◌, ap, arith, inl, inr}
+use Rattle.std.proofs.Common.{◌≡◌, ℕ, ◌+◌, ◌-◌, ◌<◌, ◌≤◌, Bool, false, ◌&&◌, List, [], length, take, drop, refl, sym, ◌∙◌, ap, arith, inl, inr}
 use Rattle.std.proofs.lemmas.Bool.{cases_lt}
 use Rattle.std.proofs.lemmas.List.{get_or-take, get_or-drop, get_or_past, length-take, length-drop}
 use Rattle.std.proofs.lemmas.List.Sums.{sum_by_more_le}
@@ -14,23 +14,8 @@ use Rattle.qss_hand.specs.Works.{handling_of, values_after, clause_at}
 use Rattle.qss_hand.proofs.AfterStatements.{whole}
 use Rattle.qss_hand.proofs.Turns.{length-conditions, next_turn, clauses_stay}
 use Rattle.qss_quiet.proofs.Ranges.{none_passes}
+use Rattle.qss_quiet.proofs.Flags.{flag_at-due_flags}
 use Rattle.qss_coupled.specs.Flags.{flags_from}
-
-pub length-due_flags : (now arrived settled : List Bool) → length arrived ≡ length now → length settled ≡ length now → length (due_flags now arrived settled) ≡ length now
-length-due_flags [] [] [] e f = refl
-length-due_flags [] (a ∷ arrived) settled e f = absurd (omega (arith, e))
-length-due_flags [] [] (s ∷ settled) e f = absurd (omega (arith, f))
-length-due_flags (n ∷ now) [] settled e f = absurd (omega (arith, e))
-length-due_flags (n ∷ now) (a ∷ arrived) [] e f = absurd (omega (arith, f))
-length-due_flags (n ∷ now) (a ∷ arrived) (s ∷ settled) e f = ap suc (length-due_flags now arrived settled (omega (arith, e)) (omega (arith, f)))
-
-pub flag_at-due_flags : (now arrived settled : List Bool) (k : ℕ) → length arrived ≡ length now → length settled ≡ length now → k < length now →
-    flag_at (due_flags now arrived settled) k ≡ (flag_at now k && not (flag_at arrived k && flag_at settled k))
-flag_at-due_flags [] arrived settled k e f h = absurd (omega (arith, h))
-flag_at-due_flags (n ∷ now) [] settled k e f h = absurd (omega (arith, e))
-flag_at-due_flags (n ∷ now) (a ∷ arrived) [] k e f h = absurd (omega (arith, f))
-flag_at-due_flags (n ∷ now) (a ∷ arrived) (s ∷ settled) zero e f h = refl
-flag_at-due_flags (n ∷ now) (a ∷ arrived) (s ∷ settled) (suc k) e f h = flag_at-due_flags now arrived settled k (omega (arith, e)) (omega (arith, f)) (omega (arith, h))
 
 -- as these truths say
 pub due_of : (now arrived settled : List Bool) (k : ℕ) → length arrived ≡ length now → length settled ≡ length now → k < length now →

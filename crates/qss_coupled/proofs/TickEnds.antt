@@ -17,6 +17,7 @@ use Rattle.qss_quiet.specs.Skips.{IsLeft}
 use Rattle.qss_quiet.proofs.NextLevels.{next_is_near}
 use Rattle.qss_quiet.proofs.Quiet.{int_at-tabulate}
 use Rattle.qss_quiet.proofs.Ranges.{none_passes}
+use Rattle.qss_quiet.proofs.Overs.{all_within}
 use Rattle.qss_devs.specs.declared.crossing_model.CrossingModel.{CrossingModel}
 use Rattle.qss_devs.specs.Agreement.{Values, HasEach, StandFor}
 use Rattle.qss_devs.specs.Laws.{rows_told}
@@ -26,7 +27,6 @@ use Rattle.qss_coupled.specs.declared.store.Store.{Store}
 use Rattle.qss_coupled.specs.Coupling.{line_at, summing_at, crossing_at, AreComponents, AreReady}
 use Rattle.qss_coupled.specs.Steps.{Agrees, AreNear, AreValues, AreTaken, AreSent}
 use Rattle.qss_coupled.specs.Visits.{states_at, levels_of, arrived_values, IsHandled, CrossingsLater}
-use Rattle.qss_coupled.proofs.Arrivals.{all_within}
 use Rattle.qss_coupled.proofs.Followed.{handled_values, told_all, handled_fit, step_level, step_slope, step_done, states_are, levels_are, settled_are}
 use Rattle.qss_coupled.proofs.OwnSlopes.{light_slope}
 

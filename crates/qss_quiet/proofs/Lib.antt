@@ -26,3 +26,4 @@ pub mod DueFirsts
 pub mod NextLevels
 pub mod NamedRows
 pub mod Risen
+pub mod Overs

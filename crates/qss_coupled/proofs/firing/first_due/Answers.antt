@@ -3,8 +3,9 @@ use Rattle.std.proofs.Common.{◌≡◌, ◌<◌, List, Bool, length, false, sym
 use Rattle.qss_machine.specs.Handlers.{due_flags}
 use Rattle.qss_quiet.proofs.Firsts.{first_is}
 use Rattle.qss_quiet.proofs.Ranges.{position-none}
+use Rattle.qss_quiet.proofs.Flags.{length-due_flags}
 use Rattle.qss_coupled.specs.Flags.{flags_from}
-use Rattle.qss_coupled.proofs.DueFlags.{length-due_flags, length-flags, flag_from}
+use Rattle.qss_coupled.proofs.DueFlags.{length-flags, flag_from}
 use Rattle.qss_coupled.proofs.firing.first_due.Goals as goal
 
 pub loop-branch-preserved : goal.loop-branch-preserved

@@ -11,8 +11,9 @@ use Rattle.qss_machine.specs.Handlers.{Handling, due_flags, run_branch, run_firs
 use Rattle.qss_hand.specs.Values.{Values}
 use Rattle.qss_hand.specs.Works.{handling_of, values_after, clause_at, branch_at}
 use Rattle.qss_hand.proofs.Turns.{first_fires, none_due}
+use Rattle.qss_quiet.proofs.Flags.{length-due_flags}
 use Rattle.qss_coupled.specs.Flags.{flags_from}
-use Rattle.qss_coupled.proofs.DueFlags.{length-due_flags, length-flags, none_set}
+use Rattle.qss_coupled.proofs.DueFlags.{length-flags, none_set}
 use Rattle.qss_coupled.proofs.firing.take_turn.Goals as goal
 
 abbrev no_branch : BranchInfo

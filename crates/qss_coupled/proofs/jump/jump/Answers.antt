@@ -4,12 +4,12 @@ use Rattle.std.proofs.Common.{Vec, Global}
 use Rattle.std.proofs.lemmas.List.{with_items_is}
 use Rattle.std.specs.Prelude.{nat_lt, if◌then◌else◌}
 use Rattle.std.specs.Vec.{with_items}
-use Rattle.qss_quiet.proofs.Silences.{quiet_worlds}
+use Rattle.qss_quiet.proofs.Silences.{quiet_worlds, arrived_then, arrived_if}
 use Rattle.qss_quiet.specs.Rules.{IsRuled}
 use Rattle.qss_quiet.specs.Silent.{AreSilent}
 use Rattle.qss_coupled.specs.declared.store.Store.{Store}
 use Rattle.qss_coupled.specs.Visits.{world_of, Stands}
-use Rattle.qss_coupled.proofs.Coasting.{Dues, with_arrived, arrived_then, arrived_if, world_then, stands_then, silent_then}
+use Rattle.qss_coupled.proofs.Coasting.{Dues, with_arrived, world_then, stands_then, silent_then}
 use Rattle.qss_coupled.proofs.jump.jump.Goals as goal
 
 pub overflow_sub-result : goal.overflow_sub-result

@@ -5,10 +5,11 @@ use Rattle.std.specs.Prelude.{Option, Some, None}
 use Rattle.mu_num.specs.Sizes.{passes}
 use Rattle.qss_machine.specs.Machines.{state_count}
 use Rattle.qss_quant.specs.Lines.{Line}
+use Rattle.qss_quiet.proofs.Overs.{not_some, clash}
 use Rattle.qss_devs.specs.Integrators.{IsLineNext}
 use Rattle.qss_coupled.specs.Coupling.{line_at}
 use Rattle.qss_coupled.specs.Steps.{AreTakenUpTo, AreTaken, IsLevelTaken, level_after, leveled}
-use Rattle.qss_coupled.proofs.Overs.{not_some, clash, over_is}
+use Rattle.qss_coupled.proofs.Overs.{over_is}
 use Rattle.qss_coupled.proofs.LevelsTaken.{taken_none, taken_more, taken_all, taken_over, leveled_values}
 use Rattle.qss_coupled.proofs.levels.take_levels.Goals as goal
 

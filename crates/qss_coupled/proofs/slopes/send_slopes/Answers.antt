@@ -3,8 +3,9 @@ use Rattle.std.proofs.Common.{◌≡◌, ℕ, ◌<◌, length, sym, ◌∙◌, a
 use Rattle.std.specs.Prelude.{Option, Some, None}
 use Rattle.qss_machine.specs.Machines.{state_count, row_at}
 use Rattle.qss_machine.specs.Ticks.{is_overweight}
+use Rattle.qss_quiet.proofs.Overs.{not_some, clash}
 use Rattle.qss_coupled.specs.Steps.{AreSentUpTo, AreSent, IsSlopeSent, sloped}
-use Rattle.qss_coupled.proofs.Overs.{not_some, clash, over_is}
+use Rattle.qss_coupled.proofs.Overs.{over_is}
 use Rattle.qss_coupled.proofs.SlopesSent.{sent_none, sent_more, sent_all, sent_over, sloped_values}
 use Rattle.qss_coupled.proofs.slopes.send_slopes.Goals as goal
 

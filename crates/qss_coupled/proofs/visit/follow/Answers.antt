@@ -8,13 +8,13 @@ use Rattle.qss_machine.specs.Machines.{compares}
 use Rattle.qss_machine.specs.Runs.{level_rows, tick_rows}
 use Rattle.qss_machine.specs.Ticks.{World}
 use Rattle.qss_quiet.specs.Skips.{IsLeft}
+use Rattle.qss_quiet.proofs.Overs.{not_some, clash}
 use Rattle.qss_devs.specs.declared.crossing_model.CrossingModel.{CrossingModel}
 use Rattle.qss_devs.specs.Agreement.{StandFor}
 use Rattle.qss_coupled.specs.declared.components.Components.{Components}
 use Rattle.qss_coupled.specs.declared.store.Store.{Store}
 use Rattle.qss_coupled.specs.Coupling.{line_at, summing_at, crossing_at}
 use Rattle.qss_coupled.specs.Visits.{states_at, levels_of, world_of}
-use Rattle.qss_coupled.proofs.Overs.{not_some, clash}
 use Rattle.qss_coupled.proofs.TickEnds.{handled, handled_fits, handled_agree, levels_step, taken_values, taken_agree, taken_fits, taken_near, slopes_step, ended, ended_stand, ended_left, ended_crossings, ended_states, ended_levels, ended_settled, ended_step}
 use Rattle.qss_coupled.proofs.visit.follow.Goals as goal
 

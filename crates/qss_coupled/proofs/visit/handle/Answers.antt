@@ -9,13 +9,13 @@ use Rattle.qss_machine.specs.Numbers.{first_past}
 use Rattle.qss_machine.specs.Ticks.{World, moved_states}
 use Rattle.qss_quant.specs.Lines.{state_at}
 use Rattle.qss_hand.specs.Values.{Values as Kept}
+use Rattle.qss_quiet.proofs.Overs.{not_some, clash}
 use Rattle.qss_devs.specs.declared.integrator_model.IntegratorModel.{IntegratorModel}
 use Rattle.qss_coupled.specs.declared.components.Components.{Components}
 use Rattle.qss_coupled.specs.declared.store.Store.{Store}
 use Rattle.qss_coupled.specs.Coupling.{line_at, summing_at, AreRuled}
 use Rattle.qss_coupled.specs.Visits.{world_of, arrived_values}
 use Rattle.qss_coupled.proofs.Arrivals.{stays_over, arrived_agree, arrived_each, arrived_states, arrived_truths, arrived_ready, begun, begun_fits, handled_is, crossing_timely, crossing_held}
-use Rattle.qss_coupled.proofs.Overs.{not_some, clash}
 use Rattle.qss_coupled.proofs.WorldRows.{lines_early}
 use Rattle.qss_coupled.proofs.visit.handle.Goals as goal
 

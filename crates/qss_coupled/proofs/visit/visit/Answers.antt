@@ -1,8 +1,8 @@
 -- The handlers of a tick, and what follows from them.
 use Rattle.std.proofs.Common.{◌+◌, sym, ◌∙◌, arith}
+use Rattle.qss_quiet.proofs.Overs.{not_some, clash}
 use Rattle.qss_coupled.specs.Visits.{world_of}
 use Rattle.qss_coupled.proofs.Arrivals.{over_step}
-use Rattle.qss_coupled.proofs.Overs.{not_some, clash}
 use Rattle.qss_coupled.proofs.visit.visit.Goals as goal
 
 pub handle-over-requires-clause-stands : goal.handle-over-requires-clause-stands

@@ -13,8 +13,9 @@ use Rattle.qss_quiet.specs.Among.{is_among, AreNumbers}
 use Rattle.qss_run.specs.Places.{line_at, watch_at}
 use Rattle.qss_run.specs.Stores.{states_at, handling_from}
 use Rattle.qss_quiet.specs.Writes.{IsWritten}
+use Rattle.qss_quiet.proofs.Overs.{all_within, not_some}
 use Rattle.qss_run.proofs.Arrivals.{fired_numbers, truths_on_arrival, fired_handling, rows_fired, known_states, is_handled}
-use Rattle.qss_run.proofs.Handled.{all_within, not_some, over_early}
+use Rattle.qss_run.proofs.Handled.{over_early}
 use Rattle.qss_run.proofs.handling.handle_changed.Goals as goal
 
 pub returns-then-is_some-clause-over : goal.returns-then-is_some-clause-over
