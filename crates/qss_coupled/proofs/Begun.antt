@@ -1,17 +1,15 @@
 -- The components at the start stand for the world there.
-use Rattle.std.proofs.Common.{◌≡◌, ℕ, zero, suc, ◌+◌, ◌-◌, ◌≤◌, ◌<◌, true, false, ◌⊎◌, List, [], ◌∷◌, ◌++◌, length, get_or, map, take, ℤ, pos, ◌*ℤ◌, unsigned_abs, All, inl, inr, refl, sym, ◌∙◌, ap, subst, arith}
+use Rattle.std.proofs.Common.{◌≡◌, ℕ, ◌+◌, ◌-◌, ◌≤◌, ◌<◌, true, false, ◌⊎◌, List, [], ◌∷◌, ◌++◌, length, get_or, map, take, ℤ, pos, ◌*ℤ◌, unsigned_abs, All, inl, inr, refl, sym, ◌∙◌, ap, subst, arith}
 use Rattle.std.proofs.lemmas.Bool.{cases_lt}
 use Rattle.std.proofs.lemmas.Bool.Decides.{nat_tests}
 use Rattle.std.proofs.lemmas.Int.{ints}
-use Rattle.std.proofs.lemmas.List.{get_or-map, get_or_append_left, get_or-append_right, get_or_at, length-append, length-map, take_all}
+use Rattle.std.proofs.lemmas.List.{get_or-map, get_or_append_left, get_or_at, length-append, length-map, take_all}
 use Rattle.std.proofs.lemmas.List.FromFn.{length-map-range_with_len}
 use Rattle.std.proofs.lemmas.List.Sums.{sum_by-cons, sum_by_more, sum_by-take-le}
-use Rattle.std.specs.List.{flat_map, sum_by}
+use Rattle.std.specs.List.{sum_by}
 use Rattle.std.specs.Prelude.{nat_lt, if◌then◌else◌}
 use Rattle.mu_num.specs.Sizes.{IsWithin}
 use Rattle.mu_num.proofs.Tests.{if-true, if-false}
-use Rattle.qss_machine.specs.declared.parts.BranchInfo.{BranchInfo}
-use Rattle.qss_machine.specs.declared.parts.ClauseInfo.{ClauseInfo}
 use Rattle.qss_machine.specs.declared.parts.Condition.{Condition}
 use Rattle.qss_machine.specs.declared.parts.DiscreteInfo.{DiscreteInfo}
 use Rattle.qss_machine.specs.declared.parts.Entry.{Entry}
@@ -27,6 +25,7 @@ use Rattle.qss_machine.specs.Handlers.{conditions}
 use Rattle.qss_machine.specs.Firing.{first_place}
 use Rattle.qss_hand.specs.Works.{clause_at, branch_at}
 use Rattle.qss_hand.proofs.Turns.{length-conditions, conditions_few}
+use Rattle.qss_hand.proofs.Branches.{width_of, condition_by}
 use Rattle.qss_machine.specs.Ticks.{start_world, is_overweight}
 use Rattle.qss_quant.specs.Lines.{Line}
 use Rattle.qss_quiet.specs.Sims.{condition_at}
@@ -240,31 +239,6 @@ module _ (m : Machine) where
   }
 
 -- ---- conditions by clause and branch
-
-abbrev conditions_of : ClauseInfo → List Condition
-conditions_of clause = map (λ (b : BranchInfo). b.condition) clause.branches
-
-abbrev pub width_of : ClauseInfo → ℕ
-width_of clause = length clause.branches
-
--- a condition by its clause and branch
-pub condition_by : (clauses : List ClauseInfo) (i b : ℕ) (d : ClauseInfo) (db : BranchInfo) (dc : Condition) → i < length clauses → b < width_of (get_or clauses i d) →
-    get_or (flat_map conditions_of clauses) (sum_by width_of (take i clauses) + b) dc ≡ (get_or (get_or clauses i d).branches b db).condition
-condition_by [] i b d db dc h k = absurd (omega (arith, h))
-condition_by (c ∷ cs) zero b d db dc h k =
-    let e : 0 + b ≡ b = omega arith in
-    let many = length-map c.branches (λ (x : BranchInfo). x.condition) in
-    ap (λ n. get_or (flat_map conditions_of (c ∷ cs)) n dc) e
-    ∙ get_or_append_left (conditions_of c) (flat_map conditions_of cs) dc b (omega (arith, k, many))
-    ∙ get_or-map (λ (x : BranchInfo). x.condition) c.branches b db dc k
-condition_by (c ∷ cs) (suc i) b d db dc h k =
-    let many = length-map c.branches (λ (x : BranchInfo). x.condition) in
-    let place : sum_by width_of (take (suc i) (c ∷ cs)) + b ≡ width_of c + (sum_by width_of (take i cs) + b) = omega (arith, sum_by-cons width_of c (take i cs)) in
-    let past : (width_of c + (sum_by width_of (take i cs) + b)) - width_of c ≡ sum_by width_of (take i cs) + b = omega arith in
-    ap (λ n. get_or (flat_map conditions_of (c ∷ cs)) n dc) place
-    ∙ get_or-append_right (conditions_of c) (flat_map conditions_of cs) (width_of c) (width_of c + (sum_by width_of (take i cs) + b)) dc many (omega arith)
-    ∙ ap (λ n. get_or (flat_map conditions_of cs) n dc) past
-    ∙ condition_by cs i b d db dc (omega (arith, h)) k
 
 pub own_condition : (m : Machine) (i b : ℕ) → i < length m.clauses → b < width_of (clause_at m i) → condition_at m (first_place m.clauses i + b) ≡ (branch_at m i b).condition
 own_condition m i b h k =

@@ -5,7 +5,6 @@ use Rattle.std.proofs.lemmas.List.{get_or-take, get_or-drop, get_or_past, length
 use Rattle.std.proofs.lemmas.List.Sums.{sum_by_more_le}
 use Rattle.std.specs.List.{position, sum_by}
 use Rattle.std.specs.Prelude.{None, Some, not}
-use Rattle.qss_machine.specs.declared.parts.ClauseInfo.{ClauseInfo}
 use Rattle.qss_machine.specs.declared.system.Machine.{Machine}
 use Rattle.qss_machine.specs.Firing.{flag_at}
 use Rattle.qss_machine.specs.Handlers.{Handling, conditions, due_flags, run_first_due, run_clauses}
@@ -13,6 +12,7 @@ use Rattle.qss_hand.specs.Values.{Values}
 use Rattle.qss_hand.specs.Works.{handling_of, values_after, clause_at}
 use Rattle.qss_hand.proofs.AfterStatements.{whole}
 use Rattle.qss_hand.proofs.Turns.{length-conditions, next_turn, clauses_stay}
+use Rattle.qss_hand.proofs.Branches.{width_of}
 use Rattle.qss_quiet.proofs.Ranges.{none_passes}
 use Rattle.qss_quiet.proofs.Flags.{flag_at-due_flags}
 use Rattle.qss_coupled.specs.Flags.{flags_from}
@@ -40,9 +40,6 @@ pub flag_from : (due : List Bool) (first width k : ℕ) → k < width → flag_a
 flag_from due first width k h =
     let inside : k < (first + width) - first = omega (arith, h) in
     get_or-take ((first + width) - first) (drop first due) k false inside ∙ get_or-drop first due k false
-
-abbrev width_of : ClauseInfo → ℕ
-width_of clause = length clause.branches
 
 -- the flags of a clause are among all
 pub turn_within : (m : Machine) (i first : ℕ) → i < length m.clauses → first ≡ sum_by width_of (take i m.clauses) → first + width_of (clause_at m i) ≤ length (conditions m)

@@ -1,28 +1,21 @@
 -- The rows of handlers tell what may be sent as messages.
-use Rattle.std.proofs.Common.{ℕ, ◌+◌, ◌<◌, ◌≤◌, Bool, List, [], ◌∷◌, ◌++◌, ℤ, pos, set, ◌-◌, arith}
-use Rattle.std.proofs.lemmas.Bool.Decides.{nat_tests}
+use Rattle.std.proofs.Common.{ℕ, ◌+◌, Bool, List, [], ◌∷◌, ◌++◌, ℤ, pos, set, ◌-◌}
 use Rattle.std.proofs.lemmas.List.Elements.{All-push}
-use Rattle.std.specs.Prelude.{All, Some, IsTrue}
+use Rattle.std.specs.Prelude.{All, Some}
 use Rattle.mu_num.proofs.SizeTests.{passes-within}
 use Rattle.mu_num.proofs.Tests.{if_cases}
 use Rattle.mu_num.specs.Sizes.{passes}
 use Rattle.qss_machine.specs.declared.parts.Action.{Action}
 use Rattle.qss_machine.specs.declared.parts.Action.TheVariants.{Set, Reinit}
-use Rattle.qss_machine.specs.declared.parts.Form.{Form}
 use Rattle.qss_machine.specs.declared.rows.Row.{Row}
 use Rattle.qss_machine.specs.declared.rows.RowKind.TheVariants as kind
 use Rattle.qss_machine.specs.declared.system.Machine.{Machine}
 use Rattle.qss_machine.specs.Handlers.{Handling, assign, fire_row, run_clauses}
-use Rattle.qss_machine.specs.Limits.{IsAction, has_target}
+use Rattle.qss_machine.specs.Limits.{IsAction}
 use Rattle.qss_machine.specs.Machines.{state_count, discrete_count}
+use Rattle.qss_hand.proofs.Targets.{target_set, target_reinit}
 use Rattle.qss_quiet.proofs.Kept.{after_clauses}
 use Rattle.qss_coupled.specs.Steps.{IsTold}
-
-target_set : (n g var : ℕ) (form : Form) → IsTrue (has_target n g (Set var form)) → (n ≤ var) × (var < n + g)
-target_set n g var form e = grind (arith, nat_tests)
-
-target_reinit : (n g var : ℕ) (form : Form) → IsTrue (has_target n g (Reinit var form)) → var < n
-target_reinit n g var form e = grind (arith, nat_tests)
 
 module _ (m : Machine) (tick : ℕ) where
   abbrev set_row : ℕ → ℤ → Row

@@ -21,8 +21,9 @@ use Rattle.qss_run.specs.Places.{IsBranchOf, AreBranches}
 use Rattle.qss_quiet.specs.Among.{is_among, AreNumbers}
 use Rattle.qss_hand.specs.Rooms.{clause_room}
 use Rattle.qss_hand.proofs.Turns.{next_turn, none_due, first_fires, room-drop}
+use Rattle.qss_hand.proofs.Branches.{width_of}
 use Rattle.qss_quiet.proofs.Writes.{index_of, among_at}
-use Rattle.qss_run.proofs.Branches.{place_at, width_of}
+use Rattle.qss_run.proofs.Branches.{place_at}
 
 abbrev pub no_clause : ClauseInfo
 no_clause = record { branches = [] }
