@@ -14,7 +14,6 @@ use Rattle.qss_machine.specs.declared.parts.Condition.{Condition}
 use Rattle.qss_machine.specs.declared.parts.DiscreteInfo.{DiscreteInfo}
 use Rattle.qss_machine.specs.declared.parts.Entry.{Entry}
 use Rattle.qss_machine.specs.declared.parts.Rel.TheVariants.{Less}
-use Rattle.qss_machine.specs.declared.parts.SlopeRow.{SlopeRow}
 use Rattle.qss_machine.specs.declared.parts.StateInfo.{StateInfo}
 use Rattle.qss_machine.specs.declared.system.Machine.{Machine}
 use Rattle.qss_machine.specs.Numbers.{int_at}
@@ -40,6 +39,7 @@ use Rattle.qss_devs.specs.Agreement.{HasEach, Moving, moving_of, entry_of, Input
 use Rattle.qss_devs.proofs.Inputs.{IsGiven, scaled_small}
 use Rattle.qss_devs.proofs.Moving.{no_ticks}
 use Rattle.qss_devs.proofs.Variables.{moving_state, moving_discrete, moving_before}
+use Rattle.qss_devs.proofs.Sent.{no_row}
 use Rattle.qss_coupled.specs.Starts.{start_values, first_line, first_summing, first_input, first_crossing, EachAt}
 
 -- ---- lists
@@ -63,9 +63,6 @@ pub each_none : {X : Type 0} (P : ℕ → X → Type 0) (xs : List X) → xs ≡
 each_none {X} P xs none = subst (EachAt P) (sym none) (λ place d inside. absurd (omega (arith, inside)))
 
 -- ---- values at the start
-
-abbrev pub no_row : SlopeRow
-no_row = record { entries = []; products = []; beta = pos 0 }
 
 module _ (m : Machine) where
   pub start_each : HasEach m (start_values m)

@@ -8,7 +8,6 @@ use Rattle.mu_num.specs.Sizes.{IsWithin}
 use Rattle.mu_num.specs.Ticks.{tick_limit}
 use Rattle.qss_machine.specs.declared.parts.Condition.{Condition}
 use Rattle.qss_machine.specs.declared.parts.Rel.TheVariants.{Less}
-use Rattle.qss_machine.specs.declared.parts.SlopeRow.{SlopeRow}
 use Rattle.qss_machine.specs.declared.system.Machine.{Machine}
 use Rattle.qss_machine.specs.Machines.{state_count, discrete_count, slope_at, compares, truth}
 use Rattle.qss_machine.specs.Numbers.{int_at, first_past}
@@ -30,15 +29,13 @@ use Rattle.qss_devs.specs.Models.{crossing_of}
 use Rattle.qss_devs.specs.Laws.{rows_told}
 use Rattle.qss_devs.proofs.RowsTold.{rows_tell_handlers}
 use Rattle.qss_devs.proofs.Standing.{crossings_tell}
+use Rattle.qss_devs.proofs.Sent.{no_row}
 use Rattle.qss_coupled.specs.declared.components.Components.{Components}
 use Rattle.qss_coupled.specs.Coupling.{no_line, no_crossing, line_at, summing_at, crossing_at, AreComponents}
 use Rattle.qss_coupled.specs.Steps.{Agrees, AreValues}
 use Rattle.qss_coupled.specs.Visits.{states_at, levels_of, arrived_values, CrossingsLater}
 use Rattle.qss_coupled.proofs.OwnSlopes.{light_slope}
 use Rattle.qss_coupled.proofs.Stays.{holds_still}
-
-abbrev no_row : SlopeRow
-no_row = record { entries = []; products = []; beta = pos 0 }
 
 module _ (m : Machine) (name : Option Rule) (tick : ℕ) (w : World) where
   abbrev h : Handling

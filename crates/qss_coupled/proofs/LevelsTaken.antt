@@ -31,6 +31,7 @@ use Rattle.qss_devs.specs.Agreement.{Values, HasEach}
 use Rattle.qss_devs.proofs.Variables.{set_same, set_other}
 use Rattle.qss_coupled.specs.declared.components.Components.{Components}
 use Rattle.qss_coupled.specs.Steps.{Agrees, AreValues, level_after, row_after, levels_upto, leveled, IsLevelTaken, AreTakenUpTo, AreTaken}
+use Rattle.qss_coupled.proofs.Overs.{not_past, is_past}
 
 -- ---- the levels of a rule
 
@@ -112,14 +113,6 @@ module _ (m : Machine) (rule : Rule) (v : Values) where
       upto_taken (state_count m) k (omega (arith, many)) h ∙ sym (int_at-tabulate (state_count m) (level_after m rule v) k h))
 
 -- ---- the loop
-
-not_past : {X : Type 0} (b : Bool) (x : X) → None ≡ (if b then Some x else None) → b ≡ false
-not_past false x e = refl
-not_past true x e = absurd (cc)
-
-is_past : {X : Type 0} (b : Bool) (x y : X) → Some y ≡ (if b then Some x else None) → b ≡ true
-is_past true x y e = refl
-is_past false x y e = absurd (cc)
 
 pub taken_none : {X : Type 0} {g : _} (m : Machine) (rule : Rule) (tick : ℕ) (v : Values) (parts : Components X g) (rows : List Row) → Agrees m tick v parts → AreTakenUpTo m rule tick v 0 parts rows rows
 taken_none {X} {g} m rule tick v parts rows a = record { agree = a; small = λ i h. absurd (omega (arith, h)); rows = sym (append-nil rows) }

@@ -1,11 +1,10 @@
 -- Functions that send their sums one after another.
-use Rattle.std.proofs.Common.{◌≡◌, ◌≢◌, ℕ, zero, suc, ◌+◌, ◌≤◌, ◌<◌, Bool, true, false, List, [], length, ℤ, pos, inl, inr, refl, sym, ◌∙◌, ap, subst, arith}
+use Rattle.std.proofs.Common.{◌≡◌, ◌≢◌, ℕ, zero, suc, ◌+◌, ◌≤◌, ◌<◌, true, false, List, length, ℤ, pos, inl, inr, refl, sym, ◌∙◌, ap, subst, arith}
 use Rattle.std.proofs.lemmas.Bool.{cases_eq, cases_lt}
 use Rattle.std.proofs.lemmas.List.{length-set}
 use Rattle.std.proofs.lemmas.List.FromFn.{length-map-range_with_len}
-use Rattle.std.specs.Prelude.{Some, None, if◌then◌else◌}
+use Rattle.std.specs.Prelude.{Some, None}
 use Rattle.mu_num.specs.Sizes.{IsWithin}
-use Rattle.qss_machine.specs.declared.parts.SlopeRow.{SlopeRow}
 use Rattle.qss_machine.specs.declared.system.Machine.{Machine}
 use Rattle.qss_machine.specs.Machines.{state_count, row_at, slope_at}
 use Rattle.qss_machine.specs.Numbers.{int_at, tabulate}
@@ -16,13 +15,12 @@ use Rattle.qss_quiet.proofs.Ranges.{position-none}
 use Rattle.qss_devs.specs.Functions.{Summing}
 use Rattle.qss_devs.specs.Agreement.{Values, HasEach}
 use Rattle.qss_devs.proofs.Variables.{set_same, set_other}
+use Rattle.qss_devs.proofs.Sent.{no_row}
 use Rattle.qss_coupled.specs.declared.components.Components.{Components}
 use Rattle.qss_coupled.specs.Coupling.{summing_at}
 use Rattle.qss_coupled.specs.Steps.{Agrees, AreValues, slopes_upto, sloped, IsSlopeSent, AreSentUpTo, AreSent}
 use Rattle.qss_coupled.proofs.OwnSlopes.{light_slope}
-
-abbrev no_row : SlopeRow
-no_row = record { entries = []; products = []; beta = pos 0 }
+use Rattle.qss_coupled.proofs.Overs.{not_past, is_past}
 
 module _ (m : Machine) (v : Values) where
   upto_many : (n : ℕ) → length (slopes_upto m v n) ≡ length v.slopes
@@ -55,14 +53,6 @@ module _ (m : Machine) (v : Values) where
       (λ k inside.
       let h : k < state_count m = omega (arith, inside, as_many) in
       upto_sent (state_count m) k (omega (arith, many)) h ∙ sym (int_at-tabulate (state_count m) (λ j. slope_at m j v.levels v.discretes) k h))
-
-not_past : {X : Type 0} (b : Bool) (x : X) → None ≡ (if b then Some x else None) → b ≡ false
-not_past false x e = refl
-not_past true x e = absurd (cc)
-
-is_past : {X : Type 0} (b : Bool) (x y : X) → Some y ≡ (if b then Some x else None) → b ≡ true
-is_past true x y e = refl
-is_past false x y e = absurd (cc)
 
 pub sent_none : {X : Type 0} {g : _} (m : Machine) (tick : ℕ) (v : Values) (parts : Components X g) → Agrees m tick v parts → AreSentUpTo m tick v 0 parts
 sent_none {X} {g} m tick v parts a = record { agree = a; light = λ i h. absurd (omega (arith, h)); sent = λ i h. absurd (omega (arith, h)) }

@@ -1,10 +1,9 @@
 -- What a tick leaves, after its handlers.
-use Rattle.std.proofs.Common.{◌≡◌, ℕ, ◌<◌, true, List, [], length, map, ℤ, pos, refl, sym, ◌∙◌, ap, subst, arith}
+use Rattle.std.proofs.Common.{◌≡◌, ℕ, ◌<◌, true, List, length, map, ℤ, pos, refl, sym, ◌∙◌, ap, subst, arith}
 use Rattle.std.proofs.lemmas.List.FromFn.{length-map-range_with_len}
 use Rattle.std.specs.Prelude.{Option, Some, None, is_some, Ok, Err, position}
 use Rattle.mu_num.specs.Sizes.{IsWithin}
 use Rattle.mu_num.proofs.Tests.{int_lt-yes}
-use Rattle.qss_machine.specs.declared.parts.SlopeRow.{SlopeRow}
 use Rattle.qss_machine.specs.declared.rows.Row.{Row}
 use Rattle.qss_machine.specs.declared.system.Machine.{Machine}
 use Rattle.qss_machine.specs.Handlers.{truths}
@@ -21,7 +20,7 @@ use Rattle.qss_quiet.proofs.Overs.{all_within}
 use Rattle.qss_devs.specs.declared.crossing_model.CrossingModel.{CrossingModel}
 use Rattle.qss_devs.specs.Agreement.{Values, HasEach, StandFor}
 use Rattle.qss_devs.specs.Laws.{rows_told}
-use Rattle.qss_devs.proofs.Sent.{settled_stand}
+use Rattle.qss_devs.proofs.Sent.{settled_stand, no_row}
 use Rattle.qss_coupled.specs.declared.components.Components.{Components}
 use Rattle.qss_coupled.specs.declared.store.Store.{Store}
 use Rattle.qss_coupled.specs.Coupling.{line_at, summing_at, crossing_at, AreComponents, AreReady}
@@ -101,9 +100,6 @@ module _ {X : Type 0} {g : _} (m : Machine) (name : Option Rule) (tick : ℕ) (w
 
           none_heavy : position (is_overweight m taken.levels handled.discretes) m.rows ≡ None
           none_heavy = sym sent.own_over ∙ light
-
-          abbrev no_row : SlopeRow
-          no_row = record { entries = []; products = []; beta = pos 0 }
 
           slow : (j : ℕ) → j < state_count m → IsWithin 88 (int_at slopes j)
           slow j inside =

@@ -312,8 +312,8 @@ told_line {X} {g} m tick var message places old new t are ready is own known rea
         (λ place h. goes_crossing m (condition_at m place) var message own ∙ sym (ap (λ (l : List ℕ). is_among l place) reads ∙ among_conditions m var place h)) written
 
 -- a truth goes to none
-pub told_truth : {X : Type 0} {g : _} (m : Machine) (tick place : ℕ) (now : Bool) (message : Message) (parts : Components X g) → message ≡ Truth place now → AreComponents m parts →
+pub truth_stays : {X : Type 0} {g : _} (m : Machine) (tick place : ℕ) (now : Bool) (message : Message) (parts : Components X g) → message ≡ Truth place now → AreComponents m parts →
     AreReady m tick (line_at parts) (summing_at parts) (crossing_at parts) → AreTold m tick message parts parts
-told_truth {X} {g} m tick place now message parts is are ready =
+truth_stays {X} {g} m tick place now message parts is are ready =
     subst (λ (s : Message). AreTold m tick s parts parts) (sym is)
     (record { parts = are; ruled = λ name ruled. ruled; ready = ready; lines = λ j h. refl; functions = λ j h. refl; crossings = λ k h. refl })

@@ -1,7 +1,7 @@
 -- A message goes where it is about.
 use Rattle.std.proofs.Common.{subst, refl}
 use Rattle.qss_devs.specs.Messages.{IsMessage}
-use Rattle.qss_coupled.proofs.ToldParts.{told_truth}
+use Rattle.qss_coupled.proofs.ToldParts.{truth_stays}
 use Rattle.qss_coupled.proofs.components.tell.Goals as goal
 
 pub tell_line-requires-clause-own : goal.tell_line-requires-clause-own
@@ -29,4 +29,4 @@ pub tell_discrete-requires-clause-known : goal.tell_discrete-requires-clause-kno
 tell_discrete-requires-clause-known g c = (subst (IsMessage c.args.m.now) c.in-Discrete.is c.requires.message).1
 
 pub returns-in-Truth : goal.returns-in-Truth
-returns-in-Truth g c = told_truth c.args.m.now c.args.tick _ _ c.args.msg c.args.parts.now c.in-Truth.is c.requires.parts c.requires.ready
+returns-in-Truth g c = truth_stays c.args.m.now c.args.tick _ _ c.args.msg c.args.parts.now c.in-Truth.is c.requires.parts c.requires.ready
