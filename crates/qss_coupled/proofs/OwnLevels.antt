@@ -21,10 +21,11 @@ use Rattle.qss_quant.specs.declared.rule.Rule.{Rule}
 use Rattle.qss_quant.specs.Lines.{Line, state_at, IsNear}
 use Rattle.qss_quant.specs.Rules.{level_by}
 use Rattle.qss_quiet.proofs.Changes.{leaving_changes_level}
+use Rattle.qss_quiet.specs.Sims.{LeavesAt}
 use Rattle.qss_devs.specs.declared.message.Message.{Message}
 use Rattle.qss_devs.specs.declared.message.Message.TheVariants.{Level}
 use Rattle.qss_devs.specs.Messages.{passes_limit}
-use Rattle.qss_devs.specs.Integrators.{LeavesAt, IsLineNext, SendsLevel, TakesLevel}
+use Rattle.qss_devs.specs.Integrators.{IsLineNext, SendsLevel, TakesLevel}
 use Rattle.qss_devs.specs.Agreement.{Values, HasEach, LineAgrees}
 use Rattle.qss_coupled.specs.declared.components.Components.{Components}
 use Rattle.qss_coupled.specs.Coupling.{line_at, summing_at, crossing_at, AreTold}

@@ -15,10 +15,11 @@ use Rattle.qss_machine.specs.Slopes.{mode_fits, weight_of}
 use Rattle.qss_machine.specs.Ticks.{is_near, is_overweight}
 use Rattle.qss_quant.specs.Lines.{Line, state_at}
 use Rattle.qss_quiet.proofs.SlopeSizes.{slope-size}
+use Rattle.qss_quiet.specs.Sims.{LeavesAt}
 use Rattle.qss_devs.specs.declared.message.Message.{Message}
 use Rattle.qss_devs.specs.declared.message.Message.TheVariants.{Slope}
 use Rattle.qss_devs.specs.Messages.{passes_limit}
-use Rattle.qss_devs.specs.Integrators.{LeavesAt, IsLineNext, line_given, line_moved}
+use Rattle.qss_devs.specs.Integrators.{IsLineNext, line_given, line_moved}
 use Rattle.qss_devs.specs.Functions.{Summing, sum_at, sum_of, summing_sent}
 use Rattle.qss_devs.specs.Agreement.{Values, HasEach, LineAgrees, SummingAgrees}
 use Rattle.qss_devs.specs.Laws.{lines_given}

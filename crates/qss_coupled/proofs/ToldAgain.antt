@@ -11,11 +11,12 @@ use Rattle.qss_machine.specs.declared.system.Machine.{Machine}
 use Rattle.qss_machine.specs.Machines.{state_count, discrete_count, level_unit}
 use Rattle.qss_machine.specs.Ticks.{is_near}
 use Rattle.qss_quant.specs.Lines.{Line}
+use Rattle.qss_quiet.specs.Sims.{LeavesAt}
 use Rattle.qss_devs.specs.declared.input.Input.{Input}
 use Rattle.qss_devs.specs.declared.message.Message.{Message}
 use Rattle.qss_devs.specs.declared.message.Message.TheVariants.{Slope, State, Level, Discrete, Truth}
 use Rattle.qss_devs.specs.Messages.{IsMessage, IsTimely}
-use Rattle.qss_devs.specs.Integrators.{LeavesAt, IsLineNext, line_moved, line_told, line_given}
+use Rattle.qss_devs.specs.Integrators.{IsLineNext, line_moved, line_told, line_given}
 use Rattle.qss_devs.specs.Functions.{Summing, sum_at, sum_of, levels_told, discretes_told, summing_given}
 use Rattle.qss_devs.specs.Crossings.{Crossing, input_at, input_given, form_at, speed_by, crossing_given}
 use Rattle.qss_devs.proofs.Moving.{no_ticks}

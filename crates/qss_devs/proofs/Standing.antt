@@ -23,11 +23,11 @@ use Rattle.qss_machine.proofs.SumLaws.{weighted_sum-entries}
 use Rattle.qss_quant.specs.Lines.{Line}
 use Rattle.qss_cross.specs.Crossing.{Watch, value_at, holds_at}
 use Rattle.qss_quiet.specs.Skips.{world_after}
-use Rattle.qss_quiet.specs.Sims.{slopes_of, condition_at, IsLineOf, IsDue, IsWatchOf, IsChange}
+use Rattle.qss_quiet.specs.Sims.{slopes_of, condition_at, IsLineOf, IsDue, IsWatchOf, IsChange, LeavesAt}
 use Rattle.qss_quiet.proofs.Quiet.{int_at-tabulate, tabulate-same}
 use Rattle.qss_quiet.proofs.Silence.{from_later, same_flag}
 use Rattle.qss_devs.specs.declared.input.Input.{Input}
-use Rattle.qss_devs.specs.Integrators.{LeavesAt, IsLineNext}
+use Rattle.qss_devs.specs.Integrators.{IsLineNext}
 use Rattle.qss_devs.specs.Crossings.{Crossing, input_at, IsCrossingNext}
 use Rattle.qss_devs.specs.Agreement.{Values, values_of, LineAgrees, Moving, moving_of, CrossingAgrees, entry_of, Agree, StandFor}
 use Rattle.qss_devs.specs.Laws.{values_after, ComponentsStand, ComponentsMove, CrossingsTell}

@@ -34,9 +34,13 @@ pub record IsLineOf (m : Machine) (tick : ℕ) (w : World) (j : ℕ) (line : Lin
   pub own_slope : line.slope ≡ slope_at m j w.levels w.discretes
   pub own_level : line.level ≡ int_at w.levels j
 
+-- at a tick a state is at least a quantum away from its level
+abbrev pub LeavesAt : Machine → ℕ → Line → ℕ → Type 0
+LeavesAt m j line tick = IsAway (level_unit m) (state_at line tick) line.level (quantum_of m j line.level)
+
 -- the first tick after now at which a line leaves the quantum of its level
 abbrev pub IsDue : Machine → ℕ → ℕ → Line → Option ℕ → Type 0
-IsDue m tick j line found = FirstAfter (λ t. IsAway (level_unit m) (state_at line t) line.level (quantum_of m j line.level)) tick found
+IsDue m tick j line found = FirstAfter (λ t. LeavesAt m j line t) tick found
 
 -- a condition's watch comes from a tick up to now, is at its form's value now, and goes on at its speed
 pub record IsWatchOf (m : Machine) (tick : ℕ) (w : World) (place : ℕ) (watch : Watch) : Type 0 where
