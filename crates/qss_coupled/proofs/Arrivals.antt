@@ -29,7 +29,7 @@ use Rattle.qss_devs.specs.declared.input.Input.{Input}
 use Rattle.qss_devs.specs.Messages.{IsTimely}
 use Rattle.qss_devs.specs.Integrators.{IsLineNext}
 use Rattle.qss_devs.specs.Crossings.{IsCrossingNext, input_at, AreSmallAt}
-use Rattle.qss_devs.specs.Agreement.{HasEach, Moving, StandFor}
+use Rattle.qss_devs.specs.Agreement.{HasEach, Moving, ComponentsStandFor}
 use Rattle.qss_devs.proofs.Standing.{components_move, crossings_tell}
 use Rattle.qss_devs.proofs.Variables.{moving_state}
 use Rattle.qss_coupled.specs.declared.components.Components.{Components}
@@ -79,7 +79,7 @@ module _ {X : Type 0} {g : _} (m : Machine) (name : Option Rule) (tick : ℕ) (s
   pub discretes_many : length w.discretes ≡ discrete_count m
   discretes_many = stands.fits.values.discretes
 
-  moved_stand : StandFor m (tick + 1) (world_after m w 1) (line_at s.parts) (summing_at s.parts) (crossing_at s.parts)
+  moved_stand : ComponentsStandFor m (tick + 1) (world_after m w 1) (line_at s.parts) (summing_at s.parts) (crossing_at s.parts)
   moved_stand = components_move m tick 1 w (line_at s.parts) (summing_at s.parts) (crossing_at s.parts) stands.stand
 
   moved_many : length (moved_states m w) ≡ state_count m

@@ -35,7 +35,7 @@ use Rattle.qss_quiet.proofs.Starts.{levels_at_start, levels_are, levels_start, s
 use Rattle.qss_devs.specs.declared.input.Input.{Input}
 use Rattle.qss_devs.specs.Functions.{Summing}
 use Rattle.qss_devs.specs.Crossings.{Crossing, AreParts}
-use Rattle.qss_devs.specs.Agreement.{HasEach, Moving, moving_of, entry_of, InputAgrees, LineAgrees, SummingAgrees, CrossingAgrees, StandFor}
+use Rattle.qss_devs.specs.Agreement.{HasEach, Moving, moving_of, entry_of, InputAgrees, LineAgrees, SummingAgrees, CrossingAgrees, ComponentsStandFor}
 use Rattle.qss_devs.proofs.Inputs.{IsGiven, scaled_small}
 use Rattle.qss_devs.proofs.Moving.{no_ticks}
 use Rattle.qss_devs.proofs.Variables.{moving_state, moving_discrete, moving_before}
@@ -225,7 +225,7 @@ module _ (m : Machine) where
       ((j : ℕ) → j < state_count m → line j ≡ first_line (start_values m) j) →
       ((j : ℕ) → j < state_count m → s j ≡ first_summing (start_values m) j) →
       ((place : ℕ) → place < length (conditions m) → c place ≡ first_crossing m (start_values m) place (condition_at m place)) →
-      StandFor m 0 (start_world m) line s c
+      ComponentsStandFor m 0 (start_world m) line s c
   begun_stand line s c lines functions crossings = record {
     agree = record {
       integrators = λ j h. subst (LineAgrees 0 (start_values m) j) (sym (lines j h)) (line_agrees j);

@@ -22,7 +22,7 @@ use Rattle.qss_quiet.proofs.Silences.{quiet_worlds, quiet_leads, arrived_then}
 use Rattle.qss_devs.specs.declared.integrator_model.IntegratorModel.{IntegratorModel}
 use Rattle.qss_devs.specs.Integrators.{IsLineNext}
 use Rattle.qss_devs.specs.Crossings.{IsCrossingNext}
-use Rattle.qss_devs.specs.Agreement.{AreNext, StandFor}
+use Rattle.qss_devs.specs.Agreement.{AreNext, ComponentsStandFor}
 use Rattle.qss_devs.proofs.Standing.{components_move, components_stand}
 use Rattle.qss_coupled.specs.declared.store.Store.{Store}
 use Rattle.qss_coupled.specs.Coupling.{line_at, summing_at, crossing_at}
@@ -117,7 +117,7 @@ module _ {X : Type 0} {g : _} (m : Machine) (name : Option Rule) (tick : ℕ) (s
       let same = world_then ticks arrived is in
       record {
         fits = fits_then arrived (ap length is ∙ many ticks);
-        stand = subst (λ (v : World). StandFor m (tick + ticks) v (line_at s.parts) (summing_at s.parts) (crossing_at s.parts)) (sym same)
+        stand = subst (λ (v : World). ComponentsStandFor m (tick + ticks) v (line_at s.parts) (summing_at s.parts) (crossing_at s.parts)) (sym same)
             (components_move m tick ticks (world_of tick s) (line_at s.parts) (summing_at s.parts) (crossing_at s.parts) stands.stand);
         left = record { one_each = stands.left.one_each; small_levels = stands.left.small_levels; light = stands.left.light };
         settled = still_settled ticks before dues ∙ ap (λ (v : World). truths m v.states s.work.d (tick + ticks)) (sym same);

@@ -25,7 +25,7 @@ use Rattle.qss_devs.specs.declared.integrator_model.IntegratorModel.{IntegratorM
 use Rattle.qss_devs.specs.Integrators.{IsLineNext}
 use Rattle.qss_devs.specs.Crossings.{Crossing, IsCrossingNext}
 use Rattle.qss_devs.specs.Models.{summing_of, crossing_of}
-use Rattle.qss_devs.specs.Agreement.{StandFor}
+use Rattle.qss_devs.specs.Agreement.{ComponentsStandFor}
 use Rattle.qss_devs.proofs.Leaving.{near_later}
 use Rattle.qss_devs.proofs.Moving.{no_ticks}
 use Rattle.qss_devs.proofs.Standing.{crossings_tell}
@@ -71,7 +71,7 @@ module _ {X : Type 0} {g : _} (m : Machine) (q : Quantizer X g) (s : Store X g) 
       let inside : place < length s.parts.crossings.items = omega (arith, h, first.parts.crossings) in
       mapped_at crossing_of s.parts.crossings.items place no_crossing (first_crossing m (start_values m) place (condition_at m place)) inside (λ d. (first.crossings place d inside).crossing)
 
-  stand : StandFor m 0 (start_world m) (line_at s.parts) (summing_at s.parts) (crossing_at s.parts)
+  stand : ComponentsStandFor m 0 (start_world m) (line_at s.parts) (summing_at s.parts) (crossing_at s.parts)
   stand = begun_stand m (line_at s.parts) (summing_at s.parts) (crossing_at s.parts) line_first summing_first crossing_first
 
   states_count : length (start_states m) ≡ state_count m
@@ -157,7 +157,7 @@ module _ {X : Type 0} {g : _} (m : Machine) (q : Quantizer X g) (s : Store X g) 
   pub first_stands : Stands m q.name 0 s
   first_stands = record {
     fits = fits;
-    stand = subst (λ (w : World). StandFor m 0 w (line_at s.parts) (summing_at s.parts) (crossing_at s.parts)) (sym first_world) stand;
+    stand = subst (λ (w : World). ComponentsStandFor m 0 w (line_at s.parts) (summing_at s.parts) (crossing_at s.parts)) (sym first_world) stand;
     left = record {
       one_each = ap length levels_are ∙ count_start m;
       small_levels = λ j h. subst (λ l. IsWithin 43 (int_at l j)) (sym levels_are) (levels_start m j (pos 0) (omega (arith, h, count_start m)));

@@ -23,7 +23,7 @@ use Rattle.qss_quiet.proofs.Quiet.{int_at-tabulate}
 use Rattle.qss_quiet.proofs.Ranges.{none_passes}
 use Rattle.qss_devs.specs.declared.crossing_model.CrossingModel.{CrossingModel}
 use Rattle.qss_devs.specs.declared.integrator_model.IntegratorModel.{IntegratorModel}
-use Rattle.qss_devs.specs.Agreement.{Values, StandFor}
+use Rattle.qss_devs.specs.Agreement.{Values, ComponentsStandFor}
 use Rattle.qss_devs.specs.Crossings.{Crossing}
 use Rattle.qss_devs.specs.Models.{crossing_of}
 use Rattle.qss_devs.specs.Laws.{rows_told}
@@ -110,7 +110,7 @@ map_crossings f (c ∷ xs) = ap (λ rest. f (crossing_of c) ∷ rest) (map_cross
 
 -- they hold as the crossings say that change only later
 pub settled_are : {X : Type 0} {g : _} (m : Machine) (tick : ℕ) (w : World) (parts : Components X g) → AreComponents m parts → tick ≤ tick_limit → length w.states ≡ state_count m → length w.discretes ≡ discrete_count m →
-    StandFor m tick w (line_at parts) (summing_at parts) (crossing_at parts) → CrossingsLater m tick (crossing_at parts) →
+    ComponentsStandFor m tick w (line_at parts) (summing_at parts) (crossing_at parts) → CrossingsLater m tick (crossing_at parts) →
     map (λ (c : CrossingModel). compares c.watch.rel c.watch.value) parts.crossings.items ≡ truths m w.states w.discretes tick
 settled_are {X} {g} m tick w parts are in_time states discretes stand later =
     map_crossings (λ (c : Crossing). compares c.watch.rel c.watch.value) parts.crossings.items

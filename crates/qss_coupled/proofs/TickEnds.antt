@@ -18,7 +18,7 @@ use Rattle.qss_quiet.proofs.Quiet.{int_at-tabulate}
 use Rattle.qss_quiet.proofs.Ranges.{none_passes}
 use Rattle.qss_quiet.proofs.Overs.{all_within}
 use Rattle.qss_devs.specs.declared.crossing_model.CrossingModel.{CrossingModel}
-use Rattle.qss_devs.specs.Agreement.{Values, HasEach, StandFor}
+use Rattle.qss_devs.specs.Agreement.{Values, HasEach, ComponentsStandFor}
 use Rattle.qss_devs.specs.Laws.{rows_told}
 use Rattle.qss_devs.proofs.Sent.{settled_stand, no_row}
 use Rattle.qss_coupled.specs.declared.components.Components.{Components}
@@ -106,7 +106,7 @@ module _ {X : Type 0} {g : _} (m : Machine) (name : Option Rule) (tick : ℕ) (w
               subst (IsWithin 88) (sym (int_at-tabulate (state_count m) (λ j. slope_at m j taken.levels handled.discretes) j inside))
               (light_slope m j taken.levels handled.discretes (none_passes no_row (is_overweight m taken.levels handled.discretes) m.rows none_heavy j (omega (arith, inside, m.has_rows.one_each))))
 
-          pub ended_stand : StandFor m tick ended (line_at parts) (summing_at parts) (crossing_at parts)
+          pub ended_stand : ComponentsStandFor m tick ended (line_at parts) (summing_at parts) (crossing_at parts)
           ended_stand =
               (settled_stand m tick ended slopes (line_at parts) (summing_at parts) (crossing_at parts)
               (record { states = states_many; slopes = length-map-range_with_len (λ j. slope_at m j taken.levels handled.discretes) 0 (state_count m); levels = taken.allowed.one_each; discretes = discretes_many })

@@ -10,7 +10,7 @@ use Rattle.qss_hand.specs.Works.{AreValuesOf, row_room}
 use Rattle.qss_quiet.specs.Skips.{IsLeft}
 use Rattle.qss_quiet.specs.Sims.{slopes_of}
 use Rattle.qss_devs.specs.Crossings.{Crossing, IsCrossingNext}
-use Rattle.qss_devs.specs.Agreement.{Values, HasEach, StandFor}
+use Rattle.qss_devs.specs.Agreement.{Values, HasEach, ComponentsStandFor}
 use Rattle.qss_coupled.specs.declared.components.Components.{Components}
 use Rattle.qss_coupled.specs.declared.store.Store.{Store}
 use Rattle.qss_coupled.specs.Coupling.{line_at, summing_at, crossing_at, AreComponents, AreRuled, AreReady, LinesLater}
@@ -51,7 +51,7 @@ CrossingsLater m tick c = (place next : ℕ) → place < length (conditions m) �
 -- a coupled model stands for its world at a tick: so do its components, whose next transitions are all still to come
 pub record Stands {X : Type 0} {g : _} (m : Machine) (name : Option Rule) (tick : ℕ) (s : Store X g) : Type 0 where
   pub fits : FitsMachine m name s
-  pub stand : StandFor m tick (world_of tick s) (line_at s.parts) (summing_at s.parts) (crossing_at s.parts)
+  pub stand : ComponentsStandFor m tick (world_of tick s) (line_at s.parts) (summing_at s.parts) (crossing_at s.parts)
   pub left : IsLeft m (world_of tick s)
   pub settled : s.truths.settled.items ≡ truths m (world_of tick s).states s.work.d tick
   pub lines : LinesLater m tick (line_at s.parts)

@@ -90,7 +90,7 @@ pub record Agree (m : Machine) (tick : ℕ) (v : Values) (line : ℕ → Line) (
   pub crossings : (place : ℕ) → place < length (conditions m) → CrossingAgrees m tick v place (condition_at m place) (c place)
 
 -- components that stand for a world at a tick: they agree with it, and no function has a sum to send
-pub record StandFor (m : Machine) (tick : ℕ) (w : World) (line : ℕ → Line) (s : ℕ → Summing) (c : ℕ → Crossing) : Type 0 where
+pub record ComponentsStandFor (m : Machine) (tick : ℕ) (w : World) (line : ℕ → Line) (s : ℕ → Summing) (c : ℕ → Crossing) : Type 0 where
   pub agree : Agree m tick (values_of m w) line s c
   pub sent : (j : ℕ) → j < state_count m → (s j).changed ≡ None
 

@@ -10,7 +10,7 @@ use Rattle.qss_machine.specs.Ticks.{World}
 use Rattle.qss_quiet.specs.Skips.{IsLeft}
 use Rattle.qss_quiet.proofs.Overs.{not_some, clash}
 use Rattle.qss_devs.specs.declared.crossing_model.CrossingModel.{CrossingModel}
-use Rattle.qss_devs.specs.Agreement.{StandFor}
+use Rattle.qss_devs.specs.Agreement.{ComponentsStandFor}
 use Rattle.qss_coupled.specs.declared.components.Components.{Components}
 use Rattle.qss_coupled.specs.declared.store.Store.{Store}
 use Rattle.qss_coupled.specs.Coupling.{line_at, summing_at, crossing_at}
@@ -251,7 +251,7 @@ returns-clause-stands g c calm =
         settled = ap length c.settle.ensures.settled ∙ length-map c.as_slice.result.now (λ (k : CrossingModel). compares k.watch.rel k.watch.value) ∙ ap length c.as_slice.ensures.value ∙ are.crossings;
         row_room = omega (arith, h.fits.row_room, c.take_levels-over.ensures.room, c.note_rows.ensures.room);
       };
-      stand = subst (λ (u : World). StandFor m tick u (line_at parts) (summing_at parts) (crossing_at parts)) (sym world_is) (ended_stand m name tick w s h leveled rows after over taken none parts heavy sent light are ready);
+      stand = subst (λ (u : World). ComponentsStandFor m tick u (line_at parts) (summing_at parts) (crossing_at parts)) (sym world_is) (ended_stand m name tick w s h leveled rows after over taken none parts heavy sent light are ready);
       left = subst (IsLeft m) (sym world_is) (ended_left m name tick w s h leveled rows after over taken none parts heavy sent light are ready);
       settled = settled_is
           ∙ ap (λ (xs : List ℤ). truths m xs last.discretes tick) (sym states_is)
