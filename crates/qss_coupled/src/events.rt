@@ -10,13 +10,13 @@ ghost use Rattle.qss_quiet.specs.Events.{IsNext};
 ghost use Rattle.qss_quiet.specs.Outcomes.{tick_of, end_of};
 ghost use Rattle.qss_coupled.specs.Calls.{standing_of};
 
-use crate::ends::{set_overflow_row, set_world_rows};
+use crate::ends::set_world_rows;
 use crate::jump::go_to_visit;
 use crate::store::Store;
 use qss_hand::Work;
 use qss_machine::{Machine, RowKind};
 use qss_quant::Quantizer;
-use qss_quiet::Outcome;
+use qss_quiet::{Outcome, set_overflow_row};
 
 /// Goes on to the next tick with rows, to an overflow, or to the last tick.
 pub(crate) fn go_on(m: &Machine, q: &Quantizer, from: u64, s: &mut Store) -> Outcome

@@ -1,14 +1,13 @@
 //! The values of variables at the start.
 
-ghost use Rattle.std.specs.Prelude.{◌≡◌, ◌<◌, pos, ◌<ℤ◌, map, length, IfOk};
-ghost use Rattle.mu_num.specs.Sizes.{IsWithin};
+ghost use Rattle.std.specs.Prelude.{◌≡◌, ◌<◌, map, length, IfOk};
 ghost use Rattle.qss_machine.specs.Limits.{level_below};
 ghost use Rattle.qss_machine.specs.Numbers.{int_at, tabulate};
 ghost use Rattle.qss_machine.specs.Machines.{state_count, level_unit, slope_at, start_states, start_discretes};
 ghost use Rattle.qss_coupled.specs.Starts.{values_in, start_values};
 
-use mu_num::floor_div;
 use qss_machine::Machine;
+use qss_quiet::start_levels;
 use std::alloc::{AllocError, Global};
 
 /// What the variables of a machine are at the start.
@@ -56,29 +55,6 @@ impl StartValues {
     {
         self.discretes.as_slice()[g]
     }
-}
-
-// The greatest level at most a state.
-fn start_level(x0: i128, unit: i128) -> i64
-    requires unit { pos 0 <ℤ unit }
-    requires small { IsWithin 43 (level_below unit x0) }
-    ensures { result ≡ level_below unit x0 }
-{
-    floor_div(x0, unit) as i64
-}
-
-// The levels at the start.
-fn start_levels(alloc: Global, m: &Machine) -> Result<Vec<i64>, AllocError>
-    ensures { IfOk result (λ levels.
-        levels.items ≡ map (level_below (level_unit m.now)) (start_states m.now)) }
-{
-    let unit = m.level_unit();
-    let states = m.states.as_slice();
-    let mut levels: Vec<i64> = Vec::with_capacity(alloc, states.len())?;
-    for j in 0..states.len() {
-        levels.push_reserved(start_level(states[j].x0, unit));
-    }
-    Ok(levels)
 }
 
 // The slopes at the start.

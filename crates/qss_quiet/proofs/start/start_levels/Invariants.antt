@@ -3,7 +3,7 @@ use Rattle.std.specs.Prelude.{vec_len, vec_capacity}
 use Rattle.qss_machine.specs.declared.parts.StateInfo.{StateInfo}
 use Rattle.qss_machine.specs.Limits.{level_below}
 use Rattle.qss_machine.specs.Machines.{level_unit}
-use Rattle.qss_coupled.proofs.start_values.start_levels.Given as goal
+use Rattle.qss_quiet.proofs.start.start_levels.Given as goal
 
 -- the levels so far
 abbrev pub invariant-loop-j : goal.invariant-loop-j

@@ -7,7 +7,7 @@ use Rattle.qss_machine.specs.declared.parts.StateInfo.{StateInfo}
 use Rattle.qss_machine.specs.Limits.{level_below}
 use Rattle.qss_machine.specs.Machines.{level_unit}
 use Rattle.qss_quiet.proofs.Starts.{levels_more, levels_all}
-use Rattle.qss_coupled.proofs.start_values.start_levels.Goals as goal
+use Rattle.qss_quiet.proofs.start.start_levels.Goals as goal
 use mir.Syntax.{w64, w128}
 
 pub loop-j-preserved : goal.loop-j-preserved

@@ -2,7 +2,7 @@ use Rattle.std.proofs.Common.{◌≡◌, ◌+◌, ◌++◌, map}
 use Rattle.std.specs.List.{range_with_len}
 use Rattle.std.specs.Prelude.{vec_len, vec_capacity}
 use Rattle.qss_quiet.proofs.EndRows.{discrete_row}
-use Rattle.qss_run.proofs.ends.add_discretes.Given as goal
+use Rattle.qss_quiet.proofs.ends.add_discretes.Given as goal
 
 -- the rows so far
 abbrev pub invariant-loop-g : goal.invariant-loop-g

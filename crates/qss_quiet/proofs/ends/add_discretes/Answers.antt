@@ -5,7 +5,7 @@ use Rattle.std.specs.Int.RustNames.{FitsSigned}
 use Rattle.qss_machine.specs.declared.rows.Row.{Row}
 use Rattle.qss_machine.specs.Numbers.{int_at}
 use Rattle.qss_quiet.proofs.EndRows.{discrete_row, row_more}
-use Rattle.qss_run.proofs.ends.add_discretes.Goals as goal
+use Rattle.qss_quiet.proofs.ends.add_discretes.Goals as goal
 use mir.Syntax.{w64}
 
 pub loop-g-preserved : goal.loop-g-preserved
