@@ -1,5 +1,4 @@
 pub mod Begun
-pub mod Readers
 pub mod ToldAgain
 pub mod Telling
 pub mod ToldParts

@@ -30,7 +30,7 @@ use Rattle.qss_devs.specs.Laws.{goes_to_integrator, goes_to_function, goes_to_cr
 use Rattle.qss_coupled.specs.declared.components.Components.{Components}
 use Rattle.qss_coupled.specs.Coupling.{no_line, no_summing, no_crossing, line_at, summing_at, crossing_at, IsIntegratorOf, AreComponents, IsSummingReady, IsCrossingReady, AreReady, IsGivenLine, IsOfLine, IsOfLevel, IsOfDiscrete, AreTold}
 use Rattle.qss_coupled.proofs.ToldAgain.{summing_ready_given, crossing_ready_given, line_ready_given, told_twice}
-use Rattle.qss_coupled.proofs.Readers.{among_conditions}
+use Rattle.qss_quiet.proofs.Readers.{among_conditions}
 use Rattle.qss_coupled.proofs.Telling.{functions_by, crossings_by, crossings_by_two}
 
 -- ---- where a message about a state goes

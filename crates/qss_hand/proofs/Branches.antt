@@ -1,17 +1,22 @@
 -- The conditions of branches, clause by clause.
-use Rattle.std.proofs.Common.{◌≡◌, ℕ, zero, suc, ◌+◌, ◌-◌, ◌<◌, List, [], ◌∷◌, length, get_or, map, take, ◌∙◌, ap, arith}
+use Rattle.std.proofs.Common.{◌≡◌, ℕ, zero, suc, ◌+◌, ◌-◌, ◌<◌, List, [], ◌∷◌, length, get_or, map, take, pos, ◌∙◌, ap, arith}
 use Rattle.std.proofs.lemmas.List.{get_or-map, get_or_append_left, get_or-append_right, length-map}
 use Rattle.std.proofs.lemmas.List.Sums.{sum_by-cons}
 use Rattle.std.specs.List.{flat_map, sum_by}
 use Rattle.qss_machine.specs.declared.parts.BranchInfo.{BranchInfo}
 use Rattle.qss_machine.specs.declared.parts.ClauseInfo.{ClauseInfo}
 use Rattle.qss_machine.specs.declared.parts.Condition.{Condition}
+use Rattle.qss_machine.specs.declared.parts.Rel.TheVariants.{Less}
 
 abbrev pub width_of : ClauseInfo → ℕ
 width_of clause = length clause.branches
 
 abbrev pub conditions_of : ClauseInfo → List Condition
 conditions_of clause = map (λ (b : BranchInfo). b.condition) clause.branches
+
+-- what stands past the end of branches
+abbrev pub no_branch : BranchInfo
+no_branch = record { condition = record { form = record { entries = []; time = pos 0; gamma = pos 0 }; rel = Less }; actions = [] }
 
 -- a condition by its clause and branch
 pub condition_by : (clauses : List ClauseInfo) (i b : ℕ) (d : ClauseInfo) (db : BranchInfo) (dc : Condition) → i < length clauses → b < width_of (get_or clauses i d) →

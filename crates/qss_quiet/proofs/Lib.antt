@@ -27,3 +27,5 @@ pub mod NextLevels
 pub mod NamedRows
 pub mod Risen
 pub mod Overs
+pub mod Readers
+pub mod SomeRows

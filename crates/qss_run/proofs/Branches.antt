@@ -6,7 +6,6 @@ use Rattle.std.proofs.lemmas.List.FromFn.{length-map-range_with_len, get_or-map-
 use Rattle.std.proofs.lemmas.List.Sums.{sum_by_more, sum_by-take-le}
 use Rattle.std.specs.List.{sum_by, range_with_len}
 use Rattle.std.specs.Prelude.{slice_index_or}
-use Rattle.qss_machine.specs.declared.parts.BranchInfo.{BranchInfo}
 use Rattle.qss_machine.specs.declared.parts.Rel.TheVariants.{Less}
 use Rattle.qss_machine.specs.declared.system.Machine.{Machine}
 use Rattle.qss_hand.specs.Works.{clause_at}
@@ -14,7 +13,7 @@ use Rattle.qss_run.specs.declared.conditions.BranchPlace.{BranchPlace}
 use Rattle.qss_run.specs.Places.{IsBranchOf}
 use Rattle.qss_quiet.specs.Sims.{condition_at}
 use Rattle.qss_hand.proofs.Turns.{length-conditions, conditions_few}
-use Rattle.qss_hand.proofs.Branches.{width_of, condition_by}
+use Rattle.qss_hand.proofs.Branches.{width_of, condition_by, no_branch}
 
 abbrev pub place_of : ℕ → ℕ → BranchPlace
 place_of clause branch = record { clause = clause; branch = branch }
@@ -22,14 +21,10 @@ place_of clause branch = record { clause = clause; branch = branch }
 abbrev pub place_at : List BranchPlace → ℕ → BranchPlace
 place_at branches place = slice_index_or branches place (record { clause = 0; branch = 0 })
 
-no_branch : BranchInfo
-no_branch = record { condition = record { form = record { entries = []; time = pos 0; gamma = pos 0 }; rel = Less }; actions = [] }
-
 -- the branches of one more clause
 pub branches_more : (m : Machine) (i : ℕ) (found next : List BranchPlace) → i < length m.clauses → length found ≡ sum_by width_of (take i m.clauses) →
     next ≡ found ++ map (place_of i) (range_with_len 0 (width_of (clause_at m i))) →
     ((place : ℕ) → place < length found → IsBranchOf m (place_at found place) place) → (place : ℕ) → place < length next → IsBranchOf m (place_at next place) place
-unfolding no_branch
 branches_more m i found next h many is before place inside = elim (cases_lt place (length found)) [ inl below ↦ old below | inr past ↦ new past ]
   where
     none : BranchPlace

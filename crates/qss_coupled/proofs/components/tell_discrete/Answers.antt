@@ -11,7 +11,7 @@ use Rattle.qss_devs.specs.declared.function_model.FunctionModel.{FunctionModel}
 use Rattle.qss_devs.specs.Models.{summing_of, crossing_of}
 use Rattle.qss_coupled.specs.Coupling.{IsSummingReady, IsCrossingReady}
 use Rattle.qss_coupled.proofs.OwnTurns.{functions_are_ready, crossings_are_ready}
-use Rattle.qss_coupled.proofs.Readers.{reading_numbers, condition_numbers}
+use Rattle.qss_quiet.proofs.Readers.{reading_numbers, condition_numbers}
 use Rattle.qss_coupled.proofs.Telling.{functions_moved, crossings_moved, crossings_again}
 use Rattle.qss_coupled.proofs.ToldParts.{told_discrete}
 use Rattle.qss_coupled.proofs.components.tell_discrete.Goals as goal

@@ -8,7 +8,7 @@ use Rattle.qss_devs.specs.declared.function_model.FunctionModel.{FunctionModel}
 use Rattle.qss_devs.specs.Models.{summing_of}
 use Rattle.qss_coupled.specs.Coupling.{IsSummingReady}
 use Rattle.qss_coupled.proofs.OwnTurns.{functions_are_ready}
-use Rattle.qss_coupled.proofs.Readers.{reading_numbers}
+use Rattle.qss_quiet.proofs.Readers.{reading_numbers}
 use Rattle.qss_coupled.proofs.Telling.{functions_moved}
 use Rattle.qss_coupled.proofs.ToldParts.{told_level}
 use Rattle.qss_coupled.proofs.components.tell_level.Goals as goal

@@ -11,7 +11,7 @@ use Rattle.qss_devs.specs.Integrators.{IsLineNext}
 use Rattle.qss_devs.specs.Models.{crossing_of}
 use Rattle.qss_coupled.specs.Coupling.{IsCrossingReady, IsGivenLine}
 use Rattle.qss_coupled.proofs.OwnTurns.{integrators_timely, integrators_own, crossings_are_ready}
-use Rattle.qss_coupled.proofs.Readers.{condition_numbers}
+use Rattle.qss_quiet.proofs.Readers.{condition_numbers}
 use Rattle.qss_coupled.proofs.Telling.{crossings_moved}
 use Rattle.qss_coupled.proofs.ToldParts.{told_line}
 use Rattle.qss_coupled.proofs.components.tell_line.Goals as goal

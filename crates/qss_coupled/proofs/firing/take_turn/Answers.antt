@@ -1,23 +1,20 @@
 -- The first due branch fires, and without one nothing changes.
-use Rattle.std.proofs.Common.{◌≡◌, ◌+◌, ◌≤◌, false, length, List, Bool, pos, [], sym, ◌∙◌, ap, arith}
+use Rattle.std.proofs.Common.{◌≡◌, ◌+◌, ◌≤◌, false, length, List, Bool, pos, sym, ◌∙◌, ap, arith}
 use Rattle.std.proofs.lemmas.List.Quantifiers.{position-Some}
 use Rattle.std.proofs.lemmas.List.Sums.{get_or-le-sum_by}
 use Rattle.std.specs.List.{position}
 use Rattle.std.specs.Prelude.{Some, None}
 use Rattle.qss_machine.specs.declared.parts.Action.{Action}
 use Rattle.qss_machine.specs.declared.parts.BranchInfo.{BranchInfo}
-use Rattle.qss_machine.specs.declared.parts.Rel.TheVariants.{Less}
 use Rattle.qss_machine.specs.Handlers.{Handling, due_flags, run_branch, run_first_due}
 use Rattle.qss_hand.specs.Values.{Values}
 use Rattle.qss_hand.specs.Works.{handling_of, values_after, clause_at, branch_at}
 use Rattle.qss_hand.proofs.Turns.{first_fires, none_due}
+use Rattle.qss_hand.proofs.Branches.{no_branch}
 use Rattle.qss_quiet.proofs.Flags.{length-due_flags}
 use Rattle.qss_coupled.specs.Flags.{flags_from}
 use Rattle.qss_coupled.proofs.DueFlags.{length-flags, none_set}
 use Rattle.qss_coupled.proofs.firing.take_turn.Goals as goal
-
-abbrev no_branch : BranchInfo
-no_branch = record { condition = record { form = record { entries = []; time = pos 0; gamma = pos 0 }; rel = Less }; actions = [] }
 
 pub first_due-requires-clause-inside : goal.first_due-requires-clause-inside
 first_due-requires-clause-inside c = omega (arith, c.branch_count-count.ensures, c.requires.inside)

@@ -1,7 +1,6 @@
 -- The rows and the conditions that read a variable, by their numbers.
-use Rattle.std.proofs.Common.{◌≡◌, ℕ, zero, suc, ◌+◌, ◌<◌, ◌≤◌, Bool, true, false, List, [], ◌∷◌, length, get_or, All, pos, sym, ◌∙◌, ap, subst, arith, inl, inr}
+use Rattle.std.proofs.Common.{◌≡◌, ℕ, zero, suc, ◌+◌, ◌<◌, Bool, true, false, List, [], ◌∷◌, length, get_or, All, pos, sym, ◌∙◌, ap, subst, arith, inl, inr}
 use Rattle.std.proofs.lemmas.Bool.{cases_lt}
-use Rattle.std.proofs.lemmas.List.Elements.{All-nil, All-cons}
 use Rattle.std.specs.List.Sorted.{IsStrictlyIncreasing}
 use Rattle.std.specs.Prelude.{if◌then◌else◌}
 use Rattle.qss_machine.specs.declared.parts.Condition.{Condition}
@@ -13,7 +12,7 @@ use Rattle.qss_machine.specs.Uses.{row_reads, condition_reads, places_from, read
 use Rattle.qss_quiet.specs.Among.{is_among, AreNumbers}
 use Rattle.qss_quiet.specs.Sims.{condition_at}
 use Rattle.qss_quiet.proofs.Among.{before_first, place_among}
-use Rattle.qss_quiet.proofs.KeptReaders.{rows_known}
+use Rattle.qss_quiet.proofs.KeptReaders.{rows_known, places_below}
 use Rattle.qss_quiet.proofs.Writes.{among_at}
 
 rising_cons : (x : ℕ) (xs : List ℕ) → (0 < length xs → x < get_or xs 0 0) → IsStrictlyIncreasing xs → IsStrictlyIncreasing (x ∷ xs)
@@ -23,7 +22,7 @@ rising_cons x xs head rest (suc k) h =
     let e : suc k + 1 ≡ suc (k + 1) = omega arith in
     subst (λ (i : ℕ). get_or xs k 0 < get_or (x ∷ xs) i 0) (sym e) next
 
-places_rise : {X : Type 0} (test : X → Bool) (i : ℕ) (xs : List X) → IsStrictlyIncreasing (places_from test i xs)
+pub places_rise : {X : Type 0} (test : X → Bool) (i : ℕ) (xs : List X) → IsStrictlyIncreasing (places_from test i xs)
 places_rise test i [] = λ k h. absurd (omega (arith, h))
 places_rise test i (x ∷ xs) = by_test (test x) (places_rise test (i + 1) xs)
   where
@@ -41,15 +40,6 @@ places_rise test i (x ∷ xs) = by_test (test x) (places_rise test (i + 1) xs)
     by_test : (b : Bool) → IsStrictlyIncreasing (places_from test (i + 1) xs) → IsStrictlyIncreasing (if b then i ∷ places_from test (i + 1) xs else places_from test (i + 1) xs)
     by_test true rest = rising_cons i (places_from test (i + 1) xs) after rest
     by_test false rest = rest
-
-if_below : (n : ℕ) (b : Bool) (first : ℕ) (rest : List ℕ) → first < n → All (λ k. k < n) rest → All (λ k. k < n) (if b then first ∷ rest else rest)
-if_below n true first rest h all = All-cons (λ k. k < n) first rest h all
-if_below n false first rest h all = all
-
-places_below : {X : Type 0} (test : X → Bool) (first n : ℕ) (xs : List X) → first + length xs ≤ n → All (λ k. k < n) (places_from test first xs)
-places_below test first n [] h = All-nil (λ k. k < n)
-places_below test first n (x ∷ xs) h =
-    if_below n (test x) first (places_from test (first + 1) xs) (omega (arith, h)) (places_below test (first + 1) n xs (omega (arith, h)))
 
 -- the rows that read a variable rise, and are rows of states
 pub reading_numbers : (m : Machine) (var n : ℕ) → n ≡ state_count m → AreNumbers n (reading_rows m var)
