@@ -14,8 +14,8 @@ ghost use Rattle.qss_coupled.specs.Starts.{start_values, values_in, first_line, 
 use crate::clauses::{branch_count, condition_of};
 use crate::start_values::StartValues;
 use qss_cross::Detector;
-use qss_devs::{CrossingModel, FunctionModel, Input, IntegratorModel, scaled, watch_of};
-use qss_machine::{Condition, Entry, Machine};
+use qss_devs::{CrossingModel, FunctionModel, Input, IntegratorModel, watch_of};
+use qss_machine::{Condition, Entry, Machine, scaled};
 use qss_quant::{Integrator, Quantizer};
 use std::alloc::{AllocError, Global};
 use std::rc::Rc;

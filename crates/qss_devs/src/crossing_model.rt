@@ -10,9 +10,9 @@ ghost use Rattle.qss_devs.specs.Crossings.{IsCrossingNext, input_at, input_given
 use crate::atomic::Atomic;
 use crate::input::Input;
 use crate::message::Message;
-use crate::sums::{form_at, input_at, scaled, speed_by};
+use crate::sums::{form_at, input_at, speed_by};
 use qss_cross::Detector;
-use qss_machine::Machine;
+use qss_machine::{Machine, scaled};
 use std::rc::Rc;
 
 /// A condition as a component: it reads the states, slopes and discrete values that its form names, and sends its truth

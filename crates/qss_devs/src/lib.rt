@@ -21,4 +21,3 @@ pub use laws::{
     named_sends_one, rows_tell_handlers, settled_stand,
 };
 pub use message::Message;
-pub use sums::scaled;
