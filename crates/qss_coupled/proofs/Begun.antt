@@ -1,11 +1,11 @@
 -- The components at the start stand for the world there.
-use Rattle.std.proofs.Common.{◌≡◌, ℕ, ◌+◌, ◌-◌, ◌≤◌, ◌<◌, true, false, ◌⊎◌, List, [], ◌∷◌, ◌++◌, length, get_or, map, take, ℤ, pos, ◌*ℤ◌, unsigned_abs, All, inl, inr, refl, sym, ◌∙◌, ap, subst, arith}
+use Rattle.std.proofs.Common.{◌≡◌, ℕ, ◌+◌, ◌-◌, ◌≤◌, ◌<◌, ◌^◌, true, false, ◌⊎◌, List, [], ◌∷◌, ◌++◌, length, get_or, map, take, ℤ, pos, ◌*ℤ◌, unsigned_abs, All, inl, inr, refl, sym, ◌∙◌, ap, subst, arith}
 use Rattle.std.proofs.lemmas.Bool.{cases_lt}
 use Rattle.std.proofs.lemmas.Bool.Decides.{nat_tests}
 use Rattle.std.proofs.lemmas.Int.{ints}
 use Rattle.std.proofs.lemmas.List.{get_or-map, get_or_append_left, get_or_at, length-append, length-map, take_all}
 use Rattle.std.proofs.lemmas.List.FromFn.{length-map-range_with_len}
-use Rattle.std.proofs.lemmas.List.Sums.{sum_by-cons, sum_by_more, sum_by-take-le}
+use Rattle.std.proofs.lemmas.List.Sums.{sum_by_more, sum_by-take-le}
 use Rattle.std.specs.List.{sum_by}
 use Rattle.std.specs.Prelude.{nat_lt, if◌then◌else◌}
 use Rattle.mu_num.specs.Sizes.{IsWithin}
@@ -34,8 +34,8 @@ use Rattle.qss_quiet.proofs.SlopeSizes.{slope-size}
 use Rattle.qss_quiet.proofs.Starts.{levels_at_start, levels_are, levels_start, states_start, discretes_start, count_start, light_start}
 use Rattle.qss_devs.specs.declared.input.Input.{Input}
 use Rattle.qss_devs.specs.Functions.{Summing}
-use Rattle.qss_devs.specs.Crossings.{Crossing, AreParts}
-use Rattle.qss_devs.specs.Agreement.{HasEach, Moving, moving_of, entry_of, InputAgrees, LineAgrees, SummingAgrees, CrossingAgrees, ComponentsStandFor}
+use Rattle.qss_devs.specs.Crossings.{Crossing, AreParts, entry_of}
+use Rattle.qss_devs.specs.Agreement.{HasEach, Moving, moving_of, InputAgrees, LineAgrees, SummingAgrees, CrossingAgrees, ComponentsStandFor}
 use Rattle.qss_devs.proofs.Inputs.{IsGiven, scaled_small}
 use Rattle.qss_devs.proofs.Moving.{no_ticks}
 use Rattle.qss_devs.proofs.Variables.{moving_state, moving_discrete, moving_before}
@@ -158,22 +158,18 @@ module _ (m : Machine) where
       let inside : k < length entries = omega (arith, h, length-map entries (first_input m (start_values m))) in
       subst (IsGiven m 0) (sym (get_or-map (first_input m (start_values m)) entries k none d inside)) (input_given (get_or entries k none) (known k none inside))
 
-  entry_sizes : (entries : List Entry) → sum_by (λ (i : Input). unsigned_abs i.coef) (map (first_input m (start_values m)) entries) ≡ sum_by (λ (e : Entry). unsigned_abs e.coef) entries
-  entry_sizes [] = refl
-  entry_sizes (entry ∷ entries) =
-      sum_by-cons (λ (i : Input). unsigned_abs i.coef) (first_input m (start_values m) entry) (map (first_input m (start_values m)) entries)
-      ∙ ap (λ n. unsigned_abs entry.coef + n) (entry_sizes entries)
-      ∙ sym (sum_by-cons (λ (e : Entry). unsigned_abs e.coef) entry entries)
-
-  -- the coefficients of the inputs are those of the form
-  pub first_parts : (condition : Condition) → IsBounded condition.form → AreParts (map (first_input m (start_values m)) condition.form.entries) condition.form.time condition.form.gamma
-  first_parts condition bounded = record { coefficients = omega (arith, entry_sizes condition.form.entries, bounded.coefficients); constant = bounded.constant }
-
-  -- ---- components agree
-
   entries_back : (entries : List Entry) → map entry_of (map (first_input m (start_values m)) entries) ≡ entries
   entries_back [] = refl
   entries_back (entry ∷ entries) = ap (λ (es : List Entry). entry ∷ es) (entries_back entries)
+
+  -- the coefficients of the inputs are those of the form
+  pub first_parts : (condition : Condition) → IsBounded condition.form → AreParts (map (first_input m (start_values m)) condition.form.entries) condition.form.time condition.form.gamma
+  first_parts condition bounded = record {
+    coefficients = subst (λ (es : List Entry). sum_by (λ (e : Entry). unsigned_abs e.coef) es + unsigned_abs condition.form.time ≤ 2 ^ 38) (sym (entries_back condition.form.entries)) bounded.coefficients;
+    constant = bounded.constant;
+  }
+
+  -- ---- components agree
 
   pub line_agrees : (j : ℕ) → LineAgrees 0 (start_values m) j (first_line (start_values m) j)
   line_agrees j = record {

@@ -28,8 +28,8 @@ use Rattle.qss_quiet.proofs.Quiet.{int_at-tabulate, tabulate-same}
 use Rattle.qss_quiet.proofs.Silence.{from_later, same_flag}
 use Rattle.qss_devs.specs.declared.input.Input.{Input}
 use Rattle.qss_devs.specs.Integrators.{IsLineNext}
-use Rattle.qss_devs.specs.Crossings.{Crossing, input_at, IsCrossingNext}
-use Rattle.qss_devs.specs.Agreement.{Values, values_of, LineAgrees, Moving, moving_of, CrossingAgrees, entry_of, Agree, ComponentsStandFor}
+use Rattle.qss_devs.specs.Crossings.{Crossing, input_at, IsCrossingNext, entry_of}
+use Rattle.qss_devs.specs.Agreement.{Values, values_of, LineAgrees, Moving, moving_of, CrossingAgrees, Agree, ComponentsStandFor}
 use Rattle.qss_devs.specs.Laws.{values_after, ComponentsStand, ComponentsMove, CrossingsTell}
 use Rattle.qss_devs.proofs.Agreement.{agreement_lasts}
 

@@ -1,10 +1,10 @@
 //! What forms give along the lines of their inputs.
 
-ghost use Rattle.std.specs.Prelude.{◌≡◌, ◌<◌, ◌+◌, ◌*◌, ◌^◌, ◌≤◌, All, ◌*ℤ◌, unsigned_abs, sum_by};
+ghost use Rattle.std.specs.Prelude.{◌≡◌, ◌<◌, ◌+◌, ◌*◌, ◌^◌, ◌≤◌, All, map, ◌*ℤ◌, unsigned_abs, sum_by};
 ghost use Rattle.mu_num.specs.Sizes.{IsWithin};
 ghost use Rattle.qss_machine.specs.Numbers.{sum_over};
 ghost use Rattle.qss_cross.specs.Crossing.{IsSmall};
-ghost use Rattle.qss_devs.specs.Crossings.{input_at, form_at, speed_by, IsInput, AreParts};
+ghost use Rattle.qss_devs.specs.Crossings.{entry_of, input_at, form_at, speed_by, IsInput, AreParts};
 
 use crate::input::Input;
 use qss_machine::{Machine, add_three, constant_part, time_part, weigh};
@@ -87,7 +87,8 @@ pub(crate) fn form_at(m: &Machine, inputs: &[Input], time: i64, gamma: i128, tic
 
 /// How much it changes in a tick.
 pub(crate) fn speed_by(m: &Machine, inputs: &[Input], time: i64) -> i128
-    requires parts { sum_by (λ i. unsigned_abs i.coef) inputs.now + unsigned_abs time ≤ 2 ^ 38 }
+    requires parts { sum_by (λ entry. unsigned_abs entry.coef) (map entry_of inputs.now)
+        + unsigned_abs time ≤ 2 ^ 38 }
     requires slow { All (λ i. IsWithin 88 i.speed) inputs.now }
     ensures value { result ≡ speed_by m.now inputs.now time }
     ensures bound { IsSmall result }
