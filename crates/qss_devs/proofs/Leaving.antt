@@ -14,9 +14,10 @@ use Rattle.qss_quant.specs.declared.rule.Rule.{Rule}
 use Rattle.qss_quant.specs.Lines.{Line, state_at, IsLine, IsNear, IsAway}
 use Rattle.qss_quant.specs.Rules.{IsAnswer}
 use Rattle.qss_quiet.specs.Rules.{IsRuled}
+use Rattle.qss_quiet.specs.Sims.{LeavesAt}
 use Rattle.qss_quiet.proofs.NextLevels.{next_is_near}
 use Rattle.qss_quiet.proofs.Ranges.{near_small}
-use Rattle.qss_devs.specs.Integrators.{LeavesAt, IsLineNext}
+use Rattle.qss_devs.specs.Integrators.{IsLineNext}
 use Rattle.qss_devs.proofs.Ticks.{one_more, first_one}
 
 sum_small : (x s total : ℤ) → total ≡ x +ℤ s → IsWithin 88 x → IsWithin 88 s → IsWithin 89 total

@@ -21,7 +21,8 @@ use Rattle.qss_devs.specs.Functions.{Summing, sum_at, sum_of}
 use Rattle.qss_devs.specs.Agreement.{Values, HasEach, SummingAgrees, Agree}
 use Rattle.qss_devs.specs.Laws.{SettledStand}
 
-abbrev no_row : SlopeRow
+-- what stands past the end of rows
+abbrev pub no_row : SlopeRow
 no_row = record { entries = []; products = []; beta = pos 0 }
 
 module _ (m : Machine) (tick : ℕ) (v : Values) (each : HasEach m v) (j : ℕ) (h : j < state_count m) (s : Summing) (a : SummingAgrees m tick v j s) where

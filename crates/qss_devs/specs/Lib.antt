@@ -5,11 +5,3 @@ pub mod Crossings
 pub mod Models
 pub mod Agreement
 pub mod Laws
-pub mod Starts
-pub mod Coupling
-pub mod Steps
-pub mod Visits
-pub mod Flags
-pub mod Standings
-pub mod Events
-pub mod Calls

@@ -24,3 +24,8 @@ pub mod Writes
 pub mod DueRows
 pub mod DueFirsts
 pub mod NextLevels
+pub mod NamedRows
+pub mod Risen
+pub mod Overs
+pub mod Readers
+pub mod SomeRows

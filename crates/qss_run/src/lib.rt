@@ -15,7 +15,6 @@ mod jump;
 mod levels;
 mod logged;
 mod moment;
-mod outcome;
 mod readers;
 mod reading;
 mod relevel;
@@ -38,5 +37,5 @@ mod watching;
 mod weighing;
 
 pub use course::Course;
-pub use outcome::Outcome;
+pub use qss_quiet::Outcome;
 pub use sim::Sim;

@@ -8,7 +8,7 @@ use Rattle.qss_machine.specs.Ticks.{is_overweight}
 use Rattle.qss_run.specs.Handlings.{AreAssigned}
 use Rattle.qss_quiet.specs.Among.{IsOff}
 use Rattle.qss_quiet.specs.Sims.{weights_at}
-use Rattle.qss_run.proofs.Handled.{not_some}
+use Rattle.qss_quiet.proofs.Overs.{not_some}
 use Rattle.qss_run.proofs.requantized.requantize_handled.Goals as goal
 
 pub reweigh_handled-requires-clause-left : goal.reweigh_handled-requires-clause-left
