@@ -3,7 +3,7 @@ use Rattle.std.proofs.Common.{◌≡◌, ℕ, ◌+◌, ◌-◌, ◌≤◌, ◌<�
 use Rattle.std.proofs.lemmas.Bool.{cases_lt}
 use Rattle.std.proofs.lemmas.Bool.Decides.{nat_tests}
 use Rattle.std.proofs.lemmas.Int.{ints}
-use Rattle.std.proofs.lemmas.List.{get_or-map, get_or_append_left, get_or_at, length-append, length-map, take_all}
+use Rattle.std.proofs.lemmas.List.{get_or-map, length-map, take_all}
 use Rattle.std.proofs.lemmas.List.FromFn.{length-map-range_with_len}
 use Rattle.std.proofs.lemmas.List.Sums.{sum_by_more, sum_by-take-le}
 use Rattle.std.specs.List.{sum_by}
@@ -40,27 +40,7 @@ use Rattle.qss_devs.proofs.Inputs.{IsGiven, scaled_small}
 use Rattle.qss_devs.proofs.Moving.{no_ticks}
 use Rattle.qss_devs.proofs.Variables.{moving_state, moving_discrete, moving_before}
 use Rattle.qss_devs.proofs.Sent.{no_row}
-use Rattle.qss_coupled.specs.Starts.{start_values, first_line, first_summing, first_input, first_crossing, EachAt}
-
--- ---- lists
-
--- one more element that is as its place asks
-pub each_more : {X : Type 0} (P : ℕ → X → Type 0) (n : ℕ) (old new : List X) (x : X) → new ≡ old ++ x ∷ [] → length old ≡ n → EachAt P old → P n x → EachAt P new
-each_more {X} P n old new x is many each own = subst (EachAt P) (sym is) all
-  where
-    all : EachAt P (old ++ x ∷ [])
-    all place d inside = elim (cases_lt place (length old)) [ inl below ↦ before below | inr past ↦ here past ]
-      where
-        before : place < length old → P place (get_or (old ++ x ∷ []) place d)
-        before below = subst (P place) (sym (get_or_append_left old (x ∷ []) d place below)) (each place d below)
-
-        here : length old ≤ place → P place (get_or (old ++ x ∷ []) place d)
-        here past =
-            let same : place ≡ n = omega (arith, inside, many, past, length-append old (x ∷ [])) in
-            subst (λ (k : ℕ). P k (get_or (old ++ x ∷ []) k d)) (sym same) (subst (P n) (sym (get_or_at old x [] d n many)) own)
-
-pub each_none : {X : Type 0} (P : ℕ → X → Type 0) (xs : List X) → xs ≡ [] → EachAt P xs
-each_none {X} P xs none = subst (EachAt P) (sym none) (λ place d inside. absurd (omega (arith, inside)))
+use Rattle.qss_coupled.specs.Starts.{start_values, first_line, first_summing, first_input, first_crossing}
 
 -- ---- values at the start
 

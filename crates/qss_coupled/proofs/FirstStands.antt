@@ -29,9 +29,10 @@ use Rattle.qss_devs.specs.Agreement.{ComponentsStandFor}
 use Rattle.qss_devs.proofs.Leaving.{near_later}
 use Rattle.qss_devs.proofs.Moving.{no_ticks}
 use Rattle.qss_devs.proofs.Standing.{crossings_tell}
+use Rattle.qss_devs.specs.Places.{EachAt}
 use Rattle.qss_coupled.specs.declared.store.Store.{Store}
 use Rattle.qss_coupled.specs.Coupling.{line_at, summing_at, crossing_at, no_summing, no_crossing, AreComponents}
-use Rattle.qss_coupled.specs.Starts.{start_values, first_line, first_summing, first_crossing, IsFirstIntegrator, IsFirstFunction, IsFirstAt, EachAt}
+use Rattle.qss_coupled.specs.Starts.{start_values, first_line, first_summing, first_crossing, IsFirstIntegrator, IsFirstFunction, IsFirstAt}
 use Rattle.qss_coupled.specs.Visits.{states_at, levels_of, world_of, FitsMachine, Stands}
 use Rattle.qss_coupled.proofs.Begun.{begun_stand, line_agrees}
 

@@ -25,10 +25,10 @@ use Rattle.qss_devs.specs.Messages.{IsMessage, IsTimely}
 use Rattle.qss_devs.specs.Integrators.{IsLineNext, line_given}
 use Rattle.qss_devs.specs.Functions.{summing_given}
 use Rattle.qss_devs.specs.Crossings.{Crossing, crossing_given}
-use Rattle.qss_devs.specs.Models.{summing_of, crossing_of}
+use Rattle.qss_devs.specs.Models.{summing_of, crossing_of, IsGivenLine}
 use Rattle.qss_devs.specs.Laws.{goes_to_integrator, goes_to_function, goes_to_crossing, lines_given, functions_given, crossings_given}
 use Rattle.qss_coupled.specs.declared.components.Components.{Components}
-use Rattle.qss_coupled.specs.Coupling.{no_line, no_summing, no_crossing, line_at, summing_at, crossing_at, IsIntegratorOf, AreComponents, IsSummingReady, IsCrossingReady, AreReady, IsGivenLine, IsOfLine, IsOfLevel, IsOfDiscrete, AreTold}
+use Rattle.qss_coupled.specs.Coupling.{no_line, no_summing, no_crossing, line_at, summing_at, crossing_at, IsIntegratorOf, AreComponents, IsSummingReady, IsCrossingReady, AreReady, IsOfLine, IsOfLevel, IsOfDiscrete, AreTold}
 use Rattle.qss_coupled.proofs.ToldAgain.{summing_ready_given, crossing_ready_given, line_ready_given, told_twice}
 use Rattle.qss_quiet.proofs.Readers.{among_conditions}
 use Rattle.qss_coupled.proofs.Telling.{functions_by, crossings_by, crossings_by_two}

@@ -11,7 +11,7 @@ use Rattle.qss_devs.specs.declared.integrator_model.IntegratorModel.{IntegratorM
 use Rattle.qss_devs.specs.declared.message.Message.{Message}
 use Rattle.qss_devs.specs.declared.message.Message.TheVariants.{Slope, State, Level, Discrete, Truth}
 use Rattle.qss_devs.specs.Messages.{IsTimely}
-use Rattle.qss_devs.specs.Integrators.{IsLineNext, line_given}
+use Rattle.qss_devs.specs.Integrators.{IsLineNext}
 use Rattle.qss_devs.specs.Functions.{Summing}
 use Rattle.qss_devs.specs.Crossings.{Crossing, IsCrossingNext, AreSmallAt}
 use Rattle.qss_devs.specs.Models.{summing_of, crossing_of}
@@ -76,13 +76,6 @@ pub record AreReady (m : Machine) (tick : ℕ) (line : ℕ → Line) (s : ℕ �
   pub integrators : (j : ℕ) → j < state_count m → IsTimely (line j).tick (IsLineNext m j (line j)) tick
   pub functions : (j : ℕ) → j < state_count m → IsSummingReady tick (s j)
   pub crossings : (place : ℕ) → place < length (conditions m) → IsCrossingReady m tick (c place)
-
--- an integrator that was given a message
-pub record IsGivenLine {X : Type 0} {g : _} (s : IntegratorModel X g) (tick : ℕ) (message : Message) (t : IntegratorModel X g) : Type 0 where
-  pub machine : t.machine.value ≡ s.machine.value
-  pub rule : t.quantizer.value ≡ s.quantizer.value
-  pub own : t.var ≡ s.var
-  pub line : t.line ≡ line_given s.var s.line tick message
 
 -- a message that tells the slope or the state of a state
 abbrev pub IsOfLine : ℕ → Message → Type 0

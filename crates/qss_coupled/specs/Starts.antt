@@ -1,5 +1,5 @@
 -- The components at the start.
-use Rattle.std.specs.Prelude.{◌≡◌, ℕ, ◌<◌, List, map, length, pos, slice_index_or, None}
+use Rattle.std.specs.Prelude.{◌≡◌, ℕ, List, map, pos, slice_index_or, None}
 use Rattle.qss_machine.specs.declared.parts.Condition.{Condition}
 use Rattle.qss_machine.specs.declared.parts.Entry.{Entry}
 use Rattle.qss_machine.specs.declared.system.Machine.{Machine}
@@ -79,7 +79,3 @@ pub record IsFirstCrossing (m : Machine) (place : ℕ) (condition : Condition) (
 -- that of the condition at a place
 abbrev pub IsFirstAt : Machine → ℕ → CrossingModel → Type 0
 IsFirstAt m place c = IsFirstCrossing m place (condition_at m place) c
-
--- each element of a list is as its place asks
-abbrev pub EachAt : {X : Type 0} → (ℕ → X → Type 0) → List X → Type 0
-EachAt {X} P xs = (place : ℕ) (d : X) → place < length xs → P place (slice_index_or xs place d)

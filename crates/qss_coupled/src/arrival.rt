@@ -17,10 +17,9 @@ ghost use Rattle.qss_coupled.specs.Coupling.{crossing_at, AreComponents};
 ghost use Rattle.qss_coupled.specs.Steps.{Agrees};
 ghost use Rattle.qss_coupled.specs.Visits.{CrossingsLater};
 
-use crate::advance::is_due;
 use crate::components::Components;
 use crate::limits::first_past;
-use qss_devs::{Atomic, CrossingModel, IntegratorModel, Message};
+use qss_devs::{Atomic, CrossingModel, IntegratorModel, Message, is_due};
 use qss_machine::Machine;
 
 // The state to which the line of an integrator leads at a tick.

@@ -1,17 +1,16 @@
 //! The components of a machine, and messages on their way.
 
-ghost use Rattle.std.specs.Prelude.{◌≡◌, ◌<◌, ◌+◌, ◌^◌, length, map, All, slice_index_or, slice_set};
+ghost use Rattle.std.specs.Prelude.{◌≡◌, ◌<◌, ◌+◌, ◌^◌, length, map, All, slice_index_or};
 ghost use Rattle.qss_machine.specs.Machines.{state_count, discrete_count};
 ghost use Rattle.qss_quiet.specs.Among.{AreNumbers};
 ghost use Rattle.qss_quiet.specs.Writes.{IsWritten};
-ghost use Rattle.qss_devs.specs.Messages.{IsMessage, IsTimely};
-ghost use Rattle.qss_devs.specs.Integrators.{IsLineNext};
+ghost use Rattle.qss_devs.specs.Messages.{IsMessage};
 ghost use Rattle.qss_devs.specs.Functions.{summing_given};
 ghost use Rattle.qss_devs.specs.Crossings.{crossing_given};
 ghost use Rattle.qss_devs.specs.Models.{summing_of, crossing_of};
-ghost use Rattle.qss_coupled.specs.Coupling.{line_at, summing_at, crossing_at, no_summing, no_crossing, AreComponents, AreReady, IsSummingReady, IsCrossingReady, IsGivenLine, IsOfLine, IsOfLevel, IsOfDiscrete, AreTold};
+ghost use Rattle.qss_coupled.specs.Coupling.{line_at, summing_at, crossing_at, no_summing, no_crossing, AreComponents, AreReady, IsSummingReady, IsCrossingReady, IsOfLine, IsOfLevel, IsOfDiscrete, AreTold};
 
-use qss_devs::{Atomic, CrossingModel, FunctionModel, IntegratorModel, Message};
+use qss_devs::{Atomic, CrossingModel, FunctionModel, IntegratorModel, Message, tell_integrator};
 use qss_machine::{Machine, Uses};
 
 /// An integrator and a function for each state, a crossing for each condition in source order, and who reads what.
@@ -67,25 +66,6 @@ fn tell_crossings(
     for place in places {
         crossings[*place as usize].external(tick, msg);
     }
-}
-
-// Gives a message to an integrator.
-fn tell_integrator(
-    m: &Machine,
-    integrators: &mut [IntegratorModel],
-    var: u32,
-    tick: u64,
-    msg: Message,
-)
-    requires known { var < length integrators.old }
-    requires machine { All (λ i. i.machine.value ≡ m.now) integrators.old }
-    requires timely { All (λ i. IsTimely i.line.tick
-        (IsLineNext i.machine.value i.var i.line) tick) integrators.old }
-    requires message { IsMessage m.now msg }
-    ensures { (t : _) × (integrators.new ≡ slice_set integrators.old var t)
-        × IsGivenLine (slice_index_or integrators.old var t) tick msg t }
-{
-    integrators[var as usize].external(tick, msg);
 }
 
 // Tells a state or a slope to the state's integrator and to the crossings that read the state.

@@ -1,7 +1,6 @@
 //! The run of a machine as a coupled model of its components, by messages.
 #![tactic(auto)]
 
-mod advance;
 mod arrival;
 mod assigned;
 mod clauses;

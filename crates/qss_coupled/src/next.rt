@@ -10,8 +10,8 @@ ghost use Rattle.qss_devs.specs.Agreement.{AreNext};
 ghost use Rattle.qss_coupled.specs.Coupling.{line_at, crossing_at};
 ghost use Rattle.qss_coupled.specs.Visits.{world_of, Stands};
 
-use crate::advance::least_advance;
 use crate::store::Store;
+use qss_devs::{least_advance, least_leaving};
 use qss_machine::Machine;
 use qss_quant::Quantizer;
 use qss_quiet::has_risen;
@@ -39,7 +39,7 @@ pub(crate) fn next_visit(m: &Machine, q: &Quantizer, tick: u64, s: &Store) -> u6
     let integrators = s.parts.integrators.as_slice();
     let functions = s.parts.functions.as_slice();
     let crossings = s.parts.crossings.as_slice();
-    let first = least_advance(integrators, m.last);
+    let first = least_leaving(integrators, m.last);
     let second = least_advance(functions, first);
     least_advance(crossings, second)
 }

@@ -9,7 +9,8 @@ ghost use Rattle.qss_machine.specs.Machines.{state_count, discrete_count, level_
 ghost use Rattle.qss_machine.specs.Numbers.{int_at};
 ghost use Rattle.qss_devs.specs.Crossings.{input_at, form_at, speed_by, IsInput, AreParts, StaysIfDiscrete};
 ghost use Rattle.qss_devs.specs.Models.{summing_of, crossing_of};
-ghost use Rattle.qss_coupled.specs.Starts.{start_values, values_in, first_line, first_input, entry_at, IsFirstIntegrator, IsFirstFunction, IsFirstAt, EachAt};
+ghost use Rattle.qss_devs.specs.Places.{EachAt};
+ghost use Rattle.qss_coupled.specs.Starts.{start_values, values_in, first_line, first_input, entry_at, IsFirstIntegrator, IsFirstFunction, IsFirstAt};
 
 use crate::clauses::{branch_count, condition_of};
 use crate::start_values::StartValues;

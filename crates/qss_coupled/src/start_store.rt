@@ -5,8 +5,9 @@ ghost use Rattle.qss_machine.specs.declared.rows.RowKind.TheVariants as kind;
 ghost use Rattle.qss_machine.specs.Machines.{compares, start_states, start_discretes};
 ghost use Rattle.qss_machine.specs.Runs.{world_rows};
 ghost use Rattle.qss_machine.specs.Ticks.{start_world};
+ghost use Rattle.qss_devs.specs.Places.{EachAt};
 ghost use Rattle.qss_coupled.specs.Coupling.{AreComponents};
-ghost use Rattle.qss_coupled.specs.Starts.{IsFirstIntegrator, IsFirstFunction, IsFirstAt, EachAt};
+ghost use Rattle.qss_coupled.specs.Starts.{IsFirstIntegrator, IsFirstFunction, IsFirstAt};
 ghost use Rattle.qss_coupled.specs.Visits.{world_of, Stands};
 
 use crate::components::Components;

@@ -5,9 +5,8 @@ ghost use Rattle.qss_devs.specs.declared.message.Message.{Message as Sent};
 ghost use Rattle.qss_devs.specs.Messages.{passes_limit};
 ghost use Rattle.qss_coupled.specs.declared.turn.Turn.TheVariants.{Rests, Passes, Sends};
 
-use crate::advance::is_due;
 use mu_num::passes;
-use qss_devs::{Atomic, Message};
+use qss_devs::{Atomic, Message, is_due};
 
 /// What a model does at a tick.
 #[derive(Clone, Copy)]

@@ -1,4 +1,5 @@
 pub mod Ticks
+pub mod Places
 pub mod Leaving
 pub mod Filled
 pub mod Inputs

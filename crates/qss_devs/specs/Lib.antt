@@ -3,5 +3,6 @@ pub mod Integrators
 pub mod Functions
 pub mod Crossings
 pub mod Models
+pub mod Places
 pub mod Agreement
 pub mod Laws

@@ -2,6 +2,7 @@
 //! other what changes by messages.
 #![tactic(auto)]
 
+mod advance;
 mod atomic;
 mod crossing_model;
 mod function_model;
@@ -9,8 +10,10 @@ mod input;
 mod integrator_model;
 mod laws;
 mod message;
+mod numbered;
 mod sums;
 
+pub use advance::{is_due, least_advance};
 pub use atomic::Atomic;
 pub use crossing_model::{CrossingModel, watch_of};
 pub use function_model::FunctionModel;
@@ -21,3 +24,4 @@ pub use laws::{
     named_sends_one, rows_tell_handlers, settled_stand,
 };
 pub use message::Message;
+pub use numbered::{least_leaving, tell_integrator};

@@ -8,8 +8,8 @@ use Rattle.qss_devs.specs.declared.crossing_model.CrossingModel.{CrossingModel}
 use Rattle.qss_devs.specs.declared.integrator_model.IntegratorModel.{IntegratorModel}
 use Rattle.qss_devs.specs.Messages.{IsTimely}
 use Rattle.qss_devs.specs.Integrators.{IsLineNext}
-use Rattle.qss_devs.specs.Models.{crossing_of}
-use Rattle.qss_coupled.specs.Coupling.{IsCrossingReady, IsGivenLine}
+use Rattle.qss_devs.specs.Models.{crossing_of, IsGivenLine}
+use Rattle.qss_coupled.specs.Coupling.{IsCrossingReady}
 use Rattle.qss_coupled.proofs.OwnTurns.{integrators_timely, integrators_own, crossings_are_ready}
 use Rattle.qss_quiet.proofs.Readers.{condition_numbers}
 use Rattle.qss_coupled.proofs.Telling.{crossings_moved}

@@ -46,10 +46,10 @@ returns-clause-later g c =
     let crossings : All (λ (k : CrossingModel). (next : ℕ) → IsCrossingNext k.watch (Some next) → tick < next) c.as_slice-crossings.result.now =
     subst (All (λ (k : CrossingModel). (next : ℕ) → IsCrossingNext k.watch (Some next) → tick < next)) (sym c.as_slice-crossings.ensures.value)
     (λ place d h n is. stands.crossings place n (omega (arith, h, stands.fits.parts.crossings)) (subst (λ (w : Watch). IsCrossingNext w (Some n)) (sym (watch_of m s.parts stands.fits.parts place d h)) is)) in
-    c.least_advance.ensures.later tick (c.least_advance-second.ensures.later tick (c.least_advance-first.ensures.later tick c.requires.in_time lines) functions) crossings
+    c.least_advance.ensures.later tick (c.least_advance-second.ensures.later tick (c.least_leaving-first.ensures.later tick c.requires.in_time lines) functions) crossings
 
 pub returns-clause-at_most : goal.returns-clause-at_most
-returns-clause-at_most g c = omega (arith, c.least_advance.ensures.within, c.least_advance-second.ensures.within, c.least_advance-first.ensures.within)
+returns-clause-at_most g c = omega (arith, c.least_advance.ensures.within, c.least_advance-second.ensures.within, c.least_leaving-first.ensures.within)
 
 pub returns-clause-lines : goal.returns-clause-lines
 returns-clause-lines g c j n h is =
@@ -58,7 +58,7 @@ returns-clause-lines g c j n h is =
     let parts = c.requires.stands.fits.parts in
     let inside : j < length s.parts.integrators.items = omega (arith, h, parts.integrators) in
     let d : IntegratorModel _ _ = some_element s.parts.integrators.items j inside in
-    let before = subst (All (λ (i : IntegratorModel _ _). (next : ℕ) → IsLineNext i.machine.value i.var i.line (Some next) → c.least_advance-first.result ≤ next)) c.as_slice-integrators.ensures.value c.least_advance-first.ensures.not_past in
+    let before = subst (All (λ (i : IntegratorModel _ _). (next : ℕ) → IsLineNext i.machine.value i.var i.line (Some next) → c.least_leaving-first.result ≤ next)) c.as_slice-integrators.ensures.value c.least_leaving-first.ensures.not_past in
     omega (arith, before j d inside n (of_line m s.parts parts j d (Some n) inside is), c.least_advance.ensures.within, c.least_advance-second.ensures.within)
 
 pub returns-clause-crossings : goal.returns-clause-crossings
@@ -78,7 +78,7 @@ returns-clause-dues g c more =
     let stands = c.requires.stands in
     let parts = stands.fits.parts in
     let r = c.least_advance.result in
-    let dl = c.least_advance-first.ensures.dues in
+    let dl = c.least_leaving-first.ensures.dues in
     let dc = c.least_advance.ensures.dues in
     let many : length dl.0 ≡ state_count m = dl.1 ∙ ap length c.as_slice-integrators.ensures.value ∙ parts.integrators in
     let count : length dc.0 ≡ length (conditions m) = dc.1 ∙ ap length c.as_slice-crossings.ensures.value ∙ parts.crossings in
@@ -104,7 +104,7 @@ returns-clause-dues g c more =
           (λ j t h is.
           let inside : j < length s.parts.integrators.items = omega (arith, h, parts.integrators) in
           let d : IntegratorModel _ _ = some_element s.parts.integrators.items j inside in
-          let before = subst (All (λ (i : IntegratorModel _ _). (next : ℕ) → IsLineNext i.machine.value i.var i.line (Some next) → c.least_advance-first.result ≤ next)) c.as_slice-integrators.ensures.value c.least_advance-first.ensures.not_past in
+          let before = subst (All (λ (i : IntegratorModel _ _). (next : ℕ) → IsLineNext i.machine.value i.var i.line (Some next) → c.least_leaving-first.result ≤ next)) c.as_slice-integrators.ensures.value c.least_leaving-first.ensures.not_past in
           omega (arith, before j d inside t (of_line m s.parts parts j d (Some t) inside is), c.least_advance.ensures.within, c.least_advance-second.ensures.within))
           (λ k t h is.
           let inside : k < length s.parts.crossings.items = omega (arith, h, parts.crossings) in

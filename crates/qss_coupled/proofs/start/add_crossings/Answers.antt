@@ -12,8 +12,9 @@ use Rattle.qss_devs.specs.declared.crossing_model.CrossingModel.{CrossingModel}
 use Rattle.qss_devs.specs.declared.input.Input.{Input}
 use Rattle.qss_devs.specs.Crossings.{Crossing, input_at, form_at, speed_by, IsInput, AreParts, StaysIfDiscrete}
 use Rattle.qss_devs.proofs.Inputs.{IsGiven}
+use Rattle.qss_devs.proofs.Places.{each_more}
 use Rattle.qss_coupled.specs.Starts.{start_values, first_input, IsFirstCrossing, IsFirstAt}
-use Rattle.qss_coupled.proofs.Begun.{each_more, inputs_given, first_parts, own_condition, places_more, places_few}
+use Rattle.qss_coupled.proofs.Begun.{inputs_given, first_parts, own_condition, places_more, places_few}
 use Rattle.qss_coupled.proofs.start.add_crossings.Goals as goal
 
 pub start_watch-watch-requires-clause-parts : goal.start_watch-watch-requires-clause-parts

@@ -1,7 +1,8 @@
 use Rattle.std.proofs.Common.{◌≡◌, ◌+◌, ◌≤◌, length}
 use Rattle.qss_machine.specs.Firing.{first_place}
 use Rattle.qss_hand.specs.Works.{clause_at}
-use Rattle.qss_coupled.specs.Starts.{IsFirstAt, EachAt}
+use Rattle.qss_devs.specs.Places.{EachAt}
+use Rattle.qss_coupled.specs.Starts.{IsFirstAt}
 use Rattle.qss_coupled.proofs.start.add_crossings.Given as goal
 
 -- the crossings so far

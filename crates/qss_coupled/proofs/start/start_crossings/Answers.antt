@@ -1,7 +1,8 @@
 -- The crossings of all clauses.
 use Rattle.std.proofs.Common.{length, ◌∙◌, ap, arith}
 use Rattle.qss_coupled.specs.Starts.{IsFirstAt}
-use Rattle.qss_coupled.proofs.Begun.{each_none, places_all}
+use Rattle.qss_devs.proofs.Places.{each_none}
+use Rattle.qss_coupled.proofs.Begun.{places_all}
 use Rattle.qss_coupled.proofs.start.start_crossings.Goals as goal
 
 pub add_crossings-requires-clause-known : goal.add_crossings-requires-clause-known

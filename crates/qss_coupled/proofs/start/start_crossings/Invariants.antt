@@ -1,6 +1,7 @@
 use Rattle.std.proofs.Common.{◌≡◌, length}
 use Rattle.qss_machine.specs.Firing.{first_place}
-use Rattle.qss_coupled.specs.Starts.{IsFirstAt, EachAt}
+use Rattle.qss_devs.specs.Places.{EachAt}
+use Rattle.qss_coupled.specs.Starts.{IsFirstAt}
 use Rattle.qss_coupled.proofs.start.start_crossings.Given as goal
 
 -- the crossings of the clauses so far

@@ -6,8 +6,9 @@ use Rattle.qss_machine.specs.declared.system.Machine.{Machine}
 use Rattle.qss_machine.specs.Machines.{state_count, discrete_count}
 use Rattle.qss_quiet.proofs.Starts.{levels_start, discretes_start}
 use Rattle.qss_devs.specs.Agreement.{Values}
+use Rattle.qss_devs.proofs.Places.{each_more, each_none}
 use Rattle.qss_coupled.specs.Starts.{start_values, IsFirstFunction}
-use Rattle.qss_coupled.proofs.Begun.{start_each, each_more, each_none}
+use Rattle.qss_coupled.proofs.Begun.{start_each}
 use Rattle.qss_coupled.proofs.start.start_functions.Goals as goal
 
 pub overflow_cast-row : goal.overflow_cast-row

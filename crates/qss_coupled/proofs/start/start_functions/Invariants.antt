@@ -1,6 +1,7 @@
 use Rattle.std.proofs.Common.{◌≡◌, ◌≤◌, length}
 use Rattle.std.specs.Prelude.{vec_len, vec_capacity}
-use Rattle.qss_coupled.specs.Starts.{IsFirstFunction, EachAt}
+use Rattle.qss_devs.specs.Places.{EachAt}
+use Rattle.qss_coupled.specs.Starts.{IsFirstFunction}
 use Rattle.qss_coupled.proofs.start.start_functions.Given as goal
 
 -- the functions so far

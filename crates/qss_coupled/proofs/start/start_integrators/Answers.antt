@@ -3,8 +3,9 @@ use Rattle.std.proofs.Common.{◌≡◌, ◌<◌, length, sym, ◌∙◌, ap, su
 use Rattle.qss_machine.specs.declared.system.Machine.{Machine}
 use Rattle.qss_machine.specs.Machines.{state_count}
 use Rattle.qss_devs.specs.Agreement.{Values}
+use Rattle.qss_devs.proofs.Places.{each_more, each_none}
 use Rattle.qss_coupled.specs.Starts.{IsFirstIntegrator}
-use Rattle.qss_coupled.proofs.Begun.{start_each, each_more, each_none}
+use Rattle.qss_coupled.proofs.Begun.{start_each}
 use Rattle.qss_coupled.proofs.start.start_integrators.Goals as goal
 
 pub overflow_cast-var : goal.overflow_cast-var

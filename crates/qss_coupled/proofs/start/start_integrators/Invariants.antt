@@ -1,6 +1,7 @@
 use Rattle.std.proofs.Common.{◌≡◌, ◌≤◌, length}
 use Rattle.std.specs.Prelude.{vec_len, vec_capacity}
-use Rattle.qss_coupled.specs.Starts.{IsFirstIntegrator, EachAt}
+use Rattle.qss_devs.specs.Places.{EachAt}
+use Rattle.qss_coupled.specs.Starts.{IsFirstIntegrator}
 use Rattle.qss_coupled.proofs.start.start_integrators.Given as goal
 
 -- the integrators so far

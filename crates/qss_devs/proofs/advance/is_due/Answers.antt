@@ -3,7 +3,7 @@ use Rattle.std.proofs.Common.{ℕ, sym, ◌∙◌, ap, subst}
 use Rattle.std.specs.Prelude.{Option, Some}
 use Rattle.mu_num.proofs.Tests.{eqb-true, eqb-false}
 use Rattle.qss_devs.proofs.Ticks.{same_tick, none_next}
-use Rattle.qss_coupled.proofs.advance.is_due.Goals as goal
+use Rattle.qss_devs.proofs.advance.is_due.Goals as goal
 
 pub returns-in-Some-clause-due : goal.returns-in-Some-clause-due
 returns-in-Some-clause-due g c =

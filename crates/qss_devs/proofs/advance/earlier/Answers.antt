@@ -2,7 +2,7 @@
 use Rattle.std.proofs.Common.{◌≡◌, ℕ, subst, arith}
 use Rattle.std.specs.Prelude.{Option, Some}
 use Rattle.qss_devs.proofs.Ticks.{same_tick, none_next}
-use Rattle.qss_coupled.proofs.advance.earlier.Goals as goal
+use Rattle.qss_devs.proofs.advance.earlier.Goals as goal
 
 pub returns-then-next-least-clause-not_past : goal.returns-then-next-least-clause-not_past
 returns-then-next-least-clause-not_past g c n is =

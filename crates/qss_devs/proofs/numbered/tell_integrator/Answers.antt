@@ -4,8 +4,8 @@ use Rattle.std.proofs.lemmas.List.{get_or_default}
 use Rattle.qss_machine.specs.declared.system.Machine.{Machine}
 use Rattle.qss_devs.specs.declared.integrator_model.IntegratorModel.{IntegratorModel}
 use Rattle.qss_devs.specs.Messages.{IsMessage}
-use Rattle.qss_coupled.specs.Coupling.{IsGivenLine}
-use Rattle.qss_coupled.proofs.components.tell_integrator.Goals as goal
+use Rattle.qss_devs.specs.Models.{IsGivenLine}
+use Rattle.qss_devs.proofs.numbered.tell_integrator.Goals as goal
 
 pub bounds-integrators-var : goal.bounds-integrators-var
 bounds-integrators-var g c = c.requires.known
