@@ -27,7 +27,7 @@ use Rattle.qss_hand.proofs.Turns.{length-conditions, conditions_few}
 use Rattle.qss_hand.proofs.Branches.{width_of, condition_by}
 use Rattle.qss_machine.specs.Ticks.{start_world, is_overweight}
 use Rattle.qss_quant.specs.Lines.{Line}
-use Rattle.qss_quiet.specs.Sims.{condition_at}
+use Rattle.qss_quiet.specs.Sims.{condition_at, no_row}
 use Rattle.qss_quiet.proofs.Quiet.{int_at-tabulate}
 use Rattle.qss_quiet.proofs.Ranges.{none_passes}
 use Rattle.qss_quiet.proofs.SlopeSizes.{slope-size}
@@ -39,7 +39,6 @@ use Rattle.qss_devs.specs.Agreement.{HasEach, Moving, moving_of, InputAgrees, Li
 use Rattle.qss_devs.proofs.Inputs.{IsGiven, scaled_small}
 use Rattle.qss_devs.proofs.Moving.{no_ticks}
 use Rattle.qss_devs.proofs.Variables.{moving_state, moving_discrete, moving_before}
-use Rattle.qss_devs.proofs.Sent.{no_row}
 use Rattle.qss_coupled.specs.Starts.{start_values, first_line, first_summing, first_input, first_crossing}
 
 -- ---- values at the start

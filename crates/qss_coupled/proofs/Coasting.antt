@@ -13,7 +13,7 @@ use Rattle.qss_machine.specs.Ticks.{World}
 use Rattle.qss_quant.specs.declared.rule.Rule.{Rule}
 use Rattle.qss_quant.specs.Lines.{Line, state_at}
 use Rattle.qss_quiet.specs.Silent.{AreSilent}
-use Rattle.qss_quiet.specs.Sims.{StandsFor, HasNothingBefore}
+use Rattle.qss_quiet.specs.Sims.{StandsFor, HasNothingBefore, no_line}
 use Rattle.qss_quiet.specs.Skips.{states_after, world_after}
 use Rattle.qss_quiet.proofs.Firsts.{same_lists}
 use Rattle.qss_quiet.proofs.Quiet.{int_at-tabulate}
@@ -54,7 +54,7 @@ module _ {X : Type 0} {g : _} (m : Machine) (name : Option Rule) (tick : ℕ) (s
 
   state_by : (t j : ℕ) → j < state_count m → int_at (states_at t s.parts) j ≡ state_at (line_at s.parts j) t
   state_by t j h =
-      at_twice (λ (i : IntegratorModel X g). i.line) (λ (l : Line). state_at l t) s.parts.integrators.items j (record { tick = 0; x = pos 0; slope = pos 0; level = pos 0 }) (pos 0)
+      at_twice (λ (i : IntegratorModel X g). i.line) (λ (l : Line). state_at l t) s.parts.integrators.items j no_line (pos 0)
       (omega (arith, h, stands.fits.parts.integrators))
 
   states_later : (k : ℕ) → states_at (tick + k) s.parts ≡ states_after m (world_of tick s) k

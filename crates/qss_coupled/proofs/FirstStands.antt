@@ -16,7 +16,7 @@ use Rattle.qss_quant.specs.Lines.{Line, state_at}
 use Rattle.qss_cross.specs.Crossing.{holds_at}
 use Rattle.qss_hand.specs.Values.{Values}
 use Rattle.qss_hand.specs.Works.{row_room}
-use Rattle.qss_quiet.specs.Sims.{condition_at}
+use Rattle.qss_quiet.specs.Sims.{condition_at, no_line}
 use Rattle.qss_quiet.proofs.Firsts.{same_lists}
 use Rattle.qss_quiet.proofs.Flags.{truths_are}
 use Rattle.qss_quiet.proofs.Starts.{levels_at_start, levels_start, states_start, discretes_start, count_start, light_at}
@@ -60,7 +60,7 @@ module _ {X : Type 0} {g : _} (m : Machine) (q : Quantizer X g) (s : Store X g) 
   line_first : (j : ℕ) → j < state_count m → line_at s.parts j ≡ first_line (start_values m) j
   line_first j h =
       let inside : j < length s.parts.integrators.items = omega (arith, h, first.parts.integrators) in
-      mapped_at (λ (i : IntegratorModel X g). i.line) s.parts.integrators.items j (record { tick = 0; x = pos 0; slope = pos 0; level = pos 0 }) (first_line (start_values m) j) inside (λ d. (first.integrators j d inside).line)
+      mapped_at (λ (i : IntegratorModel X g). i.line) s.parts.integrators.items j no_line (first_line (start_values m) j) inside (λ d. (first.integrators j d inside).line)
 
   summing_first : (j : ℕ) → j < state_count m → summing_at s.parts j ≡ first_summing (start_values m) j
   summing_first j h =

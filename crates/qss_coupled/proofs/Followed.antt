@@ -16,7 +16,7 @@ use Rattle.qss_machine.specs.Ticks.{World, moved_states, handling_at, is_overwei
 use Rattle.qss_quant.specs.declared.rule.Rule.{Rule}
 use Rattle.qss_quant.specs.Lines.{Line, state_at}
 use Rattle.qss_quiet.specs.Rules.{IsRuled}
-use Rattle.qss_quiet.specs.Sims.{slopes_of}
+use Rattle.qss_quiet.specs.Sims.{slopes_of, no_row, no_line}
 use Rattle.qss_quiet.specs.Skips.{IsLeft}
 use Rattle.qss_quiet.proofs.Firsts.{same_lists}
 use Rattle.qss_quiet.proofs.Quiet.{int_at-tabulate}
@@ -29,9 +29,8 @@ use Rattle.qss_devs.specs.Models.{crossing_of}
 use Rattle.qss_devs.specs.Laws.{rows_told}
 use Rattle.qss_devs.proofs.RowsTold.{rows_tell_handlers}
 use Rattle.qss_devs.proofs.Standing.{crossings_tell}
-use Rattle.qss_devs.proofs.Sent.{no_row}
 use Rattle.qss_coupled.specs.declared.components.Components.{Components}
-use Rattle.qss_coupled.specs.Coupling.{no_line, no_crossing, line_at, summing_at, crossing_at, AreComponents}
+use Rattle.qss_coupled.specs.Coupling.{no_crossing, line_at, summing_at, crossing_at, AreComponents}
 use Rattle.qss_coupled.specs.Steps.{Agrees, AreValues}
 use Rattle.qss_coupled.specs.Visits.{states_at, levels_of, arrived_values, CrossingsLater}
 use Rattle.qss_coupled.proofs.OwnSlopes.{light_slope}

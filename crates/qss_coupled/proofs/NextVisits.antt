@@ -1,5 +1,5 @@
 -- The ticks of the next transitions of all components.
-use Rattle.std.proofs.Common.{◌≡◌, ℕ, ◌+◌, ◌-◌, ◌≤◌, ◌<◌, false, List, [], ◌∷◌, ◌++◌, length, get_or, pos, ◌⊎◌, inl, inr, sym, ◌∙◌, ap, subst, arith}
+use Rattle.std.proofs.Common.{◌≡◌, ℕ, ◌+◌, ◌-◌, ◌≤◌, ◌<◌, false, List, [], ◌∷◌, ◌++◌, length, get_or, ◌⊎◌, inl, inr, sym, ◌∙◌, ap, subst, arith}
 use Rattle.std.proofs.lemmas.Bool.{cases_lt}
 use Rattle.std.proofs.lemmas.List.{get_or-map, get_or_append_left, get_or-append_right, get_or_past, length-append}
 use Rattle.std.specs.Prelude.{Option, Some, None, if◌then◌else◌}
@@ -8,7 +8,7 @@ use Rattle.qss_machine.specs.Machines.{state_count}
 use Rattle.qss_machine.specs.Handlers.{conditions}
 use Rattle.qss_machine.specs.Ticks.{World}
 use Rattle.qss_quant.specs.Lines.{Line}
-use Rattle.qss_quiet.specs.Sims.{rises, HasNothingBefore}
+use Rattle.qss_quiet.specs.Sims.{rises, HasNothingBefore, no_line}
 use Rattle.qss_devs.specs.declared.crossing_model.CrossingModel.{CrossingModel}
 use Rattle.qss_devs.specs.declared.function_model.FunctionModel.{FunctionModel}
 use Rattle.qss_devs.specs.declared.integrator_model.IntegratorModel.{IntegratorModel}
@@ -32,7 +32,7 @@ module _ {X : Type 0} {g : _} (m : Machine) (parts : Components X g) (are : AreC
   line_of j d next h is =
       let i : IntegratorModel X g = get_or parts.integrators.items j d in
       let own = are.own_integrators j d h in
-      let line : line_at parts j ≡ i.line = get_or-map (λ (k : IntegratorModel X g). k.line) parts.integrators.items j d (record { tick = 0; x = pos 0; slope = pos 0; level = pos 0 }) h in
+      let line : line_at parts j ≡ i.line = get_or-map (λ (k : IntegratorModel X g). k.line) parts.integrators.items j d no_line h in
       subst (λ (l : Line). IsLineNext m j l next) (sym line)
       (subst (λ (v : ℕ). IsLineNext m v i.line next) own.own (subst (λ (n : Machine). IsLineNext n i.var i.line next) own.machine is))
 
@@ -41,7 +41,7 @@ module _ {X : Type 0} {g : _} (m : Machine) (parts : Components X g) (are : AreC
   of_line j d next h is =
       let i : IntegratorModel X g = get_or parts.integrators.items j d in
       let own = are.own_integrators j d h in
-      let line : line_at parts j ≡ i.line = get_or-map (λ (k : IntegratorModel X g). k.line) parts.integrators.items j d (record { tick = 0; x = pos 0; slope = pos 0; level = pos 0 }) h in
+      let line : line_at parts j ≡ i.line = get_or-map (λ (k : IntegratorModel X g). k.line) parts.integrators.items j d no_line h in
       subst (λ (n : Machine). IsLineNext n i.var i.line next) (sym own.machine)
       (subst (λ (v : ℕ). IsLineNext m v i.line next) (sym own.own) (subst (λ (l : Line). IsLineNext m j l next) line is))
 

@@ -21,6 +21,7 @@ use Rattle.qss_quant.specs.declared.rule.Rule.{Rule}
 use Rattle.qss_quant.specs.Lines.{Line, state_at, IsNear}
 use Rattle.qss_quant.specs.Rules.{level_by}
 use Rattle.qss_quiet.proofs.Changes.{leaving_changes_level}
+use Rattle.qss_quiet.proofs.Lines.{line_here}
 use Rattle.qss_quiet.specs.Sims.{LeavesAt}
 use Rattle.qss_devs.specs.declared.message.Message.{Message}
 use Rattle.qss_devs.specs.declared.message.Message.TheVariants.{Level}
@@ -37,7 +38,7 @@ module _ (m : Machine) (var : ℕ) (line : Line) where
   near_at t = is_near m var (state_at line t) line.level
 
   own_state : state_at line line.tick ≡ line.x
-  own_state = let e : line.tick - line.tick ≡ 0 = omega arith in rw e (omega (arith, ints))
+  own_state = line_here line.tick line.x line.slope line.level
 
   -- where a line is due it is away from its level
   pub due_away : (tick : ℕ) → IsLineNext m var line (Some tick) → near_at tick ≡ false

@@ -9,6 +9,7 @@ use Rattle.qss_machine.specs.declared.system.Machine.{Machine}
 use Rattle.qss_machine.specs.Machines.{state_count}
 use Rattle.qss_quant.specs.declared.rule.Rule.{Rule}
 use Rattle.qss_quant.specs.Lines.{Line}
+use Rattle.qss_quiet.specs.Sims.{no_line}
 use Rattle.qss_devs.specs.declared.crossing_model.CrossingModel.{CrossingModel}
 use Rattle.qss_devs.specs.declared.function_model.FunctionModel.{FunctionModel}
 use Rattle.qss_devs.specs.declared.integrator_model.IntegratorModel.{IntegratorModel}
@@ -17,7 +18,7 @@ use Rattle.qss_devs.specs.Integrators.{IsLineNext}
 use Rattle.qss_devs.specs.Functions.{Summing}
 use Rattle.qss_devs.specs.Models.{summing_of, crossing_of}
 use Rattle.qss_coupled.specs.declared.components.Components.{Components}
-use Rattle.qss_coupled.specs.Coupling.{no_line, no_summing, no_crossing, line_at, summing_at, crossing_at, IsIntegratorOf, AreComponents, AreRuled, IsSummingReady, IsCrossingReady, AreReady}
+use Rattle.qss_coupled.specs.Coupling.{no_summing, no_crossing, line_at, summing_at, crossing_at, IsIntegratorOf, AreComponents, AreRuled, IsSummingReady, IsCrossingReady, AreReady}
 use Rattle.qss_coupled.proofs.ToldParts.{integrators_set, line_set}
 
 -- ---- an element of a list that is lent

@@ -6,7 +6,7 @@ use Rattle.qss_machine.specs.declared.system.Machine.{Machine}
 use Rattle.qss_machine.specs.Firing.{flag_at}
 use Rattle.qss_machine.specs.Handlers.{conditions}
 use Rattle.qss_machine.specs.Machines.{compares}
-use Rattle.qss_quiet.specs.Sims.{condition_at}
+use Rattle.qss_quiet.specs.Sims.{condition_at, no_line}
 use Rattle.qss_quiet.proofs.Firsts.{same_lists}
 use Rattle.qss_devs.specs.declared.crossing_model.CrossingModel.{CrossingModel}
 use Rattle.qss_devs.specs.declared.function_model.FunctionModel.{FunctionModel}
@@ -16,7 +16,7 @@ use Rattle.qss_devs.specs.Crossings.{Crossing, IsCrossingNext, IsRead}
 use Rattle.qss_devs.specs.Models.{summing_of, crossing_of}
 use Rattle.qss_devs.specs.Agreement.{Values, LineAgrees, SummingAgrees}
 use Rattle.qss_coupled.specs.declared.components.Components.{Components}
-use Rattle.qss_coupled.specs.Coupling.{no_line, no_summing, no_crossing, crossing_at, IsIntegratorOf, AreComponents}
+use Rattle.qss_coupled.specs.Coupling.{no_summing, no_crossing, crossing_at, IsIntegratorOf, AreComponents}
 use Rattle.qss_coupled.specs.Steps.{Agrees}
 use Rattle.qss_coupled.specs.Visits.{CrossingsLater}
 use Rattle.qss_coupled.proofs.Coasting.{at_twice}

@@ -9,13 +9,13 @@ use Rattle.qss_machine.specs.declared.system.Machine.{Machine}
 use Rattle.qss_machine.specs.Machines.{state_count, row_at, slope_at}
 use Rattle.qss_machine.specs.Numbers.{int_at, tabulate}
 use Rattle.qss_machine.specs.Ticks.{is_overweight}
+use Rattle.qss_quiet.specs.Sims.{no_row}
 use Rattle.qss_quiet.proofs.Firsts.{first_is, same_lists}
 use Rattle.qss_quiet.proofs.Quiet.{int_at-tabulate}
 use Rattle.qss_quiet.proofs.Ranges.{position-none}
 use Rattle.qss_devs.specs.Functions.{Summing}
 use Rattle.qss_devs.specs.Agreement.{Values, HasEach}
 use Rattle.qss_devs.proofs.Variables.{set_same, set_other}
-use Rattle.qss_devs.proofs.Sent.{no_row}
 use Rattle.qss_coupled.specs.declared.components.Components.{Components}
 use Rattle.qss_coupled.specs.Coupling.{summing_at}
 use Rattle.qss_coupled.specs.Steps.{Agrees, AreValues, slopes_upto, sloped, IsSlopeSent, AreSentUpTo, AreSent}

@@ -13,6 +13,7 @@ use Rattle.qss_machine.specs.Ticks.{World, moved_states, is_overweight, world_un
 use Rattle.qss_quant.specs.declared.rule.Rule.{Rule}
 use Rattle.qss_quiet.specs.Rules.{IsRuled}
 use Rattle.qss_quiet.specs.Skips.{IsLeft}
+use Rattle.qss_quiet.specs.Sims.{no_row}
 use Rattle.qss_quiet.proofs.NextLevels.{next_is_near}
 use Rattle.qss_quiet.proofs.Quiet.{int_at-tabulate}
 use Rattle.qss_quiet.proofs.Ranges.{none_passes}
@@ -20,7 +21,7 @@ use Rattle.qss_quiet.proofs.Overs.{all_within}
 use Rattle.qss_devs.specs.declared.crossing_model.CrossingModel.{CrossingModel}
 use Rattle.qss_devs.specs.Agreement.{Values, HasEach, ComponentsStandFor}
 use Rattle.qss_devs.specs.Laws.{rows_told}
-use Rattle.qss_devs.proofs.Sent.{settled_stand, no_row}
+use Rattle.qss_devs.proofs.Sent.{settled_stand}
 use Rattle.qss_coupled.specs.declared.components.Components.{Components}
 use Rattle.qss_coupled.specs.declared.store.Store.{Store}
 use Rattle.qss_coupled.specs.Coupling.{line_at, summing_at, crossing_at, AreComponents, AreReady}

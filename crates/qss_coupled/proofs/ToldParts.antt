@@ -13,7 +13,7 @@ use Rattle.qss_machine.specs.Uses.{row_reads, condition_reads, reading_rows, rea
 use Rattle.qss_quant.specs.declared.quantizer.Quantizer.{Quantizer}
 use Rattle.qss_quant.specs.Lines.{Line}
 use Rattle.qss_quiet.specs.Among.{is_among}
-use Rattle.qss_quiet.specs.Sims.{condition_at}
+use Rattle.qss_quiet.specs.Sims.{condition_at, no_line}
 use Rattle.qss_quiet.specs.Writes.{IsWritten}
 use Rattle.qss_quiet.proofs.Among.{among_rows}
 use Rattle.qss_devs.specs.declared.crossing_model.CrossingModel.{CrossingModel}
@@ -28,7 +28,7 @@ use Rattle.qss_devs.specs.Crossings.{Crossing, crossing_given}
 use Rattle.qss_devs.specs.Models.{summing_of, crossing_of, IsGivenLine}
 use Rattle.qss_devs.specs.Laws.{goes_to_integrator, goes_to_function, goes_to_crossing, lines_given, functions_given, crossings_given}
 use Rattle.qss_coupled.specs.declared.components.Components.{Components}
-use Rattle.qss_coupled.specs.Coupling.{no_line, no_summing, no_crossing, line_at, summing_at, crossing_at, IsIntegratorOf, AreComponents, IsSummingReady, IsCrossingReady, AreReady, IsOfLine, IsOfLevel, IsOfDiscrete, AreTold}
+use Rattle.qss_coupled.specs.Coupling.{no_summing, no_crossing, line_at, summing_at, crossing_at, IsIntegratorOf, AreComponents, IsSummingReady, IsCrossingReady, AreReady, IsOfLine, IsOfLevel, IsOfDiscrete, AreTold}
 use Rattle.qss_coupled.proofs.ToldAgain.{summing_ready_given, crossing_ready_given, line_ready_given, told_twice}
 use Rattle.qss_quiet.proofs.Readers.{among_conditions}
 use Rattle.qss_coupled.proofs.Telling.{functions_by, crossings_by, crossings_by_two}

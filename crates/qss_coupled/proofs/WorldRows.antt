@@ -7,6 +7,7 @@ use Rattle.qss_machine.specs.declared.system.Machine.{Machine}
 use Rattle.qss_machine.specs.Runs.{state_rows, discrete_rows, world_rows}
 use Rattle.qss_quant.specs.declared.rule.Rule.{Rule}
 use Rattle.qss_quant.specs.Lines.{Line, state_at}
+use Rattle.qss_quiet.specs.Sims.{no_line}
 use Rattle.qss_quiet.proofs.EndRows.{state_row}
 use Rattle.qss_devs.specs.declared.integrator_model.IntegratorModel.{IntegratorModel}
 use Rattle.qss_coupled.specs.declared.store.Store.{Store}
@@ -38,6 +39,5 @@ rows_at {X} {g} kind tick integrators d s is discretes =
 -- lines come from ticks up to now
 pub lines_early : {X : Type 0} {g : _} (m : Machine) (name : Option Rule) (tick : ℕ) (s : Store X g) → Stands m name tick s → All (λ (i : IntegratorModel X g). i.line.tick ≤ tick) s.parts.integrators.items
 lines_early {X} {g} m name tick s stands j d h =
-    let none : Line = record { tick = 0; x = pos 0; slope = pos 0; level = pos 0 } in
     let own = (stands.stand.agree.integrators j (omega (arith, h, stands.fits.parts.integrators))).not_later in
-    subst (λ (l : Line). l.tick ≤ tick) (get_or-map (λ (i : IntegratorModel X g). i.line) s.parts.integrators.items j d none h) own
+    subst (λ (l : Line). l.tick ≤ tick) (get_or-map (λ (i : IntegratorModel X g). i.line) s.parts.integrators.items j d no_line h) own

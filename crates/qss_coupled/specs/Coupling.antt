@@ -1,12 +1,12 @@
 -- The components of a machine by their numbers, and when all of them may be given a message.
 use Rattle.std.specs.Prelude.{◌≡◌, ℕ, ◌^◌, ◌<◌, ◌≤◌, [], length, map, All, pos, Option, Some, None, slice_index_or}
-use Rattle.qss_machine.specs.declared.parts.Rel.TheVariants.{Less}
 use Rattle.qss_machine.specs.declared.system.Machine.{Machine}
 use Rattle.qss_machine.specs.Machines.{state_count}
 use Rattle.qss_machine.specs.Handlers.{conditions}
 use Rattle.qss_machine.specs.Uses.{uses_of}
 use Rattle.qss_quant.specs.declared.rule.Rule.{Rule}
 use Rattle.qss_quant.specs.Lines.{Line}
+use Rattle.qss_quiet.specs.Sims.{no_line, no_watch}
 use Rattle.qss_devs.specs.declared.integrator_model.IntegratorModel.{IntegratorModel}
 use Rattle.qss_devs.specs.declared.message.Message.{Message}
 use Rattle.qss_devs.specs.declared.message.Message.TheVariants.{Slope, State, Level, Discrete, Truth}
@@ -18,15 +18,12 @@ use Rattle.qss_devs.specs.Models.{summing_of, crossing_of}
 use Rattle.qss_devs.specs.Laws.{lines_given, functions_given, crossings_given}
 use Rattle.qss_coupled.specs.declared.components.Components.{Components}
 
--- what stands past the end of lines, of functions and of crossings
-abbrev pub no_line : Line
-no_line = record { tick = 0; x = pos 0; slope = pos 0; level = pos 0 }
-
+-- a function and a crossing, where any will do
 abbrev pub no_summing : Summing
 no_summing = record { row = 0; tick = 0; levels = []; discretes = []; changed = None }
 
 abbrev pub no_crossing : Crossing
-no_crossing = record { place = 0; watch = record { rel = Less; tick = 0; value = pos 0; speed = pos 0 }; inputs = []; time = pos 0; gamma = pos 0 }
+no_crossing = record { place = 0; watch = no_watch; inputs = []; time = pos 0; gamma = pos 0 }
 
 -- the line of a state's integrator
 abbrev pub line_at : {X : Type 0} {g : _} → Components X g → ℕ → Line

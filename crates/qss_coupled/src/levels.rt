@@ -4,9 +4,10 @@ ghost use Rattle.std.specs.Prelude.{◌≡◌, ◌≢◌, ℕ, ◌+◌, ◌<◌,
 ghost use Rattle.qss_machine.specs.Machines.{state_count};
 ghost use Rattle.qss_machine.specs.declared.rows.RowKind.TheVariants as kind;
 ghost use Rattle.qss_quant.specs.declared.rule.Rule.{Rule};
+ghost use Rattle.qss_quiet.specs.Sims.{no_line};
 ghost use Rattle.qss_devs.specs.Integrators.{IsLineNext};
 ghost use Rattle.qss_devs.specs.Agreement.{Values};
-ghost use Rattle.qss_coupled.specs.Coupling.{no_line, line_at, summing_at, crossing_at, AreComponents, AreRuled, AreReady, LinesLater};
+ghost use Rattle.qss_coupled.specs.Coupling.{line_at, summing_at, crossing_at, AreComponents, AreRuled, AreReady, LinesLater};
 ghost use Rattle.qss_coupled.specs.Steps.{Agrees, AreValues, IsLevelTaken, AreTaken, IsNamed};
 
 use crate::components::{Components, tell};

@@ -4,6 +4,7 @@ use Rattle.std.specs.List.{list_any}
 use Rattle.mu_num.specs.Ticks.{FirstAfter, tick_limit}
 use Rattle.qss_machine.specs.declared.parts.Condition.{Condition}
 use Rattle.qss_machine.specs.declared.parts.Rel.TheVariants.{Less}
+use Rattle.qss_machine.specs.declared.parts.SlopeRow.{SlopeRow}
 use Rattle.qss_machine.specs.declared.system.Machine.{Machine}
 use Rattle.mu_num.specs.Sizes.{IsWithin}
 use Rattle.qss_machine.specs.Numbers.{int_at, tabulate}
@@ -14,6 +15,16 @@ use Rattle.qss_machine.specs.Ticks.{World}
 use Rattle.qss_quant.specs.Lines.{Line, state_at, IsAway}
 use Rattle.qss_cross.specs.Crossing.{Watch, value_at, holds_at}
 use Rattle.qss_quiet.specs.Skips.{IsLeft, NoneRises, IsQuiet, states_after, world_after, rows_from}
+
+-- a row, a line and a watch, where any will do
+abbrev pub no_row : SlopeRow
+no_row = record { entries = []; products = []; beta = pos 0 }
+
+abbrev pub no_line : Line
+no_line = record { tick = 0; x = pos 0; slope = pos 0; level = pos 0 }
+
+abbrev pub no_watch : Watch
+no_watch = record { rel = Less; tick = 0; value = pos 0; speed = pos 0 }
 
 -- the slopes at a world's levels and discrete values
 abbrev pub slopes_of : Machine → World → List ℤ

@@ -7,8 +7,9 @@ use Rattle.qss_machine.specs.declared.rows.RowKind.TheVariants as kind
 use Rattle.qss_machine.specs.declared.rows.Row.{Row}
 use Rattle.qss_devs.specs.declared.integrator_model.IntegratorModel.{IntegratorModel}
 use Rattle.qss_quant.specs.Lines.{Line}
+use Rattle.qss_quiet.specs.Sims.{no_line}
 use Rattle.qss_devs.proofs.NamedSends.{one_sent}
-use Rattle.qss_coupled.specs.Coupling.{no_line, line_at}
+use Rattle.qss_coupled.specs.Coupling.{line_at}
 use Rattle.qss_coupled.proofs.LevelTurns.{kept_lines, kept_parts, kept_ruled, kept_ready, rests_taken, still_later, passes_taken, sent_parts, sent_ruled, sent_ready, sent_message, sent_later, sent_others, sent_taken}
 use Rattle.qss_coupled.proofs.OwnTurns.{own_rule, line_turned, slot_is, slot_set}
 use Rattle.qss_coupled.proofs.levels.take_level.Goals as goal

@@ -8,8 +8,8 @@ use Rattle.mu_num.specs.Sizes.{IsWithin}
 use Rattle.qss_machine.specs.Numbers.{tabulate}
 use Rattle.qss_machine.specs.Slopes.{mode_fits}
 use Rattle.qss_machine.specs.Machines.{state_count, row_at, slope_at}
+use Rattle.qss_quiet.specs.Sims.{no_row}
 use Rattle.qss_quiet.proofs.Starts.{levels_start, discretes_start, count_start}
-use Rattle.qss_devs.proofs.Sent.{no_row}
 use Rattle.qss_coupled.proofs.Begun.{start_row}
 use Rattle.qss_coupled.proofs.start_values.start_slopes.Goals as goal
 use mir.Syntax.{w128}
