@@ -16,11 +16,11 @@ use Rattle.qss_machine.specs.Ticks.{World, moved_states, handling_at, is_overwei
 use Rattle.qss_quant.specs.declared.rule.Rule.{Rule}
 use Rattle.qss_quant.specs.Lines.{Line, state_at}
 use Rattle.qss_quiet.specs.Rules.{IsRuled}
-use Rattle.qss_quiet.specs.Sims.{slopes_of, no_row, no_line}
+use Rattle.qss_quiet.specs.Sims.{slopes_of, no_line}
 use Rattle.qss_quiet.specs.Skips.{IsLeft}
 use Rattle.qss_quiet.proofs.Firsts.{same_lists}
 use Rattle.qss_quiet.proofs.Quiet.{int_at-tabulate}
-use Rattle.qss_quiet.proofs.Ranges.{none_passes}
+use Rattle.qss_quiet.proofs.LightRows.{row_is_light}
 use Rattle.qss_devs.specs.declared.crossing_model.CrossingModel.{CrossingModel}
 use Rattle.qss_devs.specs.declared.integrator_model.IntegratorModel.{IntegratorModel}
 use Rattle.qss_devs.specs.Agreement.{Values, ComponentsStandFor}
@@ -33,7 +33,6 @@ use Rattle.qss_coupled.specs.declared.components.Components.{Components}
 use Rattle.qss_coupled.specs.Coupling.{no_crossing, line_at, summing_at, crossing_at, AreComponents}
 use Rattle.qss_coupled.specs.Steps.{Agrees, AreValues}
 use Rattle.qss_coupled.specs.Visits.{states_at, levels_of, arrived_values, CrossingsLater}
-use Rattle.qss_coupled.proofs.OwnSlopes.{light_slope}
 use Rattle.qss_coupled.proofs.Stays.{holds_still}
 
 module _ (m : Machine) (name : Option Rule) (tick : ℕ) (w : World) where
@@ -53,7 +52,7 @@ module _ (m : Machine) (name : Option Rule) (tick : ℕ) (w : World) where
     small = left.small_levels;
     slow = λ j inside.
         subst (IsWithin 88) (sym (int_at-tabulate (state_count m) (λ j. slope_at m j w.levels w.discretes) j inside))
-        (light_slope m j w.levels w.discretes (none_passes no_row (is_overweight m w.levels w.discretes) m.rows left.light j (omega (arith, inside, m.has_rows.one_each))));
+        (row_is_light m w.levels w.discretes left.light j inside).slope;
   }
 
   module _ (none : h.overflow ≡ None) (levels : List ℤ) (allowed : AreNextLevels (IsRuled name) m h.states w.levels levels) where

@@ -1,20 +1,17 @@
 -- The sum that a function sends at a tick, or has sent.
-use Rattle.std.proofs.Common.{◌≡◌, ◌≢◌, ℕ, ◌<◌, Bool, true, false, List, set, ℤ, pos, refl, sym, ◌∙◌, ap, subst, arith}
-use Rattle.std.proofs.lemmas.Bool.{or_parts}
-use Rattle.std.proofs.lemmas.Int.{ints}
+use Rattle.std.proofs.Common.{◌≡◌, ◌≢◌, ℕ, ◌<◌, Bool, true, false, List, set, ℤ, pos, refl, sym, ◌∙◌, ap, subst}
 use Rattle.std.proofs.lemmas.List.{set-get_or}
-use Rattle.std.specs.Prelude.{◌==◌, not, Option, Some, None, MatchBool, if◌then◌else◌}
+use Rattle.std.specs.Prelude.{◌==◌, Option, Some, None, MatchBool, if◌then◌else◌}
 use Rattle.mu_num.specs.Sizes.{IsWithin, passes}
 use Rattle.mu_num.specs.Ticks.{FirstAfter, IsFirstAfter}
-use Rattle.mu_num.proofs.SizeTests.{passes-within, within-passes}
+use Rattle.mu_num.proofs.SizeTests.{within-passes}
 use Rattle.mu_num.proofs.Tests.{if-true, if-false}
 use Rattle.qss_machine.specs.declared.system.Machine.{Machine}
 use Rattle.qss_machine.specs.Machines.{state_count, row_at, slope_at}
 use Rattle.qss_machine.specs.Numbers.{int_at}
-use Rattle.qss_machine.specs.Slopes.{mode_fits, weight_of}
 use Rattle.qss_machine.specs.Ticks.{is_near, is_overweight}
 use Rattle.qss_quant.specs.Lines.{Line, state_at}
-use Rattle.qss_quiet.proofs.SlopeSizes.{slope-size}
+use Rattle.qss_quiet.proofs.LightRows.{light_row}
 use Rattle.qss_quiet.specs.Sims.{LeavesAt}
 use Rattle.qss_devs.specs.declared.message.Message.{Message}
 use Rattle.qss_devs.specs.declared.message.Message.TheVariants.{Slope}
@@ -29,13 +26,6 @@ use Rattle.qss_coupled.specs.Coupling.{line_at, summing_at, crossing_at, LinesLa
 use Rattle.qss_coupled.specs.Steps.{Agrees, AreNear, IsSlopeSent}
 use Rattle.qss_coupled.proofs.AgreeTold.{agree_slope}
 
--- the slope of a row within its limits
-pub light_slope : (m : Machine) (j : ℕ) (levels discretes : List ℤ) → is_overweight m levels discretes (row_at m j) ≡ false → IsWithin 88 (slope_at m j levels discretes)
-light_slope m j levels discretes e =
-    let light : IsWithin 88 (weight_of m.f (row_at m j) levels discretes) =
-    passes-within 88 (weight_of m.f (row_at m j) levels discretes) (or_parts (not (mode_fits m.f (state_count m) (row_at m j) discretes)) (passes 88 (weight_of m.f (row_at m j) levels discretes)) e).1 in
-    omega (arith, ints, light, slope-size m.f (row_at m j) levels discretes)
-
 -- a sum passes the limit of slopes where its row is past its limits
 pub past_or_slope : (m : Machine) (j : ℕ) (levels discretes : List ℤ) → passes 88 (sum_at m j levels discretes) ≡ is_overweight m levels discretes (row_at m j)
 past_or_slope m j levels discretes = by (is_overweight m levels discretes (row_at m j)) refl
@@ -43,7 +33,7 @@ past_or_slope m j levels discretes = by (is_overweight m levels discretes (row_a
     by : (b : Bool) → is_overweight m levels discretes (row_at m j) ≡ b → passes 88 (sum_at m j levels discretes) ≡ is_overweight m levels discretes (row_at m j)
     by true e = ap (passes 88) (if-true (is_overweight m levels discretes (row_at m j)) _ _ e) ∙ sym e
     by false e =
-        ap (passes 88) (if-false (is_overweight m levels discretes (row_at m j)) _ _ e) ∙ within-passes 88 (slope_at m j levels discretes) (light_slope m j levels discretes e) ∙ sym e
+        ap (passes 88) (if-false (is_overweight m levels discretes (row_at m j)) _ _ e) ∙ within-passes 88 (slope_at m j levels discretes) (light_row m levels discretes j e).slope ∙ sym e
 
 -- a function that has no change of a tick has none
 pub none_left : (tick : ℕ) (changed : Option ℕ) → ((next : ℕ) → changed ≡ Some next → next ≡ tick) → (changed ≡ Some tick → ⊥) → changed ≡ None

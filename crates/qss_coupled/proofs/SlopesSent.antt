@@ -13,13 +13,13 @@ use Rattle.qss_quiet.specs.Sims.{no_row}
 use Rattle.qss_quiet.proofs.Firsts.{first_is, same_lists}
 use Rattle.qss_quiet.proofs.Quiet.{int_at-tabulate}
 use Rattle.qss_quiet.proofs.Ranges.{position-none}
+use Rattle.qss_quiet.proofs.LightRows.{light_row}
 use Rattle.qss_devs.specs.Functions.{Summing}
 use Rattle.qss_devs.specs.Agreement.{Values, HasEach}
 use Rattle.qss_devs.proofs.Variables.{set_same, set_other}
 use Rattle.qss_coupled.specs.declared.components.Components.{Components}
 use Rattle.qss_coupled.specs.Coupling.{summing_at}
 use Rattle.qss_coupled.specs.Steps.{Agrees, AreValues, slopes_upto, sloped, IsSlopeSent, AreSentUpTo, AreSent}
-use Rattle.qss_coupled.proofs.OwnSlopes.{light_slope}
 use Rattle.qss_coupled.proofs.Overs.{not_past, is_past}
 
 module _ (m : Machine) (v : Values) where
@@ -97,7 +97,7 @@ sloped_values {X} {g} m tick v n parts le values done = record {
   each = record { states = values.each.states; slopes = upto_many m v n ∙ values.each.slopes; levels = values.each.levels; discretes = values.each.discretes };
   small = values.small;
   slow = λ i h. elim (cases_lt i n) [
-    | inl less ↦ subst (IsWithin 88) (sym (upto_sent m v n i (omega (arith, le, values.each.slopes)) less)) (light_slope m i v.levels v.discretes (done.light i less))
+    | inl less ↦ subst (IsWithin 88) (sym (upto_sent m v n i (omega (arith, le, values.each.slopes)) less)) (light_row m v.levels v.discretes i (done.light i less)).slope
     | inr past ↦ subst (IsWithin 88) (sym (upto_kept m v n i past)) (values.slow i h)
   ];
 }

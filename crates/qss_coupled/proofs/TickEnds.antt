@@ -13,11 +13,10 @@ use Rattle.qss_machine.specs.Ticks.{World, moved_states, is_overweight, world_un
 use Rattle.qss_quant.specs.declared.rule.Rule.{Rule}
 use Rattle.qss_quiet.specs.Rules.{IsRuled}
 use Rattle.qss_quiet.specs.Skips.{IsLeft}
-use Rattle.qss_quiet.specs.Sims.{no_row}
 use Rattle.qss_quiet.proofs.NextLevels.{next_is_near}
 use Rattle.qss_quiet.proofs.Quiet.{int_at-tabulate}
-use Rattle.qss_quiet.proofs.Ranges.{none_passes}
 use Rattle.qss_quiet.proofs.Overs.{all_within}
+use Rattle.qss_quiet.proofs.LightRows.{row_is_light}
 use Rattle.qss_devs.specs.declared.crossing_model.CrossingModel.{CrossingModel}
 use Rattle.qss_devs.specs.Agreement.{Values, HasEach, ComponentsStandFor}
 use Rattle.qss_devs.specs.Laws.{rows_told}
@@ -28,7 +27,6 @@ use Rattle.qss_coupled.specs.Coupling.{line_at, summing_at, crossing_at, AreComp
 use Rattle.qss_coupled.specs.Steps.{Agrees, AreNear, AreValues, AreTaken, AreSent}
 use Rattle.qss_coupled.specs.Visits.{states_at, levels_of, arrived_values, IsHandled, CrossingsLater}
 use Rattle.qss_coupled.proofs.Followed.{handled_values, told_all, handled_fit, step_level, step_slope, step_done, states_are, levels_are, settled_are}
-use Rattle.qss_coupled.proofs.OwnSlopes.{light_slope}
 
 -- the variable that overflows, where one does
 one_over : (m : Machine) (name : Option Rule) (tick : ℕ) (w next : World) (over : Option ℕ) → is_some over ≡ true → ((var : ℕ) → over ≡ Some var → Step (IsRuled name) m tick w (Err var)) →
@@ -105,7 +103,7 @@ module _ {X : Type 0} {g : _} (m : Machine) (name : Option Rule) (tick : ℕ) (w
           slow : (j : ℕ) → j < state_count m → IsWithin 88 (int_at slopes j)
           slow j inside =
               subst (IsWithin 88) (sym (int_at-tabulate (state_count m) (λ j. slope_at m j taken.levels handled.discretes) j inside))
-              (light_slope m j taken.levels handled.discretes (none_passes no_row (is_overweight m taken.levels handled.discretes) m.rows none_heavy j (omega (arith, inside, m.has_rows.one_each))))
+              (row_is_light m taken.levels handled.discretes none_heavy j inside).slope
 
           pub ended_stand : ComponentsStandFor m tick ended (line_at parts) (summing_at parts) (crossing_at parts)
           ended_stand =

@@ -10,6 +10,7 @@ pub mod Forced
 pub mod LevelRows
 pub mod Firsts
 pub mod SlopeSizes
+pub mod LightRows
 pub mod Flags
 pub mod Silences
 pub mod EndRows

@@ -22,9 +22,9 @@ use Rattle.qss_quiet.proofs.Changes.{slopes_follow_levels}
 use Rattle.qss_quiet.proofs.Firsts.{same_lists}
 use Rattle.qss_quiet.proofs.Quiet.{int_at-tabulate}
 use Rattle.qss_quiet.proofs.KeptReaders.{rows_known}
-use Rattle.qss_run.proofs.Turning.{row_is_light}
 use Rattle.qss_quiet.proofs.Unread.{unread_slope, unread_weight}
 use Rattle.qss_quiet.proofs.Readers.{places_rise}
+use Rattle.qss_quiet.proofs.LightRows.{row_is_light}
 
 -- ---- the rows that read a state rise
 

@@ -21,8 +21,8 @@ use Rattle.qss_quiet.proofs.Among.{among_readers}
 use Rattle.qss_run.proofs.Assigned.{modes_stay, weight_stays, overweight_stays}
 use Rattle.qss_quiet.proofs.Quiet.{int_at-tabulate}
 use Rattle.qss_quiet.proofs.Ranges.{none_passes}
-use Rattle.qss_run.proofs.Turning.{row_is_light}
 use Rattle.qss_quiet.proofs.Unread.{unread_at, unread_overweight}
+use Rattle.qss_quiet.proofs.LightRows.{row_is_light}
 
 by_modes : (b : Bool) (z weight : ℤ) → MatchBool b (z ≡ weight) (passes 88 z ≡ true) → passes 88 z ≡ (not b || passes 88 weight)
 by_modes true z weight e = ap (passes 88) e

@@ -13,8 +13,8 @@ use Rattle.qss_run.proofs.Least.{least_none, passes_by_weight, least_is}
 use Rattle.qss_quiet.proofs.Quiet.{int_at-tabulate}
 use Rattle.qss_quiet.proofs.Ranges.{none_passes}
 use Rattle.qss_quiet.proofs.KeptReaders.{rows_many, rows_below, rows_kept_all}
-use Rattle.qss_run.proofs.Turning.{row_is_light}
 use Rattle.qss_quiet.proofs.Unread.{unread_at, unread_overweight}
+use Rattle.qss_quiet.proofs.LightRows.{row_is_light}
 use Rattle.qss_run.proofs.weighing.reweigh_of.Goals as goal
 
 pub least_reader-requires-clause-variables : goal.least_reader-requires-clause-variables
