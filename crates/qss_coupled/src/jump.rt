@@ -13,6 +13,7 @@ use crate::store::Store;
 use crate::visit::visit;
 use qss_machine::Machine;
 use qss_quant::Quantizer;
+use qss_quiet::Visited;
 
 // After a tick at which no condition changes they are on arrival as they were after the last handlers.
 fn catch_up(still: bool, settled: &[bool], arrived: &mut [bool])
@@ -42,13 +43,6 @@ fn jump(m: &Machine, q: &Quantizer, tick: u64, s: &mut Store) -> u64
         s.truths.arrived.as_mut_slice(),
     );
     next - 1
-}
-
-/// A tick that was gone to, and the variable that overflowed there, if one did.
-#[derive(Clone, Copy)]
-pub(crate) struct Visited {
-    pub tick: u64,
-    pub over: Option<u32>,
 }
 
 /// Goes on by ticks at which nothing happens, and by one more.

@@ -16,6 +16,6 @@ pub use laws::{
     slopes_follow_levels, stands_still_until_due,
 };
 pub use levels::{leaving, next_level};
-pub use outcome::Outcome;
+pub use outcome::{Outcome, Visited};
 pub use rising::has_risen;
 pub use start::start_levels;

@@ -34,3 +34,10 @@ impl Outcome {
         }
     }
 }
+
+/// A tick that was gone to, and the variable that overflowed there, if one did.
+#[derive(Clone, Copy)]
+pub struct Visited {
+    pub tick: u64,
+    pub over: Option<u32>,
+}
