@@ -17,6 +17,7 @@ use Rattle.qss_devs.specs.Messages.{IsMessage, IsTimely, HasSmallLevel, passes_l
 use Rattle.qss_devs.specs.Integrators.{IsLineNext, SendsLevel, TakesLevel}
 use Rattle.qss_devs.specs.Agreement.{Values}
 use Rattle.qss_devs.specs.Laws.{lines_given}
+use Rattle.qss_devs.proofs.Passing.{level_small}
 use Rattle.qss_coupled.specs.declared.components.Components.{Components}
 use Rattle.qss_coupled.specs.Coupling.{line_at, summing_at, crossing_at, AreComponents, AreRuled, AreReady, AreTold}
 use Rattle.qss_coupled.specs.Steps.{Agrees, AreValues, level_after, IsLevelTaken}
@@ -24,7 +25,6 @@ use Rattle.qss_coupled.proofs.AgreeTold.{agree_same}
 use Rattle.qss_coupled.proofs.OwnLevels.{later_yet, rest_level, due_level, taken_rests, taken_passes, taken_sends}
 use Rattle.qss_coupled.proofs.OwnTurns.{own_machine, own_var, own_line, own_rule, of_line, to_model, line_turned, lines_other, summings_stay, crossings_stay, integrator_turned, ruled_turned, ready_turned}
 use Rattle.qss_coupled.proofs.ToldAgain.{line_ready}
-use Rattle.qss_coupled.proofs.Turned.{level_small}
 
 -- a level that is told changes no line
 pub level_lines : {X : Type 0} {g : _} (m : Machine) (tick k : ℕ) (level : ℤ) (sent : Message) (mid new : Components X g) → sent ≡ Level k level → AreTold m tick sent mid new →

@@ -9,7 +9,6 @@ pub mod WorldRows
 pub mod FirstStands
 pub mod NextVisits
 pub mod AgreeTold
-pub mod Turned
 pub mod Overs
 pub mod OwnLevels
 pub mod OwnTurns

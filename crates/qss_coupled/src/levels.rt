@@ -11,8 +11,7 @@ ghost use Rattle.qss_coupled.specs.Coupling.{line_at, summing_at, crossing_at, A
 ghost use Rattle.qss_coupled.specs.Steps.{Agrees, AreValues, IsLevelTaken, AreTaken, IsNamed};
 
 use crate::components::{Components, tell};
-use crate::turn::{Turn, make_turn};
-use qss_devs::IntegratorModel;
+use qss_devs::{IntegratorModel, Turn, turn_integrator};
 use qss_machine::{Machine, Row, RowKind};
 use qss_quant::Quantizer;
 
@@ -69,8 +68,7 @@ fn take_level(
     ensures room { vec_capacity rows.new ≡ vec_capacity rows.old }
     ensures count { vec_len rows.new ≤ vec_len rows.old + 1 }
 {
-    let integrators = parts.integrators.as_mut_slice();
-    match make_turn(&mut integrators[j as usize], tick) {
+    match turn_integrator(parts.integrators.as_mut_slice(), j, tick) {
         Turn::Rests => None,
         Turn::Passes => Some(j),
         Turn::Sends(msg) => {

@@ -19,7 +19,6 @@ mod start;
 mod start_store;
 mod start_values;
 mod store;
-mod turn;
 mod visit;
 
 pub use components::Components;

@@ -8,7 +8,7 @@ ghost use Rattle.qss_coupled.specs.Coupling.{line_at, summing_at, crossing_at, A
 ghost use Rattle.qss_coupled.specs.Steps.{Agrees, AreNear, AreValues, IsSlopeSent, AreSent};
 
 use crate::components::{Components, tell};
-use crate::turn::{Turn, make_turn};
+use qss_devs::{Turn, make_turn};
 use qss_machine::Machine;
 
 // A function sends its sum, if it changed. It gives the state whose row passes its limits.

@@ -17,3 +17,4 @@ pub mod Standing
 pub mod Sent
 pub mod RowsTold
 pub mod NamedSends
+pub mod Passing

@@ -4,5 +4,6 @@ pub mod Functions
 pub mod Crossings
 pub mod Models
 pub mod Places
+pub mod Turns
 pub mod Agreement
 pub mod Laws

@@ -12,6 +12,7 @@ mod laws;
 mod message;
 mod numbered;
 mod sums;
+mod turn;
 
 pub use advance::{is_due, least_advance};
 pub use atomic::Atomic;
@@ -24,4 +25,5 @@ pub use laws::{
     named_sends_one, rows_tell_handlers, settled_stand,
 };
 pub use message::Message;
-pub use numbered::{least_leaving, tell_integrator};
+pub use numbered::{least_leaving, tell_integrator, turn_integrator};
+pub use turn::{Turn, make_turn};

@@ -1,15 +1,18 @@
 //! Integrators by their numbers.
 
 ghost use Rattle.std.specs.Prelude.{◌≡◌, ℕ, ◌<◌, ◌≤◌, length, All, List, Option, Some, None, slice_index_or, slice_set};
+ghost use Rattle.qss_quant.specs.declared.rule.Rule.{Rule};
 ghost use Rattle.qss_devs.specs.Messages.{IsMessage, IsTimely};
 ghost use Rattle.qss_devs.specs.Integrators.{IsLineNext};
 ghost use Rattle.qss_devs.specs.Models.{IsGivenLine};
 ghost use Rattle.qss_devs.specs.Places.{EachAt};
+ghost use Rattle.qss_devs.specs.Turns.{IsTurned};
 
 use crate::advance::least_advance;
 use crate::atomic::Atomic;
 use crate::integrator_model::IntegratorModel;
 use crate::message::Message;
+use crate::turn::{Turn, make_turn};
 use qss_machine::Machine;
 
 /// Gives a message to the integrator with a number, at a tick below 2^32 that is not before its last transition and not past its
@@ -30,6 +33,18 @@ pub fn tell_integrator(
         × IsGivenLine (slice_index_or integrators.old var t) tick msg t }
 {
     integrators[var as usize].external(tick, msg);
+}
+
+/// The integrator with a number makes its transition at a tick, if it has one there, unless the level that it would send is
+/// past its limit. The quantizers have a name.
+pub fn turn_integrator(integrators: &mut [IntegratorModel], var: u32, tick: u64) -> Turn
+    requires known { var < length integrators.old }
+    requires named { (rule : Rule)
+        × All (λ i. i.quantizer.value.name ≡ Some rule) integrators.old }
+    ensures { (t : _) × (integrators.new ≡ slice_set integrators.old var t)
+        × IsTurned (slice_index_or integrators.old var t) tick result t }
+{
+    make_turn(&mut integrators[var as usize], tick)
 }
 
 /// The least tick of the next transitions of integrators, or this one where none is earlier.
