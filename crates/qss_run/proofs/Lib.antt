@@ -32,6 +32,7 @@ pub mod Seats
 pub mod Assigned
 pub mod Reseating
 pub mod Weighed
+pub mod Bounds
 pub mod Reinitialized
 pub mod Reinits
 pub mod Arrivals

@@ -7,6 +7,7 @@ pub mod Calls
 pub mod Moves
 pub mod Speeds
 pub mod Overweights
+pub mod Weighings
 pub mod Turnings
 pub mod RowSums
 pub mod Touches

@@ -2,6 +2,7 @@
 #![tactic(auto)]
 
 mod advance;
+mod bounds;
 mod calm;
 mod conditions;
 mod course;

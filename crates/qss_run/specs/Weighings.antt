@@ -1,0 +1,27 @@
+-- Weights of rows, and how great levels and discrete values may be for no row to pass its limits.
+use Rattle.std.specs.Prelude.{◌≡◌, ℕ, ◌+◌, ◌*◌, ◌^◌, ◌≤◌, false, List, [], length, All, ℤ, unsigned_abs, sum_by}
+use Rattle.qss_machine.specs.declared.parts.SlopeRow.{SlopeRow}
+use Rattle.qss_machine.specs.declared.system.Machine.{Machine}
+use Rattle.qss_machine.specs.Machines.{state_count, discrete_count}
+use Rattle.qss_machine.specs.Ticks.{is_overweight}
+
+-- at most a bound in size
+abbrev pub IsUpTo : ℕ → ℤ → Type 0
+IsUpTo bound z = unsigned_abs z ≤ bound
+
+-- a row passes no limit wherever levels and discrete values are at most a bound in size
+abbrev pub IsSafe : Machine → ℕ → SlopeRow → Type 0
+IsSafe m bound row =
+    (levels discretes : List ℤ) → length levels ≡ state_count m → length discretes ≡ discrete_count m →
+    All (IsUpTo bound) levels → All (IsUpTo bound) discretes → is_overweight m levels discretes row ≡ false
+
+-- a row without products whose coefficients' sizes, each times a bound, add up with that of the constant to at most 2 ^ 88
+pub record HasRoom (row : SlopeRow) (bound : ℕ) : Type 0 where
+  pub plain : row.products ≡ []
+  pub few : bound * sum_by (λ entry. unsigned_abs entry.coef) row.entries + unsigned_abs row.beta ≤ 2 ^ 88
+
+-- levels and discrete values at most a bound in size, up to which no row passes its limits
+pub record AreSmall (m : Machine) (bound : ℕ) (levels discretes : List ℤ) : Type 0 where
+  pub safe : All (IsSafe m bound) m.rows
+  pub small_levels : All (IsUpTo bound) levels
+  pub small_discretes : All (IsUpTo bound) discretes
