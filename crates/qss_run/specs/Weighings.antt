@@ -1,13 +1,18 @@
 -- Weights of rows, and how great levels and discrete values may be for no row to pass its limits.
-use Rattle.std.specs.Prelude.{◌≡◌, ℕ, ◌+◌, ◌*◌, ◌^◌, ◌≤◌, false, List, [], length, All, ℤ, unsigned_abs, sum_by}
+use Rattle.std.specs.Prelude.{◌≡◌, ℕ, ◌+◌, ◌-◌, ◌*◌, ◌^◌, ◌≤◌, false, List, [], length, All, ℤ, unsigned_abs, sum_by}
 use Rattle.qss_machine.specs.declared.parts.SlopeRow.{SlopeRow}
 use Rattle.qss_machine.specs.declared.system.Machine.{Machine}
 use Rattle.qss_machine.specs.Machines.{state_count, discrete_count}
+use Rattle.qss_machine.specs.Numbers.{int_at}
 use Rattle.qss_machine.specs.Ticks.{is_overweight}
 
 -- at most a bound in size
 abbrev pub IsUpTo : ℕ → ℤ → Type 0
 IsUpTo bound z = unsigned_abs z ≤ bound
+
+-- the values at these places, counted from a first one, are at most a bound in size
+abbrev pub AreUpToAt : ℕ → List ℤ → ℕ → List ℕ → Type 0
+AreUpToAt bound values first places = All (λ place. IsUpTo bound (int_at values (place - first))) places
 
 -- a row passes no limit wherever levels and discrete values are at most a bound in size
 abbrev pub IsSafe : Machine → ℕ → SlopeRow → Type 0

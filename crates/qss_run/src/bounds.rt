@@ -1,9 +1,8 @@
 //! How great levels and discrete values may be for no row to pass its limits.
 
-ghost use Rattle.std.specs.Prelude.{◌≡◌, ℕ, ◌+◌, ◌*◌, ◌-◌, ◌^◌, ◌<◌, ◌≤◌, All, Some, length, sum_by, true, unsigned_abs};
+ghost use Rattle.std.specs.Prelude.{◌≡◌, ℕ, ◌+◌, ◌*◌, ◌^◌, ◌<◌, ◌≤◌, All, Some, length, sum_by, true, unsigned_abs};
 ghost use Rattle.mu_num.specs.Sizes.{IsWithin};
-ghost use Rattle.qss_machine.specs.Numbers.{int_at};
-ghost use Rattle.qss_run.specs.Weighings.{IsUpTo, IsSafe, HasRoom, AreSmall};
+ghost use Rattle.qss_run.specs.Weighings.{IsUpTo, AreUpToAt, IsSafe, HasRoom, AreSmall};
 
 use qss_machine::{Entry, Machine, SlopeRow};
 
@@ -103,8 +102,7 @@ fn are_up_to(values: &[i64], bound: u64) -> bool
 pub(crate) fn are_up_to_at(values: &[i64], places: &[u32], first: u32, bound: u64) -> bool
     requires from { All (λ place. first ≤ place) places.now }
     requires known { All (λ place. place < first + length values.now) places.now }
-    ensures { result ≡ true
-        → All (λ place. IsUpTo bound (int_at values.now (place - first))) places.now }
+    ensures { result ≡ true → AreUpToAt bound values.now first places.now }
 {
     for place in places {
         let value = values[(*place - first) as usize];

@@ -37,6 +37,7 @@ mod visiting;
 mod watches;
 mod watching;
 mod weighing;
+mod weights;
 
 pub use course::Course;
 pub use outcome::Outcome;
