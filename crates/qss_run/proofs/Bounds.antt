@@ -1,5 +1,5 @@
 -- Where levels and discrete values are at most a bound in size, a row with room for it passes no limit.
-use Rattle.std.proofs.Common.{◌≡◌, ℕ, ◌+◌, ◌-◌, ◌*◌, ◌/◌, ◌^◌, ◌<◌, ◌≤◌, ◌≤ℤ◌, true, false, List, [], ◌∷◌, ◌++◌, length, ℤ, pos, ◌+ℤ◌, ◌-ℤ◌, ◌*ℤ◌, refl, sym, ◌∙◌, ap, subst, arith, inl, inr, ◌==◌}
+use Rattle.std.proofs.Common.{◌≡◌, ℕ, ◌+◌, ◌-◌, ◌*◌, ◌/◌, ◌^◌, ◌≤◌, ◌≤ℤ◌, true, false, List, [], ◌∷◌, ◌++◌, length, ℤ, pos, ◌-ℤ◌, ◌*ℤ◌, refl, sym, ◌∙◌, ap, subst, arith, inl, inr, ◌==◌}
 use Rattle.std.proofs.Math.IntN.{pos-*ℤ-pos, zero-*ℤ}
 use Rattle.std.proofs.Math.Nat.{mul_comm}
 use Rattle.std.proofs.lemmas.Bool.{cases_lt}
@@ -24,7 +24,6 @@ use Rattle.qss_machine.specs.Limits.{IsRow}
 use Rattle.qss_machine.specs.Machines.{state_count, discrete_count}
 use Rattle.qss_machine.specs.Numbers.{int_at, size, sum_over, sum_below}
 use Rattle.qss_machine.specs.Slopes.{coefficient_of, mode_coefficient, mode_fits, weight_of}
-use Rattle.qss_machine.specs.Ticks.{is_overweight}
 use Rattle.qss_run.specs.Weighings.{IsUpTo, IsSafe, HasRoom}
 
 -- a list of no elements
