@@ -36,7 +36,7 @@ pub quotient_times : (room sizes times : ℕ) → times ≤ room / sizes → tim
 quotient_times room sizes times le = omega (arith, mul-le times sizes (room / sizes) sizes le (omega arith), div-add-mod' room sizes)
 
 -- a number of a list that is up to a bound, and 0 past the end
-up_to_at : (bound : ℕ) (xs : List ℤ) → All (IsUpTo bound) xs → (i : ℕ) → IsUpTo bound (int_at xs i)
+pub up_to_at : (bound : ℕ) (xs : List ℤ) → All (IsUpTo bound) xs → (i : ℕ) → IsUpTo bound (int_at xs i)
 up_to_at bound xs small i =
     elim (cases_lt i (length xs)) [
       | inl below ↦ small i (pos 0) below
@@ -44,7 +44,7 @@ up_to_at bound xs small i =
     ]
 
 -- a number of two lists one after the other
-up_to_both : (bound : ℕ) (xs ys : List ℤ) → All (IsUpTo bound) xs → All (IsUpTo bound) ys → (i : ℕ) → IsUpTo bound (int_at (xs ++ ys) i)
+pub up_to_both : (bound : ℕ) (xs ys : List ℤ) → All (IsUpTo bound) xs → All (IsUpTo bound) ys → (i : ℕ) → IsUpTo bound (int_at (xs ++ ys) i)
 up_to_both bound xs ys first second i =
     elim (cases_lt i (length xs)) [
       | inl below ↦ subst (IsUpTo bound) (sym (get_or_append_left xs ys (pos 0) i below)) (up_to_at bound xs first i)
@@ -55,12 +55,12 @@ up_to_both bound xs ys first second i =
     ]
 
 -- sizes added up as whole numbers
-sizes_are : (entries : List Entry) → sum_over (λ (entry : Entry). size entry.coef) entries ≡ pos (sum_by (λ (entry : Entry). unsigned_abs entry.coef) entries)
+pub sizes_are : (entries : List Entry) → sum_over (λ (entry : Entry). size entry.coef) entries ≡ pos (sum_by (λ (entry : Entry). unsigned_abs entry.coef) entries)
 sizes_are [] = refl
 sizes_are (entry ∷ entries) = omega (arith, ints, sizes_are entries, sum_by-cons (λ (other : Entry). unsigned_abs other.coef) entry entries)
 
 -- each coefficient times its variable's value, of values up to a bound
-terms_within : (bound : ℕ) (values : List ℤ) → ((i : ℕ) → IsUpTo bound (int_at values i)) → (entries : List Entry) →
+pub terms_within : (bound : ℕ) (values : List ℤ) → ((i : ℕ) → IsUpTo bound (int_at values i)) → (entries : List Entry) →
     (pos 0 ≤ℤ sum_over (λ (entry : Entry). size (entry.coef *ℤ int_at values entry.var)) entries)
     × (sum_over (λ (entry : Entry). size (entry.coef *ℤ int_at values entry.var)) entries ≤ℤ (sum_over (λ (entry : Entry). size entry.coef) entries *ℤ pos bound))
 terms_within bound values small [] = (omega (arith, ints), omega (arith, ints, zero-*ℤ (pos bound)))

@@ -1,5 +1,6 @@
 -- Weights of rows, and how great levels and discrete values may be for no row to pass its limits.
-use Rattle.std.specs.Prelude.{◌≡◌, ℕ, ◌+◌, ◌-◌, ◌*◌, ◌^◌, ◌≤◌, false, List, [], length, All, ℤ, unsigned_abs, sum_by}
+use Rattle.std.specs.Prelude.{◌≡◌, ℕ, ◌+◌, ◌-◌, ◌*◌, ◌/◌, ◌^◌, ◌≤◌, false, List, [], length, All, ℤ, unsigned_abs, sum_by}
+use Rattle.qss_machine.specs.declared.parts.Product.{Product}
 use Rattle.qss_machine.specs.declared.parts.SlopeRow.{SlopeRow}
 use Rattle.qss_machine.specs.declared.system.Machine.{Machine}
 use Rattle.qss_machine.specs.Machines.{state_count, discrete_count}
@@ -24,6 +25,15 @@ IsSafe m bound row =
 pub record HasRoom (row : SlopeRow) (bound : ℕ) : Type 0 where
   pub plain : row.products ≡ []
   pub few : bound * sum_by (λ entry. unsigned_abs entry.coef) row.entries + unsigned_abs row.beta ≤ 2 ^ 88
+
+-- how much a product times a value up to a bound may add to the size of its state's mode coefficient
+abbrev pub share : ℕ → ℕ → Product → ℕ
+share level_bits bound product = unsigned_abs product.coef * bound / 2 ^ level_bits + 1
+
+-- a row whose coefficients' sizes and products' shares, of values up to a bound within their limit, add up to at most 2 ^ 44
+pub record HasProductRoom (level_bits : ℕ) (row : SlopeRow) (bound : ℕ) : Type 0 where
+  pub small : bound ≤ 2 ^ 43
+  pub modes : sum_by (λ entry. unsigned_abs entry.coef) row.entries + sum_by (share level_bits bound) row.products ≤ 2 ^ 44
 
 -- levels and discrete values at most a bound in size, up to which no row passes its limits
 pub record AreSmall (m : Machine) (bound : ℕ) (levels discretes : List ℤ) : Type 0 where
