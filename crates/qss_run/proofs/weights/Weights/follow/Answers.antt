@@ -13,7 +13,7 @@ reweigh_of-requires-clause-before c =
         off = before.off;
         small = before.small;
         light = before.light;
-        own_sums = c.as_mut_slice.ensures.value ∙ before.own.own c.if-kept.true;
+        own_sums = c.as_mut_slice.ensures.value ∙ before.own.own c.if-self.true;
         own_levels = before.own_levels;
       },
     )
@@ -27,14 +27,14 @@ are_up_to_at-requires-clause-known c k none h = omega (arith, c.requires.ready.m
 pub weigh_every-requires-clause-weights : goal.weigh_every-requires-clause-weights
 weigh_every-requires-clause-weights c = ap length c.as_mut_slice-2.ensures.value ∙ c.requires.before.1.own.as_many
 
-pub returns-then-kept : goal.returns-then-kept
-returns-then-kept c =
+pub returns-then-self : goal.returns-then-self
+returns-then-self c =
     let m = c.args.at.now.machine.now in
     let self : Weights = c.args.self.now in
     record {
       over = c.reweigh_of.ensures.over;
       weights = λ none.
-          kept_anew m c.args.at.now.levels.now c.args.d.now self c.reweigh_of.new.weights c.if-kept.true c.requires.before.1.own.as_many
+          kept_anew m c.args.at.now.levels.now c.args.d.now self c.reweigh_of.new.weights c.if-self.true c.requires.before.1.own.as_many
               (c.reweigh_of.auto.weights ∙ c.as_mut_slice.ensures.len) c.reweigh_of.ensures.weights;
     }
 
@@ -46,7 +46,7 @@ returns-then-are_up_to_at c =
     let d : List ℤ = c.args.d.now in
     let old : List ℤ = c.requires.before.0 in
     let before = c.requires.before.1 in
-    let off : self.kept ≡ false = c.if-kept.false in
+    let off : self.kept ≡ false = c.if-self.false in
     let were = before.own.small off in
     let are : AreSmall m self.bound levels d = record {
       safe = were.safe;

@@ -13,7 +13,7 @@ reweigh_handled-requires-clause-before c =
         off = before.off;
         small = before.small;
         light = before.light;
-        own_sums = c.as_mut_slice.ensures.value ∙ before.own.own c.if-kept.true;
+        own_sums = c.as_mut_slice.ensures.value ∙ before.own.own c.if-self.true;
         own_levels = before.own_levels;
       },
     )
@@ -21,14 +21,14 @@ reweigh_handled-requires-clause-before c =
 pub weigh_every-requires-clause-weights : goal.weigh_every-requires-clause-weights
 weigh_every-requires-clause-weights c = ap length c.as_mut_slice-2.ensures.value ∙ c.requires.before.1.own.as_many
 
-pub returns-then-kept : goal.returns-then-kept
-returns-then-kept c =
+pub returns-then-self : goal.returns-then-self
+returns-then-self c =
     let m = c.args.at.now.machine.now in
     let self : Weights = c.args.self.now in
     record {
       over = c.reweigh_handled.ensures.over;
       weights = λ none.
-          kept_anew m c.args.at.now.levels.now c.args.left.now.discretes.now self c.reweigh_handled.new.weights c.if-kept.true c.requires.before.1.own.as_many
+          kept_anew m c.args.at.now.levels.now c.args.left.now.discretes.now self c.reweigh_handled.new.weights c.if-self.true c.requires.before.1.own.as_many
               (c.reweigh_handled.auto.weights ∙ c.as_mut_slice.ensures.len) (c.reweigh_handled.ensures.weights none);
     }
 
@@ -42,7 +42,7 @@ returns-then-are_handled_up_to c =
     let d : List ℤ = c.args.left.now.discretes.now in
     let old : List ℤ = c.requires.before.0 in
     let before = c.requires.before.1 in
-    let off : self.kept ≡ false = c.if-kept.false in
+    let off : self.kept ≡ false = c.if-self.false in
     let were = before.own.small off in
     let within = c.if-are_handled_up_to.true in
     let are : AreSmall m self.bound levels d = record {
