@@ -20,10 +20,10 @@ row_bound-requires-clause-few c =
     let m = c.args.m.now in
     let none : SlopeRow = record { entries = []; products = []; beta = pos 0 } in
     let i : ℕ = c.loop-row.row-index in
-    let inside : i < length m.rows = omega (arith, c.loop-row-test.true, ap length c.as_slice.ensures) in
-    let row : SlopeRow = get_or c.as_slice.result.now i none in
+    let inside : i < length m.rows = omega (arith, c.loop-row-test.true, ap length c.as_slice-row-items.ensures) in
+    let row : SlopeRow = get_or c.as_slice-row-items.result.now i none in
     let is : IsRow (state_count m) (discrete_count m) row =
-    subst (λ rows. IsRow (state_count m) (discrete_count m) (get_or rows i none)) (sym c.as_slice.ensures) (m.has_rows.each i none inside) in
+    subst (λ rows. IsRow (state_count m) (discrete_count m) (get_or rows i none)) (sym c.as_slice-row-items.ensures) (m.has_rows.each i none inside) in
     omega (arith, m.has_variables.few, entries_few (state_count m + discrete_count m) row.entries is.entries)
 
 pub row_bound-requires-clause-small : goal.row_bound-requires-clause-small
@@ -31,24 +31,24 @@ row_bound-requires-clause-small c =
     let m = c.args.m.now in
     let none : SlopeRow = record { entries = []; products = []; beta = pos 0 } in
     let i : ℕ = c.loop-row.row-index in
-    let inside : i < length m.rows = omega (arith, c.loop-row-test.true, ap length c.as_slice.ensures) in
-    subst (λ rows. All (λ (entry : Entry). IsWithin 44 entry.coef) (get_or rows i none).entries) (sym c.as_slice.ensures) (m.has_rows.each i none inside).coefficients
+    let inside : i < length m.rows = omega (arith, c.loop-row-test.true, ap length c.as_slice-row-items.ensures) in
+    subst (λ rows. All (λ (entry : Entry). IsWithin 44 entry.coef) (get_or rows i none).entries) (sym c.as_slice-row-items.ensures) (m.has_rows.each i none inside).coefficients
 
 pub row_bound-requires-clause-beta : goal.row_bound-requires-clause-beta
 row_bound-requires-clause-beta c =
     let m = c.args.m.now in
     let none : SlopeRow = record { entries = []; products = []; beta = pos 0 } in
     let i : ℕ = c.loop-row.row-index in
-    let inside : i < length m.rows = omega (arith, c.loop-row-test.true, ap length c.as_slice.ensures) in
-    subst (λ rows. IsWithin 78 (get_or rows i none).beta) (sym c.as_slice.ensures) (m.has_rows.each i none inside).constant
+    let inside : i < length m.rows = omega (arith, c.loop-row-test.true, ap length c.as_slice-row-items.ensures) in
+    subst (λ rows. IsWithin 78 (get_or rows i none).beta) (sym c.as_slice-row-items.ensures) (m.has_rows.each i none inside).constant
 
 pub row_bound-requires-clause-factors : goal.row_bound-requires-clause-factors
 row_bound-requires-clause-factors c =
     let m = c.args.m.now in
     let none : SlopeRow = record { entries = []; products = []; beta = pos 0 } in
     let i : ℕ = c.loop-row.row-index in
-    let inside : i < length m.rows = omega (arith, c.loop-row-test.true, ap length c.as_slice.ensures) in
-    subst (λ rows. All (λ (product : Product). IsWithin 44 product.coef) (get_or rows i none).products) (sym c.as_slice.ensures) (m.has_rows.each i none inside).factors
+    let inside : i < length m.rows = omega (arith, c.loop-row-test.true, ap length c.as_slice-row-items.ensures) in
+    subst (λ rows. All (λ (product : Product). IsWithin 44 product.coef) (get_or rows i none).products) (sym c.as_slice-row-items.ensures) (m.has_rows.each i none inside).factors
 
 pub row_bound-requires-clause-bits : goal.row_bound-requires-clause-bits
 row_bound-requires-clause-bits c = c.args.m.now.has_units.level_bits
@@ -60,11 +60,11 @@ loop-row-preserved c k none h =
     let i : ℕ = c.loop-row.row-index in
     let own : ℕ = c.in-Some-row_bound.own in
     let least : ℕ = c.lesser.result in
-    let inside : i < length m.rows = omega (arith, c.loop-row-test.true, ap length c.as_slice.ensures) in
+    let inside : i < length m.rows = omega (arith, c.loop-row-test.true, ap length c.as_slice-row-items.ensures) in
     let row : SlopeRow = get_or m.rows i zero in
     let is : IsRow (state_count m) (discrete_count m) row = m.has_rows.each i zero inside in
     let has : HasRoom row own ⊎ HasProductRoom m.f row own =
-    subst (λ rows. HasRoom (get_or rows i zero) own ⊎ HasProductRoom m.f (get_or rows i zero) own) c.as_slice.ensures (c.in-Some-row_bound.ensures own refl) in
+    subst (λ rows. HasRoom (get_or rows i zero) own ⊎ HasProductRoom m.f (get_or rows i zero) own) c.as_slice-row-items.ensures (c.in-Some-row_bound.ensures own refl) in
     let own_safe : IsSafe m own row = elim has [
       | inl plain ↦ safe m own row is plain
       | inr with_products ↦ products_safe m own row is with_products
@@ -82,4 +82,4 @@ pub returns : goal.returns
 returns c bound e k none h =
     let m = c.args.m.now in
     let same : c.loop-row.bound ≡ bound = cc in
-    subst (λ (b : ℕ). IsSafe m b (get_or m.rows k none)) same (c.loop-row.invariant k none (omega (arith, h, c.loop-row-test.false, ap length c.as_slice.ensures)))
+    subst (λ (b : ℕ). IsSafe m b (get_or m.rows k none)) same (c.loop-row.invariant k none (omega (arith, h, c.loop-row-test.false, ap length c.as_slice-row-items.ensures)))
