@@ -4,7 +4,8 @@ use Rattle.std.proofs.Math.IntN.{pos-*ℤ-pos, zero-*ℤ, *ℤ_comm}
 use Rattle.std.proofs.lemmas.Bool.{cases_lt}
 use Rattle.std.proofs.lemmas.Bool.Decides.{nat_tests}
 use Rattle.std.proofs.lemmas.Int.{ints, unsigned_abs-mul}
-use Rattle.std.proofs.lemmas.List.{get_or-map, length-map}
+use Rattle.std.proofs.Math.ListN.{get_or-map}
+use Rattle.std.proofs.lemmas.List.{length-map}
 use Rattle.std.proofs.lemmas.List.Sums.{sum_by-cons}
 use Rattle.std.proofs.lemmas.Nat.{mul-le, div-add-mod', mod_below}
 use Rattle.std.specs.Int.RustNames.{unsigned_abs}
@@ -30,7 +31,7 @@ use Rattle.qss_run.specs.Weighings.{IsUpTo, IsSafe, HasProductRoom, share}
 use Rattle.qss_run.proofs.Bounds.{sizes_are, terms_within, up_to_at, up_to_both}
 
 -- a product's share as an entry of its state
-as_entry : ℕ → ℕ → Product → Entry
+abbrev as_entry : ℕ → ℕ → Product → Entry
 as_entry bits bound product = record { var = product.state; coef = pos (share bits bound product) }
 
 -- ---- sums
@@ -112,13 +113,12 @@ nearest_within z unit count some small =
     ]
 
 module _ (m : Machine) (bound : ℕ) (row : SlopeRow) (is : IsRow (state_count m) (discrete_count m) row) (has : HasProductRoom m.f row bound) where
-  shares : List Entry
+  abbrev shares : List Entry
   shares = map (as_entry m.f bound) row.products
 
   -- a mode coefficient is at most its own coefficient and its shares
   mode_within : (n : ℕ) (discretes : List ℤ) → All (IsUpTo bound) discretes → (i : ℕ) →
       size (mode_coefficient m.f n row discretes i) ≤ℤ (size (coefficient_of row.entries i) +ℤ coefficient_of shares i)
-  unfolding shares
   mode_within n discretes small i =
       let own : ℤ = coefficient_of (map (as_entry m.f bound) row.products) i in
       let count : ℕ = unsigned_abs own in
@@ -130,7 +130,6 @@ module _ (m : Machine) (bound : ℕ) (row : SlopeRow) (is : IsRow (state_count m
       omega (arith, ints, nearest_within (products_of row.products n discretes i) (2 ^ m.f) count some sum, is_count)
 
   modes_within : (discretes : List ℤ) → All (IsUpTo bound) discretes → mode_fits m.f (state_count m) row discretes ≡ true
-  unfolding shares
   modes_within discretes small =
       fits_true (state_count m) (mode_coefficient m.f (state_count m) row discretes)
       (λ i h.
@@ -152,7 +151,6 @@ module _ (m : Machine) (bound : ℕ) (row : SlopeRow) (is : IsRow (state_count m
   excess_within : (levels discretes : List ℤ) → All (IsUpTo bound) levels → All (IsUpTo bound) discretes →
       sum_below (length levels) (λ i. (size (mode_coefficient m.f (length levels) row discretes i) -ℤ size (coefficient_of row.entries i)) *ℤ size (int_at levels i))
       ≤ℤ (pos (sum_by (share m.f bound) row.products) *ℤ pos bound)
-  unfolding shares
   excess_within levels discretes small small_d =
       let n : ℕ = length levels in
       let sizes : List ℤ = map size levels in
