@@ -56,15 +56,15 @@ row_bound-requires-clause-bits c = c.args.m.now.has_units.level_bits
 pub loop-row-preserved : goal.loop-row-preserved
 loop-row-preserved c k none h =
     let m = c.args.m.now in
-    let zero : SlopeRow = record { entries = []; products = []; beta = pos 0 } in
+    let blank : SlopeRow = record { entries = []; products = []; beta = pos 0 } in
     let i : ℕ = c.loop-row.row-index in
     let own : ℕ = c.in-Some-row_bound.own in
     let least : ℕ = c.lesser.result in
     let inside : i < length m.rows = omega (arith, c.loop-row-test.true, ap length c.as_slice-row-items.ensures) in
-    let row : SlopeRow = get_or m.rows i zero in
-    let is : IsRow (state_count m) (discrete_count m) row = m.has_rows.each i zero inside in
+    let row : SlopeRow = get_or m.rows i blank in
+    let is : IsRow (state_count m) (discrete_count m) row = m.has_rows.each i blank inside in
     let has : HasRoom row own ⊎ HasProductRoom m.f row own =
-    subst (λ rows. HasRoom (get_or rows i zero) own ⊎ HasProductRoom m.f (get_or rows i zero) own) c.as_slice-row-items.ensures (c.in-Some-row_bound.ensures own refl) in
+    subst (λ rows. HasRoom (get_or rows i blank) own ⊎ HasProductRoom m.f (get_or rows i blank) own) c.as_slice-row-items.ensures (c.in-Some-row_bound.ensures own refl) in
     let own_safe : IsSafe m own row = elim has [
       | inl plain ↦ safe m own row is plain
       | inr with_products ↦ products_safe m own row is with_products
@@ -74,7 +74,7 @@ loop-row-preserved c k none h =
       | inr behind ↦
           let same : i ≡ k = omega (arith, behind, h) in
           subst (λ (at : ℕ). IsSafe m least (get_or m.rows at none)) same
-          (subst (IsSafe m least) (get_or_default m.rows i zero none inside)
+          (subst (IsSafe m least) (get_or_default m.rows i blank none inside)
           (safe_lower m row own least c.lesser.ensures.second own_safe))
     ]
 
