@@ -1,5 +1,5 @@
--- A row with products that has room for a bound passes no limit up to it.
-use Rattle.std.proofs.Common.{◌≡◌, ℕ, zero, suc, ◌+◌, ◌-◌, ◌*◌, ◌^◌, ◌<◌, ◌≤◌, ◌≤ℤ◌, Bool, true, false, List, [], ◌∷◌, ◌++◌, length, map, ℤ, pos, ◌+ℤ◌, ◌-ℤ◌, ◌*ℤ◌, refl, sym, ◌∙◌, ap, arith, inl, inr, ◌==◌}
+-- A row that has room for a bound passes no limit up to it.
+use Rattle.std.proofs.Common.{◌≡◌, ℕ, zero, suc, ◌+◌, ◌-◌, ◌*◌, ◌^◌, ◌<◌, ◌≤◌, ◌≤ℤ◌, Bool, true, false, List, [], ◌∷◌, ◌++◌, length, map, get_or, ℤ, pos, ◌+ℤ◌, ◌-ℤ◌, ◌*ℤ◌, refl, sym, ◌∙◌, ap, subst, arith, inl, inr, ◌==◌}
 use Rattle.std.proofs.Math.IntN.{pos-*ℤ-pos, zero-*ℤ, *ℤ_comm}
 use Rattle.std.proofs.lemmas.Bool.{cases_lt}
 use Rattle.std.proofs.lemmas.Bool.Decides.{nat_tests}
@@ -10,7 +10,7 @@ use Rattle.std.proofs.lemmas.List.Sums.{sum_by-cons}
 use Rattle.std.proofs.lemmas.Nat.{mul-le, div-add-mod', mod_below}
 use Rattle.std.specs.Int.RustNames.{unsigned_abs}
 use Rattle.std.specs.List.{sum_by}
-use Rattle.std.specs.Prelude.{◌||◌, not, All, if◌then◌else◌}
+use Rattle.std.specs.Prelude.{◌||◌, not, All, Some, if◌then◌else◌}
 use Rattle.mu_num.proofs.Integers.{add-mul, mul-sub, mul-nonneg}
 use Rattle.mu_num.proofs.Quotients.{nearest_meets}
 use Rattle.mu_num.specs.Rounding.{nearest_of}
@@ -27,7 +27,7 @@ use Rattle.qss_machine.specs.Limits.{IsRow}
 use Rattle.qss_machine.specs.Machines.{state_count, discrete_count}
 use Rattle.qss_machine.specs.Numbers.{int_at, size, sum_over, sum_below}
 use Rattle.qss_machine.specs.Slopes.{coefficient_of, products_of, mode_coefficient, mode_fits, weight_of}
-use Rattle.qss_run.specs.Weighings.{IsUpTo, IsSafe, HasProductRoom, share}
+use Rattle.qss_run.specs.Weighings.{IsUpTo, IsSafe, HasRoom, half_limit, IsFirstHalf, IsSafeBound, share}
 use Rattle.qss_run.proofs.Bounds.{sizes_are, terms_within, up_to_at, up_to_both}
 
 -- a product's share as an entry of its state
@@ -112,7 +112,7 @@ nearest_within z unit count some small =
       | inr not_more ↦ not_more
     ]
 
-module _ (m : Machine) (bound : ℕ) (row : SlopeRow) (is : IsRow (state_count m) (discrete_count m) row) (has : HasProductRoom m.f row bound) where
+module _ (m : Machine) (bound : ℕ) (row : SlopeRow) (is : IsRow (state_count m) (discrete_count m) row) (has : HasRoom m.f bound row) where
   abbrev shares : List Entry
   shares = map (as_entry m.f bound) row.products
 
@@ -173,8 +173,8 @@ module _ (m : Machine) (bound : ℕ) (row : SlopeRow) (is : IsRow (state_count m
       plain_terms values [] = omega (arith, ints)
       plain_terms values (entry ∷ entries) = omega (arith, ints, plain_terms values entries)
 
-  product_weight_within : (levels discretes : List ℤ) → All (IsUpTo bound) levels → All (IsUpTo bound) discretes → passes 88 (weight_of m.f row levels discretes) ≡ false
-  product_weight_within levels discretes small small_d =
+  weight_within : (levels discretes : List ℤ) → All (IsUpTo bound) levels → All (IsUpTo bound) discretes → passes 88 (weight_of m.f row levels discretes) ≡ false
+  weight_within levels discretes small small_d =
       let values : List ℤ = levels ++ discretes in
       let sizes : ℕ = sum_by (λ (entry : Entry). unsigned_abs entry.coef) row.entries in
       let extra : ℕ = sum_by (share m.f bound) row.products in
@@ -190,7 +190,33 @@ module _ (m : Machine) (bound : ℕ) (row : SlopeRow) (is : IsRow (state_count m
       let within : unsigned_abs (weight_of m.f row levels discretes) ≤ 2 ^ 88 = omega (arith, ints, terms.1, own, more, weight, first, second, all, beta, positive) in
       grind (arith, nat_tests)
 
-  -- such a row passes no limit
-  pub products_safe : IsSafe m bound row
-  products_safe levels discretes many many_d small small_d =
-      ap (λ b. not b || passes 88 (weight_of m.f row levels discretes)) (modes_within discretes small_d) ∙ product_weight_within levels discretes small small_d
+  -- the row passes no limit
+  pub safe : IsSafe m bound row
+  safe levels discretes many many_d small small_d =
+      ap (λ b. not b || passes 88 (weight_of m.f row levels discretes)) (modes_within discretes small_d) ∙ weight_within levels discretes small small_d
+
+-- where all rows have room
+pub all_safe : (m : Machine) (bound : ℕ) → All (HasRoom m.f bound) m.rows → All (IsSafe m bound) m.rows
+all_safe m bound room k none h = safe m bound (get_or m.rows k none) (m.has_rows.each k none h) (room k none h)
+
+-- ---- the bound that is found
+
+-- one number of halvings is the first
+first_half_is : (m : Machine) (one other : ℕ) → IsFirstHalf m one → IsFirstHalf m other → one ≡ other
+first_half_is m one other first second =
+    elim (cases_lt one other) [
+      | inl less ↦ absurd (second.before one less first.room)
+      | inr not_less ↦
+          elim (cases_lt other one) [
+            | inl more ↦ absurd (first.before other more second.room)
+            | inr not_more ↦ omega (arith, not_less, not_more)
+          ]
+    ]
+
+-- one bound is found
+pub one_bound : (m : Machine) (bound other : ℕ) → IsSafeBound m (Some bound) → IsSafeBound m (Some other) → bound ≡ other
+one_bound m bound other first second = first.2 ∙ ap half_limit (first_half_is m first.0 second.0 first.1 second.1) ∙ sym second.2
+
+-- up to it no row passes its limits
+pub bound_safe : (m : Machine) (bound : ℕ) → IsSafeBound m (Some bound) → All (IsSafe m bound) m.rows
+bound_safe m bound found = all_safe m bound (subst (λ (b : ℕ). All (HasRoom m.f b) m.rows) (sym found.2) found.1.room)

@@ -1,6 +1,6 @@
 //! Weights of rows, kept up once levels and discrete values are great.
 
-ghost use Rattle.std.specs.Prelude.{◌≡◌, All, None, length, position, true};
+ghost use Rattle.std.specs.Prelude.{◌≡◌, ◌↔◌, All, IsTrue, None, length, position};
 ghost use Rattle.mu_num.specs.Sizes.{IsWithin};
 ghost use Rattle.qss_machine.specs.Machines.{state_count, discrete_count};
 ghost use Rattle.qss_machine.specs.Ticks.{is_overweight};
@@ -30,10 +30,9 @@ pub(crate) struct Weights {
 fn are_handled_up_to(at: &NewLevels, left: &Handled, bound: u64) -> bool
     requires ready { AreNewLevels at.now }
     requires left { AreHandled at.now.machine.now left.now }
-    ensures levels { result ≡ true → AreUpToAt bound at.now.levels.now 0 at.now.moved.now }
-    ensures discretes { result ≡ true
-        → AreUpToAt bound left.now.discretes.now
-            (state_count at.now.machine.now) left.now.assigned.now }
+    ensures { IsTrue result ↔ (AreUpToAt bound at.now.levels.now 0 at.now.moved.now
+        × AreUpToAt bound left.now.discretes.now
+            (state_count at.now.machine.now) left.now.assigned.now) }
 {
     if !are_up_to_at(at.levels, at.moved, 0, bound) {
         return false;

@@ -1,8 +1,8 @@
-use Rattle.std.proofs.Common.{ℕ, ◌<◌, get_or}
-use Rattle.qss_machine.specs.declared.parts.SlopeRow.{SlopeRow}
-use Rattle.qss_run.specs.Weighings.{IsSafe}
+use Rattle.std.proofs.Common.{ℕ, ◌<◌}
+use Rattle.std.specs.Prelude.{All}
+use Rattle.qss_run.specs.Weighings.{HasRoom, half_limit}
 use Rattle.qss_run.proofs.bounds.safe_bound.Given as goal
 
--- the rows so far pass no limit up to the bound
-abbrev pub invariant-loop-row : goal.invariant-loop-row
-invariant-loop-row l = (k : ℕ) (none : SlopeRow) → k < l.row-index → IsSafe l.m l.bound (get_or l.m.rows k none)
+-- not all rows have room for the halves so far
+abbrev pub invariant-loop-halvings : goal.invariant-loop-halvings
+invariant-loop-halvings l = (fewer : ℕ) → fewer < l.halvings → All (HasRoom l.m.f (half_limit fewer)) l.m.rows → ⊥

@@ -1,5 +1,5 @@
 -- Places of discrete variables come after those of states.
-use Rattle.std.proofs.Common.{◌≡◌, ◌∙◌, subst, arith}
+use Rattle.std.proofs.Common.{◌≡◌, refl, sym, ◌∙◌, subst, arith}
 use Rattle.qss_machine.specs.Machines.{state_count}
 use Rattle.qss_run.specs.Weighings.{AreUpToAt}
 use Rattle.qss_run.proofs.weights.are_handled_up_to.Goals as goal
@@ -10,6 +10,9 @@ are_up_to_at-requires-clause-from c k none h = omega arith
 pub are_up_to_at-requires-clause-known : goal.are_up_to_at-requires-clause-known
 are_up_to_at-requires-clause-known c k none h = omega (arith, c.requires.ready.moved.below k none h, c.requires.ready.levels)
 
+pub overflow_cast-states : goal.overflow_cast-states
+overflow_cast-states c = omega (arith, c.len-states.ensures, c.requires.ready.levels, c.args.at.now.machine.now.has_variables.few)
+
 pub are_up_to_at-2-requires-clause-from : goal.are_up_to_at-2-requires-clause-from
 are_up_to_at-2-requires-clause-from c k none h = omega (arith, (c.requires.left.assigned_known k none h).0, c.len-states.ensures, c.requires.ready.levels)
 
@@ -17,7 +20,17 @@ pub are_up_to_at-2-requires-clause-known : goal.are_up_to_at-2-requires-clause-k
 are_up_to_at-2-requires-clause-known c k none h =
     omega (arith, (c.requires.left.assigned_known k none h).1, c.len-states.ensures, c.requires.ready.levels, c.requires.left.many_discretes)
 
-pub returns-clause-discretes : goal.returns-clause-discretes
-returns-clause-discretes c e =
-    let many : c.len-states.result ≡ state_count c.args.at.now.machine.now = c.len-states.ensures ∙ c.requires.ready.levels in
-    subst (λ n. AreUpToAt c.args.bound c.args.left.now.discretes.now n c.args.left.now.assigned.now) many (c.are_up_to_at-2.ensures e)
+pub returns-then-not-are_up_to_at : goal.returns-then-not-are_up_to_at
+returns-then-not-are_up_to_at c = (
+  λ e. absurd (cc),
+  λ both. absurd (let yes = c.are_up_to_at.ensures.1 both.0 in let no = c.if-not-are_up_to_at.true in cc),
+)
+
+pub returns : goal.returns
+returns c =
+    let d = c.args.left.now.discretes.now in
+    let assigned = c.args.left.now.assigned.now in
+    let many : c.len-states.result ≡ state_count c.args.at.now.machine.now = c.len-states.ensures ∙ c.requires.ready.levels in (
+      λ e. (c.are_up_to_at.ensures.0 c.if-not-are_up_to_at.false, subst (λ n. AreUpToAt c.args.bound d n assigned) many (c.are_up_to_at-2.ensures.0 e)),
+      λ both. c.are_up_to_at-2.ensures.1 (subst (λ n. AreUpToAt c.args.bound d n assigned) (sym many) both.1),
+    )

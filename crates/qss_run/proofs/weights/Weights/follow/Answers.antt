@@ -50,7 +50,7 @@ returns-then-are_up_to_at c =
     let were = before.own.small off in
     let are : AreSmall m self.bound levels d = record {
       safe = were.safe;
-      small_levels = levels_still self.bound c.args.at.now.moved.now old levels before.off were.small_levels (c.are_up_to_at.ensures c.if-are_up_to_at.true);
+      small_levels = levels_still self.bound c.args.at.now.moved.now old levels before.off were.small_levels (c.are_up_to_at.ensures.0 c.if-are_up_to_at.true);
       small_discretes = were.small_discretes;
     } in
     record {

@@ -44,12 +44,11 @@ returns-then-are_handled_up_to c =
     let before = c.requires.before.1 in
     let off : self.kept ≡ false = c.if-self.false in
     let were = before.own.small off in
-    let within = c.if-are_handled_up_to.true in
+    let within = c.are_handled_up_to.ensures.0 c.if-are_handled_up_to.true in
     let are : AreSmall m self.bound levels d = record {
       safe = were.safe;
-      small_levels = levels_still self.bound c.args.at.now.moved.now old levels before.off were.small_levels (c.are_handled_up_to.ensures.levels within);
-      small_discretes = values_still m self.bound c.args.left.now.assigned.now pre d left.many_before left.many_discretes left.own were.small_discretes
-          (c.are_handled_up_to.ensures.discretes within);
+      small_levels = levels_still self.bound c.args.at.now.moved.now old levels before.off were.small_levels within.0;
+      small_discretes = values_still m self.bound c.args.left.now.assigned.now pre d left.many_before left.many_discretes left.own were.small_discretes within.1;
     } in
     record {
       over = sym (light_up_to m self.bound levels d c.requires.ready.levels left.many_discretes are);
