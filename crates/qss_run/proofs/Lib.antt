@@ -33,7 +33,7 @@ pub mod Assigned
 pub mod Reseating
 pub mod Weighed
 pub mod Bounds
-pub mod Shares
+pub mod Room
 pub mod Kept
 pub mod Reinitialized
 pub mod Reinits

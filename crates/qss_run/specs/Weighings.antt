@@ -22,13 +22,13 @@ IsSafe m bound row =
     All (IsUpTo bound) levels → All (IsUpTo bound) discretes → is_overweight m levels discretes row ≡ false
 
 -- how much a product times a value up to a bound may add to the size of its state's mode coefficient
-abbrev pub share : ℕ → ℕ → Product → ℕ
-share level_bits bound product = unsigned_abs product.coef * bound / 2 ^ level_bits + 1
+abbrev pub excess : ℕ → ℕ → Product → ℕ
+excess level_bits bound product = unsigned_abs product.coef * bound / 2 ^ level_bits + 1
 
--- a row whose coefficients' sizes and products' shares, of values up to a bound within their limit, add up to at most 2 ^ 44
+-- a row whose coefficients' sizes and products' excesses, of values up to a bound within their limit, add up to at most 2 ^ 44
 pub record HasRoom (level_bits bound : ℕ) (row : SlopeRow) : Type 0 where
   pub small : bound ≤ 2 ^ 43
-  pub modes : sum_by (λ entry. unsigned_abs entry.coef) row.entries + sum_by (share level_bits bound) row.products ≤ 2 ^ 44
+  pub modes : sum_by (λ entry. unsigned_abs entry.coef) row.entries + sum_by (excess level_bits bound) row.products ≤ 2 ^ 44
 
 -- the limit of levels, halved so often and rounded down
 abbrev pub half_limit : ℕ → ℕ

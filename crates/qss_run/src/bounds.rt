@@ -2,7 +2,7 @@
 
 ghost use Rattle.std.specs.Prelude.{◌≡◌, ℕ, ◌+◌, ◌^◌, ◌<◌, ◌≤◌, ◌↔◌, All, IsTrue, MatchOption, None, Some, length, sum_by, unsigned_abs};
 ghost use Rattle.mu_num.specs.Sizes.{IsWithin};
-ghost use Rattle.qss_run.specs.Weighings.{IsUpTo, AreUpToAt, HasRoom, IsSafeBound, AreSmall, share};
+ghost use Rattle.qss_run.specs.Weighings.{IsUpTo, AreUpToAt, HasRoom, IsSafeBound, AreSmall, excess};
 
 use qss_machine::{Entry, Machine, Product, SlopeRow};
 
@@ -33,28 +33,28 @@ fn size_sum(entries: &[Entry]) -> u128
 }
 
 // How much a product times a value up to a bound may add to the size of its state's mode coefficient.
-fn share_of(product: &Product, level_bits: u8, bound: u64) -> u128
+fn excess_of(product: &Product, level_bits: u8, bound: u64) -> u128
     requires small { IsWithin 44 product.now.coef }
     requires bits { level_bits ≤ 24 }
     requires bound { bound ≤ 2 ^ 43 }
-    ensures value { result ≡ share level_bits bound product.now }
+    ensures value { result ≡ excess level_bits bound product.now }
     ensures most { result ≤ 2 ^ 88 }
 {
     let most = u128::from(product.coef.unsigned_abs()) * u128::from(bound);
     (most >> level_bits) + 1
 }
 
-// The shares of products, added up; none where they are more than 2^44.
-fn share_sum(products: &[Product], level_bits: u8, bound: u64) -> Option<u128>
+// The excesses of products, added up; none where they are more than 2^44.
+fn excess_sum(products: &[Product], level_bits: u8, bound: u64) -> Option<u128>
     requires small { All (λ product. IsWithin 44 product.coef) products.now }
     requires bits { level_bits ≤ 24 }
     requires bound { bound ≤ 2 ^ 43 }
-    ensures { MatchOption result (2 ^ 44 < sum_by (share level_bits bound) products.now)
-        (λ sum. (sum ≡ sum_by (share level_bits bound) products.now) × (sum ≤ 2 ^ 44)) }
+    ensures { MatchOption result (2 ^ 44 < sum_by (excess level_bits bound) products.now)
+        (λ sum. (sum ≡ sum_by (excess level_bits bound) products.now) × (sum ≤ 2 ^ 44)) }
 {
     let mut sum: u128 = 0;
     for product in products {
-        sum += share_of(product, level_bits, bound);
+        sum += excess_of(product, level_bits, bound);
         if sum > 1 << 44 {
             return None;
         }
@@ -71,10 +71,10 @@ fn has_room(row: &SlopeRow, level_bits: u8, bound: u64) -> bool
     requires bound { bound ≤ 2 ^ 43 }
     ensures { IsTrue result ↔ HasRoom level_bits bound row.now }
 {
-    let Some(shares) = share_sum(row.products.as_slice(), level_bits, bound) else {
+    let Some(excesses) = excess_sum(row.products.as_slice(), level_bits, bound) else {
         return false;
     };
-    size_sum(row.entries.as_slice()) + shares <= 1 << 44
+    size_sum(row.entries.as_slice()) + excesses <= 1 << 44
 }
 
 // Whether all rows have room for a bound.

@@ -1,15 +1,15 @@
--- The sizes and the shares were added up.
+-- The sizes and the excesses were added up.
 use Rattle.std.proofs.Common.{◌≡◌, ◌+◌, ◌^◌, ◌<◌, ◌≤◌, List, ◌∙◌, ap, arith}
 use Rattle.std.proofs.lemmas.Bool.Decides.{nat_tests}
 use Rattle.std.specs.Int.RustNames.{unsigned_abs}
 use Rattle.std.specs.List.{sum_by}
 use Rattle.qss_machine.specs.declared.parts.Entry.{Entry}
 use Rattle.qss_machine.specs.declared.parts.Product.{Product}
-use Rattle.qss_run.specs.Weighings.{share}
+use Rattle.qss_run.specs.Weighings.{excess}
 use Rattle.qss_run.proofs.bounds.has_room.Goals as goal
 
-pub share_sum-requires-clause-small : goal.share_sum-requires-clause-small
-share_sum-requires-clause-small c = rw c.as_slice.ensures c.requires.factors
+pub excess_sum-requires-clause-small : goal.excess_sum-requires-clause-small
+excess_sum-requires-clause-small c = rw c.as_slice.ensures c.requires.factors
 
 pub size_sum-requires-clause-few : goal.size_sum-requires-clause-few
 size_sum-requires-clause-few c = rw c.as_slice-2.ensures c.requires.few
@@ -20,15 +20,15 @@ size_sum-requires-clause-small c = rw c.as_slice-2.ensures c.requires.small
 pub returns : goal.returns
 returns c =
     let row = c.args.row.now in
-    let own = c.in-Some-share_sum.ensures in
-    let shares : c.in-Some-share_sum.shares ≡ sum_by (share c.args.level_bits c.args.bound) row.products =
-    own.0 ∙ ap (λ (products : List Product). sum_by (share c.args.level_bits c.args.bound) products) c.as_slice.ensures in
+    let own = c.in-Some-excess_sum.ensures in
+    let excesses : c.in-Some-excess_sum.excesses ≡ sum_by (excess c.args.level_bits c.args.bound) row.products =
+    own.0 ∙ ap (λ (products : List Product). sum_by (excess c.args.level_bits c.args.bound) products) c.as_slice.ensures in
     let sizes : c.size_sum.result ≡ sum_by (λ (entry : Entry). unsigned_abs entry.coef) row.entries =
     c.size_sum.ensures.value ∙ ap (λ (entries : List Entry). sum_by (λ (entry : Entry). unsigned_abs entry.coef) entries) c.as_slice-2.ensures in (
       λ e.
-      let all : c.size_sum.result + c.in-Some-share_sum.shares ≤ 2 ^ 44 = grind (arith, nat_tests) in
-      record { small = c.requires.bound; modes = omega (arith, shares, sizes, all) },
+      let all : c.size_sum.result + c.in-Some-excess_sum.excesses ≤ 2 ^ 44 = grind (arith, nat_tests) in
+      record { small = c.requires.bound; modes = omega (arith, excesses, sizes, all) },
       λ has.
-      let all : c.size_sum.result + c.in-Some-share_sum.shares ≤ 2 ^ 44 = omega (arith, shares, sizes, has.modes) in
+      let all : c.size_sum.result + c.in-Some-excess_sum.excesses ≤ 2 ^ 44 = omega (arith, excesses, sizes, has.modes) in
       grind (arith, nat_tests),
     )

@@ -27,12 +27,12 @@ use Rattle.qss_machine.specs.Limits.{IsRow}
 use Rattle.qss_machine.specs.Machines.{state_count, discrete_count}
 use Rattle.qss_machine.specs.Numbers.{int_at, size, sum_over, sum_below}
 use Rattle.qss_machine.specs.Slopes.{coefficient_of, products_of, mode_coefficient, mode_fits, weight_of}
-use Rattle.qss_run.specs.Weighings.{IsUpTo, IsSafe, HasRoom, half_limit, IsFirstHalf, IsSafeBound, share}
+use Rattle.qss_run.specs.Weighings.{IsUpTo, IsSafe, HasRoom, half_limit, IsFirstHalf, IsSafeBound, excess}
 use Rattle.qss_run.proofs.Bounds.{sizes_are, terms_within, up_to_at, up_to_both}
 
--- a product's share as an entry of its state
+-- a product's excess as an entry of its state
 abbrev as_entry : ℕ → ℕ → Product → Entry
-as_entry bits bound product = record { var = product.state; coef = pos (share bits bound product) }
+as_entry bits bound product = record { var = product.state; coef = pos (excess bits bound product) }
 
 -- ---- sums
 
@@ -55,23 +55,23 @@ sum_below-le (suc n) f g h = omega (arith, ints, sum_below-le n f g (λ i low. h
 times_size : (a b : ℤ) (k : ℕ) → a ≤ℤ b → (a *ℤ pos k) ≤ℤ (b *ℤ pos k)
 times_size a b k le = omega (arith, ints, mul-nonneg k (b -ℤ a) (omega (arith, ints, le)), mul-sub (pos k) b a, *ℤ_comm a (pos k), *ℤ_comm b (pos k))
 
--- ---- shares
+-- ---- excesses
 
-shares_are : (bits bound : ℕ) (products : List Product) → sum_over (λ (entry : Entry). size entry.coef) (map (as_entry bits bound) products) ≡ pos (sum_by (share bits bound) products)
-shares_are bits bound [] = refl
-shares_are bits bound (product ∷ products) = omega (arith, ints, shares_are bits bound products, sum_by-cons (share bits bound) product products)
+excesses_are : (bits bound : ℕ) (products : List Product) → sum_over (λ (entry : Entry). size entry.coef) (map (as_entry bits bound) products) ≡ pos (sum_by (excess bits bound) products)
+excesses_are bits bound [] = refl
+excesses_are bits bound (product ∷ products) = omega (arith, ints, excesses_are bits bound products, sum_by-cons (excess bits bound) product products)
 
-share_nonneg : (bits bound : ℕ) (products : List Product) (state : ℕ) → pos 0 ≤ℤ coefficient_of (map (as_entry bits bound) products) state
-share_nonneg bits bound [] state = omega (arith, ints)
-share_nonneg bits bound (product ∷ products) state = by_own (product.state == state) (share_nonneg bits bound products state)
+excess_nonneg : (bits bound : ℕ) (products : List Product) (state : ℕ) → pos 0 ≤ℤ coefficient_of (map (as_entry bits bound) products) state
+excess_nonneg bits bound [] state = omega (arith, ints)
+excess_nonneg bits bound (product ∷ products) state = by_own (product.state == state) (excess_nonneg bits bound products state)
   where
     by_own : (b : Bool) → pos 0 ≤ℤ coefficient_of (map (as_entry bits bound) products) state →
-        pos 0 ≤ℤ ((if b then pos (share bits bound product) else pos 0) +ℤ coefficient_of (map (as_entry bits bound) products) state)
+        pos 0 ≤ℤ ((if b then pos (excess bits bound product) else pos 0) +ℤ coefficient_of (map (as_entry bits bound) products) state)
     by_own true h = omega (arith, ints, h)
     by_own false h = omega (arith, ints, h)
 
--- a product times a value up to the bound is at most its share of whole coefficients
-term_within : (bits bound : ℕ) (product : Product) (value : ℤ) → IsUpTo bound value → size (product.coef *ℤ value) ≤ℤ (pos (share bits bound product) *ℤ pos (2 ^ bits))
+-- a product times a value up to the bound is at most its excess of whole coefficients
+term_within : (bits bound : ℕ) (product : Product) (value : ℤ) → IsUpTo bound value → size (product.coef *ℤ value) ≤ℤ (pos (excess bits bound product) *ℤ pos (2 ^ bits))
 term_within bits bound product value small =
     let all : ℕ = unsigned_abs product.coef * bound in
     let at_most = mul-le (unsigned_abs product.coef) (unsigned_abs value) (unsigned_abs product.coef) bound (omega arith) small in
@@ -83,15 +83,15 @@ term_within bits bound product value small =
       at_most,
       div-add-mod' all (2 ^ bits),
       mod_below all (2 ^ bits) some,
-      pos-*ℤ-pos (share bits bound product) (2 ^ bits),
+      pos-*ℤ-pos (excess bits bound product) (2 ^ bits),
     )
 
--- a state's products are at most its shares of whole coefficients
+-- a state's products are at most its excesses of whole coefficients
 products_within : (bits bound first : ℕ) (discretes : List ℤ) → ((g : ℕ) → IsUpTo bound (int_at discretes g)) → (products : List Product) (state : ℕ) →
     size (products_of products first discretes state) ≤ℤ (coefficient_of (map (as_entry bits bound) products) state *ℤ pos (2 ^ bits))
 products_within bits bound first discretes small [] state = omega (arith, ints, zero-*ℤ (pos (2 ^ bits)))
 products_within bits bound first discretes small (product ∷ products) state =
-    by_own (product.state == state) (product.coef *ℤ int_at discretes (product.discrete - first)) (products_of products first discretes state) (pos (share bits bound product))
+    by_own (product.state == state) (product.coef *ℤ int_at discretes (product.discrete - first)) (products_of products first discretes state) (pos (excess bits bound product))
     (coefficient_of (map (as_entry bits bound) products) state) (pos (2 ^ bits)) (term_within bits bound product (int_at discretes (product.discrete - first)) (small (product.discrete - first)))
     (products_within bits bound first discretes small products state)
   where
@@ -113,16 +113,16 @@ nearest_within z unit count some small =
     ]
 
 module _ (m : Machine) (bound : ℕ) (row : SlopeRow) (is : IsRow (state_count m) (discrete_count m) row) (has : HasRoom m.f bound row) where
-  abbrev shares : List Entry
-  shares = map (as_entry m.f bound) row.products
+  abbrev excesses : List Entry
+  excesses = map (as_entry m.f bound) row.products
 
-  -- a mode coefficient is at most its own coefficient and its shares
+  -- a mode coefficient is at most its own coefficient and its excesses
   mode_within : (n : ℕ) (discretes : List ℤ) → All (IsUpTo bound) discretes → (i : ℕ) →
-      size (mode_coefficient m.f n row discretes i) ≤ℤ (size (coefficient_of row.entries i) +ℤ coefficient_of shares i)
+      size (mode_coefficient m.f n row discretes i) ≤ℤ (size (coefficient_of row.entries i) +ℤ coefficient_of excesses i)
   mode_within n discretes small i =
       let own : ℤ = coefficient_of (map (as_entry m.f bound) row.products) i in
       let count : ℕ = unsigned_abs own in
-      let is_count : own ≡ pos count = omega (arith, ints, share_nonneg m.f bound row.products i) in
+      let is_count : own ≡ pos count = omega (arith, ints, excess_nonneg m.f bound row.products i) in
       let product = ap (λ z. z *ℤ pos (2 ^ m.f)) is_count ∙ pos-*ℤ-pos count (2 ^ m.f) in
       let sum : unsigned_abs (products_of row.products n discretes i) ≤ count * 2 ^ m.f =
       omega (arith, ints, products_within m.f bound n discretes (up_to_at bound discretes small) row.products i, product) in
@@ -139,10 +139,10 @@ module _ (m : Machine) (bound : ℕ) (row : SlopeRow) (is : IsRow (state_count m
         ints,
         mode_within (state_count m) discretes small i,
         coefficient_within row.entries i,
-        coefficient_within shares i,
-        share_nonneg m.f bound row.products i,
+        coefficient_within excesses i,
+        excess_nonneg m.f bound row.products i,
         sizes_are row.entries,
-        shares_are m.f bound row.products,
+        excesses_are m.f bound row.products,
         has.modes,
       ) in
       grind (arith, nat_tests))
@@ -150,21 +150,21 @@ module _ (m : Machine) (bound : ℕ) (row : SlopeRow) (is : IsRow (state_count m
   -- what products add to the weight
   excess_within : (levels discretes : List ℤ) → All (IsUpTo bound) levels → All (IsUpTo bound) discretes →
       sum_below (length levels) (λ i. (size (mode_coefficient m.f (length levels) row discretes i) -ℤ size (coefficient_of row.entries i)) *ℤ size (int_at levels i))
-      ≤ℤ (pos (sum_by (share m.f bound) row.products) *ℤ pos bound)
+      ≤ℤ (pos (sum_by (excess m.f bound) row.products) *ℤ pos bound)
   excess_within levels discretes small small_d =
       let n : ℕ = length levels in
       let sizes : List ℤ = map size levels in
       let at : (i : ℕ) → int_at sizes i ≡ size (int_at levels i) = λ i. get_or-map size levels i (pos 0) in
       let each = sum_below-le n (λ i. (size (mode_coefficient m.f n row discretes i) -ℤ size (coefficient_of row.entries i)) *ℤ size (int_at levels i))
-      (λ i. coefficient_of shares i *ℤ int_at sizes i)
+      (λ i. coefficient_of excesses i *ℤ int_at sizes i)
       (λ i h.
-      let more : (size (mode_coefficient m.f n row discretes i) -ℤ size (coefficient_of row.entries i)) ≤ℤ coefficient_of shares i = omega (arith, ints, mode_within n discretes small_d i) in
-      omega (arith, ints, times_size _ _ (unsigned_abs (int_at levels i)) more, ap (λ z. coefficient_of shares i *ℤ z) (at i))) in
-      let turned = ap (λ k. sum_below k (λ i. coefficient_of shares i *ℤ int_at sizes i)) (sym (length-map levels size)) ∙ weighted_sum-entries shares sizes in
+      let more : (size (mode_coefficient m.f n row discretes i) -ℤ size (coefficient_of row.entries i)) ≤ℤ coefficient_of excesses i = omega (arith, ints, mode_within n discretes small_d i) in
+      omega (arith, ints, times_size _ _ (unsigned_abs (int_at levels i)) more, ap (λ z. coefficient_of excesses i *ℤ z) (at i))) in
+      let turned = ap (λ k. sum_below k (λ i. coefficient_of excesses i *ℤ int_at sizes i)) (sym (length-map levels size)) ∙ weighted_sum-entries excesses sizes in
       let small_sizes : (i : ℕ) → IsUpTo bound (int_at sizes i) = λ i. omega (arith, ints, up_to_at bound levels small i, at i) in
-      let terms = terms_within bound sizes small_sizes shares in
-      let at_most = plain_terms sizes shares in
-      let all = ap (λ z. z *ℤ pos bound) (shares_are m.f bound row.products) in
+      let terms = terms_within bound sizes small_sizes excesses in
+      let at_most = plain_terms sizes excesses in
+      let all = ap (λ z. z *ℤ pos bound) (excesses_are m.f bound row.products) in
       omega (arith, ints, each, turned, terms.1, at_most, all)
     where
       -- terms are at most their sizes
@@ -177,7 +177,7 @@ module _ (m : Machine) (bound : ℕ) (row : SlopeRow) (is : IsRow (state_count m
   weight_within levels discretes small small_d =
       let values : List ℤ = levels ++ discretes in
       let sizes : ℕ = sum_by (λ (entry : Entry). unsigned_abs entry.coef) row.entries in
-      let extra : ℕ = sum_by (share m.f bound) row.products in
+      let extra : ℕ = sum_by (excess m.f bound) row.products in
       let terms = terms_within bound values (up_to_both bound levels discretes small small_d) row.entries in
       let own = sizes_sum-entries row.entries values is.entries.rising in
       let more = excess_within levels discretes small small_d in

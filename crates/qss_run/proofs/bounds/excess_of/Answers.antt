@@ -1,7 +1,7 @@
 -- The product of two sizes within their limits, which shifting makes no greater.
 use Rattle.std.proofs.Common.{ℕ, ◌+◌, ◌*◌, ◌^◌, ◌≤◌, arith}
 use Rattle.std.proofs.lemmas.Nat.{mul-le, shr_le}
-use Rattle.qss_run.proofs.bounds.share_of.Goals as goal
+use Rattle.qss_run.proofs.bounds.excess_of.Goals as goal
 
 most_within : (size bound : ℕ) → size ≤ 2 ^ 44 → bound ≤ 2 ^ 43 → size * bound ≤ 2 ^ 87
 most_within size bound small few = omega (arith, mul-le size bound (2 ^ 44) (2 ^ 43) small few)
