@@ -32,7 +32,7 @@ pub mod Seats
 pub mod Assigned
 pub mod Reseating
 pub mod Weighed
-pub mod Bounds
+pub mod Terms
 pub mod Room
 pub mod Kept
 pub mod Reinitialized

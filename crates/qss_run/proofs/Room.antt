@@ -28,7 +28,7 @@ use Rattle.qss_machine.specs.Machines.{state_count, discrete_count}
 use Rattle.qss_machine.specs.Numbers.{int_at, size, sum_over, sum_below}
 use Rattle.qss_machine.specs.Slopes.{coefficient_of, products_of, mode_coefficient, mode_fits, weight_of}
 use Rattle.qss_run.specs.Weighings.{IsUpTo, IsSafe, HasRoom, half_limit, IsFirstHalf, IsSafeBound, excess}
-use Rattle.qss_run.proofs.Bounds.{sizes_are, terms_within, up_to_at, up_to_both}
+use Rattle.qss_run.proofs.Terms.{sizes_are, terms_within, up_to_at, up_to_both}
 
 -- a product's excess as an entry of its state
 abbrev as_entry : ℕ → ℕ → Product → Entry

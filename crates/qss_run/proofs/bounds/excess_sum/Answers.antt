@@ -1,5 +1,5 @@
 -- The excesses so far are no more than all of them.
-use Rattle.std.proofs.Common.{◌≡◌, ◌+◌, ◌^◌, ◌<◌, ◌≤◌, [], pos, take, ap, ◌∙◌, arith}
+use Rattle.std.proofs.Common.{ℕ, ◌+◌, List, pos, ap, ◌∙◌, arith}
 use Rattle.std.proofs.lemmas.List.{take_all}
 use Rattle.std.proofs.lemmas.List.Sums.{sum_by_more, sum_by-take-le}
 use Rattle.std.specs.List.{sum_by}
@@ -8,24 +8,26 @@ use Rattle.qss_run.specs.Weighings.{excess}
 use Rattle.qss_run.proofs.bounds.excess_sum.Goals as goal
 
 -- a product of nothing
-no_product : Product
+abbrev no_product : Product
 no_product = record { state = 0; discrete = 0; coef = pos 0 }
 
 pub loop-product-preserved : goal.loop-product-preserved
 loop-product-preserved c =
-    let one_more = sum_by_more (excess c.args.level_bits c.args.bound) c.args.products.now c.loop-product.product-index no_product c.loop-product-test.true in
-    record { so_far = omega (arith, one_more, c.excess_of.ensures.value, c.loop-product.invariant.so_far); few = omega arith }
+    let excesses : Product → ℕ = excess c.args.level_bits c.args.bound in
+    let products : List Product = c.args.products.now in
+    let i : ℕ = c.loop-product.product-index in
+    record { so_far = omega (arith, sum_by_more excesses products i no_product c.loop-product-test.true, c.excess_of-sum.ensures.value, c.loop-product.invariant.so_far); few = omega arith }
 
 pub returns-then-sum : goal.returns-then-sum
 returns-then-sum c =
-    let excesses = excess c.args.level_bits c.args.bound in
-    let products = c.args.products.now in
-    let i = c.loop-product.product-index in
+    let excesses : Product → ℕ = excess c.args.level_bits c.args.bound in
+    let products : List Product = c.args.products.now in
+    let i : ℕ = c.loop-product.product-index in
     omega (
       arith,
       sum_by_more excesses products i no_product c.loop-product-test.true,
       sum_by-take-le excesses products (i + 1),
-      c.excess_of.ensures.value,
+      c.excess_of-sum.ensures.value,
       c.loop-product.invariant.so_far,
     )
 

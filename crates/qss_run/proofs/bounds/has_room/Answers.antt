@@ -20,15 +20,15 @@ size_sum-requires-clause-small c = rw c.as_slice-2.ensures c.requires.small
 pub returns : goal.returns
 returns c =
     let row = c.args.row.now in
-    let own = c.in-Some-excess_sum.ensures in
-    let excesses : c.in-Some-excess_sum.excesses ≡ sum_by (excess c.args.level_bits c.args.bound) row.products =
+    let own = c.in-Some.ensures in
+    let excesses : c.in-Some.excesses ≡ sum_by (excess c.args.level_bits c.args.bound) row.products =
     own.0 ∙ ap (λ (products : List Product). sum_by (excess c.args.level_bits c.args.bound) products) c.as_slice.ensures in
     let sizes : c.size_sum.result ≡ sum_by (λ (entry : Entry). unsigned_abs entry.coef) row.entries =
     c.size_sum.ensures.value ∙ ap (λ (entries : List Entry). sum_by (λ (entry : Entry). unsigned_abs entry.coef) entries) c.as_slice-2.ensures in (
       λ e.
-      let all : c.size_sum.result + c.in-Some-excess_sum.excesses ≤ 2 ^ 44 = grind (arith, nat_tests) in
+      let all : c.size_sum.result + c.in-Some.excesses ≤ 2 ^ 44 = grind (arith, nat_tests) in
       record { small = c.requires.bound; modes = omega (arith, excesses, sizes, all) },
       λ has.
-      let all : c.size_sum.result + c.in-Some-excess_sum.excesses ≤ 2 ^ 44 = omega (arith, excesses, sizes, has.modes) in
+      let all : c.size_sum.result + c.in-Some.excesses ≤ 2 ^ 44 = omega (arith, excesses, sizes, has.modes) in
       grind (arith, nat_tests),
     )

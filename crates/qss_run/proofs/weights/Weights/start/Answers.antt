@@ -6,8 +6,8 @@ use Rattle.qss_run.proofs.weights.Weights.start.Goals as goal
 
 pub returns-in-Some : goal.returns-in-Some
 returns-in-Some c =
-    not_kept c.args.m.now c.args.levels.now c.args.d.now (record c.args.self.now { bound = c.in-Some-bound_for.bound; kept = false }) refl c.requires.weights
-    (c.in-Some-bound_for.ensures c.in-Some-bound_for.bound refl)
+    not_kept c.args.m.now c.args.levels.now c.args.d.now (record c.args.self.now { bound = c.in-Some.bound; kept = false }) refl c.requires.weights
+    (c.in-Some.ensures c.in-Some.bound refl)
 
 pub returns : goal.returns
 returns c =
