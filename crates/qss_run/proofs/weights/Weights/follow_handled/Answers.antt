@@ -1,5 +1,5 @@
 -- While the moved levels and the assigned values stay within the bound, no row passes its limits.
-use Rattle.std.proofs.Common.{◌≡◌, List, length, ℤ, false, refl, sym, ◌∙◌, ap}
+use Rattle.std.proofs.Common.{◌≡◌, List, length, ℤ, false, true, refl, sym, ◌∙◌, ap}
 use Rattle.qss_run.specs.declared.weights.Weights.{Weights}
 use Rattle.qss_run.specs.Weighings.{AreSmall}
 use Rattle.qss_run.proofs.Kept.{levels_still, values_still, light_up_to, not_kept, kept_anew}

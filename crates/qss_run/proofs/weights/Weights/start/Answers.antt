@@ -1,5 +1,5 @@
 -- The weights are kept from the start on only where no bound was found.
-use Rattle.std.proofs.Common.{refl, ◌∙◌}
+use Rattle.std.proofs.Common.{true, false, refl, ◌∙◌}
 use Rattle.qss_run.specs.declared.weights.Weights.{Weights}
 use Rattle.qss_run.proofs.Kept.{not_kept, kept_anew}
 use Rattle.qss_run.proofs.weights.Weights.start.Goals as goal
@@ -7,7 +7,7 @@ use Rattle.qss_run.proofs.weights.Weights.start.Goals as goal
 pub returns-in-Some : goal.returns-in-Some
 returns-in-Some c =
     not_kept c.args.m.now c.args.levels.now c.args.d.now (record c.args.self.now { bound = c.in-Some.bound; kept = false }) refl c.requires.weights
-    (c.in-Some.ensures c.in-Some.bound refl)
+    (c.in-Some.ensures.small c.in-Some.bound refl)
 
 pub returns : goal.returns
 returns c =
