@@ -32,7 +32,7 @@ fn are_handled_up_to(at: &NewLevels, left: &Handled, bound: u64) -> bool
     requires left { AreHandled at.now.machine.now left.now }
     ensures { IsTrue result ↔ (AreUpToAt bound at.now.levels.now 0 at.now.moved.now
         × AreUpToAt bound left.now.discretes.now
-            (state_count at.now.machine.now) left.now.assigned.now) }
+        (state_count at.now.machine.now) left.now.assigned.now) }
 {
     if !are_up_to_at(at.levels, at.moved, 0, bound) {
         return false;
@@ -63,12 +63,7 @@ impl Weights {
 
     /// The weights, at these discrete values, follow where the moved states take their levels, from those of their lines. It
     /// gives the least row past its limits, if one is; the weights are good for nothing then.
-    pub(crate) fn follow(
-        &mut self,
-        at: &NewLevels,
-        d: &[i64],
-        lines: &[Integrator],
-    ) -> Option<u32>
+    pub(crate) fn follow(&mut self, at: &NewLevels, d: &[i64], lines: &[Integrator]) -> Option<u32>
         requires ready { AreNewLevels at.now }
         requires discretes { length d.now ≡ discrete_count at.now.machine.now }
         requires small_discretes { All (IsWithin 43) d.now }
@@ -103,7 +98,7 @@ impl Weights {
         ensures over { result ≡ first_overweight at.now left.now.discretes.now }
         ensures weights { result ≡ None
             → AreWeights at.now.machine.now
-                at.now.levels.now left.now.discretes.now self.new }
+            at.now.levels.now left.now.discretes.now self.new }
     {
         if self.kept {
             return reweigh_handled(at, left, lines, self.of_rows.as_mut_slice());

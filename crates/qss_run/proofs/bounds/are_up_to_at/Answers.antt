@@ -1,5 +1,5 @@
 -- The value at one more place is at most the bound, or greater.
-use Rattle.std.proofs.Common.{◌≡◌, ℕ, ◌-◌, ◌<◌, ◌≤◌, get_or, refl, arith}
+use Rattle.std.proofs.Common.{refl, arith}
 use Rattle.qss_run.proofs.bounds.are_up_to_at.Goals as goal
 
 pub returns : goal.returns

@@ -1,5 +1,5 @@
 -- The bound is the one that is found.
-use Rattle.std.proofs.Common.{◌≡◌, ℕ, sym, subst}
+use Rattle.std.proofs.Common.{◌≡◌, ℕ, subst}
 use Rattle.std.specs.Prelude.{All, Some}
 use Rattle.qss_run.specs.Weighings.{IsUpTo, IsSafeBound}
 use Rattle.qss_run.proofs.Room.{one_bound, bound_safe}

@@ -1,5 +1,5 @@
 -- The sizes and the excesses were added up.
-use Rattle.std.proofs.Common.{◌≡◌, ◌+◌, ◌^◌, ◌<◌, ◌≤◌, List, ◌∙◌, ap, arith}
+use Rattle.std.proofs.Common.{◌≡◌, ◌+◌, ◌^◌, ◌≤◌, List, ◌∙◌, ap, arith}
 use Rattle.std.proofs.lemmas.Bool.Decides.{nat_tests}
 use Rattle.std.specs.Int.RustNames.{unsigned_abs}
 use Rattle.std.specs.List.{sum_by}
@@ -26,9 +26,9 @@ returns c =
     let sizes : c.size_sum.result ≡ sum_by (λ (entry : Entry). unsigned_abs entry.coef) row.entries =
     c.size_sum.ensures.value ∙ ap (λ (entries : List Entry). sum_by (λ (entry : Entry). unsigned_abs entry.coef) entries) c.as_slice-2.ensures in (
       λ e.
-      let all : c.size_sum.result + c.in-Some.excesses ≤ 2 ^ 44 = grind (arith, nat_tests) in
-      record { small = c.requires.bound; modes = omega (arith, excesses, sizes, all) },
+          let all : c.size_sum.result + c.in-Some.excesses ≤ 2 ^ 44 = grind (arith, nat_tests) in
+          record { small = c.requires.bound; modes = omega (arith, excesses, sizes, all) },
       λ has.
-      let all : c.size_sum.result + c.in-Some.excesses ≤ 2 ^ 44 = omega (arith, excesses, sizes, has.modes) in
-      grind (arith, nat_tests),
+          let all : c.size_sum.result + c.in-Some.excesses ≤ 2 ^ 44 = omega (arith, excesses, sizes, has.modes) in
+          grind (arith, nat_tests),
     )

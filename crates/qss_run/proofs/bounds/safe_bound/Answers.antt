@@ -1,5 +1,5 @@
 -- The first half for which all rows have room is found.
-use Rattle.std.proofs.Common.{ℕ, ◌<◌, ◌≤◌, ◌*◌, ◌/◌, ◌^◌, refl, arith, below_more}
+use Rattle.std.proofs.Common.{ℕ, ◌^◌, refl, arith, below_more}
 use Rattle.std.proofs.lemmas.Nat.{shr_le}
 use Rattle.std.specs.Prelude.{All}
 use Rattle.qss_run.specs.Weighings.{HasRoom, half_limit}

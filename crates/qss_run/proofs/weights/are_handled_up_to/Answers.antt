@@ -1,6 +1,5 @@
 -- Places of discrete variables come after those of states.
-use Rattle.std.proofs.Common.{◌≡◌, refl, sym, ◌∙◌, subst, arith}
-use Rattle.qss_machine.specs.Machines.{state_count}
+use Rattle.std.proofs.Common.{sym, subst, arith}
 use Rattle.qss_run.specs.Weighings.{AreUpToAt}
 use Rattle.qss_run.proofs.weights.are_handled_up_to.Goals as goal
 

@@ -35,7 +35,7 @@ returns-then-self c =
       over = c.reweigh_of.ensures.over;
       weights = λ none.
           kept_anew m c.args.at.now.levels.now c.args.d.now self c.reweigh_of.new.weights c.if-self.true c.requires.before.1.own.as_many
-              (c.reweigh_of.auto.weights ∙ c.as_mut_slice.ensures.len) c.reweigh_of.ensures.weights;
+          (c.reweigh_of.auto.weights ∙ c.as_mut_slice.ensures.len) c.reweigh_of.ensures.weights;
     }
 
 pub returns-then-are_up_to_at : goal.returns-then-are_up_to_at
@@ -65,5 +65,5 @@ returns c =
       over = c.weigh_every.ensures.over;
       weights = λ none.
           kept_anew c.args.at.now.machine.now c.args.at.now.levels.now c.args.d.now on c.weigh_every.new.weights refl c.requires.before.1.own.as_many
-              (c.weigh_every.auto.weights ∙ c.as_mut_slice-2.ensures.len) (c.weigh_every.ensures.weights none);
+          (c.weigh_every.auto.weights ∙ c.as_mut_slice-2.ensures.len) (c.weigh_every.ensures.weights none);
     }

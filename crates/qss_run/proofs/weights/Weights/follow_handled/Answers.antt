@@ -29,7 +29,7 @@ returns-then-self c =
       over = c.reweigh_handled.ensures.over;
       weights = λ none.
           kept_anew m c.args.at.now.levels.now c.args.left.now.discretes.now self c.reweigh_handled.new.weights c.if-self.true c.requires.before.1.own.as_many
-              (c.reweigh_handled.auto.weights ∙ c.as_mut_slice.ensures.len) (c.reweigh_handled.ensures.weights none);
+          (c.reweigh_handled.auto.weights ∙ c.as_mut_slice.ensures.len) (c.reweigh_handled.ensures.weights none);
     }
 
 pub returns-then-are_handled_up_to : goal.returns-then-are_handled_up_to
@@ -62,5 +62,5 @@ returns c =
       over = c.weigh_every.ensures.over;
       weights = λ none.
           kept_anew c.args.at.now.machine.now c.args.at.now.levels.now c.args.left.now.discretes.now on c.weigh_every.new.weights refl c.requires.before.1.own.as_many
-              (c.weigh_every.auto.weights ∙ c.as_mut_slice-2.ensures.len) (c.weigh_every.ensures.weights none);
+          (c.weigh_every.auto.weights ∙ c.as_mut_slice-2.ensures.len) (c.weigh_every.ensures.weights none);
     }
