@@ -9,35 +9,43 @@ use Rattle.std.specs.Prelude.{sum_by, ◌||◌, ◌==◌}
 use Rattle.mu_num.specs.Sizes.{IsWithin}
 use Rattle.mu_num.proofs.Tests.{if_cases, eqb-true}
 use Rattle.qss_machine.proofs.Near.{unit_low, unit_high}
+use Rattle.qss_machine.specs.declared.parts.Entry.{Entry}
 use Rattle.qss_machine.specs.declared.system.Machine.{Machine}
 use Rattle.qss_machine.specs.Machines.{state_count, discrete_count, level_unit}
 use Rattle.qss_devs.specs.declared.input.Input.{Input}
 use Rattle.qss_devs.specs.declared.message.Message.{Message}
 use Rattle.qss_devs.specs.declared.message.Message.TheVariants.{Slope, State, Level, Discrete, Truth}
 use Rattle.qss_devs.specs.Messages.{IsMessage}
-use Rattle.qss_devs.specs.Crossings.{input_at, input_given, AreSmallAt, IsInput, StaysIfDiscrete, AreParts}
+use Rattle.qss_devs.specs.Crossings.{entry_of, input_at, input_given, AreSmallAt, IsInput, StaysIfDiscrete, AreParts}
 
--- ---- coefficients stay
+-- ---- entries stay
 
-coef_same : (m : Machine) (tick : ℕ) (message : Message) (i : Input) → (input_given m tick message i).coef ≡ i.coef
-coef_same m tick (Slope var slope) i = if_cases (λ (r : Input). r.coef ≡ i.coef) (i.var == var) _ _ (λ e. refl) (λ e. refl)
-coef_same m tick (State var state) i = if_cases (λ (r : Input). r.coef ≡ i.coef) (i.var == var) _ _ (λ e. refl) (λ e. refl)
-coef_same m tick (Discrete var value) i = if_cases (λ (r : Input). r.coef ≡ i.coef) (i.var == var || i.var == var + discrete_count m) _ _ (λ e. refl) (λ e. refl)
-coef_same m tick (Level var level) i = refl
-coef_same m tick (Truth condition now) i = refl
+-- an input stays one of its entry
+entry_same : (m : Machine) (tick : ℕ) (message : Message) (i : Input) → entry_of (input_given m tick message i) ≡ entry_of i
+entry_same m tick (Slope var slope) i = if_cases (λ (r : Input). entry_of r ≡ entry_of i) (i.var == var) _ _ (λ e. refl) (λ e. refl)
+entry_same m tick (State var state) i = if_cases (λ (r : Input). entry_of r ≡ entry_of i) (i.var == var) _ _ (λ e. refl) (λ e. refl)
+entry_same m tick (Discrete var value) i = if_cases (λ (r : Input). entry_of r ≡ entry_of i) (i.var == var || i.var == var + discrete_count m) _ _ (λ e. refl) (λ e. refl)
+entry_same m tick (Level var level) i = refl
+entry_same m tick (Truth place now) i = refl
 
-coefs_same : (m : Machine) (tick : ℕ) (message : Message) (xs : List Input) →
-    sum_by (λ (i : Input). unsigned_abs i.coef) (map (input_given m tick message) xs) ≡ sum_by (λ (i : Input). unsigned_abs i.coef) xs
-coefs_same m tick message [] = refl
-coefs_same m tick message (x ∷ xs) =
-    let size : Input → ℕ = λ i. unsigned_abs i.coef in
-    sum_by-cons size (input_given m tick message x) (map (input_given m tick message) xs)
-    ∙ ap (λ (n : ℕ). n + sum_by size (map (input_given m tick message) xs)) (ap unsigned_abs (coef_same m tick message x))
-    ∙ ap (λ (n : ℕ). size x + n) (coefs_same m tick message xs)
-    ∙ sym (sum_by-cons size x xs)
+pub entries_same : (m : Machine) (tick : ℕ) (message : Message) (inputs : List Input) → map entry_of (map (input_given m tick message) inputs) ≡ map entry_of inputs
+entries_same m tick message [] = refl
+entries_same m tick message (i ∷ inputs) =
+    ap (λ entry. entry ∷ map entry_of (map (input_given m tick message) inputs)) (entry_same m tick message i) ∙ ap (λ entries. entry_of i ∷ entries) (entries_same m tick message inputs)
 
 pub given_parts : (m : Machine) (tick : ℕ) (message : Message) (xs : List Input) (time gamma : ℤ) → AreParts xs time gamma → AreParts (map (input_given m tick message) xs) time gamma
-given_parts m tick message xs time gamma are = record { coefficients = omega (arith, coefs_same m tick message xs, are.coefficients); constant = are.constant }
+given_parts m tick message xs time gamma are = record {
+  coefficients = subst (λ (es : List Entry). sum_by (λ (e : Entry). unsigned_abs e.coef) es + unsigned_abs time ≤ 2 ^ 38) (sym (entries_same m tick message xs)) are.coefficients;
+  constant = are.constant;
+}
+
+-- the coefficients of inputs are those of their entries
+pub entry_sizes : (xs : List Input) → sum_by (λ (i : Input). unsigned_abs i.coef) xs ≡ sum_by (λ (e : Entry). unsigned_abs e.coef) (map entry_of xs)
+entry_sizes [] = refl
+entry_sizes (x ∷ xs) =
+    sum_by-cons (λ (i : Input). unsigned_abs i.coef) x xs
+    ∙ ap (λ (n : ℕ). unsigned_abs x.coef + n) (entry_sizes xs)
+    ∙ sym (sum_by-cons (λ (e : Entry). unsigned_abs e.coef) (entry_of x) (map entry_of xs))
 
 -- ---- lines stay within their limits
 

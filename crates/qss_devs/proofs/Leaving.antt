@@ -14,9 +14,11 @@ use Rattle.qss_quant.specs.declared.rule.Rule.{Rule}
 use Rattle.qss_quant.specs.Lines.{Line, state_at, IsLine, IsNear, IsAway}
 use Rattle.qss_quant.specs.Rules.{IsAnswer}
 use Rattle.qss_quiet.specs.Rules.{IsRuled}
+use Rattle.qss_quiet.specs.Sims.{LeavesAt}
 use Rattle.qss_quiet.proofs.NextLevels.{next_is_near}
 use Rattle.qss_quiet.proofs.Ranges.{near_small}
-use Rattle.qss_devs.specs.Integrators.{LeavesAt, IsLineNext}
+use Rattle.qss_quiet.proofs.Lines.{line_here}
+use Rattle.qss_devs.specs.Integrators.{IsLineNext}
 use Rattle.qss_devs.proofs.Ticks.{one_more, first_one}
 
 sum_small : (x s total : ℤ) → total ≡ x +ℤ s → IsWithin 88 x → IsWithin 88 s → IsWithin 89 total
@@ -34,7 +36,7 @@ module _ (m : Machine) (var : ℕ) (line : Line) (known : var < state_count m) (
   near_at t = is_near m var (state_at line t) line.level
 
   own_state : state_at line line.tick ≡ line.x
-  own_state = let e : line.tick - line.tick ≡ 0 = omega arith in rw e (omega (arith, ints))
+  own_state = line_here line.tick line.x line.slope line.level
 
   near_size : (t : ℕ) → near_at t ≡ true → IsWithin 88 (state_at line t)
   near_size t e = near_small m var (state_at line t) line.level known fits.small_level e

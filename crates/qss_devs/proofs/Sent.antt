@@ -1,18 +1,17 @@
 -- Where no function has a sum to send, the sums that were sent are the slopes.
-use Rattle.std.proofs.Common.{◌≡◌, ℕ, ◌+◌, ◌≤◌, ◌<◌, ◌^◌, Bool, true, false, [], pos, All, refl, sym, ◌∙◌, ap, subst, arith}
+use Rattle.std.proofs.Common.{◌≡◌, ℕ, ◌+◌, ◌≤◌, ◌<◌, ◌^◌, Bool, true, false, pos, All, refl, sym, ◌∙◌, ap, subst, arith}
 use Rattle.std.proofs.lemmas.List.FromFn.{length-map-range_with_len}
 use Rattle.std.specs.List.{list_all}
 use Rattle.std.specs.Prelude.{None, not, ◌||◌, if◌then◌else◌}
 use Rattle.mu_num.specs.Sizes.{IsWithin, passes}
 use Rattle.mu_num.proofs.Tests.{if-true, if-false}
 use Rattle.qss_machine.specs.declared.parts.Product.{Product}
-use Rattle.qss_machine.specs.declared.parts.SlopeRow.{SlopeRow}
 use Rattle.qss_machine.specs.declared.system.Machine.{Machine}
 use Rattle.qss_machine.specs.Numbers.{int_at}
 use Rattle.qss_machine.specs.Slopes.{mode_coefficient, mode_fits, slope_of, weight_of}
 use Rattle.qss_machine.specs.Machines.{state_count, discrete_count, row_at, slope_at}
 use Rattle.qss_machine.specs.Ticks.{is_overweight}
-use Rattle.qss_quiet.specs.Sims.{slopes_of}
+use Rattle.qss_quiet.specs.Sims.{slopes_of, no_row}
 use Rattle.qss_quiet.proofs.Firsts.{same_lists}
 use Rattle.qss_quiet.proofs.Quiet.{int_at-tabulate, tabulate-same}
 use Rattle.qss_quiet.proofs.Ranges.{position-none}
@@ -20,9 +19,6 @@ use Rattle.qss_quiet.proofs.SameSlopes.{mode_same, slope_same, weight_same}
 use Rattle.qss_devs.specs.Functions.{Summing, sum_at, sum_of}
 use Rattle.qss_devs.specs.Agreement.{Values, HasEach, SummingAgrees, Agree}
 use Rattle.qss_devs.specs.Laws.{SettledStand}
-
-abbrev no_row : SlopeRow
-no_row = record { entries = []; products = []; beta = pos 0 }
 
 module _ (m : Machine) (tick : ℕ) (v : Values) (each : HasEach m v) (j : ℕ) (h : j < state_count m) (s : Summing) (a : SummingAgrees m tick v j s) where
   known : All (λ (product : Product). (state_count m ≤ product.discrete) × (product.discrete < state_count m + discrete_count m)) (row_at m j).products

@@ -23,13 +23,13 @@ use Rattle.qss_machine.proofs.SumLaws.{weighted_sum-entries}
 use Rattle.qss_quant.specs.Lines.{Line}
 use Rattle.qss_cross.specs.Crossing.{Watch, value_at, holds_at}
 use Rattle.qss_quiet.specs.Skips.{world_after}
-use Rattle.qss_quiet.specs.Sims.{slopes_of, condition_at, IsLineOf, IsDue, IsWatchOf, IsChange}
+use Rattle.qss_quiet.specs.Sims.{slopes_of, condition_at, IsLineOf, IsDue, IsWatchOf, IsChange, LeavesAt}
 use Rattle.qss_quiet.proofs.Quiet.{int_at-tabulate, tabulate-same}
 use Rattle.qss_quiet.proofs.Silence.{from_later, same_flag}
 use Rattle.qss_devs.specs.declared.input.Input.{Input}
-use Rattle.qss_devs.specs.Integrators.{LeavesAt, IsLineNext}
-use Rattle.qss_devs.specs.Crossings.{Crossing, input_at, IsCrossingNext}
-use Rattle.qss_devs.specs.Agreement.{Values, values_of, LineAgrees, Moving, moving_of, CrossingAgrees, entry_of, Agree, StandFor}
+use Rattle.qss_devs.specs.Integrators.{IsLineNext}
+use Rattle.qss_devs.specs.Crossings.{Crossing, input_at, IsCrossingNext, entry_of}
+use Rattle.qss_devs.specs.Agreement.{Values, values_of, LineAgrees, Moving, moving_of, CrossingAgrees, Agree, ComponentsStandFor}
 use Rattle.qss_devs.specs.Laws.{values_after, ComponentsStand, ComponentsMove, CrossingsTell}
 use Rattle.qss_devs.proofs.Agreement.{agreement_lasts}
 
@@ -182,7 +182,7 @@ still_holds w tick found early in_time later next = elim (cases_lt w.tick tick) 
     by (Some next) after some before = same_flag _ _ (some.first tick after (before next refl))
 
 pub components_move : ComponentsMove
-components_move m tick zero w line s c stand = let same : tick + 0 ≡ tick = omega arith in subst (λ t. StandFor m t w line s c) (sym same) stand
+components_move m tick zero w line s c stand = let same : tick + 0 ≡ tick = omega arith in subst (λ t. ComponentsStandFor m t w line s c) (sym same) stand
 components_move m tick (suc k) w line s c stand = record {
   agree = subst (λ v. Agree m (tick + suc k) v line s c) moved (agreement_lasts m tick (suc k) (values_of m w) line s c stand.agree);
   sent = stand.sent;

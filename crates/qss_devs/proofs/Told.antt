@@ -1,33 +1,18 @@
 -- Crossings that were given a message, and those that it does not go to.
-use Rattle.std.proofs.Common.{◌≡◌, ℕ, ◌+◌, ◌<◌, Bool, true, false, List, [], ◌∷◌, length, get_or, map, All, refl, sym, ◌∙◌, ap, subst, arith}
+use Rattle.std.proofs.Common.{◌≡◌, ℕ, ◌<◌, Bool, true, false, List, length, get_or, map, All, refl, sym, ◌∙◌, ap, subst, arith}
 use Rattle.std.proofs.lemmas.List.{get_or-map, length-map}
 use Rattle.std.proofs.lemmas.List.Folds.{list_any_at}
-use Rattle.std.specs.Prelude.{◌==◌, ◌||◌}
-use Rattle.mu_num.proofs.Tests.{if_cases}
+use Rattle.std.specs.Prelude.{◌==◌}
 use Rattle.qss_machine.specs.declared.parts.Entry.{Entry}
 use Rattle.qss_machine.specs.declared.parts.Condition.{Condition}
 use Rattle.qss_machine.specs.declared.system.Machine.{Machine}
-use Rattle.qss_machine.specs.Machines.{discrete_count}
 use Rattle.qss_machine.specs.Uses.{has_entry}
 use Rattle.qss_devs.specs.declared.input.Input.{Input}
 use Rattle.qss_devs.specs.declared.message.Message.{Message}
-use Rattle.qss_devs.specs.declared.message.Message.TheVariants.{Slope, State, Level, Discrete, Truth}
-use Rattle.qss_devs.specs.Crossings.{Crossing, input_given, crossing_given, form_at, speed_by}
-use Rattle.qss_devs.specs.Agreement.{Values, InputAgrees, CrossingAgrees, entry_of}
+use Rattle.qss_devs.specs.Crossings.{Crossing, input_given, crossing_given, form_at, speed_by, entry_of}
+use Rattle.qss_devs.specs.Agreement.{Values, InputAgrees, CrossingAgrees}
 use Rattle.qss_devs.proofs.Moving.{no_ticks}
-
--- an input stays one of its entry
-entry_same : (m : Machine) (tick : ℕ) (message : Message) (i : Input) → entry_of (input_given m tick message i) ≡ entry_of i
-entry_same m tick (Slope var slope) i = if_cases (λ (r : Input). entry_of r ≡ entry_of i) (i.var == var) _ _ (λ e. refl) (λ e. refl)
-entry_same m tick (State var state) i = if_cases (λ (r : Input). entry_of r ≡ entry_of i) (i.var == var) _ _ (λ e. refl) (λ e. refl)
-entry_same m tick (Discrete var value) i = if_cases (λ (r : Input). entry_of r ≡ entry_of i) (i.var == var || i.var == var + discrete_count m) _ _ (λ e. refl) (λ e. refl)
-entry_same m tick (Level var level) i = refl
-entry_same m tick (Truth place now) i = refl
-
-entries_same : (m : Machine) (tick : ℕ) (message : Message) (inputs : List Input) → map entry_of (map (input_given m tick message) inputs) ≡ map entry_of inputs
-entries_same m tick message [] = refl
-entries_same m tick message (i ∷ inputs) =
-    ap (λ entry. entry ∷ map entry_of (map (input_given m tick message) inputs)) (entry_same m tick message i) ∙ ap (λ entries. entry_of i ∷ entries) (entries_same m tick message inputs)
+use Rattle.qss_devs.proofs.Inputs.{entries_same}
 
 -- no input is of a variable that no entry is of
 pub unread : (var : ℕ) (entries : List Entry) (inputs : List Input) (k : ℕ) (d : Input) → map entry_of inputs ≡ entries → has_entry var entries ≡ false → k < length inputs → ((get_or inputs k d).var == var) ≡ false

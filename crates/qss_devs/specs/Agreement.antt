@@ -1,6 +1,5 @@
 -- When components agree with what the variables of a machine are.
 use Rattle.std.specs.Prelude.{◌≡◌, ℕ, ◌+◌, ◌-◌, ◌<◌, ◌≤◌, true, List, map, length, ℤ, pos, ◌*ℤ◌, All, Option, Some, None, nat_lt, if◌then◌else◌}
-use Rattle.qss_machine.specs.declared.parts.Entry.{Entry}
 use Rattle.qss_machine.specs.declared.parts.Condition.{Condition}
 use Rattle.qss_machine.specs.declared.system.Machine.{Machine}
 use Rattle.qss_machine.specs.Numbers.{int_at}
@@ -14,7 +13,7 @@ use Rattle.qss_quiet.specs.Sims.{slopes_of, condition_at, rising_tick}
 use Rattle.qss_devs.specs.declared.input.Input.{Input}
 use Rattle.qss_devs.specs.Integrators.{IsLineNext}
 use Rattle.qss_devs.specs.Functions.{Summing, sum_of}
-use Rattle.qss_devs.specs.Crossings.{Crossing, input_at, form_at, speed_by, IsCrossingNext}
+use Rattle.qss_devs.specs.Crossings.{Crossing, input_at, form_at, speed_by, IsCrossingNext, entry_of}
 
 -- what the variables of a machine are at a tick: states, how much each rises in a tick, levels, and discrete values
 pub record Values : Type 0 where
@@ -67,10 +66,6 @@ pub record InputAgrees (m : Machine) (tick : ℕ) (v : Values) (i : Input) : Typ
   pub not_later : i.tick ≤ tick
   pub here : record { at = input_at tick i; speed = i.speed } ≡ moving_of m v i.var
 
--- the entry that an input is of
-abbrev pub entry_of : Input → Entry
-entry_of i = record { var = i.var; coef = i.coef }
-
 -- a crossing is of its condition, knows the variables that its form names, and has the form's value and its change in a tick
 pub record CrossingAgrees (m : Machine) (tick : ℕ) (v : Values) (place : ℕ) (condition : Condition) (c : Crossing) : Type 0 where
   pub own : c.place ≡ place
@@ -90,7 +85,7 @@ pub record Agree (m : Machine) (tick : ℕ) (v : Values) (line : ℕ → Line) (
   pub crossings : (place : ℕ) → place < length (conditions m) → CrossingAgrees m tick v place (condition_at m place) (c place)
 
 -- components that stand for a world at a tick: they agree with it, and no function has a sum to send
-pub record StandFor (m : Machine) (tick : ℕ) (w : World) (line : ℕ → Line) (s : ℕ → Summing) (c : ℕ → Crossing) : Type 0 where
+pub record ComponentsStandFor (m : Machine) (tick : ℕ) (w : World) (line : ℕ → Line) (s : ℕ → Summing) (c : ℕ → Crossing) : Type 0 where
   pub agree : Agree m tick (values_of m w) line s c
   pub sent : (j : ℕ) → j < state_count m → (s j).changed ≡ None
 

@@ -1,11 +1,13 @@
 -- A crossing: the form of a condition along the lines of the variables that it names.
-use Rattle.std.specs.Prelude.{◌≡◌, ◌≢◌, ℕ, ◌+◌, ◌-◌, ◌*◌, ◌^◌, ◌<◌, ◌≤◌, ◌||◌, ◌==◌, ◌⊎◌, List, map, ℤ, pos, ◌+ℤ◌, ◌*ℤ◌, unsigned_abs, sum_by, All, Option, if◌then◌else◌}
+use Rattle.std.specs.Prelude.{◌≡◌, ℕ, ◌+◌, ◌-◌, ◌*◌, ◌^◌, ◌<◌, ◌≤◌, ◌||◌, ◌==◌, ◌⊎◌, List, map, ℤ, pos, ◌+ℤ◌, ◌*ℤ◌, All, Option, if◌then◌else◌}
 use Rattle.mu_num.specs.Sizes.{IsWithin}
-use Rattle.mu_num.specs.Ticks.{FirstAfter}
+use Rattle.qss_machine.specs.declared.parts.Entry.{Entry}
 use Rattle.qss_machine.specs.declared.system.Machine.{Machine}
+use Rattle.qss_machine.specs.Limits.{IsBounded}
 use Rattle.qss_machine.specs.Machines.{state_count, discrete_count, level_unit, compares}
 use Rattle.qss_machine.specs.Numbers.{sum_over}
-use Rattle.qss_cross.specs.Crossing.{Watch, value_at, holds_at}
+use Rattle.qss_cross.specs.Crossing.{Watch, value_at}
+use Rattle.qss_quiet.specs.Sims.{IsChange}
 use Rattle.qss_devs.specs.declared.input.Input.{Input}
 use Rattle.qss_devs.specs.declared.message.Message.{Message}
 use Rattle.qss_devs.specs.declared.message.Message.TheVariants.{Slope, State, Level, Discrete, Truth}
@@ -33,7 +35,7 @@ speed_by m inputs time = sum_over (λ i. i.coef *ℤ i.speed) inputs +ℤ time *
 
 -- it changes at the first later tick up to 2^32 at which its truth is another, if there is one
 abbrev pub IsCrossingNext : Watch → Option ℕ → Type 0
-IsCrossingNext w next = FirstAfter (λ tick. holds_at w tick ≢ compares w.rel w.value) w.tick next
+IsCrossingNext w next = IsChange w.tick (compares w.rel w.value) w next
 
 -- it then moves there
 abbrev pub crossing_turned : Crossing → ℕ → Crossing
@@ -80,7 +82,10 @@ pub record IsInput (now : ℕ) (i : Input) : Type 0 where
 abbrev pub StaysIfDiscrete : ℕ → Input → Type 0
 StaysIfDiscrete states i = states ≤ i.var → i.speed ≡ pos 0
 
--- the coefficients and the constant of a form within their limits
-pub record AreParts (inputs : List Input) (time gamma : ℤ) : Type 0 where
-  pub coefficients : sum_by (λ i. unsigned_abs i.coef) inputs + unsigned_abs time ≤ 2 ^ 38
-  pub constant : IsWithin 78 gamma
+-- the entry that an input is of
+abbrev pub entry_of : Input → Entry
+entry_of i = record { var = i.var; coef = i.coef }
+
+-- the coefficients and the constant of a form whose inputs are these, within their limits
+abbrev pub AreParts : List Input → ℤ → ℤ → Type 0
+AreParts inputs time gamma = IsBounded (record { entries = map entry_of inputs; time = time; gamma = gamma })

@@ -1,22 +1,18 @@
 -- A quantized integrator: a state that moves along a line, and takes a new level where it is at least a quantum away from its level.
 use Rattle.std.specs.Prelude.{◌≡◌, ℕ, ◌==◌, ℤ, Option, Some, MatchBool, if◌then◌else◌}
-use Rattle.mu_num.specs.Ticks.{FirstAfter}
 use Rattle.qss_machine.specs.declared.system.Machine.{Machine}
-use Rattle.qss_machine.specs.Machines.{level_unit, quantum_of}
+use Rattle.qss_machine.specs.Machines.{level_unit}
 use Rattle.qss_machine.specs.Ticks.{is_near}
 use Rattle.qss_quant.specs.declared.rule.Rule.{Rule}
-use Rattle.qss_quant.specs.Lines.{Line, state_at, IsAway}
+use Rattle.qss_quant.specs.Lines.{Line, state_at}
 use Rattle.qss_quant.specs.Rules.{IsAnswer}
+use Rattle.qss_quiet.specs.Sims.{IsDue}
 use Rattle.qss_devs.specs.declared.message.Message.{Message}
 use Rattle.qss_devs.specs.declared.message.Message.TheVariants.{Slope, State, Level, Discrete, Truth}
 
--- at a tick a state is at least a quantum away from its level
-abbrev pub LeavesAt : Machine → ℕ → Line → ℕ → Type 0
-LeavesAt m var line tick = IsAway (level_unit m) (state_at line tick) line.level (quantum_of m var line.level)
-
 -- its line changes at its own tick where the state is at least a quantum away from its level there, else at the first later tick up to 2^32 at which it will be, if there is one
 abbrev pub IsLineNext : Machine → ℕ → Line → Option ℕ → Type 0
-IsLineNext m var line next = MatchBool (is_near m var line.x line.level) (FirstAfter (LeavesAt m var line) line.tick next) (next ≡ Some line.tick)
+IsLineNext m var line next = MatchBool (is_near m var line.x line.level) (IsDue m line.tick var line next) (next ≡ Some line.tick)
 
 -- it then sends a level that its rule allows for the state there, and that the rule's function may answer for this state, the old level and the unit
 pub record SendsLevel (m : Machine) (name : Option Rule) (Answers : ℤ → ℤ → ℤ → ℤ → Type 0) (var : ℕ) (line : Line) (tick : ℕ) (sent : Message) : Type 0 where

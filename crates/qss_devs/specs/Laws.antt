@@ -23,7 +23,7 @@ use Rattle.qss_devs.specs.Messages.{IsMessage}
 use Rattle.qss_devs.specs.Integrators.{SendsLevel, line_given}
 use Rattle.qss_devs.specs.Functions.{Summing, sum_of, summing_sent, summing_given}
 use Rattle.qss_devs.specs.Crossings.{Crossing, crossing_given, crossing_turned}
-use Rattle.qss_devs.specs.Agreement.{Values, HasEach, Agree, StandFor, AreNext}
+use Rattle.qss_devs.specs.Agreement.{Values, HasEach, Agree, ComponentsStandFor, AreNext}
 
 -- the values that a message tells
 abbrev pub values_given : Machine → Values → Message → Values
@@ -112,7 +112,7 @@ abbrev pub ComponentsStand : Type 0
 ComponentsStand =
     (m : Machine) (tick : ℕ) (w : World) (line : ℕ → Line) (s : ℕ → Summing) (c : ℕ → Crossing) (due : ℕ → Option ℕ) →
     tick ≤ tick_limit → IsLeft m w → length w.states ≡ state_count m → length w.discretes ≡ discrete_count m → w.settled ≡ truths m w.states w.discretes tick →
-    StandFor m tick w line s c → AreNext m tick w line c due → StandsFor m tick w line (λ place. (c place).watch) due
+    ComponentsStandFor m tick w line s c → AreNext m tick w line c due → StandsFor m tick w line (λ place. (c place).watch) due
 
 -- where components agree with a world's states, levels and discrete values, no function has a sum to send, and each sum that was sent is within the limit of slopes, they stand for that world, and no row of it is past its limits
 abbrev pub SettledStand : Type 0
@@ -121,19 +121,19 @@ SettledStand =
     HasEach m (record { states = w.states; slopes = slopes; levels = w.levels; discretes = w.discretes }) →
     Agree m tick (record { states = w.states; slopes = slopes; levels = w.levels; discretes = w.discretes }) line s c →
     ((j : ℕ) → j < state_count m → (s j).changed ≡ None) → ((j : ℕ) → j < state_count m → IsWithin 88 (int_at slopes j)) →
-    StandFor m tick w line s c × (position (is_overweight m w.levels w.discretes) m.rows ≡ None)
+    ComponentsStandFor m tick w line s c × (position (is_overweight m w.levels w.discretes) m.rows ≡ None)
 
 -- components that stand for a world stand, some ticks later, for the moved world
 abbrev pub ComponentsMove : Type 0
 ComponentsMove =
     (m : Machine) (tick ticks : ℕ) (w : World) (line : ℕ → Line) (s : ℕ → Summing) (c : ℕ → Crossing) →
-    StandFor m tick w line s c → StandFor m (tick + ticks) (world_after m w ticks) line s c
+    ComponentsStandFor m tick w line s c → ComponentsStandFor m (tick + ticks) (world_after m w ticks) line s c
 
 -- a crossing holds where its condition does
 abbrev pub CrossingsTell : Type 0
 CrossingsTell =
     (m : Machine) (tick place : ℕ) (w : World) (line : ℕ → Line) (s : ℕ → Summing) (c : ℕ → Crossing) →
-    length w.states ≡ state_count m → length w.discretes ≡ discrete_count m → place < length (conditions m) → StandFor m tick w line s c →
+    length w.states ≡ state_count m → length w.discretes ≡ discrete_count m → place < length (conditions m) → ComponentsStandFor m tick w line s c →
     holds_at (c place).watch tick ≡ truth m (condition_at m place) w.states w.discretes tick
 
 -- what a row of this kind tells: a state that was reinitialized, or a discrete variable that was assigned

@@ -3,13 +3,7 @@ pub mod Integrators
 pub mod Functions
 pub mod Crossings
 pub mod Models
+pub mod Places
+pub mod Turns
 pub mod Agreement
 pub mod Laws
-pub mod Starts
-pub mod Coupling
-pub mod Steps
-pub mod Visits
-pub mod Flags
-pub mod Standings
-pub mod Events
-pub mod Calls

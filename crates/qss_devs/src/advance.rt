@@ -1,12 +1,12 @@
 //! The next transitions of models.
 
 ghost use Rattle.std.specs.Prelude.{◌≡◌, ℕ, ◌<◌, ◌≤◌, true, false, Option, Some, None, All, List, length, slice_index_or};
-ghost use Rattle.qss_devs.specs.Starts.{EachAt};
+ghost use Rattle.qss_devs.specs.Places.{EachAt};
 
 use crate::atomic::Atomic;
 
 /// Whether a model makes its next transition at a tick.
-pub(crate) fn is_due<A: Atomic>(model: &A, tick: u64) -> bool
+pub fn is_due<A: Atomic>(model: &A, tick: u64) -> bool
     ensures due { result ≡ true → A.is_next model.now (Some tick) }
     ensures only { (next : ℕ) → result ≡ true → A.is_next model.now (Some next) → next ≡ tick }
     ensures other { result ≡ false → A.is_next model.now (Some tick) → ⊥ }
@@ -33,7 +33,7 @@ fn earlier<A: Atomic>(model: &A, least: u64) -> u64
 }
 
 /// The least tick of the next transitions of models, or this one where none is earlier.
-pub(crate) fn least_advance<A: Atomic>(models: &[A], until: u64) -> u64
+pub fn least_advance<A: Atomic>(models: &[A], until: u64) -> u64
     ensures within { result ≤ until }
     ensures not_past { All (λ a. (next : ℕ) → A.is_next a (Some next) → result ≤ next) models.now }
     ensures later { (tick : ℕ) → tick < until

@@ -10,9 +10,9 @@ ghost use Rattle.qss_devs.specs.Crossings.{IsCrossingNext, input_at, input_given
 use crate::atomic::Atomic;
 use crate::input::Input;
 use crate::message::Message;
-use crate::sums::{form_at, input_at, scaled, speed_by};
+use crate::sums::{form_at, input_at, speed_by};
 use qss_cross::Detector;
-use qss_machine::Machine;
+use qss_machine::{Machine, scaled};
 use std::rc::Rc;
 
 /// A condition as a component: it reads the states, slopes and discrete values that its form names, and sends its truth
@@ -111,8 +111,9 @@ fn turned(watch: &Detector, tick: u64) -> Detector
     next
 }
 
-/// A watch of a form whose inputs are these, from a tick on.
-pub(crate) fn watch_of(
+/// A watch of a form whose inputs are these, from a tick below 2^32 on, with the comparison of another watch: the form's
+/// value there and its change in a tick, in units of 2^-(f+2p+k). The inputs are within 2^88 at the tick.
+pub fn watch_of(
     m: &Machine,
     watch: &Detector,
     inputs: &[Input],

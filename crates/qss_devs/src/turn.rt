@@ -2,8 +2,8 @@
 
 ghost use Rattle.std.specs.Prelude.{◌≡◌, ℕ, ◌<◌, Some, true, false};
 ghost use Rattle.qss_devs.specs.declared.message.Message.{Message as Sent};
-ghost use Rattle.qss_devs.specs.declared.turn.Turn.TheVariants.{Rests, Passes, Sends};
 ghost use Rattle.qss_devs.specs.Messages.{passes_limit};
+ghost use Rattle.qss_devs.specs.declared.turn.Turn.TheVariants.{Rests, Passes, Sends};
 
 use crate::advance::is_due;
 use crate::atomic::Atomic;
@@ -12,7 +12,7 @@ use mu_num::passes;
 
 /// What a model does at a tick.
 #[derive(Clone, Copy)]
-pub(crate) enum Turn {
+pub enum Turn {
     /// It has no transition there.
     Rests,
     /// It would send a level or a slope past its limit, and does not.
@@ -34,7 +34,7 @@ fn passes_limit(msg: Message) -> bool
 
 /// A model makes its transition at a tick, if it has one there, unless what it would send is past its limit.
 #[tactic(none)]
-pub(crate) fn make_turn<A: Atomic>(model: &mut A, tick: u64) -> Turn
+pub fn make_turn<A: Atomic>(model: &mut A, tick: u64) -> Turn
     requires { (a b : Sent) → A.sends model.old tick a → A.sends model.old tick b → a ≡ b }
     ensures rests { result ≡ Rests
         → (model.new ≡ model.old) × (A.is_next model.old (Some tick) → ⊥) }

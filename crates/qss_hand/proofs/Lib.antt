@@ -1,2 +1,4 @@
+pub mod Targets
+pub mod Branches
 pub mod AfterStatements
 pub mod Turns

@@ -15,6 +15,7 @@ use Rattle.qss_machine.specs.Limits.{IsClause, item_count}
 use Rattle.qss_hand.specs.Works.{row_room}
 use Rattle.qss_hand.specs.Rooms.{clause_room}
 use Rattle.qss_hand.proofs.AfterStatements.{rows_action}
+use Rattle.qss_hand.proofs.Branches.{width_of}
 
 module _ (m : Machine) (tick : ℕ) (before : List ℤ) where
   -- after an overflow clauses change nothing
@@ -104,9 +105,6 @@ length-conditions (clause ∷ clauses) =
     ∙ ap (λ n. n + length (flat_map (λ (clause : ClauseInfo). map (λ (branch : BranchInfo). branch.condition) clause.branches) clauses)) (length-map clause.branches (λ (branch : BranchInfo). branch.condition))
     ∙ ap (λ n. length clause.branches + n) (length-conditions clauses)
     ∙ sym (sum_by-cons (λ (clause : ClauseInfo). length clause.branches) clause clauses)
-
-abbrev width_of : ClauseInfo → ℕ
-width_of clause = length clause.branches
 
 one_each : {X : Type 0} (f : X → ℕ) (xs : List X) → sum_by (λ x. 1 + f x) xs ≡ length xs + sum_by f xs
 one_each f [] = omega arith

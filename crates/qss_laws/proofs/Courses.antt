@@ -12,11 +12,11 @@ use Rattle.qss_machine.proofs.Near.{runs_stay_near}
 use Rattle.qss_play.specs.Ahead.{first}
 use Rattle.qss_quant.specs.declared.rule.Rule.{Rule}
 use Rattle.qss_quiet.specs.Silent.{LeadsSilently}
-use Rattle.qss_run.specs.Events.{IsNext}
+use Rattle.qss_quiet.specs.Events.{IsNext}
 use Rattle.qss_quiet.specs.Rules.{IsRuled}
-use Rattle.qss_run.specs.Standings.{Standing}
-use Rattle.qss_run.specs.declared.outcome.Outcome.{Outcome}
-use Rattle.qss_run.specs.declared.outcome.Outcome.TheVariants.{Events, Done, Over}
+use Rattle.qss_quiet.specs.Standings.{Standing}
+use Rattle.qss_quiet.specs.declared.outcome.Outcome.{Outcome}
+use Rattle.qss_quiet.specs.declared.outcome.Outcome.TheVariants.{Events, Done, Over}
 use Rattle.qss_laws.specs.Courses.{IsReached, IsPassed, GoesThrough, last_standing, IsCalm, IsSound, EventsLeadFreely}
 
 -- ---- steps

@@ -9,11 +9,11 @@ use Rattle.qss_machine.specs.Runs.{LeadsFreely, last_world}
 use Rattle.qss_machine.specs.Ticks.{World, StepBy, IsFreeLevel, start_world}
 use Rattle.qss_play.specs.Ahead.{first}
 use Rattle.qss_quant.specs.declared.rule.Rule.{Rule}
-use Rattle.qss_run.specs.Events.{IsNext}
+use Rattle.qss_quiet.specs.Events.{IsNext}
 use Rattle.qss_quiet.specs.Rules.{IsRuled}
-use Rattle.qss_run.specs.Standings.{Standing}
-use Rattle.qss_run.specs.declared.outcome.Outcome.{Outcome}
-use Rattle.qss_run.specs.declared.outcome.Outcome.TheVariants.{Events, Done, Over}
+use Rattle.qss_quiet.specs.Standings.{Standing}
+use Rattle.qss_quiet.specs.declared.outcome.Outcome.{Outcome}
+use Rattle.qss_quiet.specs.declared.outcome.Outcome.TheVariants.{Events, Done, Over}
 
 -- free steps lead through these worlds, one a tick, from a world at a tick to another at a later one
 pub record IsWay (m : Machine) (tick : ℕ) (w : World) (worlds : List World) (last : ℕ) (world : World) : Type 0 where

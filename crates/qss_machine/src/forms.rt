@@ -18,8 +18,8 @@ fn times(value: i64, unit: i128) -> i128
     i128::from(value) * unit
 }
 
-// A discrete value in the unit of states.
-fn scaled(value: i64, unit_bits: u8) -> i128
+/// A discrete value of at most 2^43 in the unit of states, which is 2^-unit_bits of its own.
+pub fn scaled(value: i64, unit_bits: u8) -> i128
     requires value { IsWithin 43 value }
     requires unit { unit_bits ≤ 44 }
     ensures value { result ≡ value *ℤ pos (2 ^ unit_bits) }
@@ -52,8 +52,8 @@ fn input_at(states: &[i128], discretes: &[i64], before: &[i64], unit_bits: u8, v
     0
 }
 
-// A coefficient times a value.
-fn weigh(coef: i64, value: i128) -> i128
+/// A coefficient of at most 2^38 times a value of at most 2^88.
+pub fn weigh(coef: i64, value: i128) -> i128
     requires coef { IsWithin 38 coef }
     requires value { IsWithin 88 value }
     ensures { result ≡ coef *ℤ value }
@@ -108,8 +108,8 @@ pub(crate) fn form_sum(
     sum
 }
 
-/// A coefficient of time at a tick, in the unit of states.
-pub(crate) fn time_part(time: i64, tick: u64, bits: u8) -> i128
+/// A coefficient of time, of at most 2^38, times a tick below 2^32, which counts 2^bits.
+pub fn time_part(time: i64, tick: u64, bits: u8) -> i128
     requires time { IsWithin 38 time }
     requires tick { tick < 2 ^ 32 }
     requires bits { bits ≤ 56 }
@@ -129,8 +129,8 @@ fn moment(tick: u64, bits: u8) -> i128
     i128::from(tick) * unit(bits)
 }
 
-/// A constant in the unit of forms.
-pub(crate) fn constant_part(gamma: i128, unit_bits: u8) -> i128
+/// A constant of at most 2^78 in the unit of forms, which is 2^-unit_bits of its own.
+pub fn constant_part(gamma: i128, unit_bits: u8) -> i128
     requires gamma { IsWithin 78 gamma }
     requires unit { unit_bits ≤ 44 }
     ensures value { result ≡ gamma *ℤ pos (2 ^ unit_bits) }
@@ -150,7 +150,7 @@ fn gamma_times(gamma: i128, unit: i128) -> i128
 }
 
 /// The sum of three numbers that fit together.
-pub(crate) fn add_three(a: i128, b: i128, c: i128) -> i128
+pub fn add_three(a: i128, b: i128, c: i128) -> i128
     requires { unsigned_abs a + unsigned_abs b + unsigned_abs c < 2 ^ 127 }
     ensures { result ≡ a +ℤ b +ℤ c }
 {

@@ -10,10 +10,10 @@ use Rattle.qss_machine.specs.Runs.{last_world, run_rows, world_rows}
 use Rattle.qss_machine.specs.Ticks.{start_world}
 use Rattle.qss_quant.specs.declared.rule.Rule.TheVariants.{Floor}
 use Rattle.qss_quant.specs.Rules.{level_by}
-use Rattle.qss_run.specs.declared.outcome.Outcome.{Outcome}
-use Rattle.qss_run.specs.declared.outcome.Outcome.TheVariants.{Events, Done, Over}
-use Rattle.qss_run.specs.Events.{rows_left}
-use Rattle.qss_run.specs.Standings.{Standing}
+use Rattle.qss_quiet.specs.declared.outcome.Outcome.{Outcome}
+use Rattle.qss_quiet.specs.declared.outcome.Outcome.TheVariants.{Events, Done, Over}
+use Rattle.qss_quiet.specs.Events.{rows_left}
+use Rattle.qss_quiet.specs.Standings.{Standing}
 use Rattle.qss_rows.specs.Lines.{name_of}
 use Rattle.qss_play.specs.Ahead.{first as first_of, run_ahead, EndsFrom, IsEndOf}
 use Rattle.qss_play.specs.Plays.{run_under}

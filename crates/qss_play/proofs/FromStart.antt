@@ -8,10 +8,10 @@ use Rattle.qss_machine.specs.Runs.{Run, run_from, world_rows, run_rows}
 use Rattle.qss_quant.specs.declared.rule.Rule.{Rule}
 use Rattle.qss_quant.specs.Rules.{level_by}
 use Rattle.qss_rows.specs.Lines.{HasVariable}
-use Rattle.qss_run.specs.declared.outcome.Outcome.{Outcome}
-use Rattle.qss_run.specs.declared.outcome.Outcome.TheVariants.{Events, Done, Over}
+use Rattle.qss_quiet.specs.declared.outcome.Outcome.{Outcome}
+use Rattle.qss_quiet.specs.declared.outcome.Outcome.TheVariants.{Events, Done, Over}
 use Rattle.qss_quiet.specs.Skips.{rows_from}
-use Rattle.qss_run.specs.Standings.{Standing}
+use Rattle.qss_quiet.specs.Standings.{Standing}
 use Rattle.qss_play.specs.Ahead.{first, run_ahead, rows_ahead, EndsFrom, IsEndOf}
 use Rattle.qss_play.specs.Plays.{run_under}
 use Rattle.qss_play.proofs.KnownRows.{run_known, over_known}

@@ -10,6 +10,5 @@ mod Ends2
 mod FromStart
 mod RuledRuns
 mod SecondRuns
-mod CoupledRuns
 mod Counting
 mod RuleAnswers

@@ -11,10 +11,10 @@ use Rattle.qss_quant.specs.declared.rule.Rule.{Rule}
 use Rattle.qss_quant.specs.Rules.{level_by}
 use Rattle.qss_rows.specs.Filters.{passes}
 use Rattle.qss_rows.specs.Lines.{HasVariable, line_of, header}
-use Rattle.qss_run.specs.declared.outcome.Outcome.{Outcome}
-use Rattle.qss_run.specs.declared.outcome.Outcome.TheVariants.{Events, Over}
-use Rattle.qss_run.specs.Events.{rows_left}
-use Rattle.qss_run.specs.Standings.{Standing}
+use Rattle.qss_quiet.specs.declared.outcome.Outcome.{Outcome}
+use Rattle.qss_quiet.specs.declared.outcome.Outcome.TheVariants.{Events, Over}
+use Rattle.qss_quiet.specs.Events.{rows_left}
+use Rattle.qss_quiet.specs.Standings.{Standing}
 use Rattle.qss_play.specs.declared.played.Played.{Played}
 use Rattle.qss_play.specs.declared.played.Played.TheVariants as played
 use Rattle.qss_play.specs.declared.run_end.RunEnd.{RunEnd}

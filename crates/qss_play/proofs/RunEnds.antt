@@ -6,13 +6,13 @@ use Rattle.qss_machine.specs.Ticks.{World, step}
 use Rattle.qss_machine.specs.Runs.{Run, run_with, run_from, last_world}
 use Rattle.qss_quant.specs.declared.rule.Rule.{Rule}
 use Rattle.qss_quant.specs.Rules.{level_by}
-use Rattle.qss_run.specs.declared.outcome.Outcome.{Outcome}
-use Rattle.qss_run.specs.declared.outcome.Outcome.TheVariants.{Events, Done, Over}
+use Rattle.qss_quiet.specs.declared.outcome.Outcome.{Outcome}
+use Rattle.qss_quiet.specs.declared.outcome.Outcome.TheVariants.{Events, Done, Over}
 use Rattle.qss_quiet.specs.Silent.{LeadsSilently}
-use Rattle.qss_run.specs.Events.{IsNext, unless_ended, rows_left}
+use Rattle.qss_quiet.specs.Events.{IsNext, unless_ended, rows_left}
 use Rattle.qss_quiet.specs.Rules.{IsRuled}
 use Rattle.qss_quiet.specs.Skips.{rows_from}
-use Rattle.qss_run.specs.Standings.{Standing}
+use Rattle.qss_quiet.specs.Standings.{Standing}
 use Rattle.qss_quiet.proofs.Silences.{named_step}
 use Rattle.qss_play.specs.Ahead.{run_ahead, EndsFrom}
 

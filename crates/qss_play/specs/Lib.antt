@@ -4,5 +4,4 @@ pub mod Plays2
 pub mod Writings
 pub mod Ahead
 pub mod Ahead2
-pub mod CoupledAhead
 pub mod Tallies

@@ -9,9 +9,9 @@ use Rattle.qss_machine.specs.Runs.{Run, run_rows}
 use Rattle.qss_quant.specs.declared.rule.Rule.TheVariants.{Floor}
 use Rattle.qss_quant.specs.Rules.{level_by}
 use Rattle.qss_rows.specs.Lines.{name_of}
-use Rattle.qss_run.specs.declared.outcome.Outcome.{Outcome}
-use Rattle.qss_run.specs.Events.{rows_left}
-use Rattle.qss_run.specs.Standings.{Standing}
+use Rattle.qss_quiet.specs.declared.outcome.Outcome.{Outcome}
+use Rattle.qss_quiet.specs.Events.{rows_left}
+use Rattle.qss_quiet.specs.Standings.{Standing}
 use Rattle.qss_play.specs.Ahead.{run_ahead, EndsFrom}
 use Rattle.qss_play.specs.declared.tallying.Tallied.{Tallied}
 use Rattle.qss_play.specs.declared.tallying.Tallied.TheVariants.{Ended, Overflowed, Memory}

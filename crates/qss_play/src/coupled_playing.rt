@@ -12,7 +12,7 @@ use crate::played::Played;
 use crate::rules::floor_level;
 use crate::writing::write_simulation;
 use mu_io::{Name, Sink};
-use qss_devs::Coupled;
+use qss_coupled::Coupled;
 use qss_machine::Machine;
 use qss_quant::{Quantizer, Rule};
 use qss_rows::Filter;

@@ -2,14 +2,13 @@
 
 ghost use Rattle.std.specs.Prelude.{◌≡◌, Some, All};
 ghost use Rattle.qss_quant.specs.declared.rule.Rule.TheVariants.{Floor};
-ghost use Rattle.qss_devs.specs.Calls.{standing_of};
+ghost use Rattle.qss_coupled.specs.Calls.{standing_of};
 ghost use Rattle.qss_play.specs.Ahead.{rows_ahead};
-ghost use Rattle.qss_play.specs.CoupledAhead.{standing_as};
 ghost use Rattle.qss_rows.specs.Lines.{HasVariable};
 
 use crate::run_end::RunEnd;
 use crate::simulation::Simulation;
-use qss_devs::{Coupled, Outcome};
+use qss_coupled::{Coupled, Outcome};
 use qss_machine::Machine;
 use qss_rows::{Filter, LineWriter};
 use std::alloc::AllocError;
@@ -21,13 +20,13 @@ pub(crate) struct CoupledRun {
     pub filter: Filter,
     pub ghost named: { model.quantizer.value.name ≡ Some Floor },
     pub ghost known: { All (HasVariable model.machine.value) (rows_ahead Floor
-        (standing_as (standing_of model.machine.value model.tick model.store model.end))) },
+        (standing_of model.machine.value model.tick model.store model.end)) },
 }
 
 impl Simulation for CoupledRun {
     ghost use Rattle.std.specs.Prelude.{◌-◌, None};
     ghost use Rattle.qss_quant.specs.Rules.{level_by};
-    ghost use Rattle.qss_run.specs.Events.{rows_left};
+    ghost use Rattle.qss_quiet.specs.Events.{rows_left};
     ghost use Rattle.qss_play.specs.Ahead.{row_lines, run_ahead, outcome_of, EndsFrom};
 
     ghost machine = { λ run. run.model.machine.value };
@@ -36,16 +35,16 @@ impl Simulation for CoupledRun {
         run.model.store.rows.items };
 
     ghost to_come = { λ run. row_lines run.filter run.model.machine.value
-        (rows_left (level_by Floor) (standing_as
-        (standing_of run.model.machine.value run.model.tick run.model.store run.model.end))) };
+        (rows_left (level_by Floor)
+        (standing_of run.model.machine.value run.model.tick run.model.store run.model.end)) };
 
     ghost ticks_left = { λ run. run.model.machine.value.last - run.model.tick };
 
     ghost goes_on = { λ run. run.model.end ≡ None };
 
     ghost ends = { λ run end. EndsFrom (outcome_of end) run.model.tick
-        (run_ahead Floor (standing_as
-        (standing_of run.model.machine.value run.model.tick run.model.store run.model.end))) };
+        (run_ahead Floor
+        (standing_of run.model.machine.value run.model.tick run.model.store run.model.end)) };
 
     fn next_event(&mut self) -> Option<RunEnd> {
         match self.model.next_event() {

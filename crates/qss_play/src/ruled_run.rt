@@ -27,7 +27,7 @@ pub(crate) struct RuledRun<L: Ledger> {
 impl<L: Ledger> Simulation for RuledRun<L> {
     ghost use Rattle.std.specs.Prelude.{◌-◌, None};
     ghost use Rattle.qss_quant.specs.Rules.{level_by};
-    ghost use Rattle.qss_run.specs.Events.{rows_left};
+    ghost use Rattle.qss_quiet.specs.Events.{rows_left};
     ghost use Rattle.qss_play.specs.Ahead.{row_lines, run_ahead, outcome_of, EndsFrom};
 
     ghost machine = { λ run. run.sim.course.machine };

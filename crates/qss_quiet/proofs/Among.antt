@@ -1,5 +1,5 @@
 -- Which numbers stand in a list of places.
-use Rattle.std.proofs.Common.{◌≡◌, ℕ, zero, suc, ◌+◌, ◌<◌, Bool, true, false, ◌&&◌, List, [], ◌∷◌, ◌++◌, length, get_or, take, pos, refl, sym, ◌∙◌, ap, arith, append-nil, ◌==◌}
+use Rattle.std.proofs.Common.{◌≡◌, ℕ, zero, suc, ◌+◌, ◌<◌, Bool, true, false, ◌&&◌, List, [], ◌∷◌, ◌++◌, length, get_or, take, refl, sym, ◌∙◌, ap, arith, append-nil, ◌==◌}
 use Rattle.std.proofs.lemmas.Bool.{or_from, and_right}
 use Rattle.std.proofs.lemmas.Grind.{flat_map-append}
 use Rattle.std.proofs.lemmas.List.{take_more}
@@ -7,11 +7,11 @@ use Rattle.std.proofs.lemmas.List.Folds.{list_any-append}
 use Rattle.std.specs.List.{list_any}
 use Rattle.std.specs.Prelude.{◌||◌, flat_map, if◌then◌else◌}
 use Rattle.mu_num.proofs.Tests.{eqb-yes, eqb-no}
-use Rattle.qss_machine.specs.declared.parts.SlopeRow.{SlopeRow}
 use Rattle.qss_machine.specs.declared.system.Machine.{Machine}
 use Rattle.qss_machine.specs.Machines.{state_count, row_at}
 use Rattle.qss_machine.specs.Uses.{row_reads, places_from, reading_rows}
 use Rattle.qss_quiet.specs.Among.{is_among}
+use Rattle.qss_quiet.specs.Sims.{no_row}
 
 among_if : (b : Bool) (i : ℕ) (rest : List ℕ) (place : ℕ) → is_among (if b then i ∷ rest else rest) place ≡ ((b && (i == place)) || is_among rest place)
 among_if true i rest place = refl
@@ -48,9 +48,8 @@ module _ {X : Type 0} (test : X → Bool) where
 -- a row stands among the reading ones where it reads
 pub among_rows : (m : Machine) (j row : ℕ) → row < state_count m → is_among (reading_rows m j) row ≡ row_reads j (row_at m row)
 among_rows m j row h =
-    let none : SlopeRow = record { entries = []; products = []; beta = pos 0 } in
     let e : 0 + row ≡ row = omega arith in
-    ap (is_among (reading_rows m j)) (sym e) ∙ place_among (row_reads j) 0 m.rows row none (omega (arith, h, m.has_rows.one_each))
+    ap (is_among (reading_rows m j)) (sym e) ∙ place_among (row_reads j) 0 m.rows row no_row (omega (arith, h, m.has_rows.one_each))
 
 -- a number stands in lists one after another where it stands in one of them
 pub among_all : (f : ℕ → List ℕ) (xs : List ℕ) (place : ℕ) → is_among (flat_map f xs) place ≡ list_any (λ x. is_among (f x) place) xs

@@ -11,7 +11,7 @@ use Rattle.qss_machine.specs.Firing.{flag_at}
 use Rattle.qss_quiet.specs.Sims.{condition_at}
 use Rattle.qss_quiet.proofs.Firsts.{same_lists}
 
-length-due_flags : (now arrived settled : List Bool) → length arrived ≡ length now → length settled ≡ length now → length (due_flags now arrived settled) ≡ length now
+pub length-due_flags : (now arrived settled : List Bool) → length arrived ≡ length now → length settled ≡ length now → length (due_flags now arrived settled) ≡ length now
 length-due_flags [] [] [] e f = refl
 length-due_flags [] (a ∷ arrived) settled e f = absurd (omega (arith, e))
 length-due_flags [] [] (s ∷ settled) e f = absurd (omega (arith, f))
@@ -19,7 +19,7 @@ length-due_flags (n ∷ now) [] settled e f = absurd (omega (arith, e))
 length-due_flags (n ∷ now) (a ∷ arrived) [] e f = absurd (omega (arith, f))
 length-due_flags (n ∷ now) (a ∷ arrived) (s ∷ settled) e f = ap suc (length-due_flags now arrived settled (omega (arith, e)) (omega (arith, f)))
 
-flag_at-due_flags : (now arrived settled : List Bool) (k : ℕ) → length arrived ≡ length now → length settled ≡ length now → k < length now →
+pub flag_at-due_flags : (now arrived settled : List Bool) (k : ℕ) → length arrived ≡ length now → length settled ≡ length now → k < length now →
     flag_at (due_flags now arrived settled) k ≡ (flag_at now k && not (flag_at arrived k && flag_at settled k))
 flag_at-due_flags [] arrived settled k e f h = absurd (omega (arith, h))
 flag_at-due_flags (n ∷ now) [] settled k e f h = absurd (omega (arith, e))

@@ -14,7 +14,8 @@ near_only : (b : Bool) (P Q : Type 0) → b ≡ true → MatchBool b P Q → P
 near_only true P Q e p = p
 near_only false P Q e p = absurd (cc)
 
-near_holds : (b : Bool) (P Q : Type 0) → b ≡ true → P → MatchBool b P Q
+-- what holds of a state that is near its level
+pub near_holds : (b : Bool) (P Q : Type 0) → b ≡ true → P → MatchBool b P Q
 near_holds true P Q e p = p
 near_holds false P Q e p = absurd (cc)
 

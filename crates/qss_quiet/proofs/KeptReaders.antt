@@ -12,7 +12,7 @@ if_below : (n : ℕ) (b : Bool) (first : ℕ) (rest : List ℕ) → first < n �
 if_below n true first rest h all = All-cons (λ k. k < n) first rest h all
 if_below n false first rest h all = all
 
-places_below : {X : Type 0} (test : X → Bool) (first n : ℕ) (xs : List X) → first + length xs ≤ n → All (λ k. k < n) (places_from test first xs)
+pub places_below : {X : Type 0} (test : X → Bool) (first n : ℕ) (xs : List X) → first + length xs ≤ n → All (λ k. k < n) (places_from test first xs)
 places_below test first n [] h = All-nil (λ k. k < n)
 places_below test first n (x ∷ xs) h =
     if_below n (test x) first (places_from test (first + 1) xs) (omega (arith, h)) (places_below test (first + 1) n xs (omega (arith, h)))

@@ -10,6 +10,7 @@ pub mod Forced
 pub mod LevelRows
 pub mod Firsts
 pub mod SlopeSizes
+pub mod LightRows
 pub mod Flags
 pub mod Silences
 pub mod EndRows
@@ -24,3 +25,8 @@ pub mod Writes
 pub mod DueRows
 pub mod DueFirsts
 pub mod NextLevels
+pub mod NamedRows
+pub mod Risen
+pub mod Overs
+pub mod Readers
+pub mod SomeRows

@@ -1,6 +1,6 @@
 -- Forms are affine along lines.
 use Rattle.std.proofs.Common.{◌≡◌, ℕ, ◌+◌, ◌-◌, ◌*◌, ◌^◌, ◌≤◌, ◌<◌, List, [], ◌∷◌, ◌++◌, length, map, ℤ, pos, ◌+ℤ◌, ◌*ℤ◌, sym, ◌∙◌, ap, arith, inl, inr}
-use Rattle.std.proofs.Math.IntN.{*ℤ_comm, *ℤ-zero, pos-*ℤ-pos}
+use Rattle.std.proofs.Math.IntN.{*ℤ_comm, *ℤ-zero, zero-*ℤ, pos-*ℤ-pos}
 use Rattle.std.proofs.lemmas.Int.{ints}
 use Rattle.std.proofs.lemmas.Bool.{cases_lt}
 use Rattle.std.proofs.lemmas.List.{get_or_past, get_or_append_left, get_or-append_right}
@@ -14,9 +14,16 @@ use Rattle.qss_machine.specs.Slopes.{weighted_sum}
 use Rattle.qss_machine.specs.Machines.{state_count, level_unit, slope_at, value_of, speed_of, inputs}
 use Rattle.qss_machine.specs.Ticks.{World}
 use Rattle.qss_machine.proofs.SumLaws.{weighted_sum-entries}
+use Rattle.qss_quant.specs.Lines.{state_at}
 use Rattle.qss_quiet.specs.Skips.{states_after}
 use Rattle.qss_quiet.specs.Sims.{slopes_of}
 use Rattle.qss_quiet.proofs.Quiet.{int_at-tabulate}
+
+-- a line at its own tick
+pub line_here : (tick : ℕ) (x slope level : ℤ) → state_at (record { tick = tick; x = x; slope = slope; level = level }) tick ≡ x
+line_here tick x slope level =
+    let e : tick - tick ≡ 0 = omega arith in
+    ap (λ (n : ℕ). x +ℤ pos n *ℤ slope) e ∙ omega (arith, ints, zero-*ℤ slope)
 
 -- a coefficient times a value that moves
 pub term_line : (c a k b : ℤ) → c *ℤ (a +ℤ k *ℤ b) ≡ c *ℤ a +ℤ k *ℤ (c *ℤ b)

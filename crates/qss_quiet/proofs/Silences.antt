@@ -1,6 +1,7 @@
 -- Ticks without rows, one after another, under whichever rule.
-use Rattle.std.proofs.Common.{◌≡◌, ℕ, zero, suc, ◌+◌, ◌<◌, ◌≤◌, Bool, true, false, List, [], ◌∷◌, ◌++◌, length, ℤ, refl, sym, ◌∙◌, ap, subst, arith}
-use Rattle.std.specs.Prelude.{Some, Ok, Result, MatchBool}
+use Rattle.std.proofs.Common.{◌≡◌, ℕ, zero, suc, ◌+◌, ◌-◌, ◌<◌, ◌≤◌, Bool, true, false, List, [], ◌∷◌, ◌++◌, length, ℤ, refl, sym, ◌∙◌, ap, subst, arith}
+use Rattle.std.proofs.lemmas.Bool.Decides.{nat_tests}
+use Rattle.std.specs.Prelude.{Some, Ok, Result, MatchBool, nat_lt, if◌then◌else◌}
 use Rattle.qss_machine.specs.declared.rows.Row.{Row}
 use Rattle.qss_machine.specs.declared.system.Machine.{Machine}
 use Rattle.qss_machine.specs.Numbers.{int_at}
@@ -45,6 +46,20 @@ leads_on Rule m tick w (next ∷ a) b first more =
 pub last-append : (w : World) (a b : List World) → last_world w (a ++ b) ≡ last_world (last_world w a) b
 last-append w [] b = refl
 last-append w (next ∷ a) b = last-append next a b
+
+-- the truths on arrival after so many ticks without a change
+abbrev pub arrived_then : ℕ → List Bool → List Bool → List Bool
+arrived_then zero arrived settled = arrived
+arrived_then (suc ticks) arrived settled = settled
+
+-- they are those after the handlers, where a tick is skipped
+pub arrived_if : (tick next k : ℕ) (arrived settled : List Bool) → tick + k ≡ next - 1 → tick < next → (if nat_lt (tick + 1) next then settled else arrived) ≡ arrived_then k arrived settled
+arrived_if tick next zero arrived settled e later =
+    let no : nat_lt (tick + 1) next ≡ false = grind (arith, nat_tests) in
+    ap (λ b. if b then settled else arrived) no
+arrived_if tick next (suc k) arrived settled e later =
+    let yes : nat_lt (tick + 1) next ≡ true = grind (arith, nat_tests) in
+    ap (λ b. if b then settled else arrived) yes
 
 -- ---- a rule with a name
 

@@ -6,13 +6,13 @@ use Rattle.std.specs.Prelude.{None, All, not, position, ◌||◌}
 use Rattle.mu_num.specs.Sizes.{IsWithin, passes}
 use Rattle.mu_num.proofs.SizeTests.{within-passes}
 use Rattle.qss_machine.specs.declared.parts.DiscreteInfo.{DiscreteInfo}
-use Rattle.qss_machine.specs.declared.parts.SlopeRow.{SlopeRow}
 use Rattle.qss_machine.specs.declared.parts.StateInfo.{StateInfo}
 use Rattle.qss_machine.specs.declared.system.Machine.{Machine}
 use Rattle.qss_machine.specs.Slopes.{mode_fits, weight_of}
 use Rattle.qss_machine.specs.Limits.{level_below}
 use Rattle.qss_machine.specs.Machines.{state_count, level_unit, start_states, start_discretes}
 use Rattle.qss_machine.specs.Ticks.{is_overweight}
+use Rattle.qss_quiet.specs.Sims.{no_row}
 use Rattle.qss_quiet.proofs.Ranges.{position-none}
 
 -- what holds of each element's image
@@ -59,14 +59,13 @@ light_of false b e f = absurd (cc)
 
 pub light_start : (m : Machine) → position (is_overweight m (levels_at_start m) (start_discretes m)) m.rows ≡ None
 light_start m =
-    let none : SlopeRow = record { entries = []; products = []; beta = pos 0 } in
-    position-none none (is_overweight m (levels_at_start m) (start_discretes m)) m.rows
+    position-none no_row (is_overweight m (levels_at_start m) (start_discretes m)) m.rows
     (λ k h.
-    let row = get_or m.rows k none in
+    let row = get_or m.rows k no_row in
     let heavy : IsWithin 88 (weight_of m.f row (levels_at_start m) (start_discretes m)) =
-    subst (λ l. IsWithin 88 (weight_of m.f row l (start_discretes m))) (sym (levels_are m)) (m.has_rows.weights k none h) in
+    subst (λ l. IsWithin 88 (weight_of m.f row l (start_discretes m))) (sym (levels_are m)) (m.has_rows.weights k no_row h) in
     light_of (mode_fits m.f (state_count m) row (start_discretes m)) (passes 88 (weight_of m.f row (levels_at_start m) (start_discretes m)))
-    (is_true_of (mode_fits m.f (state_count m) row (start_discretes m)) (m.has_rows.modes k none h)) (within-passes 88 (weight_of m.f row (levels_at_start m) (start_discretes m)) heavy))
+    (is_true_of (mode_fits m.f (state_count m) row (start_discretes m)) (m.has_rows.modes k no_row h)) (within-passes 88 (weight_of m.f row (levels_at_start m) (start_discretes m)) heavy))
 
 -- the same of levels and discrete values that are those at the start
 pub light_at : (m : Machine) (levels d : List ℤ) → levels ≡ levels_at_start m → d ≡ start_discretes m → position (is_overweight m levels d) m.rows ≡ None

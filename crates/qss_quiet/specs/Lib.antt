@@ -6,3 +6,6 @@ pub mod Logs
 pub mod Writes
 pub mod Silent
 pub mod Among
+pub mod Standings
+pub mod Events
+pub mod Outcomes

@@ -1,9 +1,10 @@
 -- What a simulator keeps about the world that it stands for.
-use Rattle.std.specs.Prelude.{◌≡◌, ◌≢◌, ℕ, ◌+◌, ◌-◌, ◌<◌, ◌≤◌, Bool, List, [], length, ℤ, pos, Option, Some, None, slice_index_or, if◌then◌else◌}
+use Rattle.std.specs.Prelude.{◌≡◌, ◌≢◌, ℕ, ◌+◌, ◌-◌, ◌<◌, ◌≤◌, Bool, not, ◌&&◌, List, [], length, ℤ, pos, Option, Some, None, slice_index_or, if◌then◌else◌}
 use Rattle.std.specs.List.{list_any}
 use Rattle.mu_num.specs.Ticks.{FirstAfter, tick_limit}
 use Rattle.qss_machine.specs.declared.parts.Condition.{Condition}
 use Rattle.qss_machine.specs.declared.parts.Rel.TheVariants.{Less}
+use Rattle.qss_machine.specs.declared.parts.SlopeRow.{SlopeRow}
 use Rattle.qss_machine.specs.declared.system.Machine.{Machine}
 use Rattle.mu_num.specs.Sizes.{IsWithin}
 use Rattle.qss_machine.specs.Numbers.{int_at, tabulate}
@@ -14,6 +15,16 @@ use Rattle.qss_machine.specs.Ticks.{World}
 use Rattle.qss_quant.specs.Lines.{Line, state_at, IsAway}
 use Rattle.qss_cross.specs.Crossing.{Watch, value_at, holds_at}
 use Rattle.qss_quiet.specs.Skips.{IsLeft, NoneRises, IsQuiet, states_after, world_after, rows_from}
+
+-- a row, a line and a watch, where any will do
+abbrev pub no_row : SlopeRow
+no_row = record { entries = []; products = []; beta = pos 0 }
+
+abbrev pub no_line : Line
+no_line = record { tick = 0; x = pos 0; slope = pos 0; level = pos 0 }
+
+abbrev pub no_watch : Watch
+no_watch = record { rel = Less; tick = 0; value = pos 0; speed = pos 0 }
 
 -- the slopes at a world's levels and discrete values
 abbrev pub slopes_of : Machine → World → List ℤ
@@ -34,9 +45,13 @@ pub record IsLineOf (m : Machine) (tick : ℕ) (w : World) (j : ℕ) (line : Lin
   pub own_slope : line.slope ≡ slope_at m j w.levels w.discretes
   pub own_level : line.level ≡ int_at w.levels j
 
+-- at a tick a state is at least a quantum away from its level
+abbrev pub LeavesAt : Machine → ℕ → Line → ℕ → Type 0
+LeavesAt m j line tick = IsAway (level_unit m) (state_at line tick) line.level (quantum_of m j line.level)
+
 -- the first tick after now at which a line leaves the quantum of its level
 abbrev pub IsDue : Machine → ℕ → ℕ → Line → Option ℕ → Type 0
-IsDue m tick j line found = FirstAfter (λ t. IsAway (level_unit m) (state_at line t) line.level (quantum_of m j line.level)) tick found
+IsDue m tick j line found = FirstAfter (λ t. LeavesAt m j line t) tick found
 
 -- a condition's watch comes from a tick up to now, is at its form's value now, and goes on at its speed
 pub record IsWatchOf (m : Machine) (tick : ℕ) (w : World) (place : ℕ) (watch : Watch) : Type 0 where
@@ -48,6 +63,10 @@ pub record IsWatchOf (m : Machine) (tick : ℕ) (w : World) (place : ℕ) (watch
 -- the first tick after now at which a watch is not as its condition was after the last handlers
 abbrev pub IsChange : ℕ → Bool → Watch → Option ℕ → Type 0
 IsChange tick settled watch found = FirstAfter (λ t. holds_at watch t ≢ settled) tick found
+
+-- whether the condition at a place became true through the handlers
+abbrev pub became_true : List Bool → List Bool → ℕ → Bool
+became_true arrived settled place = flag_at settled place && not (flag_at arrived place)
 
 -- whether a condition became true through the handlers
 abbrev pub rises : World → Bool

@@ -1,5 +1,5 @@
 -- Slopes and conditions after handlers, where few states moved and few discrete variables were assigned.
-use Rattle.std.proofs.Common.{◌≡◌, ℕ, ◌+◌, ◌<◌, Bool, false, List, [], length, ℤ, pos, sym, ◌∙◌, ap, arith, inl, inr}
+use Rattle.std.proofs.Common.{◌≡◌, ℕ, ◌+◌, ◌<◌, Bool, false, List, length, ℤ, pos, sym, ◌∙◌, ap, arith, inl, inr}
 use Rattle.std.proofs.lemmas.Bool.{cases_Bool}
 use Rattle.std.proofs.lemmas.List.FromFn.{length-map-range_with_len}
 use Rattle.std.specs.Prelude.{Option, if◌then◌else◌}
@@ -18,7 +18,7 @@ use Rattle.qss_sched.specs.Ranks.{due_at}
 use Rattle.qss_run.specs.Handlings.{AreAssigned, states_with, AreWatchedUpTo}
 use Rattle.qss_quiet.specs.Among.{is_among, IsOff}
 use Rattle.qss_run.specs.Places.{line_at, watch_at, IsWatched}
-use Rattle.qss_quiet.specs.Sims.{condition_at}
+use Rattle.qss_quiet.specs.Sims.{condition_at, no_row}
 use Rattle.qss_run.specs.Speeds.{reads_moved}
 use Rattle.qss_run.specs.Stores.{states_at}
 use Rattle.qss_run.proofs.DueLevels.{length-states_at, int_at-states_at}
@@ -72,9 +72,8 @@ module _ (m : Machine) (moved assigned : List ℕ) (old levels pre d before slop
   unread : (j : ℕ) → j < state_count m → reads_moved m moved j ≡ false → reads_moved m assigned j ≡ false → slope_at m j levels d ≡ slope_at m j old pre
   unread j h no_state no_variable =
       let row : SlopeRow = row_at m j in
-      let none : SlopeRow = record { entries = []; products = []; beta = pos 0 } in
       slope_same m.f (state_count m) (discrete_count m) row old levels pre d old_many (off.as_many ∙ old_many) pre_many d_many
-      (m.has_rows.each j none (omega (arith, h, m.has_rows.one_each))).products.of_discretes
+      (m.has_rows.each j no_row (omega (arith, h, m.has_rows.one_each))).products.of_discretes
       (λ i inside reads. elim (cases_Bool (is_among moved i)) [
         | inl among ↦ let not : row_reads i row ≡ false = unread_at moved row no_state i among in absurd (cc)
         | inr kept ↦ off.others i kept

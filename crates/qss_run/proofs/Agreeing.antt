@@ -26,13 +26,14 @@ use Rattle.qss_machine.specs.Numbers.{int_at, sum_below}
 use Rattle.qss_machine.specs.Slopes.{coefficient_of}
 use Rattle.qss_machine.specs.Uses.{has_entry}
 use Rattle.qss_hand.specs.Works.{branch_at}
+use Rattle.qss_hand.proofs.Branches.{no_branch}
 use Rattle.qss_run.specs.declared.conditions.BranchPlace.{BranchPlace}
 use Rattle.qss_run.specs.Handlings.{flags_of, handling_of_fired, is_reinitialized}
 use Rattle.qss_quiet.specs.Among.{AreNumbers}
 use Rattle.qss_run.specs.Places.{AreBranches}
 use Rattle.qss_run.specs.Reads.{action_reads, branch_reads, fired_reads, AreArrived}
 use Rattle.qss_run.proofs.Branches.{place_at}
-use Rattle.qss_run.proofs.Firings.{no_clause, no_branch, one_place, set_inside, flag_among}
+use Rattle.qss_run.proofs.Firings.{no_clause, one_place, set_inside, flag_among}
 use Rattle.qss_run.proofs.Reported.{reinits_of}
 use Rattle.qss_quiet.proofs.Writes.{index_of}
 use Rattle.qss_quiet.proofs.Unread.{no_coefficient}

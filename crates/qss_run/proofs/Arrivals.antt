@@ -27,10 +27,10 @@ use Rattle.qss_run.proofs.Reported.{AreLogged, among_assigned, logged, small_aft
 use Rattle.qss_run.proofs.DueLevels.{int_at-states_at}
 use Rattle.qss_quiet.proofs.Firsts.{same_lists}
 use Rattle.qss_quiet.proofs.Flags.{due_flags_are, truths_are}
-use Rattle.qss_run.proofs.Handled.{all_within}
 use Rattle.qss_quiet.proofs.Quiet.{int_at-tabulate}
 use Rattle.qss_hand.proofs.Turns.{rows_clauses}
 use Rattle.qss_quiet.proofs.Writes.{among_at}
+use Rattle.qss_quiet.proofs.Overs.{all_within}
 
 -- a flag that is known at once
 known_flag : (looked holds settled : Bool) → (looked ≡ false → holds ≡ settled) → (if looked then holds else settled) ≡ holds

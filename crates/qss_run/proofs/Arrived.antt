@@ -10,10 +10,10 @@ use Rattle.mu_num.specs.Sizes.{IsWithin}
 use Rattle.mu_num.proofs.Tests.{eqb-true, eqb-false}
 use Rattle.qss_machine.specs.Numbers.{int_at}
 use Rattle.qss_quant.specs.Lines.{Line, state_at}
+use Rattle.qss_quiet.specs.Sims.{no_line}
 use Rattle.qss_run.specs.Reads.{AreArrived}
 use Rattle.qss_run.specs.Stores.{states_at}
 use Rattle.qss_run.proofs.DueLevels.{int_at-states_at}
-use Rattle.qss_run.proofs.Turning.{no_line}
 use mir.Syntax.{w128}
 
 -- some arrive, then others

@@ -1,11 +1,10 @@
 -- A row that reads no assigned discrete variable has the same sums.
-use Rattle.std.proofs.Common.{◌≡◌, ℕ, ◌+◌, ◌<◌, ◌≤◌, true, false, not, List, [], length, ℤ, pos, refl, ◌∙◌, ap, arith, inl, inr}
+use Rattle.std.proofs.Common.{◌≡◌, ℕ, ◌+◌, ◌<◌, ◌≤◌, true, false, not, List, length, ℤ, pos, refl, ◌∙◌, ap, arith, inl, inr}
 use Rattle.std.proofs.lemmas.Bool.{cases_Bool}
 use Rattle.std.proofs.lemmas.List.FromFn.{fill_by_all, length-map-range_with_len, get_or-map-range_with_len}
 use Rattle.std.specs.List.{list_all}
 use Rattle.std.specs.Prelude.{◌||◌, All}
 use Rattle.mu_num.specs.Sizes.{passes}
-use Rattle.qss_machine.specs.declared.parts.SlopeRow.{SlopeRow}
 use Rattle.qss_machine.specs.declared.system.Machine.{Machine}
 use Rattle.qss_machine.specs.Machines.{state_count, discrete_count, row_at, slope_at, weight_at}
 use Rattle.qss_machine.specs.Numbers.{int_at, tabulate}
@@ -14,6 +13,7 @@ use Rattle.qss_machine.specs.Ticks.{is_overweight}
 use Rattle.qss_machine.specs.Uses.{row_reads}
 use Rattle.qss_run.specs.Handlings.{AreAssigned}
 use Rattle.qss_quiet.specs.Among.{is_among}
+use Rattle.qss_quiet.specs.Sims.{no_row}
 use Rattle.qss_run.specs.Speeds.{reads_moved}
 use Rattle.qss_quiet.proofs.SameSlopes.{mode_same, slope_same, weight_same}
 use Rattle.qss_quiet.proofs.Unread.{unread_at}
@@ -22,8 +22,7 @@ module _ (m : Machine) (levels pre d : List ℤ) (assigned : List ℕ) (many : l
     (are : AreAssigned m assigned pre d) (j : ℕ) (known : j < state_count m) (unread : reads_moved m assigned j ≡ false) where
   of_discretes : All (λ product. (state_count m ≤ product.discrete) × (product.discrete < state_count m + discrete_count m)) (row_at m j).products
   of_discretes =
-      let none : SlopeRow = record { entries = []; products = []; beta = pos 0 } in
-      (m.has_rows.each j none (omega (arith, known, m.has_rows.one_each))).products.of_discretes
+      (m.has_rows.each j no_row (omega (arith, known, m.has_rows.one_each))).products.of_discretes
 
   value_same : (g : ℕ) → g < discrete_count m → row_reads (state_count m + g) (row_at m j) ≡ true → int_at d g ≡ int_at pre g
   value_same g h reads = elim (cases_Bool (is_among assigned (state_count m + g))) [

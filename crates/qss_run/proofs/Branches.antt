@@ -1,14 +1,11 @@
 -- The branches of conditions, clause by clause.
-use Rattle.std.proofs.Common.{◌≡◌, ℕ, zero, suc, ◌+◌, ◌-◌, ◌<◌, ◌≤◌, List, [], ◌∷◌, ◌++◌, length, get_or, map, take, pos, refl, sym, ◌∙◌, ap, subst, arith, inl, inr}
+use Rattle.std.proofs.Common.{◌≡◌, ℕ, ◌+◌, ◌-◌, ◌<◌, ◌≤◌, List, [], ◌∷◌, ◌++◌, length, get_or, map, take, pos, refl, sym, ◌∙◌, ap, subst, arith, inl, inr}
 use Rattle.std.proofs.lemmas.Bool.{cases_lt}
 use Rattle.std.proofs.lemmas.List.{get_or-map, get_or_append_left, get_or-append_right, length-map, length-append, append_assoc}
 use Rattle.std.proofs.lemmas.List.FromFn.{length-map-range_with_len, get_or-map-range_with_len, map-range_with_len_more}
-use Rattle.std.proofs.lemmas.List.Sums.{sum_by-cons, sum_by_more, sum_by-take-le}
-use Rattle.std.specs.List.{flat_map, sum_by, range_with_len}
+use Rattle.std.proofs.lemmas.List.Sums.{sum_by_more, sum_by-take-le}
+use Rattle.std.specs.List.{sum_by, range_with_len}
 use Rattle.std.specs.Prelude.{slice_index_or}
-use Rattle.qss_machine.specs.declared.parts.BranchInfo.{BranchInfo}
-use Rattle.qss_machine.specs.declared.parts.ClauseInfo.{ClauseInfo}
-use Rattle.qss_machine.specs.declared.parts.Condition.{Condition}
 use Rattle.qss_machine.specs.declared.parts.Rel.TheVariants.{Less}
 use Rattle.qss_machine.specs.declared.system.Machine.{Machine}
 use Rattle.qss_hand.specs.Works.{clause_at}
@@ -16,6 +13,7 @@ use Rattle.qss_run.specs.declared.conditions.BranchPlace.{BranchPlace}
 use Rattle.qss_run.specs.Places.{IsBranchOf}
 use Rattle.qss_quiet.specs.Sims.{condition_at}
 use Rattle.qss_hand.proofs.Turns.{length-conditions, conditions_few}
+use Rattle.qss_hand.proofs.Branches.{width_of, condition_by, no_branch}
 
 abbrev pub place_of : ℕ → ℕ → BranchPlace
 place_of clause branch = record { clause = clause; branch = branch }
@@ -23,39 +21,10 @@ place_of clause branch = record { clause = clause; branch = branch }
 abbrev pub place_at : List BranchPlace → ℕ → BranchPlace
 place_at branches place = slice_index_or branches place (record { clause = 0; branch = 0 })
 
-abbrev pub width_of : ClauseInfo → ℕ
-width_of clause = length clause.branches
-
-abbrev conditions_of : ClauseInfo → List Condition
-conditions_of clause = map (λ (b : BranchInfo). b.condition) clause.branches
-
--- a condition by its clause and branch
-condition_by : (clauses : List ClauseInfo) (i b : ℕ) (d : ClauseInfo) (db : BranchInfo) (dc : Condition) → i < length clauses → b < width_of (get_or clauses i d) →
-    get_or (flat_map conditions_of clauses) (sum_by width_of (take i clauses) + b) dc ≡ (get_or (get_or clauses i d).branches b db).condition
-condition_by [] i b d db dc h k = absurd (omega (arith, h))
-condition_by (c ∷ cs) zero b d db dc h k =
-    let e : 0 + b ≡ b = omega arith in
-    let many = length-map c.branches (λ (x : BranchInfo). x.condition) in
-    ap (λ n. get_or (flat_map conditions_of (c ∷ cs)) n dc) e
-    ∙ get_or_append_left (conditions_of c) (flat_map conditions_of cs) dc b (omega (arith, k, many))
-    ∙ get_or-map (λ (x : BranchInfo). x.condition) c.branches b db dc k
-condition_by (c ∷ cs) (suc i) b d db dc h k =
-    let many = length-map c.branches (λ (x : BranchInfo). x.condition) in
-    let place : sum_by width_of (take (suc i) (c ∷ cs)) + b ≡ width_of c + (sum_by width_of (take i cs) + b) = omega (arith, sum_by-cons width_of c (take i cs)) in
-    let past : (width_of c + (sum_by width_of (take i cs) + b)) - width_of c ≡ sum_by width_of (take i cs) + b = omega arith in
-    ap (λ n. get_or (flat_map conditions_of (c ∷ cs)) n dc) place
-    ∙ get_or-append_right (conditions_of c) (flat_map conditions_of cs) (width_of c) (width_of c + (sum_by width_of (take i cs) + b)) dc many (omega arith)
-    ∙ ap (λ n. get_or (flat_map conditions_of cs) n dc) past
-    ∙ condition_by cs i b d db dc (omega (arith, h)) k
-
-no_branch : BranchInfo
-no_branch = record { condition = record { form = record { entries = []; time = pos 0; gamma = pos 0 }; rel = Less }; actions = [] }
-
 -- the branches of one more clause
 pub branches_more : (m : Machine) (i : ℕ) (found next : List BranchPlace) → i < length m.clauses → length found ≡ sum_by width_of (take i m.clauses) →
     next ≡ found ++ map (place_of i) (range_with_len 0 (width_of (clause_at m i))) →
     ((place : ℕ) → place < length found → IsBranchOf m (place_at found place) place) → (place : ℕ) → place < length next → IsBranchOf m (place_at next place) place
-unfolding no_branch
 branches_more m i found next h many is before place inside = elim (cases_lt place (length found)) [ inl below ↦ old below | inr past ↦ new past ]
   where
     none : BranchPlace

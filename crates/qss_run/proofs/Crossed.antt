@@ -22,10 +22,10 @@ use Rattle.qss_run.specs.declared.shifts.RowSum.TheVariants.{Slope}
 use Rattle.qss_run.specs.declared.store.Store.{Store}
 use Rattle.qss_run.specs.Handlings.{states_with, is_reinitialized, IsHandled, AreMovedTo}
 use Rattle.qss_quiet.specs.Among.{is_among, IsOff}
-use Rattle.qss_run.specs.Moves.{became_true, IsWithout}
+use Rattle.qss_run.specs.Moves.{IsWithout}
 use Rattle.qss_run.specs.Places.{line_at, watch_at, IsWatched}
 use Rattle.qss_quiet.specs.Rules.{IsRuled}
-use Rattle.qss_quiet.specs.Sims.{condition_at, IsDue, IsChange, StandsFor, HasNothingBefore}
+use Rattle.qss_quiet.specs.Sims.{condition_at, IsDue, IsChange, StandsFor, HasNothingBefore, became_true}
 use Rattle.qss_run.specs.Stores.{states_at, handling_from, world_of, IsTaken}
 use Rattle.qss_run.proofs.AfterHandlers.{length-states_with, int_at-states_with, other_state}
 use Rattle.qss_run.proofs.Handled.{over_early}

@@ -6,7 +6,7 @@ use Rattle.std.proofs.lemmas.List.{ext_get_or, get_or_default}
 use Rattle.std.proofs.lemmas.List.FromFn.{length-map-range_with_len}
 use Rattle.std.specs.List.{flat_map}
 use Rattle.std.specs.Ordering.{int_eq}
-use Rattle.std.specs.Prelude.{Option, None, MatchBool, All, if◌then◌else◌}
+use Rattle.std.specs.Prelude.{Option, None, All, if◌then◌else◌}
 use Rattle.mu_num.specs.Sizes.{IsWithin, passes}
 use Rattle.mu_num.proofs.SizeTests.{passes-within, within-passes}
 use Rattle.qss_machine.specs.declared.rows.RowKind.TheVariants as kind
@@ -26,6 +26,7 @@ use Rattle.qss_quiet.proofs.Quiet.{int_at-tabulate}
 use Rattle.qss_quiet.proofs.DueFirsts.{first_of_all}
 use Rattle.qss_quiet.proofs.DueRows.{rows_among}
 use Rattle.qss_quiet.proofs.Writes.{index_of, among_head, among_rest}
+use Rattle.qss_quiet.proofs.Forced.{near_holds}
 
 -- the states at a tick by number
 pub length-states_at : (lines : List Line) (tick : ℕ) → length (states_at lines tick) ≡ length lines
@@ -45,9 +46,6 @@ no_row : (tick j : ℕ) (old new state : ℤ) → new ≡ old → row_of tick j 
 no_row tick j old new state kept =
     let test : int_eq old new ≡ true = (Decides-int_eq old new).1 (sym kept) in
     ap (λ b. if b then [] else record { tick = tick; kind = kind.Level; var = j; level = new; state = state } ∷ []) test
-
-by_true : (b : Bool) (P Q : Type 0) → b ≡ true → P → MatchBool b P Q
-by_true b P Q e p = subst (λ c. MatchBool c P Q) (sym e) p
 
 moved_inside : (n : ℕ) (moved : List ℕ) → AreNumbers n moved → (j : ℕ) → is_among moved j ≡ true → j < n
 moved_inside n moved numbers j e = let at = index_of moved j e in omega (arith, at.2, numbers.below at.0 0 at.1)
@@ -102,7 +100,7 @@ module _ (m : Machine) (moved : List ℕ) (x old fresh : List ℤ) (numbers : Ar
       where
         by_among : (j : ℕ) → j < state_count m → (is_among moved j ≡ true) ⊎ (is_among moved j ≡ false) → IsNextLevel Rule m j (int_at states j) (int_at old j) (int_at fresh j)
         by_among j h (inl e) = subst (λ z. IsNextLevel Rule m j z (int_at old j) (int_at fresh j)) (sym (are.own j e)) (next j e)
-        by_among j h (inr e) = by_true (is_near m j (int_at states j) (int_at old j)) (int_at fresh j ≡ int_at old j) (Rule _ (int_at states j) (int_at old j) (int_at fresh j)) (are.near j h e) (off.others j e)
+        by_among j h (inr e) = near_holds (is_near m j (int_at states j) (int_at old j)) (int_at fresh j ≡ int_at old j) (Rule _ (int_at states j) (int_at old j) (int_at fresh j)) (are.near j h e) (off.others j e)
 
     -- the rows of the moved states are those of all
     pub rows_of_moved : (tick : ℕ) → flat_map (level_row tick old fresh x) moved ≡ level_rows tick old fresh states

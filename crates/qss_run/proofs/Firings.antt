@@ -1,5 +1,5 @@
 -- Branches that are due, by their places.
-use Rattle.std.proofs.Common.{◌≡◌, ℕ, zero, suc, ◌+◌, ◌-◌, ◌<◌, ◌≤◌, Bool, true, false, List, [], length, get_or, take, drop, ℤ, pos, sym, ◌∙◌, ap, arith, inl, inr}
+use Rattle.std.proofs.Common.{◌≡◌, ℕ, zero, suc, ◌+◌, ◌-◌, ◌<◌, ◌≤◌, Bool, true, false, List, [], length, get_or, take, drop, ℤ, sym, ◌∙◌, ap, arith, inl, inr}
 use Rattle.std.proofs.lemmas.Bool.{cases_lt, false_from_ne_true}
 use Rattle.std.proofs.lemmas.List.{get_or-take, get_or-drop, get_or_past, length-take, drop_all}
 use Rattle.std.proofs.lemmas.List.FromFn.{length-map-range_with_len, get_or-map-range_with_len}
@@ -10,7 +10,6 @@ use Rattle.std.specs.List.Sorted.{IsStrictlyIncreasing}
 use Rattle.std.specs.Prelude.{None}
 use Rattle.qss_machine.specs.declared.parts.BranchInfo.{BranchInfo}
 use Rattle.qss_machine.specs.declared.parts.ClauseInfo.{ClauseInfo}
-use Rattle.qss_machine.specs.declared.parts.Rel.TheVariants.{Less}
 use Rattle.qss_machine.specs.declared.system.Machine.{Machine}
 use Rattle.qss_machine.specs.Firing.{flag_at, first_place}
 use Rattle.qss_machine.specs.Handlers.{Handling, run_branch, run_first_due, run_clauses}
@@ -21,14 +20,12 @@ use Rattle.qss_run.specs.Places.{IsBranchOf, AreBranches}
 use Rattle.qss_quiet.specs.Among.{is_among, AreNumbers}
 use Rattle.qss_hand.specs.Rooms.{clause_room}
 use Rattle.qss_hand.proofs.Turns.{next_turn, none_due, first_fires, room-drop}
+use Rattle.qss_hand.proofs.Branches.{width_of, no_branch}
 use Rattle.qss_quiet.proofs.Writes.{index_of, among_at}
-use Rattle.qss_run.proofs.Branches.{place_at, width_of}
+use Rattle.qss_run.proofs.Branches.{place_at}
 
 abbrev pub no_clause : ClauseInfo
 no_clause = record { branches = [] }
-
-abbrev pub no_branch : BranchInfo
-no_branch = record { condition = record { form = record { entries = []; time = pos 0; gamma = pos 0 }; rel = Less }; actions = [] }
 
 -- a longer beginning of a list has a greater sum
 sum_up : {X : Type 0} (f : X → ℕ) (xs : List X) (d : X) (i k : ℕ) → i + k ≤ length xs → sum_by f (take i xs) ≤ sum_by f (take (i + k) xs)

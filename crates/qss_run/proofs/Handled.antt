@@ -1,9 +1,7 @@
 -- What the handlers of a tick did.
-use Rattle.std.proofs.Common.{◌≡◌, ℕ, ◌≤◌, Bool, true, false, List, [], length, get_or, ℤ, refl, sym, ◌∙◌, ap, arith}
+use Rattle.std.proofs.Common.{◌≡◌, ℕ, ◌≤◌, Bool, true, List, [], length, ℤ, sym, ◌∙◌, ap, arith}
 use Rattle.std.specs.Option.{option_or}
-use Rattle.std.specs.Prelude.{Option, Some, None, is_some, All}
-use Rattle.mu_num.specs.Sizes.{IsWithin, passes}
-use Rattle.mu_num.proofs.SizeTests.{passes-within}
+use Rattle.std.specs.Prelude.{Option, Some, None, is_some}
 use Rattle.qss_machine.specs.declared.rows.Row.{Row}
 use Rattle.qss_machine.specs.declared.system.Machine.{Machine}
 use Rattle.qss_machine.specs.Numbers.{first_past}
@@ -11,7 +9,6 @@ use Rattle.qss_machine.specs.Handlers.{Handling, truths, due_flags, run_clauses}
 use Rattle.qss_hand.specs.Values.{Values}
 use Rattle.qss_hand.specs.Works.{handling_of, row_room}
 use Rattle.qss_run.specs.Stores.{handling_from}
-use Rattle.qss_quiet.proofs.Ranges.{none_passes}
 use Rattle.qss_hand.proofs.Turns.{clauses_stay, rows_clauses}
 
 module _ (m : Machine) (tick : ℕ) (x d : List ℤ) (arrived settled : List Bool) where
@@ -34,18 +31,6 @@ module _ (m : Machine) (tick : ℕ) (x d : List ℤ) (arrived settled : List Boo
       ∙ ap (λ (y : List ℤ). run_clauses m tick d 0 (record { states = x; discretes = y; rows = v.log; overflow = None }) m.clauses flagged) of_d
       ∙ ap (λ (y : List Row). run_clauses m tick d 0 (record { states = x; discretes = d; rows = y; overflow = None }) m.clauses flagged) of_log
       ∙ ap (λ (o : Option ℕ). run_clauses m tick d 0 (record { states = x; discretes = d; rows = []; overflow = o }) m.clauses flagged) (sym calm)
-
--- no number passes
-pub all_within : (bits : ℕ) (xs : List ℤ) → first_past bits xs ≡ None → All (IsWithin bits) xs
-all_within bits xs e k z h = passes-within bits (get_or xs k z) (none_passes z (passes bits) xs e k h)
-
-pub not_some : (o : Option ℕ) → is_some o ≡ false → o ≡ None
-not_some None e = refl
-not_some (Some v) e = absurd (cc)
-
-pub clash : {A : Type 0} (o : Option ℕ) → is_some o ≡ true → o ≡ None → A
-clash None some e = absurd (cc)
-clash (Some v) some e = absurd (cc)
 
 -- the first of two overflows
 pub over_first : (o a b : Option ℕ) → is_some o ≡ true → o ≡ a → o ≡ option_or a b

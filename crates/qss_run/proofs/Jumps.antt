@@ -3,9 +3,8 @@ use Rattle.std.proofs.Common.{◌≡◌, ℕ, zero, suc, ◌+◌, ◌-◌, ◌�
 use Rattle.std.proofs.lemmas.Bool.{cases_lt}
 use Rattle.std.proofs.lemmas.List.{get_or_past}
 use Rattle.std.proofs.Common.{Vec, Global}
-use Rattle.std.proofs.lemmas.Bool.Decides.{nat_tests}
 use Rattle.std.specs.List.{list_any}
-use Rattle.std.specs.Prelude.{Option, Some, None, nat_lt, if◌then◌else◌}
+use Rattle.std.specs.Prelude.{Option, Some, None, if◌then◌else◌}
 use Rattle.mu_num.specs.Ticks.{FirstAfter}
 use Rattle.qss_machine.specs.declared.system.Machine.{Machine}
 use Rattle.qss_machine.specs.Numbers.{int_at, tabulate}
@@ -24,7 +23,7 @@ use Rattle.qss_quiet.specs.Silent.{AreSilent}
 use Rattle.qss_run.proofs.OwnConditions.{arrived_anew}
 use Rattle.qss_quiet.proofs.Quiet.{int_at-tabulate, tabulate-same}
 use Rattle.qss_quiet.proofs.Silence.{line_state_at, none_rises, silence, stands_still}
-use Rattle.qss_quiet.proofs.Silences.{quiet_worlds, quiet_leads}
+use Rattle.qss_quiet.proofs.Silences.{quiet_worlds, quiet_leads, arrived_then}
 use Rattle.qss_quiet.proofs.Skipped.{settled_twice}
 
 pub later_of : (P : ℕ → Type 0) (from t : ℕ) (found : Option ℕ) → FirstAfter P from found → found ≡ Some t → from < t
@@ -79,11 +78,6 @@ states_later m tick s stands k =
     (λ j h.
     line_state_at m tick (world_of tick s) (line_at s.lines.items) (watch_at s.conditions.watches.items) (due_at s.agenda) stands.stands_for j k h
     ∙ int_at-tabulate (state_count m) (λ i. int_at (world_of tick s).states i +ℤ pos k *ℤ slope_at m i s.levels.items s.work.d) j h)
-
--- the truths on arrival by then
-abbrev pub arrived_then : ℕ → List Bool → List Bool → List Bool
-arrived_then zero arrived settled = arrived
-arrived_then (suc ticks) arrived settled = settled
 
 -- a store with other truths on arrival
 abbrev pub with_arrived : Store → Vec Bool Global → Bool → Store
@@ -173,11 +167,3 @@ silent_then Rule m tick (suc k) s stands before nothing =
     let quiet = silence m tick (world_of tick s) (line_at s.lines.items) (watch_at s.conditions.watches.items) (due_at s.agenda) (tick + suc k) stands.stands_for (omega arith)
     (omega (arith, before, m.has_units.last_tick)) (λ place t e. omega (arith, nothing place t e)) in
     quiet_leads Rule m tick (world_of tick s) (suc k) stands.stands_for.left quiet.0 (λ t positive below. quiet.1 t positive (omega (arith, below)))
-
-pub arrived_if : (tick next k : ℕ) (arrived settled : List Bool) → tick + k ≡ next - 1 → tick < next → (if nat_lt (tick + 1) next then settled else arrived) ≡ arrived_then k arrived settled
-arrived_if tick next zero arrived settled e later =
-    let no : nat_lt (tick + 1) next ≡ false = grind (arith, nat_tests) in
-    ap (λ b. if b then settled else arrived) no
-arrived_if tick next (suc k) arrived settled e later =
-    let yes : nat_lt (tick + 1) next ≡ true = grind (arith, nat_tests) in
-    ap (λ b. if b then settled else arrived) yes

@@ -4,13 +4,13 @@ use Rattle.std.proofs.lemmas.Bool.{cases_Bool}
 use Rattle.std.specs.List.{position}
 use Rattle.std.specs.Prelude.{◌||◌, not, Option, Some, None}
 use Rattle.mu_num.specs.Sizes.{passes}
-use Rattle.qss_machine.specs.declared.parts.SlopeRow.{SlopeRow}
 use Rattle.qss_machine.specs.declared.system.Machine.{Machine}
 use Rattle.qss_machine.specs.Machines.{state_count, row_at, weight_at}
 use Rattle.qss_machine.specs.Numbers.{int_at}
 use Rattle.qss_machine.specs.Slopes.{mode_fits}
 use Rattle.qss_machine.specs.Ticks.{is_overweight}
 use Rattle.qss_quiet.specs.Among.{is_among}
+use Rattle.qss_quiet.specs.Sims.{no_row}
 use Rattle.qss_run.specs.Overweights.{comes_before, IsLeastPast}
 use Rattle.qss_quiet.proofs.Firsts.{first_is, less_yes}
 use Rattle.qss_quiet.proofs.Ranges.{position-none}
@@ -28,9 +28,6 @@ passes_by_weight m row levels discretes weight fits own =
 module _ (m : Machine) (levels discretes weights : List ℤ) (looked : List ℕ) (many : length weights ≡ state_count m)
     (same : (row : ℕ) → row < state_count m → passes 88 (int_at weights row) ≡ is_overweight m levels discretes (row_at m row))
     (others : (row : ℕ) → row < state_count m → is_among looked row ≡ false → is_overweight m levels discretes (row_at m row) ≡ false) where
-  no_row : SlopeRow
-  no_row = record { entries = []; products = []; beta = pos 0 }
-
   none_before : (found : Option ℕ) → IsLeastPast weights looked found → (row : ℕ) → row < state_count m → comes_before found row ≡ true → is_overweight m levels discretes (row_at m row) ≡ false
   none_before found least row h before = elim (cases_Bool (is_among looked row)) [
     | inl among ↦ sym (same row h) ∙ least.none_before row among before
@@ -39,7 +36,6 @@ module _ (m : Machine) (levels discretes weights : List ℤ) (looked : List ℕ)
 
   -- of all rows the least that passes its limits is the one that was found
   pub least_is : (found : Option ℕ) → IsLeastPast weights looked found → found ≡ position (is_overweight m levels discretes) m.rows
-  unfolding no_row
   least_is None least =
       sym (position-none no_row (is_overweight m levels discretes) m.rows (λ k h. let inside : k < state_count m = omega (arith, h, m.has_rows.one_each) in none_before None least k inside refl))
   least_is (Some row) least =

@@ -3,7 +3,6 @@ pub mod Visits
 pub mod Handled
 pub mod Jumps
 pub mod Branches
-pub mod NamedRows
 pub mod Dues
 pub mod Called
 pub mod Takes

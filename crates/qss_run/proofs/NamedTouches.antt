@@ -9,13 +9,13 @@ use Rattle.qss_machine.specs.Runs.{last_world, run_from, run_with}
 use Rattle.qss_machine.specs.Ticks.{World, Step, step}
 use Rattle.qss_quant.specs.declared.rule.Rule.{Rule}
 use Rattle.qss_quant.specs.Rules.{level_by}
-use Rattle.qss_run.specs.declared.outcome.Outcome.{Outcome}
-use Rattle.qss_run.specs.declared.outcome.Outcome.TheVariants.{Events, Done, Over}
+use Rattle.qss_quiet.specs.declared.outcome.Outcome.{Outcome}
+use Rattle.qss_quiet.specs.declared.outcome.Outcome.TheVariants.{Events, Done, Over}
 use Rattle.qss_quiet.specs.Silent.{LeadsSilently}
-use Rattle.qss_run.specs.Events.{IsNext}
+use Rattle.qss_quiet.specs.Events.{IsNext}
 use Rattle.qss_quiet.specs.Rules.{IsRuled}
 use Rattle.qss_run.specs.Touches.{touches_at, MovesTouched, touches_from, none_if_ended, touches_left}
-use Rattle.qss_run.proofs.NamedRows.{at}
+use Rattle.qss_quiet.proofs.NamedRows.{at}
 use Rattle.qss_quiet.proofs.Silences.{named_step}
 use Rattle.qss_run.proofs.Spans.{touches_push, touches_over}
 

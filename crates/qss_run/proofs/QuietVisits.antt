@@ -19,14 +19,12 @@ use Rattle.qss_run.specs.RowSums.{AreSumsBefore}
 use Rattle.qss_run.specs.declared.shifts.RowSum.TheVariants.{Slope}
 use Rattle.qss_run.specs.declared.store.Store.{Store}
 use Rattle.qss_quiet.specs.Among.{is_among, IsOff}
-use Rattle.qss_run.specs.Moves.{became_true}
 use Rattle.qss_quiet.specs.Skips.{NoneRises}
 use Rattle.qss_run.specs.Places.{line_at, watch_at, IsWatched}
 use Rattle.qss_quiet.specs.Rules.{IsRuled}
-use Rattle.qss_quiet.specs.Sims.{IsDue, StandsFor, HasNothingBefore}
+use Rattle.qss_quiet.specs.Sims.{IsDue, StandsFor, HasNothingBefore, became_true}
 use Rattle.qss_run.specs.Speeds.{reads_moved}
 use Rattle.qss_run.specs.Stores.{states_at, world_of, IsTaken}
-use Rattle.qss_run.proofs.Called.{none_due}
 use Rattle.qss_quiet.proofs.Quiet.{int_at-tabulate}
 use Rattle.qss_quiet.proofs.Silence.{line_state_at, still_near}
 use Rattle.qss_quiet.proofs.NextVisit.{only_due_states_pass}
@@ -34,6 +32,7 @@ use Rattle.qss_run.proofs.Jumps.{dues_later, later_of}
 use Rattle.qss_run.proofs.QuietTick.{NoneChanges, only_moves, quiet_truths, watched_then}
 use Rattle.qss_quiet.proofs.Unread.{unread_at, unread_slope}
 use Rattle.qss_quiet.proofs.NextLevels.{next_is_near}
+use Rattle.qss_quiet.proofs.Risen.{none_due}
 use Rattle.qss_run.proofs.Visits.{arrives, due_stays, end_of}
 
 -- a step, where its overflow is known, and without one the world

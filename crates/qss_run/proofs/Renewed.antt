@@ -8,10 +8,10 @@ use Rattle.std.specs.Prelude.{if◌then◌else◌}
 use Rattle.mu_num.proofs.Tests.{if-true, if-false}
 use Rattle.qss_machine.specs.Numbers.{int_at}
 use Rattle.qss_quant.specs.Lines.{Line, state_at}
+use Rattle.qss_quiet.specs.Sims.{no_line}
 use Rattle.qss_run.specs.Places.{line_at}
 use Rattle.qss_run.specs.Renewals.{goes_at, goes_from, renewals}
 use Rattle.qss_run.proofs.Counting.{one_if, count_none, count_one}
-use Rattle.qss_run.proofs.Turning.{no_line}
 
 -- a line at this level and slope goes on so
 pub goes_so : (level slope : ℤ) (line : Line) → line.level ≡ level → line.slope ≡ slope → goes_at level slope line ≡ true

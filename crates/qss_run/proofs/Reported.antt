@@ -20,6 +20,7 @@ use Rattle.qss_machine.specs.Handlers.{Handling, assign, fire_row, run_clauses}
 use Rattle.qss_machine.specs.Limits.{IsAction, has_target}
 use Rattle.qss_machine.specs.Machines.{state_count, discrete_count}
 use Rattle.qss_machine.specs.Numbers.{int_at}
+use Rattle.qss_hand.proofs.Targets.{target_set, target_reinit}
 use Rattle.qss_run.specs.Handlings.{is_reinitialized}
 use Rattle.qss_quiet.specs.Among.{is_among}
 use Rattle.qss_quiet.specs.Logs.{is_set, assigned_of}
@@ -45,12 +46,6 @@ pub record AreLogged (m : Machine) (x d : List ℤ) (h : Handling) : Type 0 wher
   pub sets : (var : ℕ) → is_assigned h.rows var ≡ true → (state_count m ≤ var) × (var < state_count m + discrete_count m)
   pub states : (j : ℕ) → is_reinitialized h.rows j ≡ false → int_at h.states j ≡ int_at x j
   pub discretes : (g : ℕ) → is_assigned h.rows (state_count m + g) ≡ false → int_at h.discretes g ≡ int_at d g
-
-target_set : (n g var : ℕ) (form : Form) → IsTrue (has_target n g (Set var form)) → (n ≤ var) × (var < n + g)
-target_set n g var form e = grind (arith, nat_tests)
-
-target_reinit : (n g var : ℕ) (form : Form) → IsTrue (has_target n g (Reinit var form)) → var < n
-target_reinit n g var form e = grind (arith, nat_tests)
 
 -- rows with one more say what it says or what they said before
 says_either : (test : Row → Bool) (rows : List Row) (row : Row) → list_any test (rows ++ row ∷ []) ≡ true → (list_any test rows ≡ true) ⊎ (test row ≡ true)

@@ -14,9 +14,8 @@ use Rattle.qss_cross.specs.Crossing.{Watch}
 use Rattle.qss_sched.specs.Ranks.{due_at}
 use Rattle.qss_quiet.specs.Among.{is_among}
 use Rattle.qss_run.specs.Places.{watch_at, IsWatched}
-use Rattle.qss_quiet.specs.Sims.{condition_at, IsChange}
+use Rattle.qss_quiet.specs.Sims.{condition_at, IsChange, no_watch}
 use Rattle.qss_run.specs.Rewatchings.{Watchings, IsKept, IsSettled, AreSettled}
-use Rattle.qss_run.proofs.Turning.{no_watch}
 
 -- a condition that is as it was is settled as it was
 pub still_settled : (m : Machine) (tick : ℕ) (x d slopes : List ℤ) (place : ℕ) (old new : Watchings) → IsKept m place old new → IsSettled m tick x d slopes place old →

@@ -15,11 +15,10 @@ use Rattle.qss_sched.specs.Ranks.{due_at}
 use Rattle.qss_quiet.specs.Among.{is_among}
 use Rattle.qss_run.specs.Places.{line_at, IsTurned}
 use Rattle.qss_run.specs.Renewals.{goes_from, renewals_from}
-use Rattle.qss_quiet.specs.Sims.{IsDue}
+use Rattle.qss_quiet.specs.Sims.{IsDue, no_line}
 use Rattle.qss_run.specs.Turnings.{Courses}
 use Rattle.qss_run.proofs.Counting.{one_if, count_one}
 use Rattle.qss_run.proofs.Renewed.{goes_so, from_here}
-use Rattle.qss_run.proofs.Turning.{no_line}
 use Rattle.qss_quiet.proofs.Writes.{among_more}
 
 -- ---- one line

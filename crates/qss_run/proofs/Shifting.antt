@@ -1,10 +1,9 @@
 -- Sums of rows where states take their levels one after another.
-use Rattle.std.proofs.Common.{◌≡◌, ◌≢◌, ℕ, zero, suc, ◌+◌, ◌^◌, ◌<◌, ◌≤◌, Bool, true, false, List, [], ◌∷◌, length, get_or, set, take, fold, ℤ, pos, ◌+ℤ◌, ◌-ℤ◌, ◌*ℤ◌, refl, sym, ◌∙◌, ap, subst, arith, inl, inr, ◌==◌}
-use Rattle.std.proofs.lemmas.Bool.{or_parts, or_cases, cases_Bool, cases_lt}
+use Rattle.std.proofs.Common.{◌≡◌, ◌≢◌, ℕ, ◌+◌, ◌^◌, ◌<◌, ◌≤◌, Bool, true, false, List, [], ◌∷◌, length, get_or, set, take, fold, ℤ, pos, ◌+ℤ◌, ◌-ℤ◌, ◌*ℤ◌, refl, sym, ◌∙◌, ap, subst, arith, inl, inr, ◌==◌}
+use Rattle.std.proofs.lemmas.Bool.{or_parts, or_cases, cases_Bool}
 use Rattle.std.proofs.lemmas.List.{length-set, get_or-set_other, get_or-set_same, take_more}
 use Rattle.std.proofs.lemmas.List.Sums.{fold-append}
-use Rattle.std.specs.List.Sorted.{IsStrictlyIncreasing}
-use Rattle.std.specs.Prelude.{unsigned_abs, if◌then◌else◌, None, position}
+use Rattle.std.specs.Prelude.{unsigned_abs, None, position}
 use Rattle.mu_num.proofs.Tests.{eqb-true, eqb-false}
 use Rattle.mu_num.specs.Sizes.{IsWithin}
 use Rattle.qss_machine.specs.declared.system.Machine.{Machine}
@@ -12,48 +11,22 @@ use Rattle.qss_machine.specs.Machines.{state_count, row_at, mode_coefficient_at,
 use Rattle.qss_machine.specs.Numbers.{int_at, size, tabulate}
 use Rattle.qss_machine.specs.Slopes.{mode_coefficient}
 use Rattle.qss_machine.specs.Ticks.{is_overweight}
-use Rattle.qss_machine.specs.Uses.{row_reads, places_from, reading_rows}
+use Rattle.qss_machine.specs.Uses.{row_reads, reading_rows}
 use Rattle.qss_run.specs.declared.shifts.RowSum.{RowSum}
 use Rattle.qss_run.specs.declared.shifts.RowSum.TheVariants.{Slope, Weight}
 use Rattle.qss_quiet.specs.Among.{is_among, AreNumbers, IsOff}
 use Rattle.qss_run.specs.RowSums.{taken_by, sum_at, HasFollowed}
 use Rattle.qss_quiet.specs.Writes.{IsWritten}
-use Rattle.qss_quiet.proofs.Among.{among_rows, before_first}
+use Rattle.qss_quiet.proofs.Among.{among_rows}
 use Rattle.qss_quiet.proofs.Changes.{slopes_follow_levels}
 use Rattle.qss_quiet.proofs.Firsts.{same_lists}
 use Rattle.qss_quiet.proofs.Quiet.{int_at-tabulate}
 use Rattle.qss_quiet.proofs.KeptReaders.{rows_known}
-use Rattle.qss_run.proofs.Turning.{row_is_light}
 use Rattle.qss_quiet.proofs.Unread.{unread_slope, unread_weight}
-use Rattle.qss_quiet.proofs.Writes.{among_at}
+use Rattle.qss_quiet.proofs.Readers.{places_rise}
+use Rattle.qss_quiet.proofs.LightRows.{row_is_light}
 
 -- ---- the rows that read a state rise
-
-rising_cons : (x : ℕ) (xs : List ℕ) → (0 < length xs → x < get_or xs 0 0) → IsStrictlyIncreasing xs → IsStrictlyIncreasing (x ∷ xs)
-rising_cons x xs head rest zero h = head (omega (arith, h))
-rising_cons x xs head rest (suc k) h =
-    let next : get_or xs k 0 < get_or xs (k + 1) 0 = rest k (omega (arith, h)) in
-    let e : suc k + 1 ≡ suc (k + 1) = omega arith in
-    subst (λ (i : ℕ). get_or xs k 0 < get_or (x ∷ xs) i 0) (sym e) next
-
-places_rise : {X : Type 0} (test : X → Bool) (i : ℕ) (xs : List X) → IsStrictlyIncreasing (places_from test i xs)
-places_rise test i [] = λ k h. absurd (omega (arith, h))
-places_rise test i (x ∷ xs) = by_test (test x) (places_rise test (i + 1) xs)
-  where
-    after : (0 < length (places_from test (i + 1) xs)) → i < get_or (places_from test (i + 1) xs) 0 0
-    after h =
-        let rest : List ℕ = places_from test (i + 1) xs in
-        elim (cases_lt i (get_or rest 0 0)) [
-          | inl less ↦ less
-          | inr past ↦
-              let no : is_among rest (get_or rest 0 0) ≡ false = before_first test (i + 1) xs (get_or rest 0 0) (omega (arith, past)) in
-              let yes : is_among rest (get_or rest 0 0) ≡ true = among_at rest 0 h in
-              absurd (cc)
-        ]
-
-    by_test : (b : Bool) → IsStrictlyIncreasing (places_from test (i + 1) xs) → IsStrictlyIncreasing (if b then i ∷ places_from test (i + 1) xs else places_from test (i + 1) xs)
-    by_test true rest = rising_cons i (places_from test (i + 1) xs) after rest
-    by_test false rest = rest
 
 pub reading_numbers : (m : Machine) (j : ℕ) → AreNumbers (state_count m) (reading_rows m j)
 reading_numbers m j = record { rising = places_rise (row_reads j) 0 m.rows; below = rows_known m j }

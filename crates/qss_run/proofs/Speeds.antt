@@ -15,7 +15,6 @@ use Rattle.qss_machine.specs.declared.parts.Condition.{Condition}
 use Rattle.qss_machine.specs.declared.parts.Entry.{Entry}
 use Rattle.qss_machine.specs.declared.parts.Form.{Form}
 use Rattle.qss_machine.specs.declared.parts.Rel.TheVariants.{Less}
-use Rattle.qss_machine.specs.declared.parts.SlopeRow.{SlopeRow}
 use Rattle.qss_machine.specs.declared.system.Machine.{Machine}
 use Rattle.qss_machine.specs.Numbers.{int_at, sum_over}
 use Rattle.qss_machine.specs.Machines.{state_count, row_at, speed_of, compares, truth}
@@ -24,12 +23,11 @@ use Rattle.qss_machine.specs.Uses.{row_reads, condition_reads, places_from, read
 use Rattle.qss_machine.proofs.SumLaws.{weighted_sum-entries}
 use Rattle.qss_cross.specs.Crossing.{Watch, value_at, holds_at}
 use Rattle.qss_sched.specs.Ranks.{due_at}
-use Rattle.qss_quiet.specs.Sims.{condition_at, IsChange}
+use Rattle.qss_quiet.specs.Sims.{condition_at, IsChange, no_watch, no_row}
 use Rattle.qss_run.specs.Places.{watch_at, IsWatched}
 use Rattle.qss_quiet.specs.Among.{AreNumbers}
 use Rattle.qss_run.specs.Speeds.{reads_moved, AreSlopesBefore, HasSpeed, GoesOn, AreGoingOn}
 use Rattle.qss_quiet.proofs.KeptReaders.{rows_kept, conditions_kept, conditions_below}
-use Rattle.qss_run.proofs.Turning.{no_watch}
 
 -- ---- places of elements that pass a test
 
@@ -182,7 +180,6 @@ module _ (m : Machine) (tick : ℕ) (slopes : List ℤ) (moved : List ℕ) (old 
       let Reads : ℕ → Type 0 = λ s. All (HasSpeed m slopes new) (slice_index_or (uses_of m).1 s []) in
       let of_mover : All Reads (slice_index_or (uses_of m).0 j []) = subst (λ i. All Reads (slice_index_or (uses_of m).0 i [])) mover.3 (speeds mover.0 j mover.2) in
       let of_rows : All Reads (reading_rows m j) = subst (All Reads) (rows_kept m (uses_of m) refl j (omega (arith, known))) of_mover in
-      let no_row : SlopeRow = record { entries = []; products = []; beta = pos 0 } in
       let none : Condition = record { form = record { entries = []; time = pos 0; gamma = pos 0 }; rel = Less } in
       let of_state : Reads (0 + state) = of_place Reads (row_reads j) 0 m.rows state no_row of_rows (omega (arith, inside, m.has_rows.one_each)) mover.4 in
       let here : 0 + state ≡ state = omega arith in

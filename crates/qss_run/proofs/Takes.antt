@@ -10,12 +10,13 @@ use Rattle.qss_machine.specs.Handlers.{conditions}
 use Rattle.qss_machine.specs.Ticks.{World}
 use Rattle.qss_sched.specs.Ranks.{due_at}
 use Rattle.qss_quiet.specs.Among.{is_among, AreNumbers}
-use Rattle.qss_run.specs.Moves.{became_true, AreDue, AreChanging, AreLookedAt, IsCalled, IsWithout, IsTakenAfter, IsTakenOut}
+use Rattle.qss_quiet.specs.Sims.{became_true}
+use Rattle.qss_run.specs.Moves.{AreDue, AreChanging, AreLookedAt, IsCalled, IsWithout, IsTakenAfter, IsTakenOut}
 use Rattle.qss_run.specs.declared.store.Store.{Store}
 use Rattle.qss_run.specs.Stores.{world_of, Stands, IsTaken}
-use Rattle.qss_run.proofs.Called.{none_became}
 use Rattle.qss_run.proofs.Visits.{stands_with}
 use Rattle.qss_quiet.proofs.Writes.{index_of}
+use Rattle.qss_quiet.proofs.Risen.{none_became}
 
 -- a place past all numbers is not among them
 pub not_among : (n : ℕ) (moved : List ℕ) (place : ℕ) → AreNumbers n moved → n ≤ place → is_among moved place ≡ false

@@ -1,60 +1,24 @@
 -- A state's line at a new slope.
-use Rattle.std.proofs.Common.{◌≡◌, ◌≢◌, ℕ, ◌+◌, ◌-◌, ◌<◌, Bool, true, false, not, length, get_or, set, List, [], ℤ, pos, ◌+ℤ◌, ◌*ℤ◌, refl, sym, ◌∙◌, ap, subst, arith, below_more}
+use Rattle.std.proofs.Common.{◌≡◌, ◌≢◌, ℕ, ◌+◌, ◌-◌, ◌<◌, Bool, true, length, get_or, set, List, ℤ, pos, ◌+ℤ◌, ◌*ℤ◌, sym, ◌∙◌, ap, subst, arith, below_more}
 use Rattle.std.proofs.Math.IntN.{zero-*ℤ}
 use Rattle.std.proofs.lemmas.Int.{ints}
 use Rattle.std.proofs.lemmas.List.{get_or-set_other, get_or-set_same}
 use Rattle.std.proofs.lemmas.List.FromFn.{length-map-range_with_len, get_or-map-range_with_len}
 use Rattle.std.specs.Bool.{IsTrue}
-use Rattle.std.specs.Prelude.{Option, None, position, ◌||◌, All}
+use Rattle.std.specs.Prelude.{Option, None, position, All}
 use Rattle.mu_num.specs.Sizes.{IsWithin}
 use Rattle.mu_num.specs.Ticks.{FirstAfter}
-use Rattle.mu_num.proofs.SizeTests.{passes-within}
 use Rattle.qss_machine.specs.declared.parts.Condition.{Condition}
-use Rattle.qss_machine.specs.declared.parts.Rel.TheVariants.{Less}
-use Rattle.qss_machine.specs.declared.parts.SlopeRow.{SlopeRow}
 use Rattle.qss_machine.specs.declared.system.Machine.{Machine}
 use Rattle.qss_machine.specs.Numbers.{int_at, tabulate}
-use Rattle.qss_machine.specs.Slopes.{mode_fits, weight_of}
-use Rattle.qss_machine.specs.Machines.{state_count, level_unit, quantum_of, row_at, slope_at, weight_at, value_of, speed_of, compares, truth}
+use Rattle.qss_machine.specs.Machines.{state_count, level_unit, quantum_of, slope_at, value_of, speed_of, compares, truth}
 use Rattle.qss_machine.specs.Ticks.{is_overweight}
-use Rattle.qss_quant.specs.Lines.{Line, state_at, IsNear}
+use Rattle.qss_quant.specs.Lines.{Line, IsNear}
 use Rattle.qss_cross.specs.Crossing.{Watch, value_at, holds_at}
 use Rattle.qss_sched.specs.Ranks.{due_at}
 use Rattle.qss_run.specs.Places.{line_at, IsTurned, IsWatched}
-use Rattle.qss_quiet.specs.Sims.{condition_at}
-use Rattle.qss_quiet.proofs.Ranges.{none_passes}
-use Rattle.qss_quiet.proofs.SlopeSizes.{slope-size}
-
-abbrev pub no_line : Line
-no_line = record { tick = 0; x = pos 0; slope = pos 0; level = pos 0 }
-
-abbrev pub no_watch : Watch
-no_watch = record { rel = Less; tick = 0; value = pos 0; speed = pos 0 }
-
--- a line at its own tick
-pub line_here : (tick : ℕ) (x slope level : ℤ) → state_at (record { tick = tick; x = x; slope = slope; level = level }) tick ≡ x
-line_here tick x slope level =
-    let e : tick - tick ≡ 0 = omega arith in
-    ap (λ (n : ℕ). x +ℤ pos n *ℤ slope) e ∙ omega (arith, ints, zero-*ℤ slope)
-
--- what a light row keeps
-pub record IsLight (m : Machine) (levels discretes : List ℤ) (j : ℕ) : Type 0 where
-  pub modes : mode_fits m.f (state_count m) (row_at m j) discretes ≡ true
-  pub weight : IsWithin 88 (weight_at m j levels discretes)
-  pub slope : IsWithin 88 (slope_at m j levels discretes)
-
-or_false : (a b : Bool) → (not a || b) ≡ false → (a ≡ true) × (b ≡ false)
-or_false true true e = absurd (cc)
-or_false true false e = (refl, refl)
-or_false false b e = absurd (cc)
-
-pub row_is_light : (m : Machine) (levels discretes : List ℤ) → position (is_overweight m levels discretes) m.rows ≡ None → (j : ℕ) → j < state_count m → IsLight m levels discretes j
-row_is_light m levels discretes light j h =
-    let none : SlopeRow = record { entries = []; products = []; beta = pos 0 } in
-    let inside : j < length m.rows = omega (arith, h, m.has_rows.one_each) in
-    let parts = or_false _ _ (none_passes none (is_overweight m levels discretes) m.rows light j inside) in
-    let small : IsWithin 88 (weight_of m.f (row_at m j) levels discretes) = passes-within 88 (weight_of m.f (row_at m j) levels discretes) parts.1 in
-    record { modes = parts.0; weight = small; slope = omega (arith, ints, slope-size m.f (row_at m j) levels discretes, small) }
+use Rattle.qss_quiet.specs.Sims.{condition_at, no_line}
+use Rattle.qss_quiet.proofs.LightRows.{row_is_light}
 
 pub is_true : (b : Bool) → b ≡ true → IsTrue b
 is_true b e = search (e)

@@ -1,12 +1,11 @@
 -- Weights of rows of which those that read an assigned discrete variable were added up anew.
-use Rattle.std.proofs.Common.{◌≡◌, ℕ, ◌<◌, Bool, true, false, not, List, [], ◌++◌, length, ℤ, pos, sym, ◌∙◌, ap, subst, arith, inl, inr}
+use Rattle.std.proofs.Common.{◌≡◌, ℕ, ◌<◌, Bool, true, false, not, List, ◌++◌, length, ℤ, pos, sym, ◌∙◌, ap, subst, arith, inl, inr}
 use Rattle.std.proofs.lemmas.Bool.{cases_Bool, or_parts}
 use Rattle.std.proofs.lemmas.List.Folds.{list_any-append}
 use Rattle.std.proofs.lemmas.List.FromFn.{fill_by_all, length-map-range_with_len}
 use Rattle.std.specs.List.{position}
 use Rattle.std.specs.Prelude.{◌||◌, MatchBool, None, flat_map}
 use Rattle.mu_num.specs.Sizes.{passes}
-use Rattle.qss_machine.specs.declared.parts.SlopeRow.{SlopeRow}
 use Rattle.qss_machine.specs.declared.system.Machine.{Machine}
 use Rattle.qss_machine.specs.Machines.{state_count, discrete_count, row_at, weight_at}
 use Rattle.qss_machine.specs.Numbers.{int_at}
@@ -16,14 +15,14 @@ use Rattle.qss_machine.specs.Uses.{reading_rows}
 use Rattle.qss_run.specs.Handlings.{AreAssigned}
 use Rattle.qss_quiet.specs.Among.{is_among, IsOff}
 use Rattle.qss_run.specs.Overweights.{IsWeighed}
-use Rattle.qss_quiet.specs.Sims.{weights_at}
+use Rattle.qss_quiet.specs.Sims.{weights_at, no_row}
 use Rattle.qss_quiet.specs.Writes.{IsWritten}
 use Rattle.qss_quiet.proofs.Among.{among_readers}
 use Rattle.qss_run.proofs.Assigned.{modes_stay, weight_stays, overweight_stays}
 use Rattle.qss_quiet.proofs.Quiet.{int_at-tabulate}
 use Rattle.qss_quiet.proofs.Ranges.{none_passes}
-use Rattle.qss_run.proofs.Turning.{row_is_light}
 use Rattle.qss_quiet.proofs.Unread.{unread_at, unread_overweight}
+use Rattle.qss_quiet.proofs.LightRows.{row_is_light}
 
 pub by_modes : (b : Bool) (z weight : ℤ) → MatchBool b (z ≡ weight) (passes 88 z ≡ true) → passes 88 z ≡ (not b || passes 88 weight)
 by_modes true z weight e = ap (passes 88) e
@@ -59,7 +58,6 @@ module _ (m : Machine) (moved assigned : List ℕ) (old levels pre d before afte
   -- a row that reads neither a moved state nor an assigned variable is as light as before
   pub others_light : (j : ℕ) → j < state_count m → is_among (flat_map (reading_rows m) moved ++ flat_map (reading_rows m) assigned) j ≡ false → is_overweight m levels d (row_at m j) ≡ false
   others_light j h none =
-      let no_row : SlopeRow = record { entries = []; products = []; beta = pos 0 } in
       let inside : j < length m.rows = omega (arith, h, m.has_rows.one_each) in
       let parts = or_parts (is_among (flat_map (reading_rows m) moved) j) (is_among (flat_map (reading_rows m) assigned) j)
       (sym (list_any-append _ (flat_map (reading_rows m) moved) (flat_map (reading_rows m) assigned)) ∙ none) in

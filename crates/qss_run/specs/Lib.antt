@@ -1,8 +1,6 @@
 pub mod Places
 pub mod Stores
 pub mod Moments
-pub mod Standings
-pub mod Events
 pub mod Calls
 pub mod Moves
 pub mod Speeds

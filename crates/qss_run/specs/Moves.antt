@@ -1,9 +1,9 @@
 -- States that are due at one tick, and what else has to be looked at then.
-use Rattle.std.specs.Prelude.{◌≡◌, ℕ, ◌+◌, ◌<◌, ◌⊎◌, Bool, true, false, not, ◌&&◌, List, length, Option, Some, None}
-use Rattle.qss_machine.specs.Firing.{flag_at}
+use Rattle.std.specs.Prelude.{◌≡◌, ℕ, ◌+◌, ◌<◌, ◌⊎◌, Bool, true, false, List, length, Option, Some, None}
 use Rattle.qss_machine.specs.Ticks.{World}
 use Rattle.qss_sched.specs.Ranks.{due_at}
 use Rattle.qss_quiet.specs.Among.{is_among, AreNumbers}
+use Rattle.qss_quiet.specs.Sims.{became_true}
 
 -- the states, of n, that are due at a tick, rising
 pub record AreDue (n tick : ℕ) (due : List (Option ℕ)) (moved : List ℕ) : Type 0 where
@@ -27,10 +27,6 @@ pub record AreChanging (n conditions tick : ℕ) (due : List (Option ℕ)) (chan
   pub numbers : AreNumbers conditions changed
   pub own : (place : ℕ) → is_among changed place ≡ true → due_at due (n + place) ≡ Some tick
   pub all : (place : ℕ) → place < conditions → due_at due (n + place) ≡ Some tick → is_among changed place ≡ true
-
--- whether the condition at a place became true through the handlers
-abbrev pub became_true : List Bool → List Bool → ℕ → Bool
-became_true arrived settled place = flag_at settled place && not (flag_at arrived place)
 
 -- the conditions, of `conditions`, to be looked at at a tick, rising: those that change there, and those that became true through the handlers before
 pub record AreLookedAt (n conditions tick : ℕ) (due : List (Option ℕ)) (w : World) (changed : List ℕ) : Type 0 where

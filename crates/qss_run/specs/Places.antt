@@ -1,6 +1,5 @@
 -- The lines of states and the watches of conditions, by number, and the branches of conditions.
-use Rattle.std.specs.Prelude.{◌≡◌, ℕ, ◌+◌, ◌<◌, ◌≤◌, List, length, ℤ, pos, Option, slice_index_or}
-use Rattle.qss_machine.specs.declared.parts.Rel.TheVariants.{Less}
+use Rattle.std.specs.Prelude.{◌≡◌, ℕ, ◌+◌, ◌<◌, ◌≤◌, List, length, ℤ, Option, slice_index_or}
 use Rattle.qss_machine.specs.declared.system.Machine.{Machine}
 use Rattle.qss_machine.specs.Machines.{state_count, value_of, speed_of, truth}
 use Rattle.qss_machine.specs.Firing.{first_place}
@@ -11,15 +10,15 @@ use Rattle.qss_cross.specs.Crossing.{Watch, value_at}
 use Rattle.qss_sched.specs.Ranks.{due_at}
 use Rattle.qss_run.specs.declared.conditions.BranchPlace.{BranchPlace}
 use Rattle.qss_run.specs.declared.conditions.Conditions.{Conditions}
-use Rattle.qss_quiet.specs.Sims.{condition_at, IsDue, IsChange}
+use Rattle.qss_quiet.specs.Sims.{condition_at, IsDue, IsChange, no_line, no_watch}
 
 -- the line of a state
 abbrev pub line_at : List Line → ℕ → Line
-line_at lines j = slice_index_or lines j (record { tick = 0; x = pos 0; slope = pos 0; level = pos 0 })
+line_at lines j = slice_index_or lines j no_line
 
 -- the watch of a condition
 abbrev pub watch_at : List Watch → ℕ → Watch
-watch_at watches place = slice_index_or watches place (record { rel = Less; tick = 0; value = pos 0; speed = pos 0 })
+watch_at watches place = slice_index_or watches place no_watch
 
 -- a branch of a clause whose condition is the one at a place in source order
 pub record IsBranchOf (m : Machine) (branch : BranchPlace) (place : ℕ) : Type 0 where

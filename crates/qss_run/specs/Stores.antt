@@ -11,7 +11,7 @@ use Rattle.qss_machine.specs.Uses.{uses_of}
 use Rattle.qss_quant.specs.Lines.{Line, state_at}
 use Rattle.qss_hand.specs.Works.{row_room}
 use Rattle.qss_sched.specs.Ranks.{due_at, HasNone}
-use Rattle.qss_run.specs.declared.outcome.Outcome.{Outcome}
+use Rattle.qss_quiet.specs.declared.outcome.Outcome.{Outcome}
 use Rattle.qss_run.specs.declared.store.Store.{Store}
 use Rattle.qss_run.specs.Places.{line_at, watch_at, AreConditionsOf}
 use Rattle.qss_run.specs.Kept.{AreWeights}

@@ -6,10 +6,10 @@ use Rattle.qss_machine.specs.Counts.{is_touched, touches_after}
 use Rattle.qss_machine.specs.Machines.{state_count}
 use Rattle.qss_machine.specs.Runs.{run_from}
 use Rattle.qss_machine.specs.Ticks.{World}
-use Rattle.qss_run.specs.declared.outcome.Outcome.{Outcome}
-use Rattle.qss_run.specs.declared.outcome.Outcome.TheVariants.{Events, Done, Over}
+use Rattle.qss_quiet.specs.declared.outcome.Outcome.{Outcome}
+use Rattle.qss_quiet.specs.declared.outcome.Outcome.TheVariants.{Events, Done, Over}
 use Rattle.qss_quiet.specs.Silent.{AreSilent, IsVisit}
-use Rattle.qss_run.specs.Standings.{Standing}
+use Rattle.qss_quiet.specs.Standings.{Standing}
 
 -- how many states a tick touches that has this result; at an overflow all are
 abbrev pub touches_at : Machine → ℕ → World → Result World ℕ → ℕ

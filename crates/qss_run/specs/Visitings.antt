@@ -16,7 +16,7 @@ use Rattle.qss_sched.specs.Ranks.{due_at}
 use Rattle.qss_hand.specs.Values.{Values}
 use Rattle.qss_hand.specs.Works.{AreValuesOf}
 use Rattle.qss_quiet.specs.Among.{is_among, AreNumbers}
-use Rattle.qss_quiet.specs.Sims.{condition_at, IsDue}
+use Rattle.qss_quiet.specs.Sims.{condition_at, became_true, IsDue}
 use Rattle.qss_run.specs.declared.shifts.RowSum.{RowSum}
 use Rattle.qss_run.specs.declared.shifts.RowSum.TheVariants.{Slope}
 use Rattle.qss_run.specs.declared.conditions.Conditions.{Conditions}
@@ -31,7 +31,7 @@ use Rattle.qss_run.specs.declared.weights.Weights.{Weights}
 use Rattle.qss_run.specs.Handlings.{AreDiscretes, AreAssigned, is_reinitialized, states_with}
 use Rattle.qss_run.specs.Kept.{AreWeights, AreWeightsBefore}
 use Rattle.qss_run.specs.Moments.{AreSlopesOf, AreWithin}
-use Rattle.qss_run.specs.Moves.{IsTakenFrom, became_true}
+use Rattle.qss_run.specs.Moves.{IsTakenFrom}
 use Rattle.qss_run.specs.Places.{AreConditionsOf, line_at, watch_at, IsWatched}
 use Rattle.qss_run.specs.RowSums.{sum_at, AreSumsBefore}
 use Rattle.qss_run.specs.Stores.{states_at, FitsMachine}

@@ -5,17 +5,18 @@ ghost use Rattle.qss_quiet.specs.Rules.{IsRuled};
 ghost use Rattle.qss_machine.specs.declared.rows.RowKind.TheVariants as kind;
 ghost use Rattle.qss_machine.specs.Runs.{world_rows};
 ghost use Rattle.qss_run.specs.Stores.{world_of, Stands};
-ghost use Rattle.qss_run.specs.Events.{IsNext};
-ghost use Rattle.qss_run.specs.Calls.{standing_of, tick_of, end_of};
+ghost use Rattle.qss_quiet.specs.Events.{IsNext};
+ghost use Rattle.qss_quiet.specs.Outcomes.{tick_of, end_of};
+ghost use Rattle.qss_run.specs.Calls.{standing_of};
 ghost use Rattle.qss_run.specs.Touches.{MovesTouched};
 
-use crate::ends::{set_overflow_row, set_world_rows};
+use crate::ends::set_world_rows;
 use crate::jump::go_to_visit;
-use crate::outcome::Outcome;
 use crate::states::arrive_in;
 use crate::store::Store;
 use qss_machine::{Machine, RowKind};
 use qss_quant::{Quantizer, Steps};
+use qss_quiet::{Outcome, set_overflow_row};
 use std::sync::ledger::Ledger;
 
 /// Goes on to the next tick with rows, to an overflow, or to the last tick.

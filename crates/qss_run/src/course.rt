@@ -3,11 +3,11 @@
 ghost use Rattle.std.specs.Prelude.{◌≡◌};
 
 use crate::advance::advance;
-use crate::outcome::Outcome;
 use crate::start::start_store;
 use crate::store::Store;
 use qss_machine::{Machine, Row};
 use qss_quant::{Quantizer, Steps};
+use qss_quiet::Outcome;
 use std::alloc::{AllocError, Global};
 use std::marker::Model;
 use std::sync::ledger::Ledger;
@@ -22,7 +22,7 @@ pub struct Course {
 }
 
 impl Model for Course {
-    ghost use Rattle.qss_run.specs.Standings.{Standing};
+    ghost use Rattle.qss_quiet.specs.Standings.{Standing};
 
     ghost Value = { Standing };
 
@@ -41,9 +41,9 @@ impl Course {
     ghost use Rattle.qss_machine.specs.Runs.{world_rows};
     ghost use Rattle.qss_quant.specs.declared.rule.Rule.{Rule};
     ghost use Rattle.qss_quant.specs.Rules.{level_by};
-    ghost use Rattle.qss_run.specs.declared.outcome.Outcome.{Outcome};
+    ghost use Rattle.qss_quiet.specs.declared.outcome.Outcome.{Outcome};
     ghost use Rattle.qss_quiet.specs.Rules.{IsRuled};
-    ghost use Rattle.qss_run.specs.Events.{IsNext, rows_left};
+    ghost use Rattle.qss_quiet.specs.Events.{IsNext, rows_left};
     ghost use Rattle.qss_run.specs.Touches.{MovesTouched, touches_left};
 
     /// A machine at tick 0, with the start rows. It takes all the memory that it ever needs.

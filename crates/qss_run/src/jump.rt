@@ -16,6 +16,7 @@ use crate::store::Store;
 use crate::visit::visit;
 use qss_machine::Machine;
 use qss_quant::{Quantizer, Steps};
+use qss_quiet::Visited;
 use std::sync::ledger::Ledger;
 
 // Goes to just before the next tick at which something happens, or just before the last one.
@@ -37,13 +38,6 @@ fn jump(m: &Machine, tick: u64, s: &mut Store) -> u64
         &mut s.calm,
     );
     next - 1
-}
-
-/// A tick that was gone to, and the variable that overflowed there, if one did.
-#[derive(Clone, Copy)]
-pub(crate) struct Visited {
-    pub tick: u64,
-    pub over: Option<u32>,
 }
 
 /// Goes on by ticks at which nothing happens, and by one more.

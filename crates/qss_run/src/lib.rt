@@ -16,7 +16,6 @@ mod jump;
 mod levels;
 mod logged;
 mod moment;
-mod outcome;
 mod readers;
 mod reading;
 mod relevel;
@@ -40,5 +39,5 @@ mod weighing;
 mod weights;
 
 pub use course::Course;
-pub use outcome::Outcome;
+pub use qss_quiet::Outcome;
 pub use sim::Sim;

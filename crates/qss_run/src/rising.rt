@@ -4,21 +4,11 @@ ghost use Rattle.std.specs.Prelude.{◌≡◌, ℕ, ◌+◌, ◌<◌, ◌^◌, l
 ghost use Rattle.std.specs.List.{list_any};
 ghost use Rattle.qss_machine.specs.Handlers.{due_flags};
 ghost use Rattle.qss_sched.specs.Ranks.{due_at};
-ghost use Rattle.qss_run.specs.Moves.{became_true, IsCalled};
+ghost use Rattle.qss_quiet.specs.Sims.{became_true};
+ghost use Rattle.qss_run.specs.Moves.{IsCalled};
 
+use qss_quiet::has_risen;
 use qss_sched::Agenda;
-
-// Whether a condition became true through the handlers.
-fn rises(arrived: &[bool], settled: &[bool]) -> bool
-    requires arrived { length arrived.now ≡ length settled.now }
-    ensures { result ≡ list_any (λ flag. flag) (due_flags settled.now arrived.now settled.now) }
-{
-    let mut risen = false;
-    for place in 0..settled.len() {
-        risen |= settled[place] & !arrived[place];
-    }
-    risen
-}
 
 /// Whether a condition became true through the handlers. Then this place of the agenda has the next tick, and else none.
 pub(crate) fn rise(
@@ -36,7 +26,7 @@ pub(crate) fn rise(
     ensures as_many { length agenda.new ≡ length agenda.old }
     ensures others { (other : ℕ) → (other ≡ place → ⊥) → due_at agenda.new other ≡ due_at agenda.old other }
 {
-    let risen = rises(arrived, settled);
+    let risen = has_risen(arrived, settled);
     agenda.set(place, if risen { Some(tick + 1) } else { None });
     risen
 }

@@ -3,9 +3,9 @@
 ghost use Rattle.std.specs.Prelude.{◌≡◌};
 
 use crate::course::Course;
-use crate::outcome::Outcome;
 use qss_machine::{Machine, Row};
 use qss_quant::{Quantizer, Steps};
+use qss_quiet::Outcome;
 use std::alloc::{AllocError, Global};
 use std::sync::ledger::Ledger;
 
@@ -23,9 +23,9 @@ impl Sim {
     ghost use Rattle.qss_machine.specs.Runs.{world_rows};
     ghost use Rattle.qss_quant.specs.declared.rule.Rule.{Rule};
     ghost use Rattle.qss_quant.specs.Rules.{level_by};
-    ghost use Rattle.qss_run.specs.declared.outcome.Outcome.{Outcome};
+    ghost use Rattle.qss_quiet.specs.declared.outcome.Outcome.{Outcome};
     ghost use Rattle.qss_quiet.specs.Rules.{IsRuled};
-    ghost use Rattle.qss_run.specs.Events.{IsNext, rows_left};
+    ghost use Rattle.qss_quiet.specs.Events.{IsNext, rows_left};
     ghost use Rattle.qss_run.specs.Touches.{MovesTouched, touches_left};
 
     /// A simulator at tick 0, with the start rows. It takes all the memory that it ever needs.

@@ -1,6 +1,6 @@
 //! A store at tick 0.
 
-ghost use Rattle.std.specs.Prelude.{◌≡◌, ℕ, ◌+◌, ◌<◌, ◌≤◌, ◌++◌, List, All, IfOk, None, false, pos, ◌<ℤ◌, length, map, position, replicate, vec_capacity};
+ghost use Rattle.std.specs.Prelude.{◌≡◌, ℕ, ◌+◌, ◌<◌, ◌≤◌, ◌++◌, List, All, IfOk, None, false, pos, length, map, position, replicate, vec_capacity};
 ghost use Rattle.mu_num.specs.Sizes.{IsWithin};
 ghost use Rattle.qss_machine.specs.declared.parts.Rel.TheVariants.{Less};
 ghost use Rattle.qss_machine.specs.declared.rows.RowKind.TheVariants as kind;
@@ -22,11 +22,11 @@ use crate::ends::set_world_rows;
 use crate::moment::Point;
 use crate::store::Store;
 use crate::weights::Weights;
-use mu_num::floor_div;
 use qss_cross::Detector;
 use qss_hand::Work;
 use qss_machine::{Machine, Rel, Row, RowKind, Uses};
 use qss_quant::Integrator;
+use qss_quiet::start_levels;
 use qss_sched::Agenda;
 use std::alloc::{AllocError, Global};
 
@@ -55,28 +55,6 @@ fn branch_places(alloc: Global, m: &Machine) -> Result<Vec<BranchPlace>, AllocEr
         add_branches(&mut found, clause as u32, count)?;
     }
     Ok(found)
-}
-
-// The greatest level at most a state.
-fn start_level(x0: i128, unit: i128) -> i64
-    requires unit { pos 0 <ℤ unit }
-    requires small { IsWithin 43 (level_below unit x0) }
-    ensures { result ≡ level_below unit x0 }
-{
-    floor_div(x0, unit) as i64
-}
-
-// The levels at the start.
-fn start_levels(alloc: Global, m: &Machine) -> Result<Vec<i64>, AllocError>
-    ensures { IfOk result (λ levels. levels.items ≡ map (level_below (level_unit m.now)) (start_states m.now)) }
-{
-    let unit = m.level_unit();
-    let states = m.states.as_slice();
-    let mut levels: Vec<i64> = Vec::with_capacity(alloc, states.len())?;
-    for j in 0..states.len() {
-        levels.push_reserved(start_level(states[j].x0, unit));
-    }
-    Ok(levels)
 }
 
 // The levels once more.

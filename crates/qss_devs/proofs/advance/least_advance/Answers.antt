@@ -3,8 +3,8 @@ use Rattle.std.proofs.Common.{◌≡◌, ℕ, ◌+◌, ◌<◌, ◌≤◌, ◌++
 use Rattle.std.proofs.lemmas.List.{get_or_append_left, get_or_at, length-append, length-take-le, take_all, take_more}
 use Rattle.std.proofs.lemmas.List.Elements.{All-push}
 use Rattle.std.specs.Prelude.{Option, Some, None, slice_index_or}
-use Rattle.qss_devs.specs.Starts.{EachAt}
-use Rattle.qss_devs.proofs.Begun.{each_more}
+use Rattle.qss_devs.specs.Places.{EachAt}
+use Rattle.qss_devs.proofs.Places.{each_more}
 use Rattle.qss_devs.proofs.advance.least_advance.Goals as goal
 
 pub loop-place-init : goal.loop-place-init

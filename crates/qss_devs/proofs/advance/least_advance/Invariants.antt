@@ -1,6 +1,6 @@
 use Rattle.std.proofs.Common.{◌≡◌, ℕ, ◌<◌, ◌≤◌, List, All, length, take}
 use Rattle.std.specs.Prelude.{Option, Some, None, slice_index_or}
-use Rattle.qss_devs.specs.Starts.{EachAt}
+use Rattle.qss_devs.specs.Places.{EachAt}
 use Rattle.qss_devs.proofs.advance.least_advance.Given as goal
 
 -- the least of the models so far, with the ticks of their next transitions

@@ -7,7 +7,7 @@ use Rattle.mu_num.specs.Ticks.{FirstAfter}
 use Rattle.mu_num.proofs.Tests.{int_lt-true}
 use Rattle.qss_machine.specs.Ticks.{is_near}
 use Rattle.qss_quant.specs.Lines.{Line, IsLine}
-use Rattle.qss_devs.specs.Integrators.{LeavesAt}
+use Rattle.qss_quiet.specs.Sims.{LeavesAt}
 use Rattle.qss_devs.proofs.Leaving.{next_one}
 use Rattle.qss_devs.proofs.integrator_model.next_of.Goals as goal
 use mir.Syntax.{w64, w128}

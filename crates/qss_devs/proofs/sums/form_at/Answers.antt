@@ -5,12 +5,16 @@ use Rattle.std.specs.Prelude.{sum_by}
 use Rattle.qss_machine.specs.Numbers.{sum_over}
 use Rattle.qss_devs.specs.declared.input.Input.{Input}
 use Rattle.qss_devs.specs.Crossings.{input_at}
+use Rattle.qss_devs.proofs.Inputs.{entry_sizes}
 use Rattle.qss_devs.proofs.sums.form_at.Goals as goal
 use mir.Syntax.{w64, w128}
 
+pub value_sum-own-requires-clause-coefficients : goal.value_sum-own-requires-clause-coefficients
+value_sum-own-requires-clause-coefficients c = omega (arith, entry_sizes c.args.inputs.now, c.requires.parts.coefficients)
+
 pub add_three-requires : goal.add_three-requires
 add_three-requires c =
-    let coefficients : sum_by (λ (i : Input). unsigned_abs i.coef) c.args.inputs.now + unsigned_abs c.args.time ≤ 2 ^ 38 = c.requires.parts.coefficients in
+    let coefficients : sum_by (λ (i : Input). unsigned_abs i.coef) c.args.inputs.now + unsigned_abs c.args.time ≤ 2 ^ 38 = omega (arith, entry_sizes c.args.inputs.now, c.requires.parts.coefficients) in
     let own : FitsSigned w128 c.value_sum-own.result = record { sfits = c.value_sum-own.type_inv } in
     let time : FitsSigned w128 c.time_part-moved.result = record { sfits = c.time_part-moved.type_inv } in
     let constant : FitsSigned w128 c.constant_part-fixed.result = record { sfits = c.constant_part-fixed.type_inv } in
@@ -22,7 +26,7 @@ add_three-requires c =
 
 pub returns-clause-value : goal.returns-clause-value
 returns-clause-value c =
-    let coefficients : sum_by (λ (i : Input). unsigned_abs i.coef) c.args.inputs.now + unsigned_abs c.args.time ≤ 2 ^ 38 = c.requires.parts.coefficients in
+    let coefficients : sum_by (λ (i : Input). unsigned_abs i.coef) c.args.inputs.now + unsigned_abs c.args.time ≤ 2 ^ 38 = omega (arith, entry_sizes c.args.inputs.now, c.requires.parts.coefficients) in
     let own : FitsSigned w128 c.value_sum-own.result = record { sfits = c.value_sum-own.type_inv } in
     let time : FitsSigned w128 c.time_part-moved.result = record { sfits = c.time_part-moved.type_inv } in
     let constant : FitsSigned w128 c.constant_part-fixed.result = record { sfits = c.constant_part-fixed.type_inv } in
@@ -37,7 +41,7 @@ returns-clause-value c =
 
 pub returns-clause-bound : goal.returns-clause-bound
 returns-clause-bound c =
-    let coefficients : sum_by (λ (i : Input). unsigned_abs i.coef) c.args.inputs.now + unsigned_abs c.args.time ≤ 2 ^ 38 = c.requires.parts.coefficients in
+    let coefficients : sum_by (λ (i : Input). unsigned_abs i.coef) c.args.inputs.now + unsigned_abs c.args.time ≤ 2 ^ 38 = omega (arith, entry_sizes c.args.inputs.now, c.requires.parts.coefficients) in
     let own : FitsSigned w128 c.value_sum-own.result = record { sfits = c.value_sum-own.type_inv } in
     let time : FitsSigned w128 c.time_part-moved.result = record { sfits = c.time_part-moved.type_inv } in
     let constant : FitsSigned w128 c.constant_part-fixed.result = record { sfits = c.constant_part-fixed.type_inv } in

@@ -5,12 +5,16 @@ use Rattle.std.specs.Int.RustNames.{unsigned_abs, FitsSigned}
 use Rattle.std.specs.Prelude.{sum_by}
 use Rattle.qss_machine.specs.Numbers.{sum_over}
 use Rattle.qss_devs.specs.declared.input.Input.{Input}
+use Rattle.qss_devs.proofs.Inputs.{entry_sizes}
 use Rattle.qss_devs.proofs.sums.speed_by.Goals as goal
 use mir.Syntax.{w64, w128}
 
+pub speed_sum-own-requires-clause-coefficients : goal.speed_sum-own-requires-clause-coefficients
+speed_sum-own-requires-clause-coefficients c = omega (arith, entry_sizes c.args.inputs.now, c.requires.parts)
+
 pub add_three-requires : goal.add_three-requires
 add_three-requires c =
-    let coefficients : sum_by (λ (i : Input). unsigned_abs i.coef) c.args.inputs.now + unsigned_abs c.args.time ≤ 2 ^ 38 = c.requires.parts in
+    let coefficients : sum_by (λ (i : Input). unsigned_abs i.coef) c.args.inputs.now + unsigned_abs c.args.time ≤ 2 ^ 38 = omega (arith, entry_sizes c.args.inputs.now, c.requires.parts) in
     let own : FitsSigned w128 c.speed_sum-own.result = record { sfits = c.speed_sum-own.type_inv } in
     let time : FitsSigned w128 c.time_part-moved.result = record { sfits = c.time_part-moved.type_inv } in
     let own_bound = c.speed_sum-own.ensures.bound in
@@ -20,7 +24,7 @@ add_three-requires c =
 
 pub returns-clause-value : goal.returns-clause-value
 returns-clause-value c =
-    let coefficients : sum_by (λ (i : Input). unsigned_abs i.coef) c.args.inputs.now + unsigned_abs c.args.time ≤ 2 ^ 38 = c.requires.parts in
+    let coefficients : sum_by (λ (i : Input). unsigned_abs i.coef) c.args.inputs.now + unsigned_abs c.args.time ≤ 2 ^ 38 = omega (arith, entry_sizes c.args.inputs.now, c.requires.parts) in
     let own : FitsSigned w128 c.speed_sum-own.result = record { sfits = c.speed_sum-own.type_inv } in
     let time : FitsSigned w128 c.time_part-moved.result = record { sfits = c.time_part-moved.type_inv } in
     let sum_fits : FitsSigned w128 c.add_three.result = record { sfits = c.add_three.type_inv } in
@@ -34,7 +38,7 @@ returns-clause-value c =
 
 pub returns-clause-bound : goal.returns-clause-bound
 returns-clause-bound c =
-    let coefficients : sum_by (λ (i : Input). unsigned_abs i.coef) c.args.inputs.now + unsigned_abs c.args.time ≤ 2 ^ 38 = c.requires.parts in
+    let coefficients : sum_by (λ (i : Input). unsigned_abs i.coef) c.args.inputs.now + unsigned_abs c.args.time ≤ 2 ^ 38 = omega (arith, entry_sizes c.args.inputs.now, c.requires.parts) in
     let own : FitsSigned w128 c.speed_sum-own.result = record { sfits = c.speed_sum-own.type_inv } in
     let time : FitsSigned w128 c.time_part-moved.result = record { sfits = c.time_part-moved.type_inv } in
     let own_bound = c.speed_sum-own.ensures.bound in

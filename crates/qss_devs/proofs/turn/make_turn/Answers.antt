@@ -3,7 +3,7 @@ use Rattle.std.proofs.Common.{◌≡◌, ℕ, true, false, refl, sym, ◌∙◌,
 use Rattle.std.specs.Prelude.{Option, Some, IsSome, IfSome}
 use Rattle.qss_devs.specs.declared.message.Message.{Message}
 use Rattle.qss_devs.specs.Messages.{HasSmallLevel, passes_limit}
-use Rattle.qss_devs.proofs.Turned.{level_small}
+use Rattle.qss_devs.proofs.Passing.{level_small}
 use Rattle.qss_devs.proofs.turn.make_turn.Goals as goal
 
 pub returns-then-not-is_due : goal.returns-then-not-is_due

@@ -1,10 +1,8 @@
 use Rattle.std.proofs.Common.{◌≡◌, ◌∙◌, ap}
-use Rattle.qss_devs.specs.Calls.{standing_of}
-use Rattle.qss_devs.specs.Standings.{Standing as Place}
 use Rattle.qss_quant.specs.declared.quantizer.Quantizer.{Quantizer}
 use Rattle.qss_quant.specs.declared.rule.Rule.TheVariants.{Floor}
-use Rattle.qss_run.specs.Standings.{Standing}
-use Rattle.qss_play.specs.CoupledAhead.{standing_as}
+use Rattle.qss_quiet.specs.Standings.{Standing}
+use Rattle.qss_coupled.specs.Calls.{standing_of}
 use Rattle.qss_play.proofs.FromStart.{course_known}
 use Rattle.qss_play.proofs.RuledRuns.{plays, plays_nothing}
 use Rattle.qss_play.proofs.coupled_playing.play_coupled.Goals as goal
@@ -15,22 +13,22 @@ new-requires g c = (Floor, c.new-quantizer.ensures.name)
 pub invariant_of-run : goal.invariant_of-run
 invariant_of-run g c =
     let model = c.in-Ok.model in
-    let course : Standing = standing_as (standing_of model.machine.value model.tick model.store model.end) in
+    let course : Standing = standing_of model.machine.value model.tick model.store model.end in
     let same : model.quantizer.value.name ≡ c.new-quantizer.result.name = ap (λ (q : Quantizer _ _). q.name) c.in-Ok.ensures.rule in
     record {
       named = same ∙ c.new-quantizer.ensures.name;
-      known = course_known Floor c.args.m course (ap (λ (s : Place). standing_as s) c.in-Ok.ensures.start);
+      known = course_known Floor c.args.m course c.in-Ok.ensures.start;
     }
 
 pub write_simulation-requires : goal.write_simulation-requires
-write_simulation-requires g c = ap (λ (s : Place). s.end) c.in-Ok.ensures.start
+write_simulation-requires g c = ap (λ (s : Standing). s.end) c.in-Ok.ensures.start
 
 pub returns-in-Ok : goal.returns-in-Ok
 returns-in-Ok g c =
     let model = c.in-Ok.model in
-    let course : Standing = standing_as (standing_of model.machine.value model.tick model.store model.end) in
+    let course : Standing = standing_of model.machine.value model.tick model.store model.end in
     let played = plays (λ k. g.O.Sink.written k) (λ k. g.O.Sink.faults k) (λ k. g.O.Sink.failed k) Floor c.args.m course c.new-filter.result c.args.only c.write_simulation.result c.args.out.now c.write_simulation.new.out
-    (ap (λ (s : Place). standing_as s) c.in-Ok.ensures.start) c.new-filter.ensures c.write_simulation.ensures in
+    c.in-Ok.ensures.start c.new-filter.ensures c.write_simulation.ensures in
     record { end = played.end; whole = played.whole; prefix = played.prefix; short = played.short; calm = played.calm; last = played.last }
 
 pub returns-in-Err : goal.returns-in-Err

@@ -1,6 +1,6 @@
 use Rattle.std.proofs.Common.{◌≡◌, ◌≤◌, ◌^◌, ◌∙◌, refl, rules}
 use Rattle.qss_quant.specs.declared.rule.Rule.TheVariants.{Floor}
-use Rattle.qss_run.specs.declared.outcome.Outcome.TheVariants.{Events, Done, Over}
+use Rattle.qss_quiet.specs.declared.outcome.Outcome.TheVariants.{Events, Done, Over}
 use Rattle.qss_play.specs.Tallies.{level_count}
 use Rattle.qss_play.proofs.Counting.{counts_on, counts_end}
 use Rattle.qss_play.proofs.RunEnds.{call_of, done_left, done_end, over_left, over_end}

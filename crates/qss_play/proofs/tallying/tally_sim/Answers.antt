@@ -3,8 +3,8 @@ use Rattle.std.proofs.lemmas.Int.{to_z-of_z}
 use Rattle.std.specs.Int.RustNames.{FitsSigned}
 use Rattle.qss_machine.specs.Machines.{state_count, discrete_count}
 use Rattle.qss_machine.specs.declared.system.Machine.{Machine}
-use Rattle.qss_run.specs.Standings.{Standing}
-use Rattle.qss_run.specs.declared.outcome.Outcome.{Outcome}
+use Rattle.qss_quiet.specs.Standings.{Standing}
+use Rattle.qss_quiet.specs.declared.outcome.Outcome.{Outcome}
 use Rattle.qss_play.specs.Tallies.{IsCountFrom, end_sum}
 use Rattle.qss_play.proofs.Counting.{tally_ended, over_own}
 use Rattle.qss_play.proofs.tallying.tally_sim.Goals as goal

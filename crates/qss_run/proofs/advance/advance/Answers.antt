@@ -1,9 +1,5 @@
 -- Visits without rows are silent; the first with rows is the next event.
-use Rattle.std.proofs.Common.{◌≡◌, ◌≢◌, ◌+◌, ◌≤◌, ◌++◌, ◌∷◌, [], List, true, false, length, refl, sym, ◌∙◌, ap, subst, arith}
-use Rattle.std.proofs.Common.{Vec, Global}
-use Rattle.std.specs.Prelude.{vec_len, ◌==◌}
-use Rattle.mu_num.proofs.Tests.{eqb-true, eqb-false}
-use Rattle.qss_machine.specs.declared.rows.Row.{Row}
+use Rattle.std.proofs.Common.{◌≡◌, ◌+◌, ◌≤◌, ◌++◌, ◌∷◌, [], true, false, refl, sym, ◌∙◌, subst, arith}
 use Rattle.qss_machine.specs.Ticks.{Step, world_unless}
 use Rattle.qss_machine.specs.Runs.{last_world}
 use Rattle.qss_quiet.specs.Rules.{IsRuled}
@@ -11,20 +7,9 @@ use Rattle.qss_run.specs.Stores.{world_of, Stands}
 use Rattle.qss_quiet.specs.Silent.{AreSilent, IsVisit}
 use Rattle.qss_run.specs.Touches.{touches_at}
 use Rattle.qss_quiet.proofs.Goings.{visit_on, rows_on, silent_visit}
+use Rattle.qss_quiet.proofs.SomeRows.{some_rows, no_rows}
 use Rattle.qss_run.proofs.Spans.{touches_on, touches_end}
 use Rattle.qss_run.proofs.advance.advance.Goals as goal
-
-some_rows : (v : Vec Row Global) → (vec_len v == 0) ≡ false → v.items ≢ []
-some_rows v e none =
-    let zero : v.len ≡ 0 = v.ok.0 ∙ ap length none in
-    eqb-false v.len 0 e zero
-
-empty_list : {X : Type 0} (xs : List X) → length xs ≡ 0 → xs ≡ []
-empty_list [] e = refl
-empty_list (x ∷ xs) e = absurd (omega (arith, e))
-
-no_rows : (v : Vec Row Global) → (vec_len v == 0) ≡ true → v.items ≡ []
-no_rows v e = empty_list v.items (sym v.ok.0 ∙ eqb-true v.len 0 e)
 
 pub loop-tick-init : goal.loop-tick-init
 loop-tick-init g c = record {

@@ -9,8 +9,8 @@ use Rattle.qss_run.specs.declared.store.Store.{Store}
 use Rattle.qss_quiet.specs.Rules.{IsRuled}
 use Rattle.qss_run.specs.Stores.{world_of, Stands}
 use Rattle.qss_quiet.specs.Silent.{AreSilent}
-use Rattle.qss_run.proofs.Jumps.{next_later, arrived_then, arrived_if, with_arrived, world_then, stands_then, silent_then}
-use Rattle.qss_quiet.proofs.Silences.{quiet_worlds}
+use Rattle.qss_run.proofs.Jumps.{next_later, with_arrived, world_then, stands_then, silent_then}
+use Rattle.qss_quiet.proofs.Silences.{quiet_worlds, arrived_then, arrived_if}
 use Rattle.qss_run.proofs.jump.jump.Goals as goal
 
 pub overflow_sub-result : goal.overflow_sub-result

@@ -3,9 +3,10 @@ use Rattle.std.proofs.Common.{◌++◌, sym, ◌∙◌, ap, subst}
 use Rattle.qss_machine.specs.Numbers.{first_past}
 use Rattle.qss_machine.specs.Runs.{level_rows}
 use Rattle.qss_quiet.specs.Among.{AreNumbers}
+use Rattle.qss_quiet.proofs.Overs.{not_some, clash}
 use Rattle.qss_run.specs.Stores.{states_at}
 use Rattle.qss_run.proofs.DueLevels.{arrived_at}
-use Rattle.qss_run.proofs.Handled.{not_some, clash, over_first, over_second}
+use Rattle.qss_run.proofs.Handled.{over_first, over_second}
 use Rattle.qss_run.proofs.relevel.requantize_due.Goals as goal
 
 pub returns-then-is_some-clause-over : goal.returns-then-is_some-clause-over

@@ -6,9 +6,9 @@ use Rattle.qss_machine.specs.Numbers.{first_past}
 use Rattle.qss_machine.specs.Runs.{level_rows}
 use Rattle.qss_quiet.specs.Among.{IsOff}
 use Rattle.qss_quiet.specs.Rules.{IsRuled}
+use Rattle.qss_quiet.proofs.Overs.{all_within, not_some, clash}
 use Rattle.qss_run.proofs.Dues.{few_numbers}
 use Rattle.qss_run.proofs.DueLevels.{levels_over, levels_allowed, rows_of_moved, levels_taken, written_off}
-use Rattle.qss_run.proofs.Handled.{all_within, not_some, clash}
 use Rattle.qss_run.proofs.relevel.requantize_states.Goals as goal
 
 pub returns-then-is_some : goal.returns-then-is_some

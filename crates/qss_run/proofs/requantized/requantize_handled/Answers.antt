@@ -7,8 +7,8 @@ use Rattle.qss_hand.specs.Values.{Values}
 use Rattle.qss_machine.specs.Ticks.{is_overweight}
 use Rattle.qss_run.specs.Handlings.{AreAssigned}
 use Rattle.qss_quiet.specs.Among.{IsOff}
+use Rattle.qss_quiet.proofs.Overs.{not_some}
 use Rattle.qss_run.specs.Kept.{AreWeights}
-use Rattle.qss_run.proofs.Handled.{not_some}
 use Rattle.qss_run.proofs.requantized.requantize_handled.Goals as goal
 
 pub follow_handled-requires-clause-left : goal.follow_handled-requires-clause-left

@@ -7,9 +7,9 @@ use Rattle.qss_quant.specs.Lines.{Line}
 use Rattle.qss_sched.specs.Ranks.{due_at}
 use Rattle.qss_run.specs.Places.{IsTurned}
 use Rattle.qss_quiet.specs.Sims.{IsDue}
+use Rattle.qss_quiet.proofs.Lines.{line_here}
 use Rattle.qss_run.proofs.Renewed.{counted_otherwise, counted_still, left_so}
 use Rattle.qss_run.proofs.Seats.{due_alike}
-use Rattle.qss_run.proofs.Turning.{line_here}
 use Rattle.qss_run.proofs.reseated.reseat.Goals as goal
 
 pub returns-clause-turned : goal.returns-clause-turned

@@ -8,10 +8,10 @@ use Rattle.qss_machine.specs.Numbers.{int_at}
 use Rattle.qss_machine.specs.Machines.{state_count}
 use Rattle.qss_quant.specs.Lines.{Line}
 use Rattle.qss_sched.specs.Ranks.{due_at}
+use Rattle.qss_quiet.specs.Sims.{no_line}
 use Rattle.qss_run.specs.Places.{line_at, IsTurned}
 use Rattle.qss_run.proofs.Renewed.{counted_at, left_at}
 use Rattle.qss_run.proofs.Seats.{seated}
-use Rattle.qss_run.proofs.Turning.{no_line}
 use Rattle.qss_run.proofs.reseated.seat.Goals as goal
 use mir.Syntax.{w64, w128}
 

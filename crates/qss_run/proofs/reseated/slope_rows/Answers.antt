@@ -4,8 +4,9 @@ use Rattle.std.proofs.lemmas.Int.{to_z-of_z}
 use Rattle.std.proofs.lemmas.List.{length-set}
 use Rattle.std.specs.Int.RustNames.{FitsSigned}
 use Rattle.qss_machine.specs.Machines.{state_count, slope_at}
-use Rattle.qss_run.proofs.Turning.{row_is_light, is_true}
+use Rattle.qss_run.proofs.Turning.{is_true}
 use Rattle.qss_quiet.proofs.Writes.{written_more, written_all}
+use Rattle.qss_quiet.proofs.LightRows.{row_is_light}
 use Rattle.qss_run.proofs.reseated.slope_rows.Goals as goal
 use mir.Syntax.{w128}
 use mir.Val.{to_z, of_z}

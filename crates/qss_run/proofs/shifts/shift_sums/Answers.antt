@@ -13,11 +13,12 @@ use Rattle.qss_quiet.specs.Among.{AreNumbers}
 use Rattle.qss_run.specs.Places.{line_at}
 use Rattle.qss_run.specs.RowSums.{taken_by, sum_at, AreSumsBefore, HasFollowed}
 use Rattle.qss_quiet.specs.Writes.{IsWritten}
+use Rattle.qss_quiet.specs.Sims.{no_line}
 use Rattle.qss_quiet.proofs.KeptReaders.{rows_many, rows_kept}
 use Rattle.qss_quiet.proofs.DueFirsts.{not_before}
+use Rattle.qss_quiet.proofs.LightRows.{row_is_light}
 use Rattle.qss_run.proofs.Dues.{few_numbers}
 use Rattle.qss_run.proofs.Shifting.{reading_numbers, levels_along, along_more, along_other, along_all, length-along, sums_small, sums_follow, sums_near}
-use Rattle.qss_run.proofs.Turning.{no_line, row_is_light}
 use Rattle.qss_run.proofs.shifts.shift_sums.Goals as goal
 use mir.Syntax.{w64}
 use mir.Val.{to_z, of_z}

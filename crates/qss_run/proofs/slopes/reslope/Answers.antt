@@ -6,8 +6,8 @@ use Rattle.qss_machine.specs.Machines.{level_unit, quantum_of}
 use Rattle.qss_quant.specs.Lines.{Line, state_at, IsNear}
 use Rattle.qss_sched.specs.Ranks.{due_at}
 use Rattle.qss_quiet.specs.Sims.{IsDue}
+use Rattle.qss_quiet.proofs.Lines.{line_here}
 use Rattle.qss_run.proofs.Renewed.{counted_otherwise, counted_still, left_so}
-use Rattle.qss_run.proofs.Turning.{line_here}
 use Rattle.qss_run.proofs.slopes.reslope.Goals as goal
 
 pub leaving-requires-clause-near : goal.leaving-requires-clause-near

@@ -6,7 +6,7 @@ use Rattle.qss_hand.specs.Values.{Values}
 use Rattle.qss_machine.specs.Numbers.{int_at}
 use Rattle.qss_machine.specs.Ticks.{is_overweight}
 use Rattle.qss_run.specs.Kept.{AreWeights}
-use Rattle.qss_run.proofs.Handled.{not_some}
+use Rattle.qss_quiet.proofs.Overs.{not_some}
 use Rattle.qss_run.proofs.sparse.requantize_moved.Goals as goal
 
 pub follow-requires-clause-before : goal.follow-requires-clause-before

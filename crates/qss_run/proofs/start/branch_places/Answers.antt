@@ -5,7 +5,8 @@ use Rattle.std.specs.List.{range_with_len, sum_by}
 use Rattle.qss_machine.specs.declared.parts.ClauseInfo.{ClauseInfo}
 use Rattle.qss_hand.specs.Works.{clause_at}
 use Rattle.qss_hand.proofs.Turns.{clauses_few, length-conditions}
-use Rattle.qss_run.proofs.Branches.{place_of, width_of, width_few, count_more, branches_more}
+use Rattle.qss_hand.proofs.Branches.{width_of}
+use Rattle.qss_run.proofs.Branches.{place_of, width_few, count_more, branches_more}
 use Rattle.qss_run.proofs.start.branch_places.Goals as goal
 
 pub overflow_cast-clause : goal.overflow_cast-clause

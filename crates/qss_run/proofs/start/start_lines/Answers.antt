@@ -11,7 +11,9 @@ use Rattle.qss_quant.specs.Lines.{Line, state_at}
 use Rattle.qss_sched.specs.Ranks.{due_at}
 use Rattle.qss_run.specs.Places.{IsTurned}
 use Rattle.qss_quiet.proofs.Firsts.{one_more}
-use Rattle.qss_run.proofs.Turning.{line_here, row_is_light, is_true, turned_more, near_along}
+use Rattle.qss_quiet.proofs.Lines.{line_here}
+use Rattle.qss_quiet.proofs.LightRows.{row_is_light}
+use Rattle.qss_run.proofs.Turning.{is_true, turned_more, near_along}
 use Rattle.qss_run.proofs.start.start_lines.Goals as goal
 use mir.Syntax.{w64, w128}
 

@@ -8,9 +8,9 @@ use Rattle.qss_machine.specs.Numbers.{int_at}
 use Rattle.qss_machine.specs.Machines.{state_count}
 use Rattle.qss_quant.specs.Lines.{Line, state_at}
 use Rattle.qss_sched.specs.Ranks.{due_at}
+use Rattle.qss_quiet.specs.Sims.{no_line}
 use Rattle.qss_run.specs.Places.{line_at, IsTurned}
 use Rattle.qss_run.proofs.Renewed.{counted_at, from_here, left_at, renewed}
-use Rattle.qss_run.proofs.Turning.{no_line}
 use Rattle.qss_run.proofs.turned.turn.Goals as goal
 use mir.Syntax.{w64, w128}
 

@@ -2,11 +2,11 @@
 use Rattle.std.proofs.Common.{◌≡◌, ◌+◌, length, ◌∙◌, ap, arith}
 use Rattle.qss_machine.specs.Machines.{state_count}
 use Rattle.qss_machine.specs.Handlers.{conditions}
-use Rattle.qss_run.specs.Moves.{became_true}
 use Rattle.qss_run.specs.declared.store.Store.{Store}
 use Rattle.qss_run.proofs.Jumps.{dues_later}
 use Rattle.qss_run.proofs.Takes.{none_left_before, none_called_before, is_taken, none_to_call}
 use Rattle.qss_hand.proofs.Turns.{conditions_few}
+use Rattle.qss_quiet.specs.Sims.{became_true}
 use Rattle.qss_run.proofs.visit.visit.Goals as goal
 
 pub overflow_cast-conditions : goal.overflow_cast-conditions

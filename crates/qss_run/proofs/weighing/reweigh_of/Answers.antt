@@ -1,20 +1,20 @@
 -- A row that reads no moved state is as light as before.
-use Rattle.std.proofs.Common.{◌≡◌, ℕ, ◌+◌, ◌<◌, List, [], length, ℤ, pos, sym, ap, ◌∙◌, subst, arith}
+use Rattle.std.proofs.Common.{◌≡◌, ℕ, ◌+◌, ◌<◌, List, [], length, ℤ, sym, ap, ◌∙◌, subst, arith}
 use Rattle.std.proofs.lemmas.List.FromFn.{length-map-range_with_len}
 use Rattle.std.specs.Prelude.{All, flat_map}
-use Rattle.qss_machine.specs.declared.parts.SlopeRow.{SlopeRow}
 use Rattle.qss_machine.specs.Machines.{state_count, discrete_count, row_at, weight_at}
 use Rattle.qss_machine.specs.Numbers.{int_at}
 use Rattle.qss_machine.specs.Ticks.{is_overweight}
 use Rattle.qss_machine.specs.Uses.{reading_rows}
 use Rattle.qss_run.specs.Overweights.{IsLeastPast}
+use Rattle.qss_quiet.specs.Sims.{no_row}
 use Rattle.qss_quiet.proofs.Among.{among_readers}
 use Rattle.qss_run.proofs.Least.{least_none, passes_by_weight, least_is}
 use Rattle.qss_quiet.proofs.Quiet.{int_at-tabulate}
 use Rattle.qss_quiet.proofs.Ranges.{none_passes}
 use Rattle.qss_quiet.proofs.KeptReaders.{rows_many, rows_below, rows_kept_all}
-use Rattle.qss_run.proofs.Turning.{row_is_light}
 use Rattle.qss_quiet.proofs.Unread.{unread_at, unread_overweight}
+use Rattle.qss_quiet.proofs.LightRows.{row_is_light}
 use Rattle.qss_run.proofs.weighing.reweigh_of.Goals as goal
 
 pub least_reader-requires-clause-variables : goal.least_reader-requires-clause-variables
@@ -36,7 +36,6 @@ returns-clause-over c =
     let weights : List ℤ = c.shift_sums.new.sums in
     let old : List ℤ = c.requires.before.0 in
     let before = c.requires.before.1 in
-    let no_row : SlopeRow = record { entries = []; products = []; beta = pos 0 } in
     let many : length weights ≡ state_count m = ap length c.shift_sums.ensures ∙ length-map-range_with_len (λ j. weight_at m j levels d) 0 (state_count m) in
     let known : All (λ var. var < state_count m + discrete_count m) moved = λ k z h. omega (arith, c.requires.ready.moved.below k z h) in
     least_is m levels d weights (flat_map (reading_rows m) moved) many

@@ -1,17 +1,18 @@
 -- The inputs are given the message, and the watch has their value.
-use Rattle.std.proofs.Common.{◌≡◌, List, map, refl, sym, ◌∙◌, ap, subst, arith}
+use Rattle.std.proofs.Common.{◌≡◌, ◌+◌, ◌≤◌, ◌^◌, List, map, unsigned_abs, refl, sym, ◌∙◌, ap, subst, arith}
 use Rattle.std.proofs.lemmas.Int.{ints, to_z-of_z}
 use Rattle.std.proofs.lemmas.List.{with_items_is}
 use Rattle.std.specs.Int.RustNames.{FitsSigned}
-use Rattle.std.specs.Prelude.{All}
+use Rattle.std.specs.Prelude.{All, sum_by}
 use Rattle.std.specs.Vec.{with_items}
 use Rattle.mu_num.specs.Sizes.{IsWithin}
+use Rattle.qss_machine.specs.declared.parts.Entry.{Entry}
 use Rattle.qss_machine.specs.declared.system.Machine.{Machine}
 use Rattle.qss_machine.specs.Machines.{state_count}
 use Rattle.qss_cross.specs.Crossing.{Watch}
 use Rattle.qss_devs.specs.declared.input.Input.{Input}
 use Rattle.qss_devs.specs.Messages.{IsMessage}
-use Rattle.qss_devs.specs.Crossings.{Crossing, input_at, input_given, form_at, speed_by, IsInput, StaysIfDiscrete, AreParts}
+use Rattle.qss_devs.specs.Crossings.{Crossing, entry_of, input_at, input_given, form_at, speed_by, IsInput, StaysIfDiscrete, AreParts}
 use Rattle.qss_devs.proofs.Inputs.{lines_later, given_inputs, given_parts}
 use Rattle.qss_devs.proofs.InputsTold.{given_so}
 use Rattle.qss_devs.proofs.crossing_model.CrossingModelAtomic.external.Goals as goal
@@ -36,8 +37,10 @@ watch_of-self-requires-clause-parts c =
     c.as_slice.ensures.value ∙ with_items_is x.inputs c.give.new.inputs (c.give.auto.inputs ∙ c.as_mut_slice.ensures.len) ∙ c.give.ensures
     ∙ ap (λ (s : Machine). map (input_given s c.args.tick c.args.msg) c.as_mut_slice.result.now) c.deref.ensures
     ∙ ap (map (input_given m c.args.tick c.args.msg)) c.as_mut_slice.ensures.value in
-    let of_time : FitsSigned w64 x.time = omega (arith, ints, x.parts.coefficients) in
-    let of_gamma : FitsSigned w128 x.gamma = omega (arith, ints, x.parts.constant) in
+    let sizes : sum_by (λ (e : Entry). unsigned_abs e.coef) (map entry_of x.inputs.items) + unsigned_abs x.time ≤ 2 ^ 38 = x.parts.coefficients in
+    let constant : IsWithin 78 x.gamma = x.parts.constant in
+    let of_time : FitsSigned w64 x.time = omega (arith, ints, sizes) in
+    let of_gamma : FitsSigned w128 x.gamma = omega (arith, ints, constant) in
     simp to_z-of_z (subst (λ (xs : List Input). AreParts xs x.time x.gamma) (sym same) (given_parts m c.args.tick c.args.msg x.inputs.items x.time x.gamma x.parts))
 
 pub watch_of-self-requires-clause-lines : goal.watch_of-self-requires-clause-lines
@@ -94,8 +97,10 @@ returns c =
     with_items_is x.inputs c.give.new.inputs (c.give.auto.inputs ∙ c.as_mut_slice.ensures.len) ∙ c.give.ensures
     ∙ ap (λ (s : Machine). map (input_given s c.args.tick c.args.msg) c.as_mut_slice.result.now) c.deref.ensures
     ∙ ap (map (input_given m c.args.tick c.args.msg)) c.as_mut_slice.ensures.value in
-    let of_time : FitsSigned w64 x.time = omega (arith, ints, x.parts.coefficients) in
-    let of_gamma : FitsSigned w128 x.gamma = omega (arith, ints, x.parts.constant) in
+    let sizes : sum_by (λ (e : Entry). unsigned_abs e.coef) (map entry_of x.inputs.items) + unsigned_abs x.time ≤ 2 ^ 38 = x.parts.coefficients in
+    let constant : IsWithin 78 x.gamma = x.parts.constant in
+    let of_time : FitsSigned w64 x.time = omega (arith, ints, sizes) in
+    let of_gamma : FitsSigned w128 x.gamma = omega (arith, ints, constant) in
     let watch : c.watch_of-self.result ≡ record { rel = x.watch.rel; tick = c.args.tick; value = form_at m items x.time x.gamma c.args.tick; speed = speed_by m items x.time } =
     (simp to_z-of_z at c.watch_of-self.ensures)
     ∙ ap (λ (s : Machine). record { rel = x.watch.rel; tick = c.args.tick; value = form_at s c.as_slice.result.now x.time x.gamma c.args.tick; speed = speed_by s c.as_slice.result.now x.time }) c.deref-2.ensures

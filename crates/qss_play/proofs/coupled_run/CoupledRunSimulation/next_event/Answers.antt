@@ -1,15 +1,12 @@
 use Rattle.std.proofs.Common.{◌≡◌, ◌∙◌, ap}
-use Rattle.qss_devs.specs.Calls.{standing_of}
-use Rattle.qss_devs.specs.Standings.{Standing as Place}
-use Rattle.qss_devs.specs.declared.outcome.Outcome.TheVariants.{Events, Done, Over}
 use Rattle.qss_quant.specs.declared.quantizer.Quantizer.{Quantizer}
 use Rattle.qss_quant.specs.declared.rule.Rule.TheVariants.{Floor}
-use Rattle.qss_quiet.specs.Rules.{IsRuled}
+use Rattle.qss_quiet.specs.declared.outcome.Outcome.TheVariants.{Events, Done, Over}
+use Rattle.qss_quiet.specs.Standings.{Standing}
+use Rattle.qss_coupled.specs.Calls.{standing_of}
 use Rattle.qss_play.specs.Ahead.{row_lines, outcome_of}
-use Rattle.qss_play.specs.CoupledAhead.{standing_as}
-use Rattle.qss_play.proofs.CoupledRuns.{call_as, event_goes, known_next, lines_next}
-use Rattle.qss_play.proofs.RuledRuns.{ends_on, over_in}
-use Rattle.qss_play.proofs.RunEnds.{done_left, done_end, over_left, over_end}
+use Rattle.qss_play.proofs.RuledRuns.{known_on, lines_on, ends_on, over_in}
+use Rattle.qss_play.proofs.RunEnds.{call_of, event_unended, event_later, done_left, done_end, over_left, over_end}
 use Rattle.qss_play.proofs.coupled_run.CoupledRunSimulation.next_event.Goals as goal
 
 pub invariant_of-self : goal.invariant_of-self
@@ -17,12 +14,12 @@ invariant_of-self g c =
     let run = c.args.self.now in
     let after = c.next_event.new.self in
     let call = c.next_event.ensures in
-    let now : Place = standing_of run.model.machine.value run.model.tick run.model.store run.model.end in
-    let new : Place = standing_of after.machine.value after.tick after.store after.end in
+    let now : Standing = standing_of run.model.machine.value run.model.tick run.model.store run.model.end in
+    let new : Standing = standing_of after.machine.value after.tick after.store after.end in
     let kept : after.quantizer.value.name ≡ run.model.quantizer.value.name = ap (λ (q : Quantizer _ _). q.name) call.rule in
     record {
       named = kept ∙ run.named;
-      known = known_next Floor now new call.machine (call.rows Floor run.named c.requires) run.known;
+      known = known_on Floor now new call.machine (call.rows Floor run.named c.requires) run.known;
     }
 
 pub returns-in-Events-clause-lines : goal.returns-in-Events-clause-lines
@@ -30,28 +27,29 @@ returns-in-Events-clause-lines g c =
     let run = c.args.self.now in
     let after = c.next_event.new.self in
     let call = c.next_event.ensures in
-    let now : Place = standing_of run.model.machine.value run.model.tick run.model.store run.model.end in
-    let new : Place = standing_of after.machine.value after.tick after.store after.end in
-    lines_next Floor now new call.machine (call.rows Floor run.named c.requires) run.filter
+    let now : Standing = standing_of run.model.machine.value run.model.tick run.model.store run.model.end in
+    let new : Standing = standing_of after.machine.value after.tick after.store after.end in
+    lines_on Floor now new call.machine (call.rows Floor run.named c.requires) run.filter
 
 pub returns-in-Events-clause-unended : goal.returns-in-Events-clause-unended
 returns-in-Events-clause-unended g c e =
     let run = c.args.self.now in
     let after = c.next_event.new.self in
     let call = c.next_event.ensures in
-    let now : Place = standing_of run.model.machine.value run.model.tick run.model.store run.model.end in
-    let new : Place = standing_of after.machine.value after.tick after.store after.end in
-    event_goes (IsRuled run.model.quantizer.value.name) now new c.next_event.result c.in-Events.tick call.machine c.in-Events.is (call.next c.requires)
+    let now : Standing = standing_of run.model.machine.value run.model.tick run.model.store run.model.end in
+    let new : Standing = standing_of after.machine.value after.tick after.store after.end in
+    let comes = call_of run.model.quantizer.value.name Floor now new c.next_event.result (Events c.in-Events.tick) run.named call.machine c.in-Events.is (call.next c.requires) in
+    (event_unended Floor now new c.in-Events.tick comes, event_later Floor now new c.in-Events.tick comes)
 
 pub returns-in-Events-clause-same_end : goal.returns-in-Events-clause-same_end
 returns-in-Events-clause-same_end g c end e h =
     let run = c.args.self.now in
     let after = c.next_event.new.self in
     let call = c.next_event.ensures in
-    let now : Place = standing_of run.model.machine.value run.model.tick run.model.store run.model.end in
-    let new : Place = standing_of after.machine.value after.tick after.store after.end in
-    ends_on Floor (standing_as now) (standing_as new) c.in-Events.tick
-    (call_as run.model.quantizer.value.name Floor now new c.next_event.result (Events c.in-Events.tick) run.named call.machine c.in-Events.is (call.next c.requires))
+    let now : Standing = standing_of run.model.machine.value run.model.tick run.model.store run.model.end in
+    let new : Standing = standing_of after.machine.value after.tick after.store after.end in
+    ends_on Floor now new c.in-Events.tick
+    (call_of run.model.quantizer.value.name Floor now new c.next_event.result (Events c.in-Events.tick) run.named call.machine c.in-Events.is (call.next c.requires))
     (outcome_of end) h
 
 pub returns-in-Done-clause-lines : goal.returns-in-Done-clause-lines
@@ -59,20 +57,20 @@ returns-in-Done-clause-lines g c =
     let run = c.args.self.now in
     let after = c.next_event.new.self in
     let call = c.next_event.ensures in
-    let now : Place = standing_of run.model.machine.value run.model.tick run.model.store run.model.end in
-    let new : Place = standing_of after.machine.value after.tick after.store after.end in
-    lines_next Floor now new call.machine (call.rows Floor run.named c.requires) run.filter
+    let now : Standing = standing_of run.model.machine.value run.model.tick run.model.store run.model.end in
+    let new : Standing = standing_of after.machine.value after.tick after.store after.end in
+    lines_on Floor now new call.machine (call.rows Floor run.named c.requires) run.filter
 
 pub returns-in-Done-clause-ended : goal.returns-in-Done-clause-ended
 returns-in-Done-clause-ended g c =
     let run = c.args.self.now in
     let after = c.next_event.new.self in
     let ensures = c.next_event.ensures in
-    let now : Place = standing_of run.model.machine.value run.model.tick run.model.store run.model.end in
-    let new : Place = standing_of after.machine.value after.tick after.store after.end in
-    let call = call_as run.model.quantizer.value.name Floor now new c.next_event.result Done run.named ensures.machine c.in-Done.is (ensures.next c.requires) in (
-      ap (row_lines run.filter new.machine) (done_left Floor (standing_as now) (standing_as new) call),
-      done_end Floor (standing_as now) (standing_as new) call,
+    let now : Standing = standing_of run.model.machine.value run.model.tick run.model.store run.model.end in
+    let new : Standing = standing_of after.machine.value after.tick after.store after.end in
+    let call = call_of run.model.quantizer.value.name Floor now new c.next_event.result Done run.named ensures.machine c.in-Done.is (ensures.next c.requires) in (
+      ap (row_lines run.filter new.machine) (done_left Floor now new call),
+      done_end Floor now new call,
       tt,
     )
 
@@ -81,22 +79,22 @@ returns-in-Over-clause-lines g c =
     let run = c.args.self.now in
     let after = c.next_event.new.self in
     let call = c.next_event.ensures in
-    let now : Place = standing_of run.model.machine.value run.model.tick run.model.store run.model.end in
-    let new : Place = standing_of after.machine.value after.tick after.store after.end in
-    lines_next Floor now new call.machine (call.rows Floor run.named c.requires) run.filter
+    let now : Standing = standing_of run.model.machine.value run.model.tick run.model.store run.model.end in
+    let new : Standing = standing_of after.machine.value after.tick after.store after.end in
+    lines_on Floor now new call.machine (call.rows Floor run.named c.requires) run.filter
 
 pub returns-in-Over-clause-ended : goal.returns-in-Over-clause-ended
 returns-in-Over-clause-ended g c =
     let run = c.args.self.now in
     let after = c.next_event.new.self in
     let ensures = c.next_event.ensures in
-    let now : Place = standing_of run.model.machine.value run.model.tick run.model.store run.model.end in
-    let new : Place = standing_of after.machine.value after.tick after.store after.end in
+    let now : Standing = standing_of run.model.machine.value run.model.tick run.model.store run.model.end in
+    let new : Standing = standing_of after.machine.value after.tick after.store after.end in
     let tick = c.in-Over.tick in
     let var = c.in-Over.var in
-    let known = known_next Floor now new ensures.machine (ensures.rows Floor run.named c.requires) run.known in
-    let call = call_as run.model.quantizer.value.name Floor now new c.next_event.result (Over tick var) run.named ensures.machine c.in-Over.is (ensures.next c.requires) in (
-      ap (row_lines run.filter new.machine) (over_left Floor (standing_as now) (standing_as new) tick var call),
-      over_end Floor (standing_as now) (standing_as new) tick var call,
-      over_in Floor (standing_as now) (standing_as new) tick var call known,
+    let known = known_on Floor now new ensures.machine (ensures.rows Floor run.named c.requires) run.known in
+    let call = call_of run.model.quantizer.value.name Floor now new c.next_event.result (Over tick var) run.named ensures.machine c.in-Over.is (ensures.next c.requires) in (
+      ap (row_lines run.filter new.machine) (over_left Floor now new tick var call),
+      over_end Floor now new tick var call,
+      over_in Floor now new tick var call known,
     )

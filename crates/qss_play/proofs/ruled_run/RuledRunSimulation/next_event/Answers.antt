@@ -1,5 +1,5 @@
 use Rattle.std.proofs.Common.{◌≡◌, ◌∙◌, ap, refl}
-use Rattle.qss_run.specs.declared.outcome.Outcome.TheVariants.{Events, Done, Over}
+use Rattle.qss_quiet.specs.declared.outcome.Outcome.TheVariants.{Events, Done, Over}
 use Rattle.qss_play.specs.Ahead.{row_lines, outcome_of}
 use Rattle.qss_play.proofs.RunEnds.{call_of, done_left, done_end, over_left, over_end}
 use Rattle.qss_play.proofs.RuledRuns.{known_on, ends_on, over_in}

@@ -16,13 +16,13 @@ use Rattle.qss_run.specs.declared.conditions.Conditions.{Conditions}
 use Rattle.qss_run.specs.Handlings.{handling_of_fired, is_reinitialized, IsHandled}
 use Rattle.qss_quiet.specs.Logs.{assigned_of}
 use Rattle.qss_quiet.specs.Among.{is_among, AreNumbers}
-use Rattle.qss_quiet.specs.Sims.{condition_at}
-use Rattle.qss_run.specs.Moves.{became_true}
+use Rattle.qss_quiet.specs.Sims.{condition_at, became_true}
 use Rattle.qss_run.specs.Places.{AreBranches, line_at, watch_at}
 use Rattle.qss_run.specs.Stores.{states_at, handling_from}
 use Rattle.qss_quiet.specs.Writes.{IsWritten}
+use Rattle.qss_quiet.proofs.Overs.{all_within, not_some}
 use Rattle.qss_run.proofs.Arrivals.{fired_numbers, truths_on_arrival, fired_handling, rows_fired, known_states, is_handled}
-use Rattle.qss_run.proofs.Handled.{all_within, not_some, over_early}
+use Rattle.qss_run.proofs.Handled.{over_early}
 use Rattle.qss_run.proofs.OwnConditions.{arrived_anew}
 use Rattle.qss_run.proofs.Visits.{same_length}
 use Rattle.qss_run.proofs.conditions.Conditions.handle.Goals as goal

@@ -10,10 +10,9 @@ use Rattle.qss_cross.specs.Crossing.{Watch}
 use Rattle.qss_sched.specs.Ranks.{due_at}
 use Rattle.qss_run.specs.declared.conditions.Conditions.{Conditions}
 use Rattle.qss_run.specs.Places.{watch_at}
-use Rattle.qss_quiet.specs.Sims.{condition_at}
+use Rattle.qss_quiet.specs.Sims.{condition_at, no_watch}
 use Rattle.qss_run.specs.Speeds.{GoesOn, AreGoingOn}
 use Rattle.qss_run.proofs.Speeds.{going_on_at}
-use Rattle.qss_run.proofs.Turning.{no_watch}
 use Rattle.qss_hand.proofs.Turns.{conditions_few}
 use Rattle.qss_run.proofs.conditions.Conditions.rewatch.Goals as goal
 use mir.Syntax.{w128}

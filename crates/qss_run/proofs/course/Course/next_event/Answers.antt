@@ -3,15 +3,16 @@ use Rattle.std.proofs.Common.{◌≡◌, ℕ, ◌-◌, ◌++◌, sym, ◌∙◌,
 use Rattle.std.specs.Prelude.{Option, Some, None}
 use Rattle.qss_machine.specs.declared.system.Machine.{Machine}
 use Rattle.qss_quant.specs.Rules.{level_by}
-use Rattle.qss_run.specs.declared.outcome.Outcome.{Outcome}
+use Rattle.qss_quiet.specs.declared.outcome.Outcome.{Outcome}
 use Rattle.qss_run.specs.declared.store.Store.{Store}
 use Rattle.qss_quiet.specs.Rules.{IsRuled}
 use Rattle.qss_run.specs.Stores.{world_of}
-use Rattle.qss_run.specs.Standings.{Standing}
-use Rattle.qss_run.specs.Calls.{standing_of, tick_of, end_of}
-use Rattle.qss_run.specs.Events.{IsNext, rows_left}
+use Rattle.qss_quiet.specs.Standings.{Standing}
+use Rattle.qss_run.specs.Calls.{standing_of}
+use Rattle.qss_quiet.specs.Events.{IsNext, rows_left}
+use Rattle.qss_quiet.specs.Outcomes.{tick_of, end_of}
 use Rattle.qss_run.specs.Touches.{MovesTouched, touches_left}
-use Rattle.qss_run.proofs.NamedRows.{named_rows}
+use Rattle.qss_quiet.proofs.NamedRows.{named_rows}
 use Rattle.qss_run.proofs.NamedTouches.{named_touches}
 use Rattle.qss_run.proofs.course.Course.next_event.Goals as goal
 

@@ -1,0 +1,206 @@
+-- A coupled model on arrival at the next tick, and what its handlers leave.
+use Rattle.std.proofs.Common.{◌≡◌, ℕ, ◌+◌, ◌<◌, ◌≤◌, ◌^◌, Bool, true, false, List, [], length, get_or, ℤ, pos, ◌+ℤ◌, refl, sym, ◌∙◌, ap, subst, arith}
+use Rattle.std.proofs.lemmas.List.{length-map, get_or-map}
+use Rattle.std.proofs.lemmas.List.FromFn.{length-map-range_with_len}
+use Rattle.std.specs.Option.{option_or}
+use Rattle.std.specs.Prelude.{Option, Some, None, is_some, position}
+use Rattle.mu_num.specs.Sizes.{IsWithin}
+use Rattle.qss_machine.specs.declared.parts.Condition.{Condition}
+use Rattle.qss_machine.specs.declared.parts.Rel.TheVariants.{Less}
+use Rattle.qss_machine.specs.declared.system.Machine.{Machine}
+use Rattle.qss_machine.specs.Firing.{flag_at}
+use Rattle.qss_machine.specs.Handlers.{Handling, conditions, truths, due_flags, run_clauses}
+use Rattle.qss_machine.specs.Machines.{state_count, discrete_count, slope_at, compares, truth}
+use Rattle.qss_machine.specs.Numbers.{int_at, first_past}
+use Rattle.qss_machine.specs.Ticks.{World, moved_states, handling_at, is_overweight, world_unless, Step}
+use Rattle.qss_quant.specs.Lines.{Line, state_at}
+use Rattle.qss_quant.specs.declared.rule.Rule.{Rule}
+use Rattle.qss_cross.specs.Crossing.{holds_at}
+use Rattle.qss_hand.specs.Values.{Values as Kept}
+use Rattle.qss_hand.specs.Works.{AreValuesOf, handling_of}
+use Rattle.qss_hand.proofs.Turns.{clauses_stay}
+use Rattle.qss_quiet.specs.Rules.{IsRuled}
+use Rattle.qss_quiet.specs.Sims.{slopes_of, condition_at}
+use Rattle.qss_quiet.specs.Skips.{world_after}
+use Rattle.qss_quiet.proofs.Firsts.{same_lists}
+use Rattle.qss_quiet.proofs.Quiet.{moved_is}
+use Rattle.qss_quiet.proofs.Overs.{all_within}
+use Rattle.qss_devs.specs.declared.input.Input.{Input}
+use Rattle.qss_devs.specs.Messages.{IsTimely}
+use Rattle.qss_devs.specs.Integrators.{IsLineNext}
+use Rattle.qss_devs.specs.Crossings.{IsCrossingNext, input_at, AreSmallAt}
+use Rattle.qss_devs.specs.Agreement.{HasEach, Moving, ComponentsStandFor}
+use Rattle.qss_devs.proofs.Standing.{components_move, crossings_tell}
+use Rattle.qss_devs.proofs.Variables.{moving_state}
+use Rattle.qss_coupled.specs.declared.components.Components.{Components}
+use Rattle.qss_coupled.specs.declared.store.Store.{Store}
+use Rattle.qss_coupled.specs.Coupling.{line_at, summing_at, crossing_at, AreComponents, IsSummingReady, AreReady}
+use Rattle.qss_coupled.specs.Steps.{Agrees}
+use Rattle.qss_coupled.specs.Visits.{states_at, world_of, Stands, arrived_values, CrossingsLater}
+use Rattle.qss_coupled.proofs.Followed.{states_are}
+use Rattle.qss_coupled.proofs.Stays.{holds_still}
+
+-- where a state overflowed on arrival no branch fires
+pub stays_over : (m : Machine) (tick : ℕ) (w : World) (o : Option ℕ) → o ≡ first_past 88 (moved_states m w) → (o ≡ None → ⊥) → o ≡ (handling_at m tick w).overflow
+stays_over m tick w None is some = absurd (some refl)
+stays_over m tick w (Some var) is some =
+    is
+    ∙ sym (ap (λ (h : Handling). h.overflow)
+    (clauses_stay m tick w.discretes 0 (record { states = moved_states m w; discretes = w.discretes; rows = []; overflow = first_past 88 (moved_states m w) }) var m.clauses
+    (due_flags (truths m (moved_states m w) w.discretes tick) w.arrived w.settled) (sym is)))
+
+-- the handlers, from what they work on
+pub handling_is : (m : Machine) (tick : ℕ) (w : World) (x d pre : List ℤ) (now arrived settled : List Bool) →
+    x ≡ moved_states m w → d ≡ w.discretes → pre ≡ w.discretes → first_past 88 (moved_states m w) ≡ None →
+    now ≡ truths m (moved_states m w) w.discretes tick → arrived ≡ w.arrived → settled ≡ w.settled →
+    run_clauses m tick pre 0 (record { states = x; discretes = d; rows = []; overflow = None }) m.clauses (due_flags now arrived settled) ≡ handling_at m tick w
+handling_is m tick w x d pre now arrived settled of_x of_d of_pre none of_now of_arrived of_settled =
+    ap (λ (zs : List ℤ). run_clauses m tick pre 0 (record { states = zs; discretes = d; rows = []; overflow = None }) m.clauses (due_flags now arrived settled)) of_x
+    ∙ ap (λ (zs : List ℤ). run_clauses m tick pre 0 (record { states = moved_states m w; discretes = zs; rows = []; overflow = None }) m.clauses (due_flags now arrived settled)) of_d
+    ∙ ap (λ (zs : List ℤ). run_clauses m tick zs 0 (record { states = moved_states m w; discretes = w.discretes; rows = []; overflow = None }) m.clauses (due_flags now arrived settled)) of_pre
+    ∙ ap (λ (o : Option ℕ). run_clauses m tick w.discretes 0 (record { states = moved_states m w; discretes = w.discretes; rows = []; overflow = o }) m.clauses (due_flags now arrived settled)) (sym none)
+    ∙ ap (λ (flags : List Bool). run_clauses m tick w.discretes 0 (record { states = moved_states m w; discretes = w.discretes; rows = []; overflow = first_past 88 (moved_states m w) }) m.clauses (due_flags flags arrived settled)) of_now
+    ∙ ap (λ (flags : List Bool). run_clauses m tick w.discretes 0 (record { states = moved_states m w; discretes = w.discretes; rows = []; overflow = first_past 88 (moved_states m w) }) m.clauses (due_flags (truths m (moved_states m w) w.discretes tick) flags settled)) of_arrived
+    ∙ ap (λ (flags : List Bool). run_clauses m tick w.discretes 0 (record { states = moved_states m w; discretes = w.discretes; rows = []; overflow = first_past 88 (moved_states m w) }) m.clauses (due_flags (truths m (moved_states m w) w.discretes tick) w.arrived flags)) of_settled
+
+module _ {X : Type 0} {g : _} (m : Machine) (name : Option Rule) (tick : ℕ) (s : Store X g) (stands : Stands m name tick s) (before : tick < m.last) where
+  abbrev w : World
+  w = world_of tick s
+
+  are : AreComponents m s.parts
+  are = stands.fits.parts
+
+  last : m.last < 2 ^ 32
+  last = m.has_units.last_tick
+
+  states_many : length w.states ≡ state_count m
+  states_many = length-map s.parts.integrators.items (λ i. state_at i.line tick) ∙ are.integrators
+
+  pub discretes_many : length w.discretes ≡ discrete_count m
+  discretes_many = stands.fits.values.discretes
+
+  moved_stand : ComponentsStandFor m (tick + 1) (world_after m w 1) (line_at s.parts) (summing_at s.parts) (crossing_at s.parts)
+  moved_stand = components_move m tick 1 w (line_at s.parts) (summing_at s.parts) (crossing_at s.parts) stands.stand
+
+  moved_many : length (moved_states m w) ≡ state_count m
+  moved_many = length-map-range_with_len (λ j. int_at w.states j +ℤ slope_at m j w.levels w.discretes) 0 (state_count m)
+
+  -- the components agree with the values on arrival
+  pub arrived_agree : Agrees m (tick + 1) (arrived_values m w) s.parts
+  arrived_agree =
+      subst (λ (xs : List ℤ). Agrees m (tick + 1) (record { states = xs; slopes = slopes_of m w; levels = w.levels; discretes = w.discretes }) s.parts) (sym (moved_is m w)) moved_stand.agree
+
+  pub arrived_each : HasEach m (arrived_values m w)
+  arrived_each = record {
+    states = moved_many;
+    slopes = length-map-range_with_len (λ j. slope_at m j w.levels w.discretes) 0 (state_count m);
+    levels = stands.left.one_each;
+    discretes = discretes_many;
+  }
+
+  -- the lines lead to the states on arrival
+  pub arrived_states : states_at (tick + 1) s.parts ≡ moved_states m w
+  arrived_states = states_are m (tick + 1) (arrived_values m w) s.parts are arrived_agree moved_many
+
+  pub lines_early : (j : ℕ) → j < state_count m → (line_at s.parts j).tick ≤ tick
+  lines_early j h = (stands.stand.agree.integrators j h).not_later
+
+  -- crossings may be read
+  pub crossing_timely : (place : ℕ) → place < length (conditions m) → IsTimely (crossing_at s.parts place).watch.tick (IsCrossingNext (crossing_at s.parts place).watch) (tick + 1)
+  crossing_timely place h = record {
+    not_before = omega (arith, (stands.stand.agree.crossings place h).not_later);
+    in_time = omega (arith, before, last);
+    not_past = λ next found. omega (arith, stands.crossings place next h found);
+  }
+
+  pub crossing_held : (place : ℕ) → place < length (conditions m) → flag_at s.truths.settled.items place ≡ compares (crossing_at s.parts place).watch.rel (crossing_at s.parts place).watch.value
+  crossing_held place h =
+      let none : Condition = record { form = record { entries = []; time = pos 0; gamma = pos 0 }; rel = Less } in
+      ap (λ (flags : List Bool). flag_at flags place) stands.settled
+      ∙ get_or-map (λ (condition : Condition). truth m condition w.states w.discretes tick) (conditions m) place none false h
+      ∙ sym (crossings_tell m tick place w (line_at s.parts) (summing_at s.parts) (crossing_at s.parts) states_many discretes_many h stands.stand)
+      ∙ holds_still (crossing_at s.parts place).watch tick (stands.stand.agree.crossings place h).not_later (omega (arith, before, last)) (λ next found. stands.crossings place next h found)
+
+  -- the truths that they tell are those of the conditions on arrival
+  pub arrived_truths : (now : List Bool) → length now ≡ length (conditions m) →
+      ((place : ℕ) → place < length (conditions m) → flag_at now place ≡ holds_at (crossing_at s.parts place).watch (tick + 1)) → now ≡ truths m (moved_states m w) w.discretes (tick + 1)
+  arrived_truths now many told =
+      same_lists false now (truths m (moved_states m w) w.discretes (tick + 1)) (many ∙ sym all) each
+    where
+      all : length (truths m (moved_states m w) w.discretes (tick + 1)) ≡ length (conditions m)
+      all = length-map (conditions m) (λ (condition : Condition). truth m condition (moved_states m w) w.discretes (tick + 1))
+
+      each : (k : ℕ) → k < length (truths m (moved_states m w) w.discretes (tick + 1)) → get_or now k false ≡ get_or (truths m (moved_states m w) w.discretes (tick + 1)) k false
+      each k h =
+          let none : Condition = record { form = record { entries = []; time = pos 0; gamma = pos 0 }; rel = Less } in
+          let here : k < length (conditions m) = omega (arith, h, all) in
+          told k here
+          ∙ crossings_tell m (tick + 1) k (world_after m w 1) (line_at s.parts) (summing_at s.parts) (crossing_at s.parts) (ap length (sym (moved_is m w)) ∙ moved_many) discretes_many here moved_stand
+          ∙ ap (λ (xs : List ℤ). truth m (condition_at m k) xs w.discretes (tick + 1)) (sym (moved_is m w))
+          ∙ sym (get_or-map (λ (condition : Condition). truth m condition (moved_states m w) w.discretes (tick + 1)) (conditions m) k none false here)
+
+  -- what handlers work on
+  abbrev pub begun : Kept
+  begun = record s.work { x = moved_states m w; pre = s.work.d; tick = tick + 1; log = [] }
+
+  pub begun_fits : (v : Kept) → v ≡ begun → first_past 88 (moved_states m w) ≡ None → AreValuesOf m v
+  begun_fits v is within = subst (AreValuesOf m) (sym is) (record {
+    states = moved_many;
+    discretes = stands.fits.values.discretes;
+    before = stands.fits.values.discretes;
+    small_states = all_within 88 (moved_states m w) within;
+    small_discretes = stands.fits.values.small_discretes;
+    small_before = stands.fits.values.small_discretes;
+    in_time = omega (arith, before, last);
+  })
+
+  pub handled_is : (v : Kept) (now arrived settled : List Bool) → v ≡ begun → first_past 88 (moved_states m w) ≡ None → now ≡ truths m (moved_states m w) w.discretes (tick + 1) → arrived ≡ w.arrived → settled ≡ w.settled →
+      run_clauses m v.tick v.pre 0 (handling_of v) m.clauses (due_flags now arrived settled) ≡ handling_at m (tick + 1) w
+  handled_is v now arrived settled is within of_now of_arrived of_settled =
+      ap (λ (u : Kept). run_clauses m u.tick u.pre 0 (handling_of u) m.clauses (due_flags now arrived settled)) is
+      ∙ handling_is m (tick + 1) w (moved_states m w) w.discretes w.discretes now arrived settled refl refl refl within of_now of_arrived of_settled
+
+  -- where no state overflows on arrival, what the crossings read is within the limits
+  module _ (within : first_past 88 (moved_states m w) ≡ None) (new : Components X g) (same_lines : (j : ℕ) → j < state_count m → line_at new j ≡ line_at s.parts j)
+      (same_summings : (j : ℕ) → j < state_count m → summing_at new j ≡ summing_at s.parts j) (agree : Agrees m (tick + 1) (arrived_values m w) new) (later : CrossingsLater m (tick + 1) (crossing_at new)) where
+    small_inputs : (place : ℕ) → place < length (conditions m) → AreSmallAt m (crossing_at new place).inputs (tick + 1)
+    small_inputs place h k d inside var =
+        let i : Input = get_or (crossing_at new place).inputs k d in
+        let own = (agree.crossings place h).lines k d inside in
+        let here : input_at (tick + 1) i ≡ int_at (moved_states m w) i.var = ap (λ (moving : Moving). moving.at) (own.here ∙ moving_state m (arrived_values m w) i.var var) in
+        subst (IsWithin 88) (sym here) (all_within 88 (moved_states m w) within i.var (pos 0) (omega (arith, var, moved_many)))
+
+    pub arrived_ready : AreReady m (tick + 1) (line_at new) (summing_at new) (crossing_at new)
+    arrived_ready = record {
+      in_time = omega (arith, before, last);
+      integrators = λ j h. subst (λ (l : Line). IsTimely l.tick (IsLineNext m j l) (tick + 1)) (sym (same_lines j h)) (record {
+        not_before = omega (arith, lines_early j h);
+        in_time = omega (arith, before, last);
+        not_past = λ next found. omega (arith, stands.lines j next h found);
+      });
+      functions = λ j h. subst (IsSummingReady (tick + 1)) (sym (same_summings j h)) (record {
+        not_later = omega (arith, (stands.stand.agree.functions j h).not_later);
+        now = λ next found. let none : (summing_at s.parts j).changed ≡ None = stands.stand.sent j h in absurd (cc);
+      });
+      crossings = λ place h. record {
+        not_later = (agree.crossings place h).not_later;
+        later = λ next found. later place next h found;
+        small = small_inputs place h;
+      };
+    }
+
+-- the step of a tick whose handlers overflow
+pub over_step : (m : Machine) (name : Option Rule) (tick : ℕ) (w next : World) (over : Option ℕ) → is_some over ≡ true → over ≡ (handling_at m tick w).overflow →
+    Step (IsRuled name) m tick w (world_unless over next)
+over_step m name tick w next None some is = absurd (cc)
+over_step m name tick w next (Some var) some is = (
+  [],
+  (λ none. absurd (cc)),
+  ap (λ o. world_unless (option_or o (option_or (first_past 43 []) (position (is_overweight m [] (handling_at m tick w).discretes) m.rows))) (record {
+    states = (handling_at m tick w).states;
+    levels = [];
+    discretes = (handling_at m tick w).discretes;
+    arrived = truths m (moved_states m w) w.discretes tick;
+    settled = truths m (handling_at m tick w).states (handling_at m tick w).discretes tick;
+  })) is,
+)

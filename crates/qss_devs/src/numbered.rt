@@ -1,0 +1,63 @@
+//! Integrators by their numbers.
+
+ghost use Rattle.std.specs.Prelude.{◌≡◌, ℕ, ◌<◌, ◌≤◌, length, All, List, Option, Some, None, slice_index_or, slice_set};
+ghost use Rattle.qss_quant.specs.declared.rule.Rule.{Rule};
+ghost use Rattle.qss_devs.specs.Messages.{IsMessage, IsTimely};
+ghost use Rattle.qss_devs.specs.Integrators.{IsLineNext};
+ghost use Rattle.qss_devs.specs.Models.{IsGivenLine};
+ghost use Rattle.qss_devs.specs.Places.{EachAt};
+ghost use Rattle.qss_devs.specs.Turns.{IsTurned};
+
+use crate::advance::least_advance;
+use crate::atomic::Atomic;
+use crate::integrator_model::IntegratorModel;
+use crate::message::Message;
+use crate::turn::{Turn, make_turn};
+use qss_machine::Machine;
+
+/// Gives a message to the integrator with a number, at a tick below 2^32 that is not before its last transition and not past its
+/// next one.
+pub fn tell_integrator(
+    m: &Machine,
+    integrators: &mut [IntegratorModel],
+    var: u32,
+    tick: u64,
+    msg: Message,
+)
+    requires known { var < length integrators.old }
+    requires machine { All (λ i. i.machine.value ≡ m.now) integrators.old }
+    requires timely { All (λ i. IsTimely i.line.tick
+        (IsLineNext i.machine.value i.var i.line) tick) integrators.old }
+    requires message { IsMessage m.now msg }
+    ensures { (t : _) × (integrators.new ≡ slice_set integrators.old var t)
+        × IsGivenLine (slice_index_or integrators.old var t) tick msg t }
+{
+    integrators[var as usize].external(tick, msg);
+}
+
+/// The integrator with a number makes its transition at a tick, if it has one there, unless the level that it would send is
+/// past its limit. The quantizers have a name.
+pub fn turn_integrator(integrators: &mut [IntegratorModel], var: u32, tick: u64) -> Turn
+    requires known { var < length integrators.old }
+    requires named { (rule : Rule)
+        × All (λ i. i.quantizer.value.name ≡ Some rule) integrators.old }
+    ensures { (t : _) × (integrators.new ≡ slice_set integrators.old var t)
+        × IsTurned (slice_index_or integrators.old var t) tick result t }
+{
+    make_turn(&mut integrators[var as usize], tick)
+}
+
+/// The least tick of the next transitions of integrators, or this one where none is earlier.
+pub fn least_leaving(integrators: &[IntegratorModel], until: u64) -> u64
+    ensures within { result ≤ until }
+    ensures not_past { All (λ i. (next : ℕ)
+        → IsLineNext i.machine.value i.var i.line (Some next) → result ≤ next) integrators.now }
+    ensures later { (tick : ℕ) → tick < until
+        → All (λ i. (next : ℕ) → IsLineNext i.machine.value i.var i.line (Some next)
+        → tick < next) integrators.now → tick < result }
+    ensures dues { (dues : List (Option ℕ)) × (length dues ≡ length integrators.now)
+        × EachAt (λ place i. IsLineNext i.machine.value i.var i.line
+        (slice_index_or dues place None)) integrators.now }
+{
+    least_advance(integrators, until)
+}

@@ -1,0 +1,38 @@
+-- The conditions of branches, clause by clause.
+use Rattle.std.proofs.Common.{◌≡◌, ℕ, zero, suc, ◌+◌, ◌-◌, ◌<◌, List, [], ◌∷◌, length, get_or, map, take, pos, ◌∙◌, ap, arith}
+use Rattle.std.proofs.lemmas.List.{get_or-map, get_or_append_left, get_or-append_right, length-map}
+use Rattle.std.proofs.lemmas.List.Sums.{sum_by-cons}
+use Rattle.std.specs.List.{flat_map, sum_by}
+use Rattle.qss_machine.specs.declared.parts.BranchInfo.{BranchInfo}
+use Rattle.qss_machine.specs.declared.parts.ClauseInfo.{ClauseInfo}
+use Rattle.qss_machine.specs.declared.parts.Condition.{Condition}
+use Rattle.qss_machine.specs.declared.parts.Rel.TheVariants.{Less}
+
+abbrev pub width_of : ClauseInfo → ℕ
+width_of clause = length clause.branches
+
+abbrev pub conditions_of : ClauseInfo → List Condition
+conditions_of clause = map (λ (b : BranchInfo). b.condition) clause.branches
+
+-- what stands past the end of branches
+abbrev pub no_branch : BranchInfo
+no_branch = record { condition = record { form = record { entries = []; time = pos 0; gamma = pos 0 }; rel = Less }; actions = [] }
+
+-- a condition by its clause and branch
+pub condition_by : (clauses : List ClauseInfo) (i b : ℕ) (d : ClauseInfo) (db : BranchInfo) (dc : Condition) → i < length clauses → b < width_of (get_or clauses i d) →
+    get_or (flat_map conditions_of clauses) (sum_by width_of (take i clauses) + b) dc ≡ (get_or (get_or clauses i d).branches b db).condition
+condition_by [] i b d db dc h k = absurd (omega (arith, h))
+condition_by (c ∷ cs) zero b d db dc h k =
+    let e : 0 + b ≡ b = omega arith in
+    let many = length-map c.branches (λ (x : BranchInfo). x.condition) in
+    ap (λ n. get_or (flat_map conditions_of (c ∷ cs)) n dc) e
+    ∙ get_or_append_left (conditions_of c) (flat_map conditions_of cs) dc b (omega (arith, k, many))
+    ∙ get_or-map (λ (x : BranchInfo). x.condition) c.branches b db dc k
+condition_by (c ∷ cs) (suc i) b d db dc h k =
+    let many = length-map c.branches (λ (x : BranchInfo). x.condition) in
+    let place : sum_by width_of (take (suc i) (c ∷ cs)) + b ≡ width_of c + (sum_by width_of (take i cs) + b) = omega (arith, sum_by-cons width_of c (take i cs)) in
+    let past : (width_of c + (sum_by width_of (take i cs) + b)) - width_of c ≡ sum_by width_of (take i cs) + b = omega arith in
+    ap (λ n. get_or (flat_map conditions_of (c ∷ cs)) n dc) place
+    ∙ get_or-append_right (conditions_of c) (flat_map conditions_of cs) (width_of c) (width_of c + (sum_by width_of (take i cs) + b)) dc many (omega arith)
+    ∙ ap (λ n. get_or (flat_map conditions_of cs) n dc) past
+    ∙ condition_by cs i b d db dc (omega (arith, h)) k
