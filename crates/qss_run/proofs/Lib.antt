@@ -31,6 +31,9 @@ pub mod Seats
 pub mod Assigned
 pub mod Reseating
 pub mod Weighed
+pub mod Terms
+pub mod Room
+pub mod Kept
 pub mod Reinitialized
 pub mod Reinits
 pub mod Arrivals

@@ -20,8 +20,9 @@ use Rattle.qss_quant.specs.declared.rule.Rule.{Rule}
 use Rattle.qss_quant.specs.Lines.{Line, state_at, IsNear, IsAway}
 use Rattle.qss_sched.specs.Ranks.{due_at}
 use Rattle.qss_run.specs.declared.store.Store.{Store}
+use Rattle.qss_run.specs.Kept.{AreWeights}
 use Rattle.qss_run.specs.Places.{line_at, watch_at, IsTurned, IsWatched}
-use Rattle.qss_quiet.specs.Sims.{slopes_of, weights_at, condition_at, IsDue, IsChange, rises, StandsFor}
+use Rattle.qss_quiet.specs.Sims.{slopes_of, condition_at, IsDue, IsChange, rises, StandsFor}
 use Rattle.qss_run.specs.Stores.{states_at, handling_from, world_of, FitsMachine, Stands}
 use Rattle.qss_quiet.proofs.Quiet.{int_at-tabulate, tabulate-same, tabulate-int_at, moved_is}
 use Rattle.qss_quiet.proofs.Silence.{from_later, line_state_at}
@@ -81,7 +82,7 @@ module _ (m : Machine) (tick : ℕ) (s : Store) (stands : Stands m tick s) where
 pub stands_again : (m : Machine) (t : ℕ) (s : Store) (x : List ℤ) → length x ≡ state_count m → FitsMachine m s → ((j : ℕ) → j < state_count m → IsWithin 43 (int_at s.levels.items j)) →
     position (is_overweight m s.levels.items s.work.d) m.rows ≡ None →
     s.slopes.items ≡ slopes_of m (world_of t s) →
-    s.weights.items ≡ weights_at m s.levels.items s.work.d →
+    AreWeights m s.levels.items s.work.d s.weights →
     ((j : ℕ) → j < state_count m → IsTurned m t (int_at x j) (int_at s.levels.items j) (slope_at m j s.levels.items s.work.d) j (line_at s.lines.items j) (due_at s.agenda j)) →
     s.conditions.settled.items ≡ truths m x s.work.d t →
     ((place : ℕ) → place < length (conditions m) → IsWatched m t x s.work.d s.slopes.items place (watch_at s.conditions.watches.items place) (due_at s.agenda (state_count m + place))) →

@@ -24,9 +24,14 @@ use Rattle.qss_quiet.proofs.Ranges.{none_passes}
 use Rattle.qss_quiet.proofs.Unread.{unread_at, unread_overweight}
 use Rattle.qss_quiet.proofs.LightRows.{row_is_light}
 
-by_modes : (b : Bool) (z weight : ℤ) → MatchBool b (z ≡ weight) (passes 88 z ≡ true) → passes 88 z ≡ (not b || passes 88 weight)
+pub by_modes : (b : Bool) (z weight : ℤ) → MatchBool b (z ≡ weight) (passes 88 z ≡ true) → passes 88 z ≡ (not b || passes 88 weight)
 by_modes true z weight e = ap (passes 88) e
 by_modes false z weight e = e
+
+-- a kept number that is not past the limit of weights is the weight
+pub weight_kept : (b : Bool) (z weight : ℤ) → MatchBool b (z ≡ weight) (passes 88 z ≡ true) → passes 88 z ≡ false → z ≡ weight
+weight_kept true z weight e below = e
+weight_kept false z weight e below = absurd (let no : true ≡ false = sym e ∙ below in cc)
 
 module _ (m : Machine) (moved assigned : List ℕ) (old levels pre d before after : List ℤ) (many : length levels ≡ state_count m) (many_pre : length pre ≡ discrete_count m) (many_d : length d ≡ discrete_count m)
     (are : AreAssigned m assigned pre d) (off : IsOff moved old levels) (light : position (is_overweight m old pre) m.rows ≡ None) (shifted : before ≡ weights_at m levels pre)

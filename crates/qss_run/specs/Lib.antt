@@ -5,6 +5,8 @@ pub mod Calls
 pub mod Moves
 pub mod Speeds
 pub mod Overweights
+pub mod Weighings
+pub mod Kept
 pub mod Turnings
 pub mod RowSums
 pub mod Touches

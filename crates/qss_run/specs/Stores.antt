@@ -14,8 +14,9 @@ use Rattle.qss_sched.specs.Ranks.{due_at, HasNone}
 use Rattle.qss_quiet.specs.declared.outcome.Outcome.{Outcome}
 use Rattle.qss_run.specs.declared.store.Store.{Store}
 use Rattle.qss_run.specs.Places.{line_at, watch_at, AreConditionsOf}
+use Rattle.qss_run.specs.Kept.{AreWeights}
 use Rattle.qss_run.specs.Moves.{AreDue, AreLookedAt, IsTakenOut}
-use Rattle.qss_quiet.specs.Sims.{slopes_of, weights_at, rises, StandsFor}
+use Rattle.qss_quiet.specs.Sims.{slopes_of, rises, StandsFor}
 
 -- the states to which lines lead at a tick
 abbrev pub states_at : List Line → ℕ → List ℤ
@@ -47,7 +48,7 @@ pub record FitsMachine (m : Machine) (s : Store) : Type 0 where
   pub levels : length s.levels.items ≡ state_count m
   pub slopes : length s.slopes.items ≡ state_count m
   pub fresh : length s.fresh.items ≡ state_count m
-  pub weights : length s.weights.items ≡ state_count m
+  pub weights : length s.weights.of_rows.items ≡ state_count m
   pub moved_room : state_count m ≤ vec_capacity s.moved
   pub changed_room : length (conditions m) ≤ vec_capacity s.changed
   pub fired_room : length (conditions m) ≤ vec_capacity s.fired
@@ -61,13 +62,13 @@ pub record FitsMachine (m : Machine) (s : Store) : Type 0 where
   pub work_room : row_room m.clauses ≤ s.work.room
   pub row_room : row_room m.clauses + state_count m + discrete_count m + 1 ≤ vec_capacity s.rows
 
--- a store stands for its world at a tick: it keeps the slopes and the weights there, each level twice, and whether a condition became true through the handlers; while it is calm no condition is on arrival other than after the handlers
+-- a store stands for its world at a tick: it keeps the slopes there, each level twice, the weights where they are needed, and whether a condition became true through the handlers; while it is calm no condition is on arrival other than after the handlers
 pub record Stands (m : Machine) (tick : ℕ) (s : Store) : Type 0 where
   pub fits : FitsMachine m s
   pub stands_for : StandsFor m tick (world_of tick s) (line_at s.lines.items) (watch_at s.conditions.watches.items) (due_at s.agenda)
   pub fresh_levels : s.fresh.items ≡ s.levels.items
   pub own_slopes : s.slopes.items ≡ slopes_of m (world_of tick s)
-  pub own_weights : s.weights.items ≡ weights_at m s.levels.items s.work.d
+  pub own_weights : AreWeights m s.levels.items s.work.d s.weights
   pub rising : s.rising ≡ rises (world_of tick s)
   pub calm : s.calm ≡ true → s.conditions.arrived.items ≡ s.conditions.settled.items
 

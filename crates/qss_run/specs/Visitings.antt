@@ -16,7 +16,7 @@ use Rattle.qss_sched.specs.Ranks.{due_at}
 use Rattle.qss_hand.specs.Values.{Values}
 use Rattle.qss_hand.specs.Works.{AreValuesOf}
 use Rattle.qss_quiet.specs.Among.{is_among, AreNumbers}
-use Rattle.qss_quiet.specs.Sims.{condition_at, weights_at, became_true, IsDue}
+use Rattle.qss_quiet.specs.Sims.{condition_at, became_true, IsDue}
 use Rattle.qss_run.specs.declared.shifts.RowSum.{RowSum}
 use Rattle.qss_run.specs.declared.shifts.RowSum.TheVariants.{Slope}
 use Rattle.qss_run.specs.declared.conditions.Conditions.{Conditions}
@@ -27,7 +27,9 @@ use Rattle.qss_run.specs.declared.visiting.Handled.{Handled}
 use Rattle.qss_run.specs.declared.visiting.HandledArrival.{HandledArrival}
 use Rattle.qss_run.specs.declared.visiting.Mode.{Mode}
 use Rattle.qss_run.specs.declared.visiting.NewLevels.{NewLevels}
+use Rattle.qss_run.specs.declared.weights.Weights.{Weights}
 use Rattle.qss_run.specs.Handlings.{AreDiscretes, AreAssigned, is_reinitialized, states_with}
+use Rattle.qss_run.specs.Kept.{AreWeights, AreWeightsBefore}
 use Rattle.qss_run.specs.Moments.{AreSlopesOf, AreWithin}
 use Rattle.qss_run.specs.Moves.{IsTakenFrom}
 use Rattle.qss_run.specs.Places.{AreConditionsOf, line_at, watch_at, IsWatched}
@@ -68,6 +70,11 @@ abbrev pub WereSums : RowSum → NewLevels → List ℤ → List ℤ → List Li
 WereSums kind at discretes sums lines =
     (old : List ℤ) × AreSumsBefore kind at.machine.now at.moved.now at.levels.now discretes sums lines old
 
+-- weights and lines of the levels before, at discrete values
+abbrev pub WereWeights : NewLevels → List ℤ → Weights → List Line → Type 0
+WereWeights at discretes weights lines =
+    (old : List ℤ) × AreWeightsBefore at.machine.now at.moved.now at.levels.now discretes weights lines old
+
 -- values of a machine's states and discrete variables after handlers, and of these before them, within the limits: only the assigned ones are others
 pub record AreHandled (m : Machine) (left : Handled) : Type 0 where
   pub assigned_known : AreDiscretes m left.assigned.now
@@ -96,12 +103,12 @@ pub record CanArrive (at : Arrival) (levels : List ℤ) : Type 0 where
       is_near at.machine.now j (state_at (line_at at.lines.now j) at.tick) (int_at levels j) ≡ true
 
 -- levels of a machine's states that the lines have, within their limit, the same once more, and the weights of all rows there and at discrete values, none past its limit
-pub record HoldsLevels (m : Machine) (lines : List Line) (d levels_old fresh_old weights_old : List ℤ) : Type 0 where
+pub record HoldsLevels (m : Machine) (lines : List Line) (d levels_old fresh_old : List ℤ) (weights_old : Weights) : Type 0 where
   pub levels : length levels_old ≡ state_count m
   pub fresh : fresh_old ≡ levels_old
   pub small_levels : All (IsWithin 43) levels_old
   pub light : position (is_overweight m levels_old d) m.rows ≡ None
-  pub weights : weights_old ≡ weights_at m levels_old d
+  pub weights : AreWeights m levels_old d weights_old
   pub own_levels : (j : ℕ) → j < state_count m → (line_at lines j).level ≡ int_at levels_old j
 
 -- a machine's readers, a line of each state, numbers of states and of discrete variables, and values within the limits of which only those were assigned
@@ -180,7 +187,7 @@ pub record CanGoOnHandled (m : Machine) (tick : ℕ) (s : Store) : Type 0 where
   pub small_states : All (IsWithin 88) (states_with s.lines.items tick s.moved.items s.work.x)
   pub small_levels : All (IsWithin 43) s.levels.items
   pub light : position (is_overweight m s.levels.items s.work.d) m.rows ≡ None
-  pub weights : s.weights.items ≡ weights_at m s.levels.items s.work.d
+  pub weights : AreWeights m s.levels.items s.work.d s.weights
   pub fresh_levels : s.fresh.items ≡ s.levels.items
   pub in_time : tick < 2 ^ 32
   pub later : (j : ℕ) → j < state_count m → (line_at s.lines.items j).tick ≤ tick

@@ -127,7 +127,7 @@ pub(crate) fn visit_changed<L: Ledger>(
         q,
         s.levels.as_mut_slice(),
         s.fresh.as_mut_slice(),
-        s.weights.as_mut_slice(),
+        &mut s.weights,
         &mut s.rows,
     );
     if over.is_some() {

@@ -2,6 +2,7 @@
 #![tactic(auto)]
 
 mod advance;
+mod bounds;
 mod calm;
 mod conditions;
 mod course;
@@ -35,6 +36,7 @@ mod visiting;
 mod watches;
 mod watching;
 mod weighing;
+mod weights;
 
 pub use course::Course;
 pub use qss_quiet::Outcome;

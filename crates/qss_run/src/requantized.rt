@@ -10,12 +10,12 @@ ghost use Rattle.qss_machine.specs.Ticks.{AreNextLevels, is_overweight};
 ghost use Rattle.qss_run.specs.Handlings.{AreMovedTo};
 ghost use Rattle.qss_quiet.specs.Among.{IsOff};
 ghost use Rattle.qss_quiet.specs.Rules.{IsRuled};
-ghost use Rattle.qss_quiet.specs.Sims.{weights_at};
+ghost use Rattle.qss_run.specs.Kept.{AreWeights};
 ghost use Rattle.qss_run.specs.Visitings.{HoldsLevels, IsHandledArrival};
 
 use crate::relevel::requantize_states;
 use crate::visiting::{Arrival, Handled, HandledArrival, NewLevels};
-use crate::weighing::reweigh_handled;
+use crate::weights::Weights;
 use qss_machine::Row;
 use qss_quant::Quantizer;
 
@@ -38,7 +38,7 @@ pub(crate) fn requantize_handled(
     q: &Quantizer,
     levels: &mut [i64],
     fresh: &mut [i128],
-    weights: &mut [i128],
+    weights: &mut Weights,
     rows: &mut Vec<Row>,
 ) -> Option<u32>
     requires ready { IsHandledArrival at.now }
@@ -56,7 +56,7 @@ pub(crate) fn requantize_handled(
     ensures levels { result ≡ None → levels.new ≡ fresh.new }
     ensures small { result ≡ None → All (IsWithin 43) levels.new }
     ensures weights { result ≡ None
-        → weights.new ≡ weights_at at.now.machine.now levels.new at.now.work.now.d }
+        → AreWeights at.now.machine.now levels.new at.now.work.now.d weights.new }
     ensures rows { result ≡ None
         → (states : List ℤ)
         → AreMovedTo at.now.machine.now at.now.moved.now at.now.work.now.x levels.old states
@@ -93,5 +93,5 @@ pub(crate) fn requantize_handled(
         before: pre,
         discretes: d,
     };
-    reweigh_handled(&new, &left, at.lines, weights)
+    weights.follow_handled(&new, &left, at.lines)
 }

@@ -11,11 +11,11 @@ ghost use Rattle.qss_machine.specs.Runs.{level_rows, tick_rows};
 ghost use Rattle.qss_quant.specs.Lines.{state_at};
 ghost use Rattle.qss_sched.specs.Ranks.{due_at};
 ghost use Rattle.qss_quiet.specs.Among.{is_among, IsOff};
+ghost use Rattle.qss_run.specs.Kept.{AreWeights};
 ghost use Rattle.qss_run.specs.Moments.{AreWithin};
 ghost use Rattle.qss_run.specs.Places.{AreConditionsOf, AreWatched, HasPlaces, line_at, IsTurned};
 ghost use Rattle.qss_run.specs.Renewals.{renewals};
 ghost use Rattle.qss_quiet.specs.Rules.{IsRuled};
-ghost use Rattle.qss_quiet.specs.Sims.{weights_at};
 ghost use Rattle.qss_run.specs.Stores.{states_at, world_of, Stands, IsTaken};
 ghost use Rattle.qss_run.specs.Touches.{touches_at};
 ghost use Rattle.qss_run.specs.Visitings.{CanArrive, CanReslope, HoldsLevels, new_slopes};
@@ -26,7 +26,7 @@ use crate::relevel::requantize_due;
 use crate::store::Store;
 use crate::turned::reslope_of;
 use crate::visiting::{Arrival, NewLevels};
-use crate::weighing::reweigh_of;
+use crate::weights::Weights;
 use qss_hand::Work;
 use qss_machine::{Machine, Row};
 use qss_quant::{Integrator, Quantizer, Steps};
@@ -80,7 +80,7 @@ fn requantize_moved(
     work: &mut Work,
     levels: &mut [i64],
     fresh: &mut [i128],
-    weights: &mut [i128],
+    weights: &mut Weights,
     rows: &mut Vec<Row>,
 ) -> Option<u32>
     requires ready { CanArrive at.now levels.old }
@@ -99,7 +99,7 @@ fn requantize_moved(
     ensures levels { result ≡ None → levels.new ≡ fresh.new }
     ensures small { result ≡ None → All (IsWithin 43) levels.new }
     ensures weights { result ≡ None
-        → weights.new ≡ weights_at at.now.machine.now levels.new work.old.d }
+        → AreWeights at.now.machine.now levels.new work.old.d weights.new }
     ensures rows { result ≡ None
         → rows.new.items ≡ level_rows at.now.tick levels.old levels.new
         (states_at at.now.lines.now at.now.tick) }
@@ -121,7 +121,7 @@ fn requantize_moved(
         levels,
     };
     let d = work.d.as_slice();
-    reweigh_of(&new, d, at.lines, weights)
+    weights.follow(&new, d, at.lines)
 }
 
 // The moved states and those whose rows read one of them go on from a tick at their new slopes, and the conditions that
@@ -200,7 +200,7 @@ pub(crate) fn visit_due<L: Ledger>(
         &mut s.work,
         s.levels.as_mut_slice(),
         s.fresh.as_mut_slice(),
-        s.weights.as_mut_slice(),
+        &mut s.weights,
         &mut s.rows,
     );
     if over.is_some() {

@@ -21,7 +21,7 @@ use crate::conditions::{BranchPlace, Conditions};
 use crate::ends::set_world_rows;
 use crate::moment::Point;
 use crate::store::Store;
-use crate::weighing::weigh_all;
+use crate::weights::Weights;
 use qss_cross::Detector;
 use qss_hand::Work;
 use qss_machine::{Machine, Rel, Row, RowKind, Uses};
@@ -158,7 +158,11 @@ fn blank_store(alloc: Global, m: &Machine) -> Result<Store, AllocError>
         fresh: levels_again(alloc, levels.as_slice())?,
         levels,
         slopes: copies(alloc, 0, states)?,
-        weights: copies(alloc, 0, states)?,
+        weights: Weights {
+            bound: 0,
+            kept: false,
+            of_rows: copies(alloc, 0, states)?,
+        },
         moved,
         changed,
         fired,
@@ -309,7 +313,7 @@ fn begin(m: &Machine, s: &mut Store)
     );
     let work = &s.work;
     let d = work.d.as_slice();
-    weigh_all(m, s.levels.as_slice(), d, s.weights.as_mut_slice());
+    s.weights.start(m, s.levels.as_slice(), d);
     start_rows(&s.work, s.levels.as_slice(), &mut s.rows);
 }
 

@@ -15,6 +15,7 @@ ghost use Rattle.qss_run.specs.Visitings.{AreNewLevels, AreHandled, first_overwe
 use crate::readers::least_reader;
 use crate::shifts::{RowSum, shift_sums};
 use crate::visiting::{Handled, NewLevels};
+use mu_num::passes;
 use qss_machine::{Machine, Uses};
 use qss_quant::Integrator;
 
@@ -121,7 +122,33 @@ pub(crate) fn reweigh_handled(
     least_reader(at.uses, left.assigned, weights, least)
 }
 
-/// The weights of all rows.
+/// The weights of all rows, whatever their limits. It gives the least row past them, if one is; the weights are good for nothing
+/// then.
+pub(crate) fn weigh_every(
+    m: &Machine,
+    levels: &[i64],
+    d: &[i64],
+    weights: &mut [i128],
+) -> Option<u32>
+    requires levels { length levels.now ≡ state_count m.now }
+    requires discretes { length d.now ≡ discrete_count m.now }
+    requires weights { length weights.old ≡ state_count m.now }
+    requires small_levels { All (IsWithin 43) levels.now }
+    requires small_discretes { All (IsWithin 43) d.now }
+    ensures over { result ≡ position (is_overweight m.now levels.now d.now) m.now.rows }
+    ensures weights { result ≡ None → weights.new ≡ weights_at m.now levels.now d.now }
+{
+    for row in 0..weights.len() {
+        let weight = weigh_row(m, row as u32, levels, d);
+        if passes(weight, 88) {
+            return Some(row as u32);
+        }
+        weights[row] = weight;
+    }
+    None
+}
+
+/// The weights of all rows, none past its limits.
 pub(crate) fn weigh_all(m: &Machine, levels: &[i64], d: &[i64], weights: &mut [i128])
     requires levels { length levels.now ≡ state_count m.now }
     requires discretes { length d.now ≡ discrete_count m.now }

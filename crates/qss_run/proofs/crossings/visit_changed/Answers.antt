@@ -24,8 +24,9 @@ use Rattle.qss_quiet.specs.Among.{is_among, AreNumbers, IsOff}
 use Rattle.qss_run.specs.Places.{line_at, watch_at, IsWatched}
 use Rattle.qss_run.specs.Renewals.{renewals_from}
 use Rattle.qss_quiet.specs.Rules.{IsRuled}
-use Rattle.qss_quiet.specs.Sims.{condition_at, weights_at}
+use Rattle.qss_quiet.specs.Sims.{condition_at}
 use Rattle.qss_quiet.proofs.Overs.{not_some, all_within}
+use Rattle.qss_run.specs.Kept.{AreWeights}
 use Rattle.qss_run.specs.Stores.{states_at, handling_from, world_of}
 use Rattle.qss_run.specs.Touches.{touches_at}
 use Rattle.qss_run.proofs.AfterHandlers.{same_worlds}
@@ -141,8 +142,8 @@ requantize_handled-over-requires-clause-held g c =
       small_levels = subst (All (IsWithin 43)) (sym c.as_mut_slice.ensures.value) (levels_small m c.args.tick (record s { agenda = agenda }) stands);
       light = ap (λ l. position (is_overweight m l new.pre) m.rows) c.as_mut_slice.ensures.value
           ∙ ap (λ p. position (is_overweight m s.levels.items p) m.rows) of_pre ∙ stands.stands_for.left.light;
-      weights = c.as_mut_slice-3.ensures.value ∙ stands.own_weights ∙ ap (λ l. weights_at m l s.work.d) (sym c.as_mut_slice.ensures.value)
-          ∙ ap (λ p. weights_at m c.as_mut_slice.result.now p) (sym of_pre);
+      weights = subst (λ p. AreWeights m c.as_mut_slice.result.now p s.weights) (sym of_pre)
+          (subst (λ l. AreWeights m l s.work.d s.weights) (sym c.as_mut_slice.ensures.value) stands.own_weights);
       own_levels = λ j inside.
           ap (λ ls. (line_at ls j).level) c.as_slice-3.ensures.value ∙ (stands.stands_for.lines j inside).own_level ∙ ap (λ l. int_at l j) (sym c.as_mut_slice.ensures.value);
     }
@@ -255,7 +256,7 @@ go_on_handled-requires g c =
         levels = same_length s.levels c.requantize_handled-over.new.levels ∙ fits.levels;
         slopes = fits.slopes;
         fresh = same_length s.fresh c.requantize_handled-over.new.fresh ∙ fits.fresh;
-        weights = same_length s.weights c.requantize_handled-over.new.weights ∙ fits.weights;
+        weights = (c.requantize_handled-over.ensures.weights fine).as_many;
         moved_room = omega (arith, c.handle-over.ensures.moved_room, fits.moved_room);
         changed_room = fits.changed_room;
         fired_room = omega (arith, c.handle-over.ensures.fired_room, fits.fired_room);
@@ -284,8 +285,7 @@ go_on_handled-requires g c =
       small_states = subst (All (IsWithin 88)) handled.own_states handled.small;
       small_levels = subst (All (IsWithin 43)) (sym of_levels) (c.requantize_handled-over.ensures.small fine);
       light = ap (λ l. position (is_overweight m l new.d) m.rows) are_fresh ∙ ap (λ d. position (is_overweight m fresh d) m.rows) of_d ∙ none_both.1;
-      weights = with_items_is s.weights c.requantize_handled-over.new.weights (c.requantize_handled-over.auto.weights ∙ c.as_mut_slice-3.ensures.len)
-          ∙ c.requantize_handled-over.ensures.weights fine ∙ ap (λ l. weights_at m l new.d) (sym of_levels);
+      weights = subst (λ l. AreWeights m l new.d c.requantize_handled-over.new.weights) (sym of_levels) (c.requantize_handled-over.ensures.weights fine);
       fresh_levels = with_items_is s.fresh fresh (c.requantize_handled-over.auto.fresh ∙ c.as_mut_slice-2.ensures.len) ∙ sym are_fresh;
       in_time = omega (arith, c.requires.in_time, m.has_units.last_tick);
       later = λ j inside. omega (arith, earlier m c.args.tick agenda s taken c.requires.in_time j inside);

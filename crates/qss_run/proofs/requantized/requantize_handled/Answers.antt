@@ -7,12 +7,12 @@ use Rattle.qss_hand.specs.Values.{Values}
 use Rattle.qss_machine.specs.Ticks.{is_overweight}
 use Rattle.qss_run.specs.Handlings.{AreAssigned}
 use Rattle.qss_quiet.specs.Among.{IsOff}
-use Rattle.qss_quiet.specs.Sims.{weights_at}
 use Rattle.qss_quiet.proofs.Overs.{not_some}
+use Rattle.qss_run.specs.Kept.{AreWeights}
 use Rattle.qss_run.proofs.requantized.requantize_handled.Goals as goal
 
-pub reweigh_handled-requires-clause-left : goal.reweigh_handled-requires-clause-left
-reweigh_handled-requires-clause-left g c =
+pub follow_handled-requires-clause-left : goal.follow_handled-requires-clause-left
+follow_handled-requires-clause-left g c =
     let m = c.args.at.now.machine.now in
     let fits = c.requires.ready.fits in
     let of_x : c.as_slice-x.result.now ≡ c.args.at.now.work.now.x = c.as_slice-x.ensures.value ∙ ap (λ (v : Values). v.x) c.work.view_is in
@@ -30,8 +30,8 @@ reweigh_handled-requires-clause-left g c =
       small_discretes = subst (All (IsWithin 43)) (sym of_d) fits.small_discretes;
     }
 
-pub reweigh_handled-requires-clause-before : goal.reweigh_handled-requires-clause-before
-reweigh_handled-requires-clause-before g c =
+pub follow_handled-requires-clause-before : goal.follow_handled-requires-clause-before
+follow_handled-requires-clause-before g c =
     let m = c.args.at.now.machine.now in
     let old : List ℤ = c.args.levels.now in
     let none : c.requantize_states-over.result ≡ None = not_some c.requantize_states-over.result (sym c.is_some.ensures ∙ c.if-is_some.false) in
@@ -41,7 +41,7 @@ reweigh_handled-requires-clause-before g c =
         off = subst (IsOff c.args.at.now.moved.now old) (sym (c.requantize_states-over.ensures.levels none)) c.requantize_states-over.ensures.others;
         small = c.requires.held.small_levels;
         light = subst (λ (d : List ℤ). position (is_overweight m old d) m.rows ≡ None) (sym pre) c.requires.held.light;
-        own_sums = c.requires.held.weights ∙ ap (weights_at m old) (sym pre);
+        own = subst (λ (d : List ℤ). AreWeights m old d c.args.weights.now) (sym pre) c.requires.held.weights;
         own_levels = c.requires.held.own_levels;
       },
     )

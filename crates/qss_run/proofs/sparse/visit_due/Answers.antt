@@ -22,8 +22,9 @@ use Rattle.qss_quiet.specs.Among.{is_among, AreNumbers, IsOff}
 use Rattle.qss_run.specs.Places.{line_at, watch_at, IsTurned, IsWatched}
 use Rattle.qss_run.specs.Renewals.{renewals}
 use Rattle.qss_quiet.specs.Rules.{IsRuled}
-use Rattle.qss_quiet.specs.Sims.{weights_at, IsDue}
+use Rattle.qss_quiet.specs.Sims.{IsDue}
 use Rattle.qss_quiet.proofs.Overs.{not_some, clash, all_within}
+use Rattle.qss_run.specs.Kept.{AreWeights}
 use Rattle.qss_run.specs.Stores.{states_at, world_of, FitsMachine}
 use Rattle.qss_run.specs.Touches.{touches_at}
 use Rattle.qss_run.proofs.OwnConditions.{arrived_anew}
@@ -75,7 +76,7 @@ requantize_moved-over-requires-clause-held g c =
       fresh = c.as_mut_slice-2.ensures.value ∙ stands.fresh_levels ∙ sym c.as_mut_slice.ensures.value;
       small_levels = subst (All (IsWithin 43)) (sym c.as_mut_slice.ensures.value) (levels_small m c.args.tick (record s { agenda = c.requires.taken.0 }) stands);
       light = ap (λ l. position (is_overweight m l s.work.d) m.rows) c.as_mut_slice.ensures.value ∙ stands.stands_for.left.light;
-      weights = c.as_mut_slice-3.ensures.value ∙ stands.own_weights ∙ ap (λ l. weights_at m l s.work.d) (sym c.as_mut_slice.ensures.value);
+      weights = subst (λ l. AreWeights m l s.work.d s.weights) (sym c.as_mut_slice.ensures.value) stands.own_weights;
       own_levels = λ j inside.
           ap (λ ls. (line_at ls j).level) c.as_slice.ensures.value ∙ (stands.stands_for.lines j inside).own_level ∙ ap (λ l. int_at l j) (sym c.as_mut_slice.ensures.value);
     }
@@ -125,7 +126,7 @@ go_on_moved-requires-clause-small_states g c =
     let levels : c.as_slice-4.result.now ≡ fresh =
     c.as_slice-4.ensures.value ∙ with_items_is s.levels c.requantize_moved-over.new.levels many ∙ c.requantize_moved-over.ensures.levels calm in
     let of_d : c.requantize_moved-over.new.work.d ≡ s.work.d = ap (λ (v : Values). v.d) c.requantize_moved-over.ensures.work in
-    subst (λ ls. All (IsWithin 88) (states_at ls t)) (sym c.as_mut_slice-5.ensures.value) (all_within 88 x none_both.0)
+    subst (λ ls. All (IsWithin 88) (states_at ls t)) (sym c.as_mut_slice-4.ensures.value) (all_within 88 x none_both.0)
 
 pub go_on_moved-requires-clause-ready : goal.go_on_moved-requires-clause-ready
 go_on_moved-requires-clause-ready g c =
@@ -163,8 +164,8 @@ go_on_moved-requires-clause-ready g c =
       };
       discretes = ap length of_d ∙ fits.discretes;
       small_discretes = subst (All (IsWithin 43)) (sym of_d) fits.small_discretes;
-      slopes = ap length c.as_mut_slice-4.ensures.value ∙ fits.slopes;
-      lines = ap length c.as_mut_slice-5.ensures.value ∙ fits.lines;
+      slopes = ap length c.as_mut_slice-3.ensures.value ∙ fits.slopes;
+      lines = ap length c.as_mut_slice-4.ensures.value ∙ fits.lines;
       places = omega (arith, taken.without.as_many, fits.places);
       light = ap (λ l. position (is_overweight m l c.requantize_moved-over.new.work.d) m.rows) levels
           ∙ ap (λ d. position (is_overweight m fresh d) m.rows) of_d
@@ -172,31 +173,31 @@ go_on_moved-requires-clause-ready g c =
       in_time = omega (arith, c.requires.in_time, m.has_units.last_tick);
       earlier = λ j inside.
           let not_later = (taken.stands.stands_for.lines j inside).not_later in
-          omega (arith, ap (λ ls. (line_at ls j).tick) c.as_mut_slice-5.ensures.value, not_later);
+          omega (arith, ap (λ ls. (line_at ls j).tick) c.as_mut_slice-4.ensures.value, not_later);
       small_states = λ j inside.
-          subst (λ ls. IsWithin 88 (state_at (line_at ls j) t)) (sym c.as_mut_slice-5.ensures.value)
+          subst (λ ls. IsWithin 88 (state_at (line_at ls j) t)) (sym c.as_mut_slice-4.ensures.value)
           (state_within s.lines.items t j (omega (arith, inside, fits.lines)) (all_within 88 x none_both.0));
       near = λ j inside.
-          subst (λ ls. IsNear (level_unit m) (state_at (line_at ls j) t) (int_at c.as_slice-4.result.now j) (quantum_of m j (int_at c.as_slice-4.result.now j))) (sym c.as_mut_slice-5.ensures.value)
+          subst (λ ls. IsNear (level_unit m) (state_at (line_at ls j) t) (int_at c.as_slice-4.result.now j) (quantum_of m j (int_at c.as_slice-4.result.now j))) (sym c.as_mut_slice-4.ensures.value)
           (subst (λ l. IsNear (level_unit m) (state_at (line_at s.lines.items j) t) (int_at l j) (quantum_of m j (int_at l j))) (sym levels)
           (near m c.args.tick agenda s taken c.requires.in_time c.args.q.now.name fresh (allowed none_both.0) j inside));
       before = (
         s.levels.items,
-        subst (λ js. AreSumsBefore Slope m js c.as_slice-4.result.now c.requantize_moved-over.new.work.d c.as_mut_slice-4.result.now c.as_mut_slice-5.result.now s.levels.items) (sym c.as_slice-3.ensures.value)
-            (subst (λ l. AreSumsBefore Slope m s.moved.items l c.requantize_moved-over.new.work.d c.as_mut_slice-4.result.now c.as_mut_slice-5.result.now s.levels.items) (sym levels)
-            (subst (λ d. AreSumsBefore Slope m s.moved.items fresh d c.as_mut_slice-4.result.now c.as_mut_slice-5.result.now s.levels.items) (sym of_d)
-            (subst (λ v. AreSumsBefore Slope m s.moved.items fresh s.work.d v c.as_mut_slice-5.result.now s.levels.items) (sym c.as_mut_slice-4.ensures.value)
-            (subst (λ ls. AreSumsBefore Slope m s.moved.items fresh s.work.d s.slopes.items ls s.levels.items) (sym c.as_mut_slice-5.ensures.value)
+        subst (λ js. AreSumsBefore Slope m js c.as_slice-4.result.now c.requantize_moved-over.new.work.d c.as_mut_slice-3.result.now c.as_mut_slice-4.result.now s.levels.items) (sym c.as_slice-3.ensures.value)
+            (subst (λ l. AreSumsBefore Slope m s.moved.items l c.requantize_moved-over.new.work.d c.as_mut_slice-3.result.now c.as_mut_slice-4.result.now s.levels.items) (sym levels)
+            (subst (λ d. AreSumsBefore Slope m s.moved.items fresh d c.as_mut_slice-3.result.now c.as_mut_slice-4.result.now s.levels.items) (sym of_d)
+            (subst (λ v. AreSumsBefore Slope m s.moved.items fresh s.work.d v c.as_mut_slice-4.result.now s.levels.items) (sym c.as_mut_slice-3.ensures.value)
+            (subst (λ ls. AreSumsBefore Slope m s.moved.items fresh s.work.d s.slopes.items ls s.levels.items) (sym c.as_mut_slice-4.ensures.value)
             (levels_before m c.args.tick agenda s taken c.requires.in_time fresh off))))),
       );
       own_slope = λ j inside.
-          ap (λ ls. (line_at ls j).slope) c.as_mut_slice-5.ensures.value
+          ap (λ ls. (line_at ls j).slope) c.as_mut_slice-4.ensures.value
           ∙ own_slope m c.args.tick agenda s taken c.requires.in_time j inside
-          ∙ ap (λ l. int_at l j) (sym c.as_mut_slice-4.ensures.value);
+          ∙ ap (λ l. int_at l j) (sym c.as_mut_slice-3.ensures.value);
       due = λ j inside own.
-          subst (λ ls. IsDue m t j (line_at ls j) (due_at s.agenda j)) (sym c.as_mut_slice-5.ensures.value)
+          subst (λ ls. IsDue m t j (line_at ls j) (due_at s.agenda j)) (sym c.as_mut_slice-4.ensures.value)
           (kept_due m c.args.tick agenda s taken c.requires.in_time c.args.q.now.name fresh (allowed none_both.0) j inside
-          (ap (λ ls. (line_at ls j).level) (sym c.as_mut_slice-5.ensures.value) ∙ own ∙ ap (λ l. int_at l j) levels));
+          (ap (λ ls. (line_at ls j).level) (sym c.as_mut_slice-4.ensures.value) ∙ own ∙ ap (λ l. int_at l j) levels));
     }
 
 pub go_on_moved-requires-clause-watched : goal.go_on_moved-requires-clause-watched
@@ -223,8 +224,8 @@ go_on_moved-requires-clause-watched g c place inside =
     let levels : c.as_slice-4.result.now ≡ fresh =
     c.as_slice-4.ensures.value ∙ with_items_is s.levels c.requantize_moved-over.new.levels many ∙ c.requantize_moved-over.ensures.levels calm in
     let of_d : c.requantize_moved-over.new.work.d ≡ s.work.d = ap (λ (v : Values). v.d) c.requantize_moved-over.ensures.work in
-    subst (λ ls. IsWatched m t (states_at ls t) c.requantize_moved-over.new.work.d c.as_mut_slice-4.result.now place (watch_at s.conditions.watches.items place) (due_at s.agenda (state_count m + place))) (sym c.as_mut_slice-5.ensures.value)
-    (subst (λ v. IsWatched m t x c.requantize_moved-over.new.work.d v place (watch_at s.conditions.watches.items place) (due_at s.agenda (state_count m + place))) (sym c.as_mut_slice-4.ensures.value)
+    subst (λ ls. IsWatched m t (states_at ls t) c.requantize_moved-over.new.work.d c.as_mut_slice-3.result.now place (watch_at s.conditions.watches.items place) (due_at s.agenda (state_count m + place))) (sym c.as_mut_slice-4.ensures.value)
+    (subst (λ v. IsWatched m t x c.requantize_moved-over.new.work.d v place (watch_at s.conditions.watches.items place) (due_at s.agenda (state_count m + place))) (sym c.as_mut_slice-3.ensures.value)
     (subst (λ d. IsWatched m t x d s.slopes.items place (watch_at s.conditions.watches.items place) (due_at s.agenda (state_count m + place))) (sym of_d)
     (watched m c.args.tick agenda s taken c.requires.in_time c.requires.none_changes place inside)))
 
@@ -276,7 +277,7 @@ returns g c =
       slopes = with_items s.slopes c.go_on_moved.new.slopes;
       lines = with_items s.lines c.go_on_moved.new.lines;
       fresh = with_items s.fresh fresh;
-      weights = with_items s.weights c.requantize_moved-over.new.weights;
+      weights = c.requantize_moved-over.new.weights;
       calm = c.catch_up.new.calm;
       agenda = c.go_on_moved.new.agenda;
       work = c.requantize_moved-over.new.work;
@@ -289,7 +290,7 @@ returns g c =
       levels = same_length s.levels c.requantize_moved-over.new.levels ∙ fits.levels;
       slopes = same_length s.slopes c.go_on_moved.new.slopes ∙ fits.slopes;
       fresh = same_length s.fresh fresh ∙ fits.fresh;
-      weights = same_length s.weights c.requantize_moved-over.new.weights ∙ fits.weights;
+      weights = (c.requantize_moved-over.ensures.weights calm).as_many;
       moved_room = fits.moved_room;
       changed_room = fits.changed_room;
       fired_room = fits.fired_room;
@@ -303,8 +304,8 @@ returns g c =
       work_room = omega (arith, ap (λ (v : Values). v.room) work, fits.work_room);
       row_room = omega (arith, c.requantize_moved-over.ensures.room, fits.row_room);
     } in
-    let of_slopes : next.slopes.items ≡ c.go_on_moved.new.slopes = with_items_is s.slopes c.go_on_moved.new.slopes (c.go_on_moved.auto.slopes ∙ c.as_mut_slice-4.ensures.len) in
-    let of_lines : next.lines.items ≡ c.go_on_moved.new.lines = with_items_is s.lines c.go_on_moved.new.lines (c.go_on_moved.auto.lines ∙ c.as_mut_slice-5.ensures.len) in
+    let of_slopes : next.slopes.items ≡ c.go_on_moved.new.slopes = with_items_is s.slopes c.go_on_moved.new.slopes (c.go_on_moved.auto.slopes ∙ c.as_mut_slice-3.ensures.len) in
+    let of_lines : next.lines.items ≡ c.go_on_moved.new.lines = with_items_is s.lines c.go_on_moved.new.lines (c.go_on_moved.auto.lines ∙ c.as_mut_slice-4.ensures.len) in
     let of_arrived : next.conditions.arrived.items ≡ s.conditions.settled.items =
     with_items_is own.arrived c.catch_up.new.arrived (c.catch_up.auto.arrived ∙ c.as_mut_slice-arrived.ensures.len) ∙ c.catch_up.ensures.arrived ∙ c.as_slice-settled.ensures.value ∙ own_settled in
     let own_levels : next.levels.items ≡ c.as_slice-4.result.now = sym c.as_slice-4.ensures.value in
@@ -320,19 +321,17 @@ returns g c =
     (c.requantize_moved-over.ensures.small calm j (pos 0) (omega (arith, inside, many, s.levels.ok.0, fits.levels))))
     light
     (of_slopes ∙ c.go_on_moved.ensures.slopes ∙ ap (λ l. tabulate (state_count m) (λ j. slope_at m j l next.work.d)) (sym own_levels))
-    (with_items_is s.weights c.requantize_moved-over.new.weights (c.requantize_moved-over.auto.weights ∙ c.as_mut_slice-3.ensures.len)
-    ∙ c.requantize_moved-over.ensures.weights calm
-    ∙ ap (λ d. weights_at m c.requantize_moved-over.new.levels d) (sym of_d)
-    ∙ ap (λ l. weights_at m l next.work.d) (sym (own_levels ∙ levels ∙ sym (c.requantize_moved-over.ensures.levels calm))))
+    (subst (λ l. AreWeights m l next.work.d next.weights) (sym (own_levels ∙ levels ∙ sym (c.requantize_moved-over.ensures.levels calm)))
+    (subst (λ d. AreWeights m c.requantize_moved-over.new.levels d next.weights) (sym of_d) (c.requantize_moved-over.ensures.weights calm)))
     (λ j inside.
     subst (λ ls. IsTurned m t (int_at x j) (int_at next.levels.items j) (slope_at m j next.levels.items next.work.d) j (line_at ls j) (due_at next.agenda j)) (sym of_lines)
     (subst (λ l. IsTurned m t (int_at x j) (int_at l j) (slope_at m j l next.work.d) j (line_at c.go_on_moved.new.lines j) (due_at next.agenda j)) (sym own_levels)
     (subst (λ y. IsTurned m t y (int_at c.as_slice-4.result.now j) (slope_at m j c.as_slice-4.result.now next.work.d) j (line_at c.go_on_moved.new.lines j) (due_at next.agenda j))
-    (ap (λ ls. state_at (line_at ls j) t) c.as_mut_slice-5.ensures.value ∙ sym (leads m c.args.tick agenda s taken c.requires.in_time j inside)) (c.go_on_moved.ensures.lines j inside))))
+    (ap (λ ls. state_at (line_at ls j) t) c.as_mut_slice-4.ensures.value ∙ sym (leads m c.args.tick agenda s taken c.requires.in_time j inside)) (c.go_on_moved.ensures.lines j inside))))
     (own_settled ∙ settled)
     (λ place inside.
     subst (λ sl. IsWatched m t x next.work.d sl place (watch_at own.watches.items place) (due_at next.agenda (state_count m + place))) (sym of_slopes)
-    (subst (λ ls. IsWatched m t (states_at ls t) next.work.d c.go_on_moved.new.slopes place (watch_at own.watches.items place) (due_at next.agenda (state_count m + place))) c.as_mut_slice-5.ensures.value
+    (subst (λ ls. IsWatched m t (states_at ls t) next.work.d c.go_on_moved.new.slopes place (watch_at own.watches.items place) (due_at next.agenda (state_count m + place))) c.as_mut_slice-4.ensures.value
     (c.go_on_moved.ensures.watches place inside)))
     (not_rising m c.args.tick agenda s taken c.requires.in_time c.requires.none_changes ∙ sym (none_rises_then (world_of c.args.tick s) (world_of t next) of_arrived own_settled))
     (rising m c.args.tick agenda s taken c.requires.in_time c.requires.none_changes next.agenda
@@ -351,8 +350,8 @@ returns g c =
     ∙ ap (λ (b : List Bool). record { states = x; levels = fresh; discretes = s.work.d; arrived = truths m (moved_states m w) s.work.d t; settled = b })
     (own_settled ∙ same_truths m c.args.tick agenda s taken c.requires.in_time c.requires.none_changes) in
     let counted : c.go_on_moved.new.steps ≡ c.args.steps.now + renewals (state_count m) next.levels.items c.go_on_moved.new.slopes s.lines.items =
-    subst (λ ls. c.go_on_moved.new.steps ≡ c.args.steps.now + renewals (state_count m) next.levels.items c.go_on_moved.new.slopes ls) c.as_mut_slice-5.ensures.value
-    (subst (λ l. c.go_on_moved.new.steps ≡ c.args.steps.now + renewals (state_count m) l c.go_on_moved.new.slopes c.as_mut_slice-5.result.now) (sym own_levels) c.go_on_moved.ensures.counted) in
+    subst (λ ls. c.go_on_moved.new.steps ≡ c.args.steps.now + renewals (state_count m) next.levels.items c.go_on_moved.new.slopes ls) c.as_mut_slice-4.ensures.value
+    (subst (λ l. c.go_on_moved.new.steps ≡ c.args.steps.now + renewals (state_count m) l c.go_on_moved.new.slopes c.as_mut_slice-4.result.now) (sym own_levels) c.go_on_moved.ensures.counted) in
     let touched : renewals (state_count m) next.levels.items c.go_on_moved.new.slopes s.lines.items ≤ touches_at m t w (Ok (world_of t next)) =
     renewals_touched m t w (world_of t next) taken.stands.stands_for.left.one_each good.levels fits.discretes good.discretes s.lines.items c.go_on_moved.new.slopes
     (λ j inside. (taken.stands.stands_for.lines j inside).own_level) (λ j inside. (taken.stands.stands_for.lines j inside).own_slope)

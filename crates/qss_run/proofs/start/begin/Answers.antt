@@ -8,35 +8,35 @@ use Rattle.mu_num.specs.Sizes.{IsWithin}
 use Rattle.qss_machine.specs.declared.rows.RowKind.TheVariants as kind
 use Rattle.qss_machine.specs.Numbers.{int_at, tabulate}
 use Rattle.qss_machine.specs.Machines.{state_count, slope_at, start_states, start_discretes}
-use Rattle.qss_machine.specs.Handlers.{conditions, truths, due_flags}
+use Rattle.qss_machine.specs.Handlers.{truths, due_flags}
 use Rattle.qss_machine.specs.Ticks.{is_overweight}
 use Rattle.qss_machine.specs.Runs.{state_rows, discrete_rows}
 use Rattle.qss_sched.specs.Ranks.{due_at}
 use Rattle.qss_hand.specs.Values.{Values}
 use Rattle.qss_run.specs.declared.store.Store.{Store}
 use Rattle.qss_run.specs.Places.{line_at, watch_at, IsTurned, IsWatched}
-use Rattle.qss_quiet.specs.Sims.{weights_at}
+use Rattle.qss_run.specs.Kept.{AreWeights}
 use Rattle.qss_run.specs.Stores.{states_at, FitsMachine}
 use Rattle.qss_quiet.proofs.Skipped.{settled_twice}
 use Rattle.qss_quiet.proofs.Starts.{levels_at_start, levels_start, light_at, count_start}
 use Rattle.qss_run.proofs.Visits.{same_length, stands_again}
 use Rattle.qss_run.proofs.start.begin.Goals as goal
 
-pub weigh_all-requires-clause-levels : goal.weigh_all-requires-clause-levels
-weigh_all-requires-clause-levels c = ap length c.as_slice-2.ensures.value ∙ c.requires.fits.levels
+pub start-requires-clause-levels : goal.start-requires-clause-levels
+start-requires-clause-levels c = ap length c.as_slice-2.ensures.value ∙ c.requires.fits.levels
 
-pub weigh_all-requires-clause-discretes : goal.weigh_all-requires-clause-discretes
-weigh_all-requires-clause-discretes c = ap length (c.as_slice-d.ensures.value ∙ ap (λ (v : Values). v.d) c.work.view_is) ∙ c.requires.fits.discretes
+pub start-requires-clause-discretes : goal.start-requires-clause-discretes
+start-requires-clause-discretes c = ap length (c.as_slice-d.ensures.value ∙ ap (λ (v : Values). v.d) c.work.view_is) ∙ c.requires.fits.discretes
 
-pub weigh_all-requires-clause-small_levels : goal.weigh_all-requires-clause-small_levels
-weigh_all-requires-clause-small_levels c = subst (All (IsWithin 43)) (sym (c.as_slice-2.ensures.value ∙ c.requires.levels)) (levels_start c.args.m.now)
+pub start-requires-clause-small_levels : goal.start-requires-clause-small_levels
+start-requires-clause-small_levels c = subst (All (IsWithin 43)) (sym (c.as_slice-2.ensures.value ∙ c.requires.levels)) (levels_start c.args.m.now)
 
-pub weigh_all-requires-clause-small_discretes : goal.weigh_all-requires-clause-small_discretes
-weigh_all-requires-clause-small_discretes c =
+pub start-requires-clause-small_discretes : goal.start-requires-clause-small_discretes
+start-requires-clause-small_discretes c =
     subst (All (IsWithin 43)) (sym (c.as_slice-d.ensures.value ∙ ap (λ (v : Values). v.d) c.work.view_is)) c.requires.fits.small_discretes
 
-pub weigh_all-requires-clause-light : goal.weigh_all-requires-clause-light
-weigh_all-requires-clause-light c =
+pub start-requires-clause-light : goal.start-requires-clause-light
+start-requires-clause-light c =
     light_at c.args.m.now c.as_slice-2.result.now c.as_slice-d.result.now (c.as_slice-2.ensures.value ∙ c.requires.levels)
     (c.as_slice-d.ensures.value ∙ ap (λ (v : Values). v.d) c.work.view_is ∙ c.requires.discretes)
 
@@ -49,7 +49,7 @@ returns c =
     let next : Store = record s {
       lines = with_items s.lines c.set_out.new.lines;
       slopes = with_items s.slopes c.set_out.new.slopes;
-      weights = with_items s.weights c.weigh_all.new.weights;
+      weights = c.start.new.self;
       conditions = c.set_out.new.watched;
       agenda = c.set_out.new.agenda;
       rows = c.start_rows.new.rows;
@@ -61,7 +61,7 @@ returns c =
       levels = fits.levels;
       slopes = same_length s.slopes c.set_out.new.slopes ∙ fits.slopes;
       fresh = fits.fresh;
-      weights = same_length s.weights c.weigh_all.new.weights ∙ fits.weights;
+      weights = c.start.ensures.as_many;
       moved_room = fits.moved_room;
       changed_room = fits.changed_room;
       fired_room = fits.fired_room;
@@ -86,8 +86,8 @@ returns c =
     (λ j inside. subst (λ l. IsWithin 43 (int_at l j)) (sym blank.levels) (levels_start m j (pos 0) (omega (arith, inside, count_start m))))
     light
     (of_slopes ∙ c.set_out.ensures.slopes ∙ ap (λ l. tabulate (state_count m) (λ j. slope_at m j l next.work.d)) levels)
-    (with_items_is s.weights c.weigh_all.new.weights (c.weigh_all.auto.weights ∙ c.as_mut_slice-3.ensures.len) ∙ c.weigh_all.ensures
-    ∙ ap (λ l. weights_at m l c.as_slice-d.result.now) c.as_slice-2.ensures.value ∙ ap (weights_at m s.levels.items) of_d)
+    (subst (λ d. AreWeights m s.levels.items d next.weights) of_d
+    (subst (λ l. AreWeights m l c.as_slice-d.result.now next.weights) c.as_slice-2.ensures.value c.start.ensures))
     (λ j inside.
     subst (λ ls. IsTurned m 0 (int_at next.work.x j) (int_at next.levels.items j) (slope_at m j next.levels.items next.work.d) j (line_at ls j) (due_at next.agenda j)) (sym of_lines)
     (subst (λ l. IsTurned m 0 (int_at next.work.x j) (int_at l j) (slope_at m j l next.work.d) j (line_at c.set_out.new.lines j) (due_at next.agenda j)) levels (c.set_out.ensures.lines j inside)))
