@@ -8,9 +8,10 @@ from support import ROOT, InFolder
 CRATES = "# lowest first\nlow:\nmiddle: low itoa\nupper: middle\nhigh: upper\nqss: high low\nlow_tests: low\n"
 
 # A stand-in for rt: it proves a library of the folder that it is called in, and builds a program that prints its words, or
-# fails as FAILS asks.
+# fails as FAILS asks. It takes one job alone.
 RT = """#!/bin/sh
 name=$(basename "$PWD")
+[ "$2 $3" = "--jobs 1" ] || { echo "jobs"; exit 1; }
 if [ "$1" = lib ]; then
     [ "$FAILS" = early ] && { echo "src/lib.rt:1:1: error"; exit 1; }
     [ "$FAILS$name" = proofmiddle ] && { seq 30; exit 1; }
@@ -21,7 +22,6 @@ if [ "$1" = lib ]; then
     exit 0
 fi
 echo "rt: waiting for another rt to finish in a folder" >&2
-echo "rt: chose --jobs 2 for low"
 [ "$FAILS" = link ] && { echo "rt: no linker"; exit 2; }
 mkdir -p out && printf '#!/bin/sh\\necho ran "$@"\\nexit 5\\n' > out/qss && chmod +x out/qss
 echo "rows of the stored model"
@@ -66,25 +66,35 @@ class Builds(InFolder):
         for name, lines in (("early", 3), ("low", 1), ("middle", 5), ("late", 4)):
             os.makedirs(f"{self.folder}/crates/{name}/src", exist_ok=True)
             self.file(f"crates/{name}/src/lib.rt", "//\n" * lines)
+        # (of late, three lines have a proof that is written)
+        os.makedirs(f"{self.folder}/crates/late/proofs")
+        self.file("crates/late/proofs/Lib.antt", "--\n" * 3)
         steps = [it.partition(", after")[0].split()[-1] for it in self.run_it(jobs="1")[2] if " of 6: " in it]
-        self.assertEqual(steps, ["low", "middle", "late", "early", "high"])
+        self.assertEqual(steps, ["low", "middle", "early", "late", "high"])
 
     def test_newer_sources(self):
-        for name, first in (
-            ("crates/upper/src/lib.rt", "qss: building what has changed"),
-            ("crates.txt", "qss: building what has changed"),
-            ("crates/low/src/lib.rt", "qss: proving and building 5 crates, 2 at a time"),
+        for name, first, building in (
+            ("crates/upper/src/lib.rt", "qss: building what has changed", ["upper", "high", "qss"]),
+            ("crates.txt", "qss: building what has changed", ["qss"]),
+            ("crates/low/src/lib.rt", "qss: proving and building 5 crates, 2 at a time", ["qss"]),
         ):
             self.run_it()
             self.age(name, 100)
             status, out, err = self.run_it()
             self.assertEqual((status, out), (5, "ran run a.mo\n"))
             self.assertEqual(err[0], first, name)
-            self.assertIn("qss: building low", [it.partition(", after")[0] for it in err])
+            self.assertEqual([it.split()[2].rstrip(",") for it in err if it.startswith("qss: building ") and ", after" in it], building)
             self.age(name, -200)
         self.run_it()
         self.age("crates/low_tests/src/lib.rt", 100)
         self.assertEqual(self.run_it()[2], [])
+
+    def test_failure_in_turn(self):
+        self.run_it()
+        self.age("crates/middle/src/lib.rt", 100)
+        status, out, err = self.run_it("proof")
+        self.assertEqual((status, out, err[0], err[-1]), (9, "", "qss: building what has changed", "30"))
+        self.assertIn("qss: middle is not proved; the last lines of why:", err)
 
     def test_failures(self):
         for fails, why, last in (
