@@ -8,7 +8,7 @@ use Rattle.mu_num.specs.Sizes.{IsWithin}
 use Rattle.qss_machine.specs.declared.rows.RowKind.TheVariants as kind
 use Rattle.qss_machine.specs.Numbers.{int_at, tabulate}
 use Rattle.qss_machine.specs.Machines.{state_count, slope_at, start_states, start_discretes}
-use Rattle.qss_machine.specs.Handlers.{conditions, truths, due_flags}
+use Rattle.qss_machine.specs.Handlers.{truths, due_flags}
 use Rattle.qss_machine.specs.Ticks.{is_overweight}
 use Rattle.qss_machine.specs.Runs.{state_rows, discrete_rows}
 use Rattle.qss_sched.specs.Ranks.{due_at}
