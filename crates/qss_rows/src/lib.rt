@@ -4,6 +4,7 @@
 mod filter;
 mod line;
 mod record;
+mod record_writer;
 mod writer;
 
 pub use filter::Filter;
