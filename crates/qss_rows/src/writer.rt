@@ -2,16 +2,17 @@
 
 use crate::record::{FIRING_LENGTH, level_text, name_text, state_text, word};
 use crate::record_writer::RecordWriter;
+use crate::tick_text::TickText;
 use itoa::Buffer;
 use qss_machine::{Machine, Row};
 use std::alloc::{AllocError, Global};
 
 /// Makes the lines of rows, one at a time, by one writer of `csv` for many of them. The room for the numbers of a
-/// row is kept, too.
+/// row is kept, and the digits of a tick are made once for the rows that follow each other at it.
 #[derive(Drop)]
 pub struct LineWriter {
     records: RecordWriter,
-    tick: Buffer,
+    tick: TickText,
     firing: [u8; FIRING_LENGTH],
     level: Buffer,
     state: Buffer,
@@ -29,7 +30,7 @@ impl LineWriter {
     {
         LineWriter {
             records: RecordWriter::new(alloc),
-            tick: Buffer::new(),
+            tick: TickText::new(),
             firing: [0; FIRING_LENGTH],
             level: Buffer::new(),
             state: Buffer::new(),
@@ -43,9 +44,10 @@ impl LineWriter {
         ensures err { OnErr result (line_in self.new ≡ []) }
     {
         let is_state = (r.var as usize) < m.states.as_slice().len();
+        self.tick.set(r.tick);
         let name = name_text(m, r, &mut self.firing);
         self.records.write_fields(
-            self.tick.format(r.tick).as_bytes(),
+            self.tick.text(),
             word(r.kind),
             name,
             level_text(r.kind, r.level, &mut self.level),
