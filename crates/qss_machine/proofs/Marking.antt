@@ -94,7 +94,7 @@ marked_vec lists here list var place inside at once =
     (marked (map items_of lists) (items_of list) var place within (subst (λ old. NotesOnce old (items_of list) place) same once))
 
 -- places that are found are below the end
-places_below : {X : Type 0} (test : X → Bool) (i : ℕ) (xs : List X) → All (λ q. q < i + length xs) (places_from test i xs)
+pub places_below : {X : Type 0} (test : X → Bool) (i : ℕ) (xs : List X) → All (λ q. q < i + length xs) (places_from test i xs)
 places_below test i [] = All-nil (λ (q : ℕ). q < i + 0)
 places_below test i (x ∷ xs) =
     let next : i + 1 + length xs ≡ i + suc (length xs) = omega arith in

@@ -398,15 +398,18 @@ switched_touches sound = refl
 
 -- ---- who reads what
 
-rate_uses : (sound : IsSound (rate 0 (pos 1) (negsuc 1))) → uses_of (machine_of (rate 0 (pos 1) (negsuc 1)) sound) ≡ ((0 ∷ []) ∷ [], [] ∷ [])
+rate_uses : (sound : IsSound (rate 0 (pos 1) (negsuc 1))) → uses_of (machine_of (rate 0 (pos 1) (negsuc 1)) sound) ≡
+    ((0 ∷ []) ∷ [], [] ∷ [], (negsuc 1 ∷ []) ∷ [])
 rate_uses sound = refl
 
-ball_uses : (sound : IsSound ball) → uses_of (machine_of ball sound) ≡ ([] ∷ (0 ∷ []) ∷ [], (0 ∷ []) ∷ [] ∷ [])
+ball_uses : (sound : IsSound ball) → uses_of (machine_of ball sound) ≡
+    ([] ∷ (0 ∷ []) ∷ [], (0 ∷ []) ∷ [] ∷ [], [] ∷ (pos 16 ∷ []) ∷ [])
 ball_uses sound = refl
 
 switched_uses : (sound : IsSound (switched 0 4 (pos 1) turn)) →
-    uses_of (machine_of (switched 0 4 (pos 1) turn) sound) ≡ ((0 ∷ []) ∷ (0 ∷ []) ∷ [], (0 ∷ []) ∷ [] ∷ [] ∷ [])
+    uses_of (machine_of (switched 0 4 (pos 1) turn) sound) ≡
+    ((0 ∷ []) ∷ (0 ∷ []) ∷ [], (0 ∷ []) ∷ [] ∷ [] ∷ [], (pos 0 ∷ []) ∷ (pos 0 ∷ []) ∷ [])
 switched_uses sound = refl
 
-clock_uses : (sound : IsSound clock) → uses_of (machine_of clock sound) ≡ ([] ∷ [] ∷ [], [] ∷ [] ∷ [] ∷ [])
+clock_uses : (sound : IsSound clock) → uses_of (machine_of clock sound) ≡ ([] ∷ [] ∷ [], [] ∷ [] ∷ [] ∷ [], [] ∷ [] ∷ [])
 clock_uses sound = refl

@@ -1,6 +1,7 @@
 //! Machines of whole numbers: the data of a compiled model, its slopes and its forms.
 #![tactic(auto)]
 
+mod coefficients;
 mod forms;
 mod laws;
 mod modes;

@@ -3,7 +3,7 @@
 ghost use Rattle.std.specs.Prelude.{◌≡◌, ℕ, ◌+◌, ◌*◌, ◌^◌, ◌<◌, ◌≤◌, length, All, pos, unsigned_abs};
 ghost use Rattle.mu_num.specs.Rounding.{nearest_of};
 ghost use Rattle.mu_num.specs.Sizes.{IsWithin};
-ghost use Rattle.qss_machine.specs.Slopes.{mode_coefficient, mode_fits};
+ghost use Rattle.qss_machine.specs.Slopes.{coefficient_of, mode_coefficient, mode_fits};
 ghost use Rattle.qss_machine.specs.Limits.{IsRow};
 
 use crate::parts::SlopeRow;
@@ -18,6 +18,32 @@ pub(crate) fn scaled_down(sum: i128, level_bits: u8) -> i128
     ensures bound { unsigned_abs result ≤ 2 ^ 111 + 2 ^ 24 }
 {
     near_div(sum, unit(level_bits))
+}
+
+/// The coefficient of a state under these discrete values, from its own in the row.
+pub(crate) fn mode_coefficient_from(
+    own: i64,
+    row: &SlopeRow,
+    level_bits: u8,
+    state_count: usize,
+    discretes: &[i64],
+    state: u32,
+) -> i128
+    requires own { own ≡ coefficient_of row.now.entries state }
+    requires bits { level_bits ≤ 24 }
+    requires few { state_count + length discretes.now ≤ 4096 }
+    requires row { IsRow state_count (length discretes.now) row.now }
+    requires small { All (IsWithin 43) discretes.now }
+    ensures value { result ≡ mode_coefficient level_bits state_count row.now discretes.now state }
+    ensures bound { IsWithin 112 result }
+{
+    let own = i128::from(own);
+    let products = row.products.as_slice();
+    if products.is_empty() {
+        return own;
+    }
+    let sum = product_sum(products, state_count, discretes, state);
+    own + scaled_down(sum, level_bits)
 }
 
 /// The coefficient of a state under these discrete values.
@@ -36,12 +62,7 @@ pub(crate) fn mode_coefficient_of(
     ensures bound { IsWithin 112 result }
 {
     let own = coefficient_among(row.entries.as_slice(), state);
-    let products = row.products.as_slice();
-    if products.is_empty() {
-        return own;
-    }
-    let sum = product_sum(products, state_count, discretes, state);
-    own + scaled_down(sum, level_bits)
+    mode_coefficient_from(own, row, level_bits, state_count, discretes, state)
 }
 
 /// Whether the mode coefficients of a row are at most 2^44 in size, as those of states without products are.

@@ -60,13 +60,12 @@ pub fn coefficient(entries: &[Entry], var: u32) -> i128
 }
 
 /// The coefficient of a variable among entries by rising variable, 0 where no entry is of it. It halves the entries.
-pub(crate) fn coefficient_among(entries: &[Entry], var: u32) -> i128
+pub(crate) fn coefficient_among(entries: &[Entry], var: u32) -> i64
     requires rising { IsStrictlyIncreasing (map (λ entry. entry.var) entries.now) }
-    ensures value { result ≡ coefficient_of entries.now var }
-    ensures bound { IsWithin 63 result }
+    ensures { result ≡ coefficient_of entries.now var }
 {
     match entries.binary_search_by_key(&var, |entry| entry.var) {
-        Ok(place) => i128::from(entries[place].coef),
+        Ok(place) => entries[place].coef,
         Err(_) => 0,
     }
 }

@@ -4,10 +4,11 @@ ghost use Rattle.std.specs.Prelude.{pos, ◌+◌, ◌^◌, length};
 ghost use Rattle.qss_machine.specs.Limits.{HasUnits, AreVariables, AreRows, AreClauses};
 
 use crate::forms::{add_three, constant_part, form_sum, time_part};
-use crate::modes::{mode_coefficient_of, modes_fit};
+use crate::modes::{mode_coefficient_from, mode_coefficient_of, modes_fit};
 use crate::parts::{ClauseInfo, DiscreteInfo, Form, SlopeRow, StateInfo};
 use crate::quanta::{greater_of, share_of};
 use crate::slopes::row_slope;
+use crate::sums::coefficient_among;
 use crate::weights::row_weight;
 use mu_io::Items;
 use mu_num::unit;
@@ -41,7 +42,7 @@ impl Machine {
     ghost use Rattle.mu_num.specs.Sizes.{IsWithin};
     ghost use Rattle.qss_machine.specs.Slopes.{mode_fits};
     ghost use Rattle.qss_machine.specs.Limits.{IsBounded};
-    ghost use Rattle.qss_machine.specs.Machines.{state_count, discrete_count, row_at, mode_coefficient_at, slope_at, weight_at, level_unit, quantum_of, value_of, speed_of};
+    ghost use Rattle.qss_machine.specs.Machines.{state_count, discrete_count, row_at, row_coefficient, mode_coefficient_at, slope_at, weight_at, level_unit, quantum_of, value_of, speed_of};
 
     /// The coefficient of a state in a row under these discrete values, in units of 2^-p: its own, and the sum of
     /// its products divided by 2^f, to the nearest, ties to even.
@@ -55,6 +56,29 @@ impl Machine {
         let states = self.states.as_slice().len();
         let right_side = &self.rows.as_slice()[row as usize];
         mode_coefficient_of(right_side, self.f, states, discretes, state)
+    }
+
+    /// The same, from the coefficient of the state in the row, as [`Uses`](crate::Uses) keeps it, so that it is not
+    /// looked for in the row.
+    pub fn mode_coef_from(&self, own: i64, row: u32, state: u32, discretes: &[i64]) -> i128
+        requires row { row < state_count self.now }
+        requires own { own ≡ row_coefficient self.now row state }
+        requires as_many { length discretes.now ≡ discrete_count self.now }
+        requires small { All (IsWithin 43) discretes.now }
+        ensures { result ≡ mode_coefficient_at self.now row state discretes.now }
+    {
+        let states = self.states.as_slice().len();
+        let right_side = &self.rows.as_slice()[row as usize];
+        mode_coefficient_from(own, right_side, self.f, states, discretes, state)
+    }
+
+    /// The coefficient of a variable in a row, in units of 2^-p, 0 where it has none.
+    pub(crate) fn coef(&self, row: u32, var: u32) -> i64
+        requires { row < state_count self.now }
+        ensures { result ≡ row_coefficient self.now row var }
+    {
+        let right_side = &self.rows.as_slice()[row as usize];
+        coefficient_among(right_side.entries.as_slice(), var)
     }
 
     /// Whether the mode coefficients of a row are at most 2^44 in size.

@@ -1,26 +1,29 @@
-//! Which rows and which conditions read each variable of a machine.
+//! Which rows and which conditions read each variable of a machine, and its coefficients in those rows.
 
 ghost use Rattle.std.specs.Prelude.{◌≡◌, ◌<◌, length, IfOk, slice_index_or, []};
 ghost use Rattle.qss_machine.specs.Uses.{uses_of};
 
+use crate::coefficients::coefficients_by_variable;
 use crate::readers::{conditions_by_variable, rows_by_variable};
 use crate::system::Machine;
 use std::alloc::{AllocError, Global};
 use std::marker::Model;
 
-/// For each variable the rows and the conditions that read it, which contracts see as two lists of lists.
+/// For each variable the rows and the conditions that read it, and its coefficients in those rows, which contracts see as
+/// three lists of lists.
 #[derive(Drop)]
 pub struct Uses {
     rows: Vec<Vec<u32>>,
     conditions: Vec<Vec<u32>>,
+    coefficients: Vec<Vec<i64>>,
 }
 
 impl Model for Uses {
-    ghost use Rattle.std.specs.Prelude.{ℕ, List, map};
+    ghost use Rattle.std.specs.Prelude.{ℕ, ℤ, List, map};
 
-    ghost Value = { List (List ℕ) × List (List ℕ) };
+    ghost Value = { List (List ℕ) × List (List ℕ) × List (List ℤ) };
 
-    ghost view = { λ u. (map (λ list. list.items) u.rows.items, map (λ list. list.items) u.conditions.items) };
+    ghost view = { λ u. (map (λ list. list.items) u.rows.items, map (λ list. list.items) u.conditions.items, map (λ list. list.items) u.coefficients.items) };
 }
 
 impl Uses {
@@ -36,7 +39,12 @@ impl Uses {
             m.clauses.as_slice(),
             states + discretes + discretes,
         )?;
-        Ok(Uses { rows, conditions })
+        let coefficients = coefficients_by_variable(alloc, m, rows.as_slice())?;
+        Ok(Uses {
+            rows,
+            conditions,
+            coefficients,
+        })
     }
 
     /// The rows that read a state or a discrete variable, rising.
@@ -53,5 +61,14 @@ impl Uses {
         ensures { result.now ≡ slice_index_or self.now.1 var [] }
     {
         self.conditions[var as usize].as_slice()
+    }
+
+    /// The coefficients of a state or a discrete variable in the rows that read it, row by row, in units of 2^-p. It is 0
+    /// where a row reads it in products alone.
+    pub fn coefficients_of(&self, var: u32) -> &[i64]
+        requires { var < length self.now.2 }
+        ensures { result.now ≡ slice_index_or self.now.2 var [] }
+    {
+        self.coefficients[var as usize].as_slice()
     }
 }

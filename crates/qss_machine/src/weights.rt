@@ -7,7 +7,7 @@ ghost use Rattle.qss_machine.specs.Slopes.{coefficient_of, mode_coefficient, mod
 ghost use Rattle.qss_machine.specs.Limits.{IsRow};
 
 use crate::forms::add_three;
-use crate::modes::{mode_coefficient_of, modes_fit};
+use crate::modes::{mode_coefficient_from, modes_fit};
 use crate::parts::{Entry, SlopeRow};
 use crate::slopes::wide_term;
 use crate::sums::{coefficient_among, entry_term};
@@ -79,9 +79,9 @@ fn state_excess(
     ensures value { result ≡ (size (mode_coefficient level_bits (length levels.now) row.now discretes.now state) -ℤ size (coefficient_of row.now.entries state)) *ℤ size (int_at levels.now state) }
     ensures bound { unsigned_abs result ≤ 2 ^ 88 }
 {
-    let mode = mode_coefficient_of(row, level_bits, levels.len(), discretes, state as u32);
     let own = coefficient_among(row.entries.as_slice(), state as u32);
-    wide_term(excess(mode, own), level_size(levels[state]))
+    let mode = mode_coefficient_from(own, row, level_bits, levels.len(), discretes, state as u32);
+    wide_term(excess(mode, i128::from(own)), level_size(levels[state]))
 }
 
 // What products add to a row's weight.

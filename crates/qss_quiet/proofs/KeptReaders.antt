@@ -1,12 +1,12 @@
 -- The rows and the conditions that read each variable.
-use Rattle.std.proofs.Common.{◌≡◌, ℕ, ◌+◌, ◌<◌, ◌≤◌, Bool, true, false, List, [], ◌∷◌, ◌++◌, length, get_or, flat_map, refl, sym, ◌∙◌, ap, subst, arith}
+use Rattle.std.proofs.Common.{◌≡◌, ℕ, ◌+◌, ◌<◌, ◌≤◌, Bool, true, false, List, [], ◌∷◌, ◌++◌, length, get_or, flat_map, ℤ, refl, sym, ◌∙◌, ap, subst, arith}
 use Rattle.std.proofs.lemmas.List.Elements.{All-nil, All-cons, All-head, All-tail}
 use Rattle.std.proofs.lemmas.List.FromFn.{length-map-range_with_len, get_or-map-range_with_len}
 use Rattle.std.specs.Prelude.{All, if◌then◌else◌}
 use Rattle.qss_machine.specs.declared.system.Machine.{Machine}
 use Rattle.qss_machine.specs.Handlers.{conditions}
 use Rattle.qss_machine.specs.Machines.{state_count, discrete_count}
-use Rattle.qss_machine.specs.Uses.{row_reads, condition_reads, places_from, reading_rows, reading_conditions, uses_of}
+use Rattle.qss_machine.specs.Uses.{row_reads, condition_reads, places_from, reading_rows, reading_conditions, reading_coefficients, uses_of}
 
 if_below : (n : ℕ) (b : Bool) (first : ℕ) (rest : List ℕ) → first < n → All (λ k. k < n) rest → All (λ k. k < n) (if b then first ∷ rest else rest)
 if_below n true first rest h all = All-cons (λ k. k < n) first rest h all
@@ -21,24 +21,34 @@ pub rows_known : (m : Machine) (var : ℕ) → All (λ row. row < state_count m)
 rows_known m var = places_below (row_reads var) 0 (state_count m) m.rows (omega (arith, m.has_rows.one_each))
 
 -- those that are kept for a variable are those that read it
-module _ (m : Machine) (uses : List (List ℕ) × List (List ℕ)) (are : uses ≡ uses_of m) where
+module _ (m : Machine) (uses : List (List ℕ) × List (List ℕ) × List (List ℤ)) (are : uses ≡ uses_of m) where
   pub rows_many : length uses.0 ≡ state_count m + discrete_count m
   rows_many =
-      ap (λ (u : List (List ℕ) × List (List ℕ)). length u.0) are ∙ length-map-range_with_len (reading_rows m) 0 (state_count m + discrete_count m)
+      ap (λ (u : List (List ℕ) × List (List ℕ) × List (List ℤ)). length u.0) are ∙ length-map-range_with_len (reading_rows m) 0 (state_count m + discrete_count m)
 
   pub conditions_many : length uses.1 ≡ state_count m + discrete_count m + discrete_count m
   conditions_many =
-      ap (λ (u : List (List ℕ) × List (List ℕ)). length u.1) are ∙ length-map-range_with_len (reading_conditions m) 0 (state_count m + discrete_count m + discrete_count m)
+      ap (λ (u : List (List ℕ) × List (List ℕ) × List (List ℤ)). length u.1) are ∙ length-map-range_with_len (reading_conditions m) 0 (state_count m + discrete_count m + discrete_count m)
 
   pub rows_kept : (var : ℕ) → var < state_count m + discrete_count m → get_or uses.0 var [] ≡ reading_rows m var
   rows_kept var h =
-      ap (λ (u : List (List ℕ) × List (List ℕ)). get_or u.0 var []) are
+      ap (λ (u : List (List ℕ) × List (List ℕ) × List (List ℤ)). get_or u.0 var []) are
       ∙ get_or-map-range_with_len (reading_rows m) 0 (state_count m + discrete_count m) var var [] h (omega arith)
 
   pub conditions_kept : (var : ℕ) → var < state_count m + discrete_count m + discrete_count m → get_or uses.1 var [] ≡ reading_conditions m var
   conditions_kept var h =
-      ap (λ (u : List (List ℕ) × List (List ℕ)). get_or u.1 var []) are
+      ap (λ (u : List (List ℕ) × List (List ℕ) × List (List ℤ)). get_or u.1 var []) are
       ∙ get_or-map-range_with_len (reading_conditions m) 0 (state_count m + discrete_count m + discrete_count m) var var [] h (omega arith)
+
+  -- the coefficients that are kept
+  pub coefficients_many : length uses.2 ≡ state_count m + discrete_count m
+  coefficients_many =
+      ap (λ (u : List (List ℕ) × List (List ℕ) × List (List ℤ)). length u.2) are ∙ length-map-range_with_len (reading_coefficients m) 0 (state_count m + discrete_count m)
+
+  pub coefficients_kept : (var : ℕ) → var < state_count m + discrete_count m → get_or uses.2 var [] ≡ reading_coefficients m var
+  coefficients_kept var h =
+      ap (λ (u : List (List ℕ) × List (List ℕ) × List (List ℤ)). get_or u.2 var []) are
+      ∙ get_or-map-range_with_len (reading_coefficients m) 0 (state_count m + discrete_count m) var var [] h (omega arith)
 
   pub rows_below : (var : ℕ) → var < state_count m + discrete_count m → (n : ℕ) → state_count m ≤ n → All (λ row. row < n) (get_or uses.0 var [])
   rows_below var h n many = subst (All (λ row. row < n)) (sym (rows_kept var h)) (places_below (row_reads var) 0 n m.rows (omega (arith, many, m.has_rows.one_each)))

@@ -1,8 +1,9 @@
 //! Filters of rows.
 
-ghost use Rattle.std.specs.Prelude.{◌≡◌};
+ghost use Rattle.std.specs.Prelude.{◌≡◌, ◌+◌, ◌<◌};
+ghost use Rattle.qss_machine.specs.Machines.{state_count, discrete_count};
 ghost use Rattle.qss_rows.specs.Filters as Spec;
-ghost use Rattle.qss_rows.specs.Lines.{HasVariable};
+ghost use Rattle.qss_rows.specs.Lines.{HasVariable, name_of};
 
 use crate::record::variable_name;
 use mu_io::Name;
@@ -39,16 +40,17 @@ impl Filter {
         match r.kind {
             RowKind::When { .. } => true,
             RowKind::Overflow => true,
-            _ => self.keeps(variable_name(m, r.var)),
+            _ => self.keeps(m, r.var),
         }
     }
 
-    // Whether a name is kept.
-    fn keeps(&self, name: &[u8]) -> bool
-        ensures { result ≡ Spec.keeps self.now name.now }
+    // Whether the name of a variable is kept. Where all are, none is looked up.
+    fn keeps(&self, m: &Machine, var: u32) -> bool
+        requires { var < state_count m.now + discrete_count m.now }
+        ensures { result ≡ Spec.keeps self.now (name_of m.now var) }
     {
         match &self.only {
-            Some(only) => is_named(only.bytes(), name),
+            Some(only) => is_named(only.bytes(), variable_name(m, var)),
             None => true,
         }
     }

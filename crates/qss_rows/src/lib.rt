@@ -4,6 +4,8 @@
 mod filter;
 mod line;
 mod record;
+mod record_writer;
+mod tick_text;
 mod writer;
 
 pub use filter::Filter;

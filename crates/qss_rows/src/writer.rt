@@ -1,43 +1,39 @@
 //! The lines of many rows.
 
-ghost use Rattle.std.specs.Prelude.{◌≤◌, length};
-ghost use Rattle.qss_rows.specs.Writers.{IsBetween, written_by};
-
-use crate::record::{
-    FIRING_LENGTH, add_fields, level_text, name_text, new_writer, renew, state_text, word,
-};
-use csv::Writer;
+use crate::record::{FIRING_LENGTH, level_text, name_text, state_text, word};
+use crate::record_writer::RecordWriter;
+use crate::tick_text::TickText;
 use itoa::Buffer;
 use qss_machine::{Machine, Row};
 use std::alloc::{AllocError, Global};
 
-// How many bytes a writer of `csv` writes, about, before a new one takes its place.
-const RENEWED: usize = 1 << 16;
-
-/// Makes the lines of rows, one at a time, by one writer of `csv` for many of them.
+/// Makes the lines of rows, one at a time, by one writer of `csv` for many of them. The room for the numbers of a
+/// row is kept, and the digits of a tick are made once for the rows that follow each other at it.
 #[derive(Drop)]
 pub struct LineWriter {
-    alloc: Global,
-    writer: Writer<Vec<u8>>,
-    from: usize,
-    ghost between: { IsBetween writer },
-    ghost within: { from ≤ length (written_by writer) },
+    records: RecordWriter,
+    tick: TickText,
+    firing: [u8; FIRING_LENGTH],
+    level: Buffer,
+    state: Buffer,
 }
 
 impl LineWriter {
     ghost use Rattle.std.specs.Prelude.{◌≡◌, [], ◌∷◌, OnOk, OnErr};
     ghost use Rattle.csv.specs.Writing.{default_writer, row_text};
-    ghost use Rattle.qss_rows.specs.Lines as Spec;
     ghost use Rattle.qss_rows.specs.Held.{line_in};
+    ghost use Rattle.qss_rows.specs.Lines as Spec;
 
     /// Holds no line yet.
     pub fn new(alloc: Global) -> LineWriter
         ensures { line_in result ≡ [] }
     {
         LineWriter {
-            alloc,
-            writer: new_writer(alloc),
-            from: 0,
+            records: RecordWriter::new(alloc),
+            tick: TickText::new(),
+            firing: [0; FIRING_LENGTH],
+            level: Buffer::new(),
+            state: Buffer::new(),
         }
     }
 
@@ -48,14 +44,14 @@ impl LineWriter {
         ensures err { OnErr result (line_in self.new ≡ []) }
     {
         let is_state = (r.var as usize) < m.states.as_slice().len();
-        let mut firing = [0; FIRING_LENGTH];
-        let name = name_text(m, r, &mut firing);
-        self.write_fields(
-            Buffer::new().format(r.tick).as_bytes(),
+        self.tick.set(r.tick);
+        let name = name_text(m, r, &mut self.firing);
+        self.records.write_fields(
+            self.tick.text(),
             word(r.kind),
             name,
-            level_text(r.kind, r.level, &mut Buffer::new()),
-            state_text(is_state, r.kind, r.state, &mut Buffer::new()),
+            level_text(r.kind, r.level, &mut self.level),
+            state_text(is_state, r.kind, r.state, &mut self.state),
         )
     }
 
@@ -68,27 +64,17 @@ impl LineWriter {
         level: &[u8],
         state: &[u8],
     ) -> Result<(), AllocError>
-        ensures ok { OnOk result (line_in self.new ≡ row_text default_writer (tick.now ∷ event.now ∷ name.now ∷ level.now ∷ state.now ∷ [])) }
+        ensures ok { OnOk result (line_in self.new ≡ row_text default_writer
+            (tick.now ∷ event.now ∷ name.now ∷ level.now ∷ state.now ∷ [])) }
         ensures err { OnErr result (line_in self.new ≡ []) }
     {
-        if self.writer.get_ref().len() >= RENEWED {
-            renew(self.alloc, &mut self.writer);
-        }
-        self.from = self.writer.get_ref().len();
-        match add_fields(&mut self.writer, tick, event, name, level, state) {
-            Ok(()) => Ok(()),
-            Err(e) => {
-                renew(self.alloc, &mut self.writer);
-                self.from = 0;
-                Err(e)
-            }
-        }
+        self.records.write_fields(tick, event, name, level, state)
     }
 
     /// The line of the last row.
     pub fn line(&self) -> &[u8]
         ensures { result.now ≡ line_in self.now }
     {
-        &self.writer.get_ref()[self.from..]
+        self.records.last()
     }
 }

@@ -1,17 +1,19 @@
 -- Sums of rows where states take their levels one after another.
-use Rattle.std.proofs.Common.{◌≡◌, ◌≢◌, ℕ, ◌+◌, ◌^◌, ◌<◌, ◌≤◌, Bool, true, false, List, [], ◌∷◌, length, get_or, set, take, fold, ℤ, pos, ◌+ℤ◌, ◌-ℤ◌, ◌*ℤ◌, refl, sym, ◌∙◌, ap, subst, arith, inl, inr, ◌==◌}
+use Rattle.std.proofs.Common.{◌≡◌, ◌≢◌, ℕ, ◌+◌, ◌^◌, ◌<◌, ◌≤◌, true, false, List, [], ◌∷◌, length, get_or, set, take, fold, ℤ, pos, ◌+ℤ◌, ◌-ℤ◌, ◌*ℤ◌, refl, sym, ◌∙◌, ap, subst, arith, inl, inr, ◌==◌}
 use Rattle.std.proofs.lemmas.Bool.{or_parts, or_cases, cases_Bool}
-use Rattle.std.proofs.lemmas.List.{length-set, get_or-set_other, get_or-set_same, take_more}
+use Rattle.std.proofs.lemmas.List.{length-set, get_or-set_other, get_or-set_same, take_more, length-map, get_or-map}
 use Rattle.std.proofs.lemmas.List.Sums.{fold-append}
 use Rattle.std.specs.Prelude.{unsigned_abs, None, position}
 use Rattle.mu_num.proofs.Tests.{eqb-true, eqb-false}
 use Rattle.mu_num.specs.Sizes.{IsWithin}
+use Rattle.qss_machine.specs.declared.parts.SlopeRow.{SlopeRow}
 use Rattle.qss_machine.specs.declared.system.Machine.{Machine}
-use Rattle.qss_machine.specs.Machines.{state_count, row_at, mode_coefficient_at, slope_at, weight_at}
+use Rattle.qss_machine.specs.Machines.{state_count, row_at, row_coefficient, mode_coefficient_at, slope_at, weight_at}
 use Rattle.qss_machine.specs.Numbers.{int_at, size, tabulate}
 use Rattle.qss_machine.specs.Slopes.{mode_coefficient}
 use Rattle.qss_machine.specs.Ticks.{is_overweight}
-use Rattle.qss_machine.specs.Uses.{row_reads, reading_rows}
+use Rattle.qss_machine.specs.Uses.{row_reads, reading_rows, reading_coefficients}
+use Rattle.qss_machine.proofs.Distinct.{coefficient_small}
 use Rattle.qss_run.specs.declared.shifts.RowSum.{RowSum}
 use Rattle.qss_run.specs.declared.shifts.RowSum.TheVariants.{Slope, Weight}
 use Rattle.qss_quiet.specs.Among.{is_among, AreNumbers, IsOff}
@@ -30,6 +32,32 @@ use Rattle.qss_quiet.proofs.LightRows.{row_is_light}
 
 pub reading_numbers : (m : Machine) (j : ℕ) → AreNumbers (state_count m) (reading_rows m j)
 reading_numbers m j = record { rising = places_rise (row_reads j) 0 m.rows; below = rows_known m j }
+
+-- ---- the coefficients of a state in the rows that read it
+
+module _ (m : Machine) (state : ℕ) (rows : List ℕ) where
+  pub reader_numbers : rows ≡ reading_rows m state → AreNumbers (state_count m) rows
+  reader_numbers are = subst (AreNumbers (state_count m)) (sym are) (reading_numbers m state)
+
+  module _ (coefficients : List ℤ) (rows_are : rows ≡ reading_rows m state) (coefficients_are : coefficients ≡ reading_coefficients m state) where
+    abbrev own : ℕ → ℤ
+    own row = row_coefficient m row state
+
+    pub readers_as_many : length coefficients ≡ length rows
+    readers_as_many = ap length coefficients_are ∙ length-map (reading_rows m state) own ∙ sym (ap length rows_are)
+
+    -- a reader's coefficient stands at its place
+    pub own_coefficient : (place : ℕ) → place < length rows → int_at coefficients place ≡ row_coefficient m (get_or rows place 0) state
+    own_coefficient place inside =
+        ap (λ (zs : List ℤ). int_at zs place) coefficients_are
+        ∙ get_or-map own (reading_rows m state) place 0 (pos 0) (subst (λ (ks : List ℕ). place < length ks) rows_are inside)
+        ∙ ap (λ (ks : List ℕ). row_coefficient m (get_or ks place 0) state) (sym rows_are)
+
+pub small_coefficient : (m : Machine) (row var : ℕ) → row < state_count m → IsWithin 44 (row_coefficient m row var)
+small_coefficient m row var h =
+    let none : SlopeRow = record { entries = []; products = []; beta = pos 0 } in
+    let here = m.has_rows.each row none (omega (arith, h, m.has_rows.one_each)) in
+    coefficient_small (row_at m row).entries var here.entries.rising here.coefficients
 
 -- ---- levels that are taken one after another
 

@@ -49,7 +49,7 @@ of_place P test first (x ∷ xs) (suc i) d all h e =
 pub kept_speed : {tick : ℕ} {speed : ℤ} {old new : Watch} {old_due new_due : Option ℕ} → GoesOn tick speed old new old_due new_due → old.speed ≡ speed → new.speed ≡ speed
 kept_speed on e = ap (λ (w : Watch). w.speed) (on.kept e).0 ∙ e
 
-module _ (m : Machine) (uses : List (List ℕ) × List (List ℕ)) (are : uses ≡ uses_of m) where
+module _ (m : Machine) (uses : List (List ℕ) × List (List ℕ) × List (List ℤ)) (are : uses ≡ uses_of m) where
   -- conditions that have their speeds keep them
   pub speeds_kept : (tick : ℕ) (slopes : List ℤ) (old new : List Watch) (due next : List (Option ℕ)) → AreGoingOn m tick slopes old new due next → length old ≡ length (conditions m) →
       (state : ℕ) → state < state_count m → All (HasSpeed m slopes old) (slice_index_or uses.1 state []) → All (HasSpeed m slopes new) (slice_index_or uses.1 state [])

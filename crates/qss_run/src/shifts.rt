@@ -1,18 +1,17 @@
 //! Slopes and weights along the changes of levels.
 
-ghost use Rattle.std.specs.Prelude.{◌≡◌, ℕ, ◌<◌, pos, ◌-ℤ◌, ◌*ℤ◌, All, length, true};
+ghost use Rattle.std.specs.Prelude.{◌≡◌, ℕ, ◌<◌, pos, ◌-ℤ◌, ◌*ℤ◌, All, length};
 ghost use Rattle.mu_num.specs.Sizes.{IsWithin};
 ghost use Rattle.qss_machine.specs.Numbers.{int_at};
-ghost use Rattle.qss_machine.specs.Slopes.{mode_fits};
-ghost use Rattle.qss_machine.specs.Machines.{state_count, discrete_count, row_at, mode_coefficient_at};
-ghost use Rattle.qss_quiet.specs.Among.{AreNumbers};
+ghost use Rattle.qss_machine.specs.Machines.{state_count, discrete_count, row_coefficient, mode_coefficient_at};
+ghost use Rattle.qss_machine.specs.Uses.{reading_rows, uses_of};
 ghost use Rattle.qss_run.specs.RowSums.{taken_by, HasFollowed};
 ghost use Rattle.qss_quiet.specs.Writes.{IsWritten};
 ghost use Rattle.qss_run.specs.declared.shifts.RowSum.TheVariants as sum;
 ghost use Rattle.qss_run.specs.Visitings.{IsMode, AreNewLevels, new_sums, new_slopes, WereSums};
 
 use crate::visiting::{Mode, NewLevels};
-use qss_machine::Machine;
+use qss_machine::Uses;
 use qss_quant::Integrator;
 
 /// A sum of a row over levels: its slope, or its weight, which takes the sizes of all numbers.
@@ -59,34 +58,35 @@ fn shift(coefficient: i128, old: i64, new: i64) -> i128
     i128::from(coefficient as i64) * i128::from(change)
 }
 
-// How much a row's sum changes where a state takes another level.
-fn shift_of(kind: RowSum, m: &Machine, row: u32, state: u32, old: i64, new: i64, d: &[i64]) -> i128
-    requires row { row < state_count m.now }
-    requires state { state < state_count m.now }
-    requires discretes { length d.now ≡ discrete_count m.now }
-    requires small_discretes { All (IsWithin 43) d.now }
-    requires modes { mode_fits m.now.f (state_count m.now) (row_at m.now row) d.now ≡ true }
+// How much a row's sum changes where a state, of this coefficient there, takes another level.
+fn shift_of(kind: RowSum, at: &Mode, own: i64, row: u32, state: u32, old: i64, new: i64) -> i128
+    requires mode { IsMode at.now }
+    requires row { row < state_count at.now.machine.now }
+    requires state { state < state_count at.now.machine.now }
+    requires own { own ≡ row_coefficient at.now.machine.now row state }
     requires old { IsWithin 43 old }
     requires new { IsWithin 43 new }
-    ensures value { result ≡ taken_by kind (mode_coefficient_at m.now row state d.now) *ℤ (new -ℤ old) }
+    ensures value { result
+        ≡ taken_by kind (mode_coefficient_at at.now.machine.now row state at.now.discretes.now)
+        *ℤ (new -ℤ old) }
     ensures bound { IsWithin 88 result }
 {
-    let coefficient = taken_mode(kind, m.mode_coef(row, state, d));
-    shift(coefficient, old, new)
+    let mode = at.machine.mode_coef_from(own, row, state, at.discretes);
+    shift(taken_mode(kind, mode), old, new)
 }
 
-// The sums of these rows follow where a state takes another level.
+// The sums of the rows that read a state follow where it takes another level.
 fn shift_rows(
     kind: RowSum,
     at: &Mode,
-    rows: &[u32],
+    uses: &Uses,
     state: u32,
     old: i64,
     new: i64,
     sums: &mut [i128],
 )
     requires mode { IsMode at.now }
-    requires rows { AreNumbers (state_count at.now.machine.now) rows.now }
+    requires uses { uses.now ≡ uses_of at.now.machine.now }
     requires state { state < state_count at.now.machine.now }
     requires sums { length sums.old ≡ state_count at.now.machine.now }
     requires small_sums { (j : ℕ) → j < state_count at.now.machine.now
@@ -95,12 +95,14 @@ fn shift_rows(
     requires new { IsWithin 43 new }
     ensures { IsWritten (pos 0)
         (HasFollowed kind at.now.machine.now state old new at.now.discretes.now sums.old)
-        rows.now sums.old sums.new }
+        (reading_rows at.now.machine.now state) sums.old sums.new }
 {
-    for row in rows {
-        let j = *row as usize;
-        let change = shift_of(kind, at.machine, *row, state, old, new, at.discretes);
-        sums[j] += change;
+    let rows = uses.rows_of(state);
+    let coefficients = uses.coefficients_of(state);
+    for place in 0..rows.len() {
+        let row = rows[place];
+        let change = shift_of(kind, at, coefficients[place], row, state, old, new);
+        sums[row as usize] += change;
     }
 }
 
@@ -124,12 +126,11 @@ pub(crate) fn shift_sums(
         let line = &lines[j];
         let old = taken_level(kind, line.level);
         let new = taken_level(kind, at.levels[j]);
-        let rows = at.uses.rows_of(*state);
         let mode = Mode {
             machine: at.machine,
             discretes: d,
         };
-        shift_rows(kind, &mode, rows, *state, old, new, sums);
+        shift_rows(kind, &mode, at.uses, *state, old, new, sums);
     }
 }
 

@@ -9,10 +9,11 @@ use Rattle.qss_machine.proofs.ModeTests.{fits_at}
 use Rattle.qss_run.proofs.shifts.shift_of.Goals as goal
 use mir.Syntax.{w128}
 
-pub taken_mode-coefficient-requires : goal.taken_mode-coefficient-requires
-taken_mode-coefficient-requires c =
-    let m = c.args.m.now in
-    let fits : FitsSigned w128 c.mode_coef.result = record { sfits = c.mode_coef.type_inv } in
-    rw (to_z-of_z w128 c.mode_coef.result fits)
-    (subst (IsWithin 44) (sym c.mode_coef.ensures)
-    (fits_at (state_count m) c.args.state (mode_coefficient m.f (state_count m) (row_at m c.args.row) c.args.d.now) c.requires.state c.requires.modes))
+pub taken_mode-requires : goal.taken_mode-requires
+taken_mode-requires c =
+    let m = c.args.at.now.machine.now in
+    let d = c.args.at.now.discretes.now in
+    let fits : FitsSigned w128 c.mode_coef_from-mode.result = record { sfits = c.mode_coef_from-mode.type_inv } in
+    rw (to_z-of_z w128 c.mode_coef_from-mode.result fits)
+    (subst (IsWithin 44) (sym c.mode_coef_from-mode.ensures)
+    (fits_at (state_count m) c.args.state (mode_coefficient m.f (state_count m) (row_at m c.args.row) d) c.requires.state (c.requires.mode.fits c.args.row c.requires.row)))

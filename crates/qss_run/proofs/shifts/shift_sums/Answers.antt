@@ -9,16 +9,14 @@ use Rattle.qss_machine.specs.Machines.{state_count}
 use Rattle.qss_machine.specs.Numbers.{int_at}
 use Rattle.qss_machine.specs.Uses.{reading_rows}
 use Rattle.qss_quant.specs.Lines.{Line}
-use Rattle.qss_quiet.specs.Among.{AreNumbers}
 use Rattle.qss_run.specs.Places.{line_at}
 use Rattle.qss_run.specs.RowSums.{taken_by, sum_at, AreSumsBefore, HasFollowed}
 use Rattle.qss_quiet.specs.Writes.{IsWritten}
 use Rattle.qss_quiet.specs.Sims.{no_line}
-use Rattle.qss_quiet.proofs.KeptReaders.{rows_many, rows_kept}
 use Rattle.qss_quiet.proofs.DueFirsts.{not_before}
 use Rattle.qss_quiet.proofs.LightRows.{row_is_light}
 use Rattle.qss_run.proofs.Dues.{few_numbers}
-use Rattle.qss_run.proofs.Shifting.{reading_numbers, levels_along, along_more, along_other, along_all, length-along, sums_small, sums_follow, sums_near}
+use Rattle.qss_run.proofs.Shifting.{levels_along, along_more, along_other, along_all, length-along, sums_small, sums_follow, sums_near}
 use Rattle.qss_run.proofs.shifts.shift_sums.Goals as goal
 use mir.Syntax.{w64}
 use mir.Val.{to_z, of_z}
@@ -33,16 +31,6 @@ loop-state-init c =
       as_many = ap length before.own_sums ∙ length-map-range_with_len (λ j. sum_at c.args.kind m j c.requires.before.0 c.args.d.now) 0 (state_count m);
       near = λ j h. let here : IsWithin 88 (int_at c.args.sums.now j) = small j h in omega (arith, here);
     }
-
-pub rows_of-rows-requires : goal.rows_of-rows-requires
-rows_of-rows-requires c = omega (arith, c.requires.ready.moved.below c.loop-state.state-index 0 c.loop-state-test.true, rows_many c.args.at.now.machine.now c.args.at.now.uses.now c.requires.ready.uses)
-
-pub shift_rows-requires-clause-rows : goal.shift_rows-requires-clause-rows
-shift_rows-requires-clause-rows c =
-    let m = c.args.at.now.machine.now in
-    let state : ℕ = get_or c.args.at.now.moved.now c.loop-state.state-index 0 in
-    let known : state < state_count m = c.requires.ready.moved.below c.loop-state.state-index 0 c.loop-state-test.true in
-    subst (AreNumbers (state_count m)) (sym (c.rows_of-rows.ensures ∙ rows_kept m c.args.at.now.uses.now c.requires.ready.uses state (omega (arith, known)))) (reading_numbers m state)
 
 pub shift_rows-requires-clause-small_sums : goal.shift_rows-requires-clause-small_sums
 shift_rows-requires-clause-small_sums c j h =
@@ -76,7 +64,6 @@ loop-state-preserved c =
     let at = λ (old : List ℤ). levels_along (take i c.args.at.now.moved.now) levels old in
     let many = λ (old : List ℤ) (is : AreSumsBefore kind m c.args.at.now.moved.now levels c.args.d.now c.args.sums.now c.args.lines.now old).
     length-along (take i c.args.at.now.moved.now) levels old ∙ sym is.off.as_many ∙ c.requires.ready.levels in
-    let rows : c.rows_of-rows.result.now ≡ reading_rows m state = c.rows_of-rows.ensures ∙ rows_kept m c.args.at.now.uses.now c.requires.ready.uses state (omega (arith, known)) in
     let to_new : to_z w64 (of_z w64 c.taken_level-new.result) ≡ taken_by kind (int_at levels state) =
     to_z-of_z w64 c.taken_level-new.result new_fits ∙ c.taken_level-new.ensures.value ∙ ap (taken_by kind) (to_z-of_z w64 (int_at levels state) of_new) in
     let written = λ (old : List ℤ) (is : AreSumsBefore kind m c.args.at.now.moved.now levels c.args.d.now c.args.sums.now c.args.lines.now old).
@@ -84,11 +71,10 @@ loop-state-preserved c =
     to_z-of_z w64 c.taken_level-old.result old_fits ∙ c.taken_level-old.ensures.value
     ∙ ap (taken_by kind) (to_z-of_z w64 c.line.inside.level of_old ∙ line ∙ is.own_levels state known
     ∙ sym (along_other (take i c.args.at.now.moved.now) levels old state (not_before c.args.at.now.moved.now i c.requires.ready.moved.rising c.loop-state-test.true))) in
-    subst (λ (read : List ℕ). IsWritten (pos 0) (HasFollowed kind m state (taken_by kind (int_at (at old) state)) (taken_by kind (int_at levels state)) c.args.d.now c.loop-state.sums) read c.loop-state.sums c.shift_rows.new.sums) rows
-    (subst (λ (z : ℤ). IsWritten (pos 0) (HasFollowed kind m state (taken_by kind (int_at (at old) state)) z c.args.d.now c.loop-state.sums) c.rows_of-rows.result.now c.loop-state.sums c.shift_rows.new.sums)
+    subst (λ (z : ℤ). IsWritten (pos 0) (HasFollowed kind m state (taken_by kind (int_at (at old) state)) z c.args.d.now c.loop-state.sums) (reading_rows m state) c.loop-state.sums c.shift_rows.new.sums)
     to_new
-    (subst (λ (z : ℤ). IsWritten (pos 0) (HasFollowed kind m state z (to_z w64 (of_z w64 c.taken_level-new.result)) c.args.d.now c.loop-state.sums) c.rows_of-rows.result.now c.loop-state.sums c.shift_rows.new.sums)
-    to_old c.shift_rows.ensures)) in
+    (subst (λ (z : ℤ). IsWritten (pos 0) (HasFollowed kind m state z (to_z w64 (of_z w64 c.taken_level-new.result)) c.args.d.now c.loop-state.sums) (reading_rows m state) c.loop-state.sums c.shift_rows.new.sums)
+    to_old c.shift_rows.ensures) in
     let before = c.requires.before.1 in
     record {
       own = λ old is j h.

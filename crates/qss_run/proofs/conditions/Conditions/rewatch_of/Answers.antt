@@ -1,5 +1,5 @@
 -- The conditions that read a state whose row reads one more moved state have their speeds.
-use Rattle.std.proofs.Common.{◌≡◌, ◌<◌, ℕ, List, [], length, get_or, sym, ◌∙◌, subst, arith, below_more}
+use Rattle.std.proofs.Common.{◌≡◌, ◌<◌, ℕ, List, [], length, get_or, ℤ, sym, ◌∙◌, subst, arith, below_more}
 use Rattle.std.proofs.lemmas.List.Elements.{All-from_get_or}
 use Rattle.std.specs.Prelude.{All, slice_index_or}
 use Rattle.qss_machine.specs.Machines.{state_count}
@@ -50,7 +50,7 @@ returns-clause-watches c =
     λ x d before place h was first.
     let m = c.args.m.now in
     let watches = c.loop-state.self.watches.items in
-    let Speeds = λ (uses : List (List ℕ) × List (List ℕ)).
+    let Speeds = λ (uses : List (List ℕ) × List (List ℕ) × List (List ℤ)).
     All (λ j. All (λ state. All (HasSpeed m c.args.slopes.now watches) (slice_index_or uses.1 state [])) (slice_index_or uses.0 j [])) c.args.moved.now in
     let own : Speeds c.args.uses.now =
     All-from_get_or (λ j. All (λ state. All (HasSpeed m c.args.slopes.now watches) (slice_index_or c.args.uses.now.1 state [])) (slice_index_or c.args.uses.now.0 j [])) c.args.moved.now 0
