@@ -25,11 +25,13 @@ use Rattle.qss_quiet.specs.Rules.{IsRuled}
 use Rattle.qss_quiet.specs.Sims.{IsDue, StandsFor, HasNothingBefore, became_true}
 use Rattle.qss_run.specs.Speeds.{reads_moved}
 use Rattle.qss_run.specs.Stores.{states_at, world_of, IsTaken}
+use Rattle.qss_run.specs.Visitings.{HasLeft}
 use Rattle.qss_quiet.proofs.Quiet.{int_at-tabulate}
 use Rattle.qss_quiet.proofs.Silence.{line_state_at, still_near}
 use Rattle.qss_quiet.proofs.NextVisit.{only_due_states_pass}
 use Rattle.qss_run.proofs.Jumps.{dues_later, later_of}
 use Rattle.qss_run.proofs.QuietTick.{NoneChanges, only_moves, quiet_truths, watched_then}
+use Rattle.qss_quiet.proofs.Writes.{index_of}
 use Rattle.qss_quiet.proofs.Unread.{unread_at, unread_slope}
 use Rattle.qss_quiet.proofs.NextLevels.{next_is_near}
 use Rattle.qss_quiet.proofs.Risen.{none_due}
@@ -87,6 +89,14 @@ module _ (m : Machine) (tick : ℕ) (agenda : List (Option ℕ)) (s : Store) (ta
   rest_near j h none =
       subst (λ x. is_near m j x (int_at s.levels.items j) ≡ true) (sym (line_state_at m tick (world_of tick s) (line_at s.lines.items) (watch_at s.conditions.watches.items) (due_at agenda) for j 1 h))
       (still_near m tick (world_of tick s) (line_at s.lines.items) (watch_at s.conditions.watches.items) (due_at agenda) (tick + 1) 1 j for (omega arith) (omega arith) in_limit h (later_due j h none))
+
+  -- a due state left the quantum of its level
+  pub due_left : (j : ℕ) → is_among s.moved.items j ≡ true → HasLeft m j (state_at (line_at s.lines.items j) (tick + 1)) (int_at s.levels.items j)
+  due_left j among =
+      let found = index_of s.moved.items j among in
+      let inside : j < state_count m = omega (arith, found.2, taken.due.numbers.below found.0 0 found.1) in
+      let first : IsDue m tick j (line_at s.lines.items j) (Some (tick + 1)) = subst (IsDue m tick j (line_at s.lines.items j)) (taken.due.own j among) (for.dues j inside) in
+      subst (HasLeft m j (state_at (line_at s.lines.items j) (tick + 1))) ((for.lines j inside).own_level) first.holds
 
   -- lines come from an earlier tick, at the slopes that are kept
   pub earlier : (j : ℕ) → j < state_count m → (line_at s.lines.items j).tick < tick + 1

@@ -10,7 +10,7 @@ use Rattle.qss_machine.specs.Numbers.{int_at, tabulate}
 use Rattle.qss_machine.specs.Slopes.{mode_fits}
 use Rattle.qss_machine.specs.Ticks.{is_near, is_overweight}
 use Rattle.qss_machine.specs.Uses.{uses_of}
-use Rattle.qss_quant.specs.Lines.{Line, state_at, IsNear}
+use Rattle.qss_quant.specs.Lines.{Line, state_at, IsNear, IsAway}
 use Rattle.qss_cross.specs.Crossing.{IsSmall, value_at, holds_at}
 use Rattle.qss_sched.specs.Ranks.{due_at}
 use Rattle.qss_hand.specs.Values.{Values}
@@ -92,11 +92,17 @@ pub record IsArrival (at : Arrival) : Type 0 where
   pub lines : length at.lines.now ≡ state_count at.machine.now
   pub moved : AreNumbers (state_count at.machine.now) at.moved.now
 
--- the moved states may arrive at a tick of a run: along their lines the others pass no limit, and are near these levels
+-- a state is at least the quantum away from its level
+abbrev pub HasLeft : Machine → ℕ → ℤ → ℤ → Type 0
+HasLeft m j state level = IsAway (level_unit m) state level (quantum_of m j level)
+
+-- the moved states may arrive at a tick of a run: along their lines they leave the quanta of these levels, and the others pass no limit, and are near these levels
 pub record CanArrive (at : Arrival) (levels : List ℤ) : Type 0 where
   pub arrival : IsArrival at
   pub later : (j : ℕ) → j < length at.lines.now → (line_at at.lines.now j).tick ≤ at.tick
   pub in_time : at.tick < 2 ^ 32
+  pub moved_away : (j : ℕ) → is_among at.moved.now j ≡ true →
+      HasLeft at.machine.now j (state_at (line_at at.lines.now j) at.tick) (int_at levels j)
   pub others_small : (j : ℕ) → j < state_count at.machine.now → is_among at.moved.now j ≡ false →
       IsWithin 88 (state_at (line_at at.lines.now j) at.tick)
   pub others_near : (j : ℕ) → j < state_count at.machine.now → is_among at.moved.now j ≡ false →

@@ -18,7 +18,7 @@ ghost use Rattle.qss_run.specs.Places.{line_at};
 ghost use Rattle.qss_quiet.specs.Rules.{IsRuled};
 ghost use Rattle.qss_run.specs.Stores.{states_at};
 ghost use Rattle.qss_quiet.specs.Writes.{IsFirstOf, IsWritten};
-ghost use Rattle.qss_run.specs.Visitings.{CanArrive};
+ghost use Rattle.qss_run.specs.Visitings.{CanArrive, HasLeft};
 
 use crate::levels::take_level;
 use crate::visiting::Arrival;
@@ -103,6 +103,102 @@ pub(crate) fn take_levels_due(
     }
 }
 
+// The new levels of moved states, each of which left the quantum of its level.
+fn leave_due(
+    m: &Machine,
+    q: &Quantizer,
+    x: &[i128],
+    levels: &[i64],
+    moved: &[u32],
+    fresh: &mut [i128],
+)
+    requires states { length x.now ≡ state_count m.now }
+    requires levels { length levels.now ≡ state_count m.now }
+    requires fresh { length fresh.old ≡ state_count m.now }
+    requires moved { AreNumbers (state_count m.now) moved.now }
+    requires small_states { (j : ℕ) → is_among moved.now j ≡ true → IsWithin 88 (int_at x.now j) }
+    requires small_levels { All (IsWithin 43) levels.now }
+    requires away { (j : ℕ) → is_among moved.now j ≡ true
+        → HasLeft m.now j (int_at x.now j) (int_at levels.now j) }
+    ensures { IsWritten (pos 0)
+        (λ j level. IsNextLevel (IsRuled q.now.name) m.now j
+            (int_at x.now j) (int_at levels.now j) level)
+        moved.now fresh.old fresh.new }
+{
+    let unit = m.level_unit();
+    for state in moved {
+        let j = *state as usize;
+        fresh[j] = q.answer(x[j], levels[j], unit);
+    }
+}
+
+// The moved states take these levels, with a row for each that is another one. It gives the state whose level overflows, if
+// one does.
+fn take_fresh(
+    at: &Arrival,
+    x: &[i128],
+    fresh: &[i128],
+    levels: &mut [i64],
+    rows: &mut Vec<Row>,
+) -> Option<u32>
+    requires states { length x.now ≡ state_count at.now.machine.now }
+    requires levels { length levels.old ≡ state_count at.now.machine.now }
+    requires moved { AreNumbers (state_count at.now.machine.now) at.now.moved.now }
+    requires off { IsOff at.now.moved.now levels.old fresh.now }
+    requires small_levels { All (IsWithin 43) levels.old }
+    requires room { vec_len rows.old + state_count at.now.machine.now ≤ vec_capacity rows.old }
+    ensures over { result ≡ first_past 43 fresh.now }
+    ensures levels { result ≡ None → levels.new ≡ fresh.now }
+    ensures small { result ≡ None → All (IsWithin 43) levels.new }
+    ensures rows { result ≡ None
+        → (states : List ℤ) → AreMovedTo at.now.machine.now at.now.moved.now x.now levels.old states
+        → rows.new.items ≡ rows.old.items ++ level_rows at.now.tick levels.old levels.new states }
+    ensures room { vec_capacity rows.new ≡ vec_capacity rows.old }
+{
+    let passed = first_past_of(fresh, at.moved, 43);
+    if passed.is_some() {
+        return passed;
+    }
+    take_levels_due(at.tick, x, fresh, at.moved, levels, rows);
+    None
+}
+
+// Moved states, each of which left the quantum of its level, take their new levels, with a row for each that is another one. It
+// gives the state whose level overflows, if one does.
+fn requantize_left(
+    at: &Arrival,
+    q: &Quantizer,
+    x: &[i128],
+    levels: &mut [i64],
+    fresh: &mut [i128],
+    rows: &mut Vec<Row>,
+) -> Option<u32>
+    requires states { length x.now ≡ state_count at.now.machine.now }
+    requires levels { length levels.old ≡ state_count at.now.machine.now }
+    requires fresh { fresh.old ≡ levels.old }
+    requires moved { AreNumbers (state_count at.now.machine.now) at.now.moved.now }
+    requires small_states { (j : ℕ) → is_among at.now.moved.now j ≡ true
+        → IsWithin 88 (int_at x.now j) }
+    requires small_levels { All (IsWithin 43) levels.old }
+    requires away { (j : ℕ) → is_among at.now.moved.now j ≡ true
+        → HasLeft at.now.machine.now j (int_at x.now j) (int_at levels.old j) }
+    requires room { vec_len rows.old + state_count at.now.machine.now ≤ vec_capacity rows.old }
+    ensures over { result ≡ first_past 43 fresh.new }
+    ensures allowed { (states : List ℤ)
+        → AreMovedTo at.now.machine.now at.now.moved.now x.now levels.old states
+        → AreNextLevels (IsRuled q.now.name) at.now.machine.now states levels.old fresh.new }
+    ensures others { IsOff at.now.moved.now levels.old fresh.new }
+    ensures levels { result ≡ None → levels.new ≡ fresh.new }
+    ensures small { result ≡ None → All (IsWithin 43) levels.new }
+    ensures rows { result ≡ None
+        → (states : List ℤ) → AreMovedTo at.now.machine.now at.now.moved.now x.now levels.old states
+        → rows.new.items ≡ rows.old.items ++ level_rows at.now.tick levels.old levels.new states }
+    ensures room { vec_capacity rows.new ≡ vec_capacity rows.old }
+{
+    leave_due(at.machine, q, x, levels, at.moved, fresh);
+    take_fresh(at, x, fresh, levels, rows)
+}
+
 /// The moved states take their new levels, with a row for each that is another one. It gives the state whose level overflows,
 /// if one does.
 pub(crate) fn requantize_states(
@@ -134,12 +230,7 @@ pub(crate) fn requantize_states(
     ensures room { vec_capacity rows.new ≡ vec_capacity rows.old }
 {
     relevel_due(at.machine, q, x, levels, at.moved, fresh);
-    let passed = first_past_of(fresh, at.moved, 43);
-    if passed.is_some() {
-        return passed;
-    }
-    take_levels_due(at.tick, x, fresh, at.moved, levels, rows);
-    None
+    take_fresh(at, x, fresh, levels, rows)
 }
 
 /// The due states arrive. It gives the state that passes its limit, if one does.
@@ -203,5 +294,5 @@ pub(crate) fn requantize_due(
         return passed;
     }
     rows.clear();
-    requantize_states(at, q, x, levels, fresh, rows)
+    requantize_left(at, q, x, levels, fresh, rows)
 }

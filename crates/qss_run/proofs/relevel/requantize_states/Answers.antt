@@ -1,53 +1,22 @@
 -- What the moved states do is what all states do.
-use Rattle.std.proofs.Common.{◌≡◌, ◌++◌, refl, sym, ◌∙◌, ap, subst, arith}
-use Rattle.std.specs.Prelude.{None, All}
-use Rattle.mu_num.specs.Sizes.{IsWithin}
-use Rattle.qss_machine.specs.Numbers.{first_past}
-use Rattle.qss_machine.specs.Runs.{level_rows}
-use Rattle.qss_quiet.specs.Among.{IsOff}
 use Rattle.qss_quiet.specs.Rules.{IsRuled}
-use Rattle.qss_quiet.proofs.Overs.{all_within, not_some, clash}
-use Rattle.qss_run.proofs.Dues.{few_numbers}
-use Rattle.qss_run.proofs.DueLevels.{levels_over, levels_allowed, rows_of_moved, levels_taken, written_off}
+use Rattle.qss_run.proofs.DueLevels.{levels_allowed, written_off}
 use Rattle.qss_run.proofs.relevel.requantize_states.Goals as goal
 
-pub returns-then-is_some : goal.returns-then-is_some
-returns-then-is_some g c =
-    let m = c.args.at.now.machine.now in
-    let moved = c.args.at.now.moved.now in
-    let some = sym c.is_some.ensures ∙ c.if-is_some.true in
-    let off : IsOff moved c.args.levels.now c.relevel_due.new.fresh = written_off moved _ c.args.levels.now c.args.fresh.now c.relevel_due.new.fresh c.requires.fresh c.relevel_due.ensures in
-    record {
-      over = levels_over m moved c.args.x.now c.args.levels.now c.relevel_due.new.fresh c.requires.moved c.requires.levels off c.first_past_of-passed.result c.requires.small_levels c.first_past_of-passed.ensures;
-      allowed = λ states are. levels_allowed m moved c.args.x.now c.args.levels.now c.relevel_due.new.fresh c.requires.moved c.requires.levels off states are (IsRuled c.args.q.now.name) c.relevel_due.ensures.each;
-      others = off;
-      levels = λ none. clash c.first_past_of-passed.result some none;
-      small = λ none. clash c.first_past_of-passed.result some none;
-      rows = λ none. clash c.first_past_of-passed.result some none;
-      room = refl;
-    }
-
-pub take_levels_due-requires-clause-room : goal.take_levels_due-requires-clause-room
-take_levels_due-requires-clause-room g c = omega (arith, few_numbers _ c.args.at.now.moved.now c.requires.moved, c.requires.room)
+pub take_fresh-requires-clause-off : goal.take_fresh-requires-clause-off
+take_fresh-requires-clause-off g c = written_off c.args.at.now.moved.now _ c.args.levels.now c.args.fresh.now c.relevel_due.new.fresh c.requires.fresh c.relevel_due.ensures
 
 pub returns : goal.returns
 returns g c =
     let m = c.args.at.now.machine.now in
     let moved = c.args.at.now.moved.now in
-    let none : c.first_past_of-passed.result ≡ None = not_some c.first_past_of-passed.result (sym c.is_some.ensures ∙ c.if-is_some.false) in
-    let off : IsOff moved c.args.levels.now c.relevel_due.new.fresh = written_off moved _ c.args.levels.now c.args.fresh.now c.relevel_due.new.fresh c.requires.fresh c.relevel_due.ensures in
-    let over : c.first_past_of-passed.result ≡ first_past 43 c.relevel_due.new.fresh =
-    levels_over m moved c.args.x.now c.args.levels.now c.relevel_due.new.fresh c.requires.moved c.requires.levels off c.first_past_of-passed.result c.requires.small_levels c.first_past_of-passed.ensures in
-    let taken : c.take_levels_due.new.levels ≡ c.relevel_due.new.fresh = levels_taken moved c.args.levels.now c.relevel_due.new.fresh c.take_levels_due.new.levels c.take_levels_due.ensures.levels off in
+    let off = written_off moved _ c.args.levels.now c.args.fresh.now c.relevel_due.new.fresh c.requires.fresh c.relevel_due.ensures in
     record {
-      over = sym none ∙ over;
+      over = c.take_fresh.ensures.over;
       allowed = λ states are. levels_allowed m moved c.args.x.now c.args.levels.now c.relevel_due.new.fresh c.requires.moved c.requires.levels off states are (IsRuled c.args.q.now.name) c.relevel_due.ensures.each;
       others = off;
-      levels = λ e. taken;
-      small = λ e. subst (All (IsWithin 43)) (sym taken) (all_within 43 c.relevel_due.new.fresh (sym over ∙ none));
-      rows = λ e states are. c.take_levels_due.ensures.rows
-          ∙ ap (λ more. c.args.rows.now.items ++ more)
-          (rows_of_moved m moved c.args.x.now c.args.levels.now c.relevel_due.new.fresh c.requires.moved c.requires.levels off states are c.args.at.now.tick
-          ∙ ap (λ l. level_rows c.args.at.now.tick c.args.levels.now l states) (sym taken));
-      room = c.take_levels_due.ensures.room;
+      levels = c.take_fresh.ensures.levels;
+      small = c.take_fresh.ensures.small;
+      rows = c.take_fresh.ensures.rows;
+      room = c.take_fresh.ensures.room;
     }

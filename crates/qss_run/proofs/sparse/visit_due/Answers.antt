@@ -26,9 +26,10 @@ use Rattle.qss_quiet.specs.Sims.{IsDue}
 use Rattle.qss_quiet.proofs.Overs.{not_some, clash, all_within}
 use Rattle.qss_run.specs.Kept.{AreWeights}
 use Rattle.qss_run.specs.Stores.{states_at, world_of, FitsMachine}
+use Rattle.qss_run.specs.Visitings.{HasLeft}
 use Rattle.qss_run.specs.Touches.{touches_at}
 use Rattle.qss_run.proofs.OwnConditions.{arrived_anew}
-use Rattle.qss_run.proofs.QuietVisits.{steps_or, leads, rest_small, rest_near, own_slope, levels_before, handled, arrived, near, kept_due, same_truths, watched, not_rising, rising, rows_then}
+use Rattle.qss_run.proofs.QuietVisits.{steps_or, leads, rest_small, rest_near, due_left, own_slope, levels_before, handled, arrived, near, kept_due, same_truths, watched, not_rising, rising, rows_then}
 use Rattle.qss_run.proofs.QuietTick.{none_rises_then}
 use Rattle.qss_run.proofs.Touched.{renewals_touched}
 use Rattle.qss_run.proofs.Visits.{stands_again, end_of, both_none, same_length, levels_small, state_within}
@@ -52,6 +53,10 @@ requantize_moved-over-requires-clause-ready g c =
           let not_later = (taken.stands.stands_for.lines j (omega (arith, h, ap length c.as_slice.ensures.value, fits.lines))).not_later in
           omega (arith, ap (λ ls. (line_at ls j).tick) c.as_slice.ensures.value, not_later);
       in_time = omega (arith, c.requires.in_time, m.has_units.last_tick);
+      moved_away = λ j among.
+          subst (λ ls. HasLeft m j (state_at (line_at ls j) t) (int_at c.as_mut_slice.result.now j)) (sym c.as_slice.ensures.value)
+          (subst (λ l. HasLeft m j (state_at (line_at s.lines.items j) t) (int_at l j)) (sym c.as_mut_slice.ensures.value)
+          (due_left m c.args.tick agenda s taken c.requires.in_time j (ap (λ l. is_among l j) (sym c.as_slice-2.ensures.value) ∙ among)));
       others_small = λ j h none.
           subst (λ ls. IsWithin 88 (state_at (line_at ls j) t)) (sym c.as_slice.ensures.value)
           (rest_small m c.args.tick agenda s taken c.requires.in_time j h (ap (λ l. is_among l j) (sym c.as_slice-2.ensures.value) ∙ none));
