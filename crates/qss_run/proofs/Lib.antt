@@ -33,6 +33,7 @@ pub mod Reseating
 pub mod Weighed
 pub mod Terms
 pub mod Room
+pub mod Found
 pub mod Kept
 pub mod Reinitialized
 pub mod Reinits

@@ -1,6 +1,6 @@
 //! New levels of the states that are due at one tick.
 
-ghost use Rattle.std.specs.Prelude.{◌≡◌, ℕ, ◌+◌, ◌<◌, ◌≤◌, ◌^◌, ◌++◌, ◌∷◌, [], List, ℤ, All, None, length, pos, true, false, vec_len, vec_capacity, if◌then◌else◌};
+ghost use Rattle.std.specs.Prelude.{◌≡◌, ℕ, ◌+◌, ◌<◌, ◌≤◌, ◌^◌, ◌++◌, ◌∷◌, [], List, ℤ, All, None, Some, length, pos, true, false, vec_len, vec_capacity, if◌then◌else◌};
 ghost use Rattle.std.specs.List.{flat_map};
 ghost use Rattle.std.specs.Option.{option_or};
 ghost use Rattle.std.specs.Ordering.{int_eq};
@@ -27,18 +27,34 @@ use qss_machine::{Machine, Row};
 use qss_quant::{Integrator, Quantizer};
 use qss_quiet::next_level;
 
-// The moved states at a tick, along their lines.
-fn arrive_due(lines: &[Integrator], tick: u64, moved: &[u32], x: &mut [i128])
+// The one that was found first, else this state, where it passes.
+fn found_or(first: Option<u32>, state: u32, passes: bool) -> Option<u32>
+    ensures { result ≡ option_or first (if passes then Some state else None) }
+{
+    match first {
+        None if passes => Some(state),
+        _ => first,
+    }
+}
+
+// The moved states at a tick, along their lines. It gives the least of them that is past the limit of states, if one is.
+fn arrive_due(lines: &[Integrator], tick: u64, moved: &[u32], x: &mut [i128]) -> Option<u32>
     requires as_many { length x.old ≡ length lines.now }
     requires moved { AreNumbers (length lines.now) moved.now }
     requires later { (j : ℕ) → j < length lines.now → (line_at lines.now j).tick ≤ tick }
     requires in_time { tick ≤ tick_limit }
-    ensures { IsWritten (pos 0) (λ j z. z ≡ state_at (line_at lines.now j) tick) moved.now x.old x.new }
+    ensures first { IsFirstOf (λ j. passes 88 (state_at (line_at lines.now j) tick)) moved.now result }
+    ensures arrived { IsWritten (pos 0)
+        (λ j z. z ≡ state_at (line_at lines.now j) tick) moved.now x.old x.new }
 {
+    let mut first = None;
     for state in moved {
         let j = *state as usize;
-        x[j] = lines[j].value_at(tick);
+        let value = lines[j].value_at(tick);
+        first = found_or(first, *state, passes(value, 88));
+        x[j] = value;
     }
+    first
 }
 
 // The least moved state whose number is more than a power of two in size.
@@ -250,8 +266,7 @@ pub(crate) fn arrive_within(
     ensures arrived { IsWritten (pos 0) (λ j z. z ≡ state_at (line_at lines.now j) tick) moved.now x.old x.new }
     ensures small_x { result ≡ None → All (IsWithin 88) x.new }
 {
-    arrive_due(lines, tick, moved, x);
-    first_past_of(x, moved, 88)
+    arrive_due(lines, tick, moved, x)
 }
 
 /// The due states arrive and take their new levels. It gives the state that passes a limit, on arrival or by its level.
