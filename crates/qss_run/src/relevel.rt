@@ -27,12 +27,12 @@ use qss_machine::{Machine, Row};
 use qss_quant::{Integrator, Quantizer};
 use qss_quiet::next_level;
 
-// The one that was found first, else this state, where it passes.
-fn found_or(first: Option<u32>, state: u32, passes: bool) -> Option<u32>
-    ensures { result ≡ option_or first (if passes then Some state else None) }
+// The one that was found first, else this state, where it is past its limit.
+fn found_or(first: Option<u32>, state: u32, past: bool) -> Option<u32>
+    ensures { result ≡ option_or first (if past then Some state else None) }
 {
     match first {
-        None if passes => Some(state),
+        None if past => Some(state),
         _ => first,
     }
 }
