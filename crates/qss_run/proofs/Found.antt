@@ -1,9 +1,8 @@
 -- The first of some numbers that passes a test, while they are gone through.
-use Rattle.std.proofs.Common.{◌≡◌, ℕ, ◌+◌, ◌<◌, ◌≤◌, Bool, true, false, List, length, get_or, sym, ◌∙◌, below_more}
+use Rattle.std.proofs.Common.{◌≡◌, ℕ, ◌+◌, ◌<◌, ◌≤◌, Bool, true, false, List, length, get_or, below_more}
 use Rattle.std.specs.List.Sorted.{IsStrictlyIncreasing}
 use Rattle.std.specs.Option.{option_or}
 use Rattle.std.specs.Prelude.{Option, Some, None, if◌then◌else◌}
-use Rattle.qss_quiet.specs.Among.{is_among}
 use Rattle.qss_quiet.specs.Writes.{IsFirstOf}
 use Rattle.qss_quiet.proofs.DueFirsts.{first_of, none_of}
 
@@ -23,10 +22,3 @@ found_more test places i None false rising h found e = below_more (λ k. test (g
 pub found_done : (test : ℕ → Bool) (places : List ℕ) (i : ℕ) (first : Option ℕ) → length places ≤ i → IsFoundIn test places i first → IsFirstOf test places first
 found_done test places i (Some first) h found = found
 found_done test places i None h found = none_of test places i h found
-
--- two tests that are alike on the numbers
-pub first_alike : (test other : ℕ → Bool) (places : List ℕ) (first : Option ℕ) → ((place : ℕ) → is_among places place ≡ true → test place ≡ other place) → IsFirstOf test places first →
-    IsFirstOf other places first
-first_alike test other places None same found = λ place e. sym (same place e) ∙ found place e
-first_alike test other places (Some first) same found =
-    (found.0, sym (same first found.0) ∙ found.1, λ place less e. sym (same place e) ∙ found.2 place less e)

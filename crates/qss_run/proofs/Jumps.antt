@@ -101,7 +101,6 @@ fits_then m s arrived calm fits many = record {
   lines = fits.lines;
   levels = fits.levels;
   slopes = fits.slopes;
-  fresh = fits.fresh;
   weights = fits.weights;
   moved_room = fits.moved_room;
   changed_room = fits.changed_room;
@@ -123,7 +122,6 @@ pub stands_then : (m : Machine) (tick ticks : ℕ) (s : Store) (arrived : Vec Bo
 stands_then m tick ticks s arrived calm stands before nothing is as_settled = record {
   fits = fits_then m s arrived calm stands.fits (ap length is ∙ many ticks);
   stands_for = subst (λ v. StandsFor m (tick + ticks) v (line_at s.lines.items) (watch_at s.conditions.watches.items) (due_at s.agenda)) (sym (world_then m tick ticks s arrived calm stands is)) (still ticks before nothing);
-  fresh_levels = stands.fresh_levels;
   own_slopes = stands.own_slopes;
   own_weights = stands.own_weights;
   rising = risen ticks before nothing is;

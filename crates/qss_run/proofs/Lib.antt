@@ -34,6 +34,7 @@ pub mod Weighed
 pub mod Terms
 pub mod Room
 pub mod Found
+pub mod Taken
 pub mod Kept
 pub mod Reinitialized
 pub mod Reinits

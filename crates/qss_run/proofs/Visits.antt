@@ -88,14 +88,13 @@ pub stands_again : (m : Machine) (t : ℕ) (s : Store) (x : List ℤ) → length
     ((place : ℕ) → place < length (conditions m) → IsWatched m t x s.work.d s.slopes.items place (watch_at s.conditions.watches.items place) (due_at s.agenda (state_count m + place))) →
     s.rising ≡ rises (world_of t s) →
     due_at s.agenda (state_count m + length (conditions m)) ≡ (if s.rising then Some (t + 1) else None) →
-    s.fresh.items ≡ s.levels.items → (s.calm ≡ true → s.conditions.arrived.items ≡ s.conditions.settled.items) →
+    (s.calm ≡ true → s.conditions.arrived.items ≡ s.conditions.settled.items) →
     (states_at s.lines.items t ≡ x) × Stands m t s
-stands_again m t s x many fits small light slopes weights turned settled watched risen rising twice calm = (
+stands_again m t s x many fits small light slopes weights turned settled watched risen rising calm = (
   states,
   record {
     fits = fits;
     stands_for = for;
-    fresh_levels = twice;
     own_slopes = slopes;
     own_weights = weights;
     rising = risen;
@@ -152,7 +151,6 @@ stands_with m tick s moved changed stands moved_room changed_room =
         lines = fits.lines;
         levels = fits.levels;
         slopes = fits.slopes;
-        fresh = fits.fresh;
         weights = fits.weights;
         moved_room = omega (arith, moved_room, fits.moved_room);
         changed_room = omega (arith, changed_room, fits.changed_room);
@@ -168,7 +166,6 @@ stands_with m tick s moved changed stands moved_room changed_room =
         row_room = fits.row_room;
       };
       stands_for = stands.stands_for;
-      fresh_levels = stands.fresh_levels;
       own_slopes = stands.own_slopes;
       own_weights = stands.own_weights;
       rising = stands.rising;

@@ -47,7 +47,6 @@ pub record FitsMachine (m : Machine) (s : Store) : Type 0 where
   pub lines : length s.lines.items ≡ state_count m
   pub levels : length s.levels.items ≡ state_count m
   pub slopes : length s.slopes.items ≡ state_count m
-  pub fresh : length s.fresh.items ≡ state_count m
   pub weights : length s.weights.of_rows.items ≡ state_count m
   pub moved_room : state_count m ≤ vec_capacity s.moved
   pub changed_room : length (conditions m) ≤ vec_capacity s.changed
@@ -62,11 +61,10 @@ pub record FitsMachine (m : Machine) (s : Store) : Type 0 where
   pub work_room : row_room m.clauses ≤ s.work.room
   pub row_room : row_room m.clauses + state_count m + discrete_count m + 1 ≤ vec_capacity s.rows
 
--- a store stands for its world at a tick: it keeps the slopes there, each level twice, the weights where they are needed, and whether a condition became true through the handlers; while it is calm no condition is on arrival other than after the handlers
+-- a store stands for its world at a tick: it keeps the slopes there, the weights where they are needed, and whether a condition became true through the handlers; while it is calm no condition is on arrival other than after the handlers
 pub record Stands (m : Machine) (tick : ℕ) (s : Store) : Type 0 where
   pub fits : FitsMachine m s
   pub stands_for : StandsFor m tick (world_of tick s) (line_at s.lines.items) (watch_at s.conditions.watches.items) (due_at s.agenda)
-  pub fresh_levels : s.fresh.items ≡ s.levels.items
   pub own_slopes : s.slopes.items ≡ slopes_of m (world_of tick s)
   pub own_weights : AreWeights m s.levels.items s.work.d s.weights
   pub rising : s.rising ≡ rises (world_of tick s)
@@ -85,7 +83,6 @@ pub record IsBlank (m : Machine) (s : Store) : Type 0 where
   pub states : s.work.x ≡ start_states m
   pub discretes : s.work.d ≡ start_discretes m
   pub levels : s.levels.items ≡ map (level_below (level_unit m)) (start_states m)
-  pub fresh_levels : s.fresh.items ≡ s.levels.items
   pub no_dues : HasNone s.agenda
   pub not_rising : s.rising ≡ false
 

@@ -108,10 +108,9 @@ pub record CanArrive (at : Arrival) (levels : List ℤ) : Type 0 where
   pub others_near : (j : ℕ) → j < state_count at.machine.now → is_among at.moved.now j ≡ false →
       is_near at.machine.now j (state_at (line_at at.lines.now j) at.tick) (int_at levels j) ≡ true
 
--- levels of a machine's states that the lines have, within their limit, the same once more, and the weights of all rows there and at discrete values, none past its limit
-pub record HoldsLevels (m : Machine) (lines : List Line) (d levels_old fresh_old : List ℤ) (weights_old : Weights) : Type 0 where
+-- levels of a machine's states that the lines have, within their limit, and the weights of all rows there and at discrete values, none past its limit
+pub record HoldsLevels (m : Machine) (lines : List Line) (d levels_old : List ℤ) (weights_old : Weights) : Type 0 where
   pub levels : length levels_old ≡ state_count m
-  pub fresh : fresh_old ≡ levels_old
   pub small_levels : All (IsWithin 43) levels_old
   pub light : position (is_overweight m levels_old d) m.rows ≡ None
   pub weights : AreWeights m levels_old d weights_old
@@ -194,7 +193,6 @@ pub record CanGoOnHandled (m : Machine) (tick : ℕ) (s : Store) : Type 0 where
   pub small_levels : All (IsWithin 43) s.levels.items
   pub light : position (is_overweight m s.levels.items s.work.d) m.rows ≡ None
   pub weights : AreWeights m s.levels.items s.work.d s.weights
-  pub fresh_levels : s.fresh.items ≡ s.levels.items
   pub in_time : tick < 2 ^ 32
   pub later : (j : ℕ) → j < state_count m → (line_at s.lines.items j).tick ≤ tick
   pub small : All (IsWithin 88) (states_at s.lines.items tick)

@@ -126,7 +126,6 @@ pub(crate) fn visit_changed<L: Ledger>(
         &handled,
         q,
         s.levels.as_mut_slice(),
-        s.fresh.as_mut_slice(),
         &mut s.weights,
         &mut s.rows,
     );

@@ -1,17 +1,17 @@
 //! A tick at which nothing but states is due.
 
-ghost use Rattle.std.specs.Prelude.{◌≡◌, ℕ, ◌+◌, ◌<◌, ◌≤◌, ◌^◌, [], All, length, position, List, Option, None, false, vec_capacity};
+ghost use Rattle.std.specs.Prelude.{◌≡◌, ℕ, ◌+◌, ◌<◌, ◌≤◌, ◌^◌, [], All, length, position, List, ℤ, Option, None, vec_capacity};
 ghost use Rattle.std.specs.Option.{option_or};
 ghost use Rattle.mu_num.specs.Sizes.{IsWithin};
 ghost use Rattle.qss_machine.specs.Numbers.{int_at, first_past};
 ghost use Rattle.qss_machine.specs.Handlers.{conditions};
 ghost use Rattle.qss_machine.specs.Machines.{state_count, slope_at};
-ghost use Rattle.qss_machine.specs.Ticks.{AreNextLevels, is_overweight, world_unless, Step};
+ghost use Rattle.qss_machine.specs.Ticks.{is_overweight, world_unless, Step};
 ghost use Rattle.qss_machine.specs.Runs.{level_rows, tick_rows};
 ghost use Rattle.qss_quant.specs.Lines.{state_at};
 ghost use Rattle.qss_sched.specs.Ranks.{due_at};
-ghost use Rattle.qss_quiet.specs.Among.{is_among, IsOff};
 ghost use Rattle.qss_run.specs.Kept.{AreWeights};
+ghost use Rattle.qss_run.specs.Levels.{AreRequantizedOnArrival};
 ghost use Rattle.qss_run.specs.Moments.{AreWithin};
 ghost use Rattle.qss_run.specs.Places.{AreConditionsOf, AreWatched, HasPlaces, line_at, IsTurned};
 ghost use Rattle.qss_run.specs.Renewals.{renewals};
@@ -39,37 +39,27 @@ fn requantize_in(
     q: &Quantizer,
     work: &mut Work,
     levels: &mut [i64],
-    fresh: &mut [i128],
     rows: &mut Vec<Row>,
 ) -> Option<u32>
     requires ready { CanArrive at.now levels.old }
     requires states { length work.old.x ≡ state_count at.now.machine.now }
     requires levels { length levels.old ≡ state_count at.now.machine.now }
-    requires fresh { fresh.old ≡ levels.old }
     requires small_levels { All (IsWithin 43) levels.old }
     requires small_x { All (IsWithin 88) work.old.x }
     requires room { state_count at.now.machine.now ≤ vec_capacity rows.old }
-    ensures over { result
-        ≡ option_or (first_past 88 (states_at at.now.lines.now at.now.tick))
-        (first_past 43 fresh.new) }
-    ensures allowed { first_past 88 (states_at at.now.lines.now at.now.tick) ≡ None
-        → AreNextLevels (IsRuled q.now.name) at.now.machine.now
-        (states_at at.now.lines.now at.now.tick)
-        levels.old fresh.new }
-    ensures levels { result ≡ None → levels.new ≡ fresh.new }
+    ensures taken { (new : List ℤ) × AreRequantizedOnArrival at.now q.now.name
+        levels.old levels.new new (first_past 43 new) result }
     ensures small { result ≡ None → All (IsWithin 43) levels.new }
     ensures rows { result ≡ None
         → rows.new.items ≡ level_rows at.now.tick levels.old levels.new
         (states_at at.now.lines.now at.now.tick) }
-    ensures others { (j : ℕ) → is_among at.now.moved.now j ≡ false
-        → int_at fresh.new j ≡ int_at levels.old j }
     ensures work { work.new ≡ record work.old { x = work.new.x } }
     ensures states { length work.new.x ≡ length work.old.x }
     ensures small_x { result ≡ None → All (IsWithin 88) work.new.x }
     ensures room { vec_capacity rows.new ≡ vec_capacity rows.old }
 {
     let x = work.x.as_mut_slice();
-    requantize_due(at, q, x, levels, fresh, rows)
+    requantize_due(at, q, x, levels, rows)
 }
 
 // The due states arrive and take their new levels. It gives the variable that overflows, on arrival, by its level or by
@@ -79,37 +69,31 @@ fn requantize_moved(
     q: &Quantizer,
     work: &mut Work,
     levels: &mut [i64],
-    fresh: &mut [i128],
     weights: &mut Weights,
     rows: &mut Vec<Row>,
 ) -> Option<u32>
     requires ready { CanArrive at.now levels.old }
     requires values { AreWithin at.now.machine.now work.old.x work.old.d }
     requires held { HoldsLevels at.now.machine.now at.now.lines.now work.old.d
-        levels.old fresh.old weights.old }
+        levels.old weights.old }
     requires room { state_count at.now.machine.now ≤ vec_capacity rows.old }
-    ensures over { result ≡ option_or (first_past 88 (states_at at.now.lines.now at.now.tick))
-        (option_or (first_past 43 fresh.new)
-        (position (is_overweight at.now.machine.now fresh.new work.old.d)
-        at.now.machine.now.rows)) }
-    ensures allowed { first_past 88 (states_at at.now.lines.now at.now.tick) ≡ None
-        → AreNextLevels (IsRuled q.now.name) at.now.machine.now
-        (states_at at.now.lines.now at.now.tick)
-        levels.old fresh.new }
-    ensures levels { result ≡ None → levels.new ≡ fresh.new }
+    ensures taken { (new : List ℤ) × AreRequantizedOnArrival at.now q.now.name
+        levels.old levels.new new
+        (option_or (first_past 43 new)
+        (position (is_overweight at.now.machine.now new work.old.d) at.now.machine.now.rows))
+        result }
     ensures small { result ≡ None → All (IsWithin 43) levels.new }
     ensures weights { result ≡ None
         → AreWeights at.now.machine.now levels.new work.old.d weights.new }
     ensures rows { result ≡ None
         → rows.new.items ≡ level_rows at.now.tick levels.old levels.new
         (states_at at.now.lines.now at.now.tick) }
-    ensures others { IsOff at.now.moved.now levels.old fresh.new }
     ensures work { work.new ≡ record work.old { x = work.new.x } }
     ensures states { length work.new.x ≡ length work.old.x }
     ensures small_x { result ≡ None → All (IsWithin 88) work.new.x }
     ensures room { vec_capacity rows.new ≡ vec_capacity rows.old }
 {
-    let over = requantize_in(at, q, work, levels, fresh, rows);
+    let over = requantize_in(at, q, work, levels, rows);
     if over.is_some() {
         return over;
     }
@@ -199,7 +183,6 @@ pub(crate) fn visit_due<L: Ledger>(
         q,
         &mut s.work,
         s.levels.as_mut_slice(),
-        s.fresh.as_mut_slice(),
         &mut s.weights,
         &mut s.rows,
     );

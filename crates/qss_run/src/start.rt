@@ -57,17 +57,6 @@ fn branch_places(alloc: Global, m: &Machine) -> Result<Vec<BranchPlace>, AllocEr
     Ok(found)
 }
 
-// The levels once more.
-fn levels_again(alloc: Global, levels: &[i64]) -> Result<Vec<i128>, AllocError>
-    ensures { IfOk result (λ fresh. fresh.items ≡ levels.now) }
-{
-    let mut fresh: Vec<i128> = Vec::with_capacity(alloc, levels.len())?;
-    for j in 0..levels.len() {
-        fresh.push_reserved(levels[j] as i128);
-    }
-    Ok(fresh)
-}
-
 // So many equal elements.
 fn copies<T: Copy>(alloc: Global, value: T, count: usize) -> Result<Vec<T>, AllocError>
     ensures { IfOk result (λ list. list.items ≡ replicate count value) }
@@ -155,7 +144,6 @@ fn blank_store(alloc: Global, m: &Machine) -> Result<Store, AllocError>
         conditions: watched,
         uses: Uses::new(alloc, m)?,
         lines: copies(alloc, resting_line(), states)?,
-        fresh: levels_again(alloc, levels.as_slice())?,
         levels,
         slopes: copies(alloc, 0, states)?,
         weights: Weights {

@@ -105,7 +105,6 @@ rewatch_handled-requires-clause-fits g c =
       lines = same_length s.lines c.reslope_handled.new.lines ∙ fits.lines;
       levels = fits.levels;
       slopes = same_length s.slopes c.reslope_handled.new.slopes ∙ fits.slopes;
-      fresh = fits.fresh;
       weights = fits.weights;
       moved_room = fits.moved_room;
       changed_room = fits.changed_room;
@@ -245,7 +244,6 @@ returns g c =
       lines = base.lines;
       levels = base.levels;
       slopes = base.slopes;
-      fresh = base.fresh;
       weights = base.weights;
       moved_room = base.moved_room;
       changed_room = base.changed_room;
@@ -288,7 +286,6 @@ returns g c =
     (c.rewatch_handled.ensures.watches place h)))
     (c.note_rising.ensures.rising ∙ ap (λ a. list_any (λ flag. flag) (due_flags left.conditions.settled.items a left.conditions.settled.items)) arrived)
     (ap (due_at next.agenda) (omega (arith, left_fits.lines, left_fits.own_conditions.branches.as_many)) ∙ c.note_rising.ensures.own)
-    c.requires.fresh_levels
     (λ e. absurd (cc)) in
     let world : world_of t next ≡ record { states = y; levels = s.levels.items; discretes = s.work.d; arrived = s.conditions.arrived.items; settled = truths m y s.work.d t } =
     same_worlds (world_of t next) (record { states = y; levels = s.levels.items; discretes = s.work.d; arrived = s.conditions.arrived.items; settled = truths m y s.work.d t })

@@ -121,7 +121,6 @@ returns c =
         lines = fits.lines;
         levels = fits.levels;
         slopes = fits.slopes;
-        fresh = fits.fresh;
         weights = fits.weights;
         moved_room = fits.moved_room;
         changed_room = fits.changed_room;

@@ -78,7 +78,6 @@ requantize_moved-over-requires-clause-held g c =
     let stands = c.requires.taken.1.stands in
     record {
       levels = ap length c.as_mut_slice.ensures.value ∙ stands.fits.levels;
-      fresh = c.as_mut_slice-2.ensures.value ∙ stands.fresh_levels ∙ sym c.as_mut_slice.ensures.value;
       small_levels = subst (All (IsWithin 43)) (sym c.as_mut_slice.ensures.value) (levels_small m c.args.tick (record s { agenda = c.requires.taken.0 }) stands);
       light = ap (λ l. position (is_overweight m l s.work.d) m.rows) c.as_mut_slice.ensures.value ∙ stands.stands_for.left.light;
       weights = subst (λ l. AreWeights m l s.work.d s.weights) (sym c.as_mut_slice.ensures.value) stands.own_weights;
@@ -94,15 +93,15 @@ returns-then-is_some-clause-stepped g c =
     let agenda : List (Option ℕ) = c.requires.taken.0 in
     let taken = c.requires.taken.1 in
     let x : List ℤ = states_at s.lines.items t in
-    let fresh : List ℤ = c.requantize_moved-over.new.fresh in
+    let fresh : List ℤ = c.requantize_moved-over.ensures.taken.0 in
     let h : Handling = record { states = x; discretes = s.work.d; rows = []; overflow = first_past 88 x } in
     let is_h : h ≡ handling_at m t (world_of c.args.tick s) = sym (handled m c.args.tick agenda s taken c.requires.in_time c.requires.none_changes) in
     let allowed : first_past 88 x ≡ None → AreNextLevels (IsRuled c.args.q.now.name) m x s.levels.items fresh = λ none.
     subst (λ ls. AreNextLevels (IsRuled c.args.q.now.name) m (states_at ls t) s.levels.items fresh) c.as_slice.ensures.value
     (subst (λ l. AreNextLevels (IsRuled c.args.q.now.name) m (states_at c.as_slice.result.now t) l fresh) c.as_mut_slice.ensures.value
-    (c.requantize_moved-over.ensures.allowed (ap (λ ls. first_past 88 (states_at ls t)) c.as_slice.ensures.value ∙ none))) in
+    (c.requantize_moved-over.ensures.taken.1.allowed (ap (λ ls. first_past 88 (states_at ls t)) c.as_slice.ensures.value ∙ none))) in
     let over : c.requantize_moved-over.result ≡ option_or (first_past 88 x) (option_or (first_past 43 fresh) (position (is_overweight m fresh s.work.d) m.rows)) =
-    c.requantize_moved-over.ensures.over
+    c.requantize_moved-over.ensures.taken.1.over_is
     ∙ ap (λ ls. option_or (first_past 88 (states_at ls t)) (option_or (first_past 43 fresh) (position (is_overweight m fresh s.work.d) m.rows))) c.as_slice.ensures.value in
     steps_or (IsRuled c.args.q.now.name) m t (world_of c.args.tick s) _ h fresh c.requantize_moved-over.result is_h allowed over
     (λ none. clash c.requantize_moved-over.result (sym c.is_some.ensures ∙ c.if-is_some.true) none)
@@ -116,22 +115,22 @@ go_on_moved-requires-clause-small_states g c =
     let taken = c.requires.taken.1 in
     let calm : c.requantize_moved-over.result ≡ None = not_some c.requantize_moved-over.result (sym c.is_some.ensures ∙ c.if-is_some.false) in
     let x : List ℤ = states_at s.lines.items t in
-    let fresh : List ℤ = c.requantize_moved-over.new.fresh in
+    let fresh : List ℤ = c.requantize_moved-over.ensures.taken.0 in
     let h : Handling = record { states = x; discretes = s.work.d; rows = []; overflow = first_past 88 x } in
     let is_h : h ≡ handling_at m t (world_of c.args.tick s) = sym (handled m c.args.tick agenda s taken c.requires.in_time c.requires.none_changes) in
     let allowed : first_past 88 x ≡ None → AreNextLevels (IsRuled c.args.q.now.name) m x s.levels.items fresh = λ none.
     subst (λ ls. AreNextLevels (IsRuled c.args.q.now.name) m (states_at ls t) s.levels.items fresh) c.as_slice.ensures.value
     (subst (λ l. AreNextLevels (IsRuled c.args.q.now.name) m (states_at c.as_slice.result.now t) l fresh) c.as_mut_slice.ensures.value
-    (c.requantize_moved-over.ensures.allowed (ap (λ ls. first_past 88 (states_at ls t)) c.as_slice.ensures.value ∙ none))) in
+    (c.requantize_moved-over.ensures.taken.1.allowed (ap (λ ls. first_past 88 (states_at ls t)) c.as_slice.ensures.value ∙ none))) in
     let over : c.requantize_moved-over.result ≡ option_or (first_past 88 x) (option_or (first_past 43 fresh) (position (is_overweight m fresh s.work.d) m.rows)) =
-    c.requantize_moved-over.ensures.over
+    c.requantize_moved-over.ensures.taken.1.over_is
     ∙ ap (λ ls. option_or (first_past 88 (states_at ls t)) (option_or (first_past 43 fresh) (position (is_overweight m fresh s.work.d) m.rows))) c.as_slice.ensures.value in
     let none_both = both_none (first_past 88 x) (option_or (first_past 43 fresh) (position (is_overweight m fresh s.work.d) m.rows)) (sym calm ∙ over) in
     let many : length c.requantize_moved-over.new.levels ≡ s.levels.len = c.requantize_moved-over.auto.levels ∙ c.as_mut_slice.ensures.len in
     let levels : c.as_slice-4.result.now ≡ fresh =
-    c.as_slice-4.ensures.value ∙ with_items_is s.levels c.requantize_moved-over.new.levels many ∙ c.requantize_moved-over.ensures.levels calm in
+    c.as_slice-4.ensures.value ∙ with_items_is s.levels c.requantize_moved-over.new.levels many ∙ c.requantize_moved-over.ensures.taken.1.levels calm in
     let of_d : c.requantize_moved-over.new.work.d ≡ s.work.d = ap (λ (v : Values). v.d) c.requantize_moved-over.ensures.work in
-    subst (λ ls. All (IsWithin 88) (states_at ls t)) (sym c.as_mut_slice-4.ensures.value) (all_within 88 x none_both.0)
+    subst (λ ls. All (IsWithin 88) (states_at ls t)) (sym c.as_mut_slice-3.ensures.value) (all_within 88 x none_both.0)
 
 pub go_on_moved-requires-clause-ready : goal.go_on_moved-requires-clause-ready
 go_on_moved-requires-clause-ready g c =
@@ -142,35 +141,35 @@ go_on_moved-requires-clause-ready g c =
     let taken = c.requires.taken.1 in
     let calm : c.requantize_moved-over.result ≡ None = not_some c.requantize_moved-over.result (sym c.is_some.ensures ∙ c.if-is_some.false) in
     let x : List ℤ = states_at s.lines.items t in
-    let fresh : List ℤ = c.requantize_moved-over.new.fresh in
+    let fresh : List ℤ = c.requantize_moved-over.ensures.taken.0 in
     let h : Handling = record { states = x; discretes = s.work.d; rows = []; overflow = first_past 88 x } in
     let is_h : h ≡ handling_at m t (world_of c.args.tick s) = sym (handled m c.args.tick agenda s taken c.requires.in_time c.requires.none_changes) in
     let allowed : first_past 88 x ≡ None → AreNextLevels (IsRuled c.args.q.now.name) m x s.levels.items fresh = λ none.
     subst (λ ls. AreNextLevels (IsRuled c.args.q.now.name) m (states_at ls t) s.levels.items fresh) c.as_slice.ensures.value
     (subst (λ l. AreNextLevels (IsRuled c.args.q.now.name) m (states_at c.as_slice.result.now t) l fresh) c.as_mut_slice.ensures.value
-    (c.requantize_moved-over.ensures.allowed (ap (λ ls. first_past 88 (states_at ls t)) c.as_slice.ensures.value ∙ none))) in
+    (c.requantize_moved-over.ensures.taken.1.allowed (ap (λ ls. first_past 88 (states_at ls t)) c.as_slice.ensures.value ∙ none))) in
     let over : c.requantize_moved-over.result ≡ option_or (first_past 88 x) (option_or (first_past 43 fresh) (position (is_overweight m fresh s.work.d) m.rows)) =
-    c.requantize_moved-over.ensures.over
+    c.requantize_moved-over.ensures.taken.1.over_is
     ∙ ap (λ ls. option_or (first_past 88 (states_at ls t)) (option_or (first_past 43 fresh) (position (is_overweight m fresh s.work.d) m.rows))) c.as_slice.ensures.value in
     let none_both = both_none (first_past 88 x) (option_or (first_past 43 fresh) (position (is_overweight m fresh s.work.d) m.rows)) (sym calm ∙ over) in
     let many : length c.requantize_moved-over.new.levels ≡ s.levels.len = c.requantize_moved-over.auto.levels ∙ c.as_mut_slice.ensures.len in
     let levels : c.as_slice-4.result.now ≡ fresh =
-    c.as_slice-4.ensures.value ∙ with_items_is s.levels c.requantize_moved-over.new.levels many ∙ c.requantize_moved-over.ensures.levels calm in
+    c.as_slice-4.ensures.value ∙ with_items_is s.levels c.requantize_moved-over.new.levels many ∙ c.requantize_moved-over.ensures.taken.1.levels calm in
     let of_d : c.requantize_moved-over.new.work.d ≡ s.work.d = ap (λ (v : Values). v.d) c.requantize_moved-over.ensures.work in
     let off : IsOff s.moved.items s.levels.items fresh =
-    subst (λ l. IsOff l s.levels.items fresh) c.as_slice-2.ensures.value (subst (λ l. IsOff c.as_slice-2.result.now l fresh) c.as_mut_slice.ensures.value c.requantize_moved-over.ensures.others) in
+    subst (λ l. IsOff l s.levels.items fresh) c.as_slice-2.ensures.value (subst (λ l. IsOff c.as_slice-2.result.now l fresh) c.as_mut_slice.ensures.value c.requantize_moved-over.ensures.taken.1.others) in
     let fits = taken.stands.fits in
     record {
       new = record {
         uses = fits.uses;
         moved = subst (AreNumbers (state_count m)) (sym c.as_slice-3.ensures.value) taken.due.numbers;
         levels = ap length c.as_slice-4.ensures.value ∙ same_length s.levels c.requantize_moved-over.new.levels ∙ fits.levels;
-        small_levels = subst (All (IsWithin 43)) (sym (levels ∙ sym (c.requantize_moved-over.ensures.levels calm))) (c.requantize_moved-over.ensures.small calm);
+        small_levels = subst (All (IsWithin 43)) (sym (levels ∙ sym (c.requantize_moved-over.ensures.taken.1.levels calm))) (c.requantize_moved-over.ensures.small calm);
       };
       discretes = ap length of_d ∙ fits.discretes;
       small_discretes = subst (All (IsWithin 43)) (sym of_d) fits.small_discretes;
-      slopes = ap length c.as_mut_slice-3.ensures.value ∙ fits.slopes;
-      lines = ap length c.as_mut_slice-4.ensures.value ∙ fits.lines;
+      slopes = ap length c.as_mut_slice-2.ensures.value ∙ fits.slopes;
+      lines = ap length c.as_mut_slice-3.ensures.value ∙ fits.lines;
       places = omega (arith, taken.without.as_many, fits.places);
       light = ap (λ l. position (is_overweight m l c.requantize_moved-over.new.work.d) m.rows) levels
           ∙ ap (λ d. position (is_overweight m fresh d) m.rows) of_d
@@ -178,31 +177,31 @@ go_on_moved-requires-clause-ready g c =
       in_time = omega (arith, c.requires.in_time, m.has_units.last_tick);
       earlier = λ j inside.
           let not_later = (taken.stands.stands_for.lines j inside).not_later in
-          omega (arith, ap (λ ls. (line_at ls j).tick) c.as_mut_slice-4.ensures.value, not_later);
+          omega (arith, ap (λ ls. (line_at ls j).tick) c.as_mut_slice-3.ensures.value, not_later);
       small_states = λ j inside.
-          subst (λ ls. IsWithin 88 (state_at (line_at ls j) t)) (sym c.as_mut_slice-4.ensures.value)
+          subst (λ ls. IsWithin 88 (state_at (line_at ls j) t)) (sym c.as_mut_slice-3.ensures.value)
           (state_within s.lines.items t j (omega (arith, inside, fits.lines)) (all_within 88 x none_both.0));
       near = λ j inside.
-          subst (λ ls. IsNear (level_unit m) (state_at (line_at ls j) t) (int_at c.as_slice-4.result.now j) (quantum_of m j (int_at c.as_slice-4.result.now j))) (sym c.as_mut_slice-4.ensures.value)
+          subst (λ ls. IsNear (level_unit m) (state_at (line_at ls j) t) (int_at c.as_slice-4.result.now j) (quantum_of m j (int_at c.as_slice-4.result.now j))) (sym c.as_mut_slice-3.ensures.value)
           (subst (λ l. IsNear (level_unit m) (state_at (line_at s.lines.items j) t) (int_at l j) (quantum_of m j (int_at l j))) (sym levels)
           (near m c.args.tick agenda s taken c.requires.in_time c.args.q.now.name fresh (allowed none_both.0) j inside));
       before = (
         s.levels.items,
-        subst (λ js. AreSumsBefore Slope m js c.as_slice-4.result.now c.requantize_moved-over.new.work.d c.as_mut_slice-3.result.now c.as_mut_slice-4.result.now s.levels.items) (sym c.as_slice-3.ensures.value)
-            (subst (λ l. AreSumsBefore Slope m s.moved.items l c.requantize_moved-over.new.work.d c.as_mut_slice-3.result.now c.as_mut_slice-4.result.now s.levels.items) (sym levels)
-            (subst (λ d. AreSumsBefore Slope m s.moved.items fresh d c.as_mut_slice-3.result.now c.as_mut_slice-4.result.now s.levels.items) (sym of_d)
-            (subst (λ v. AreSumsBefore Slope m s.moved.items fresh s.work.d v c.as_mut_slice-4.result.now s.levels.items) (sym c.as_mut_slice-3.ensures.value)
-            (subst (λ ls. AreSumsBefore Slope m s.moved.items fresh s.work.d s.slopes.items ls s.levels.items) (sym c.as_mut_slice-4.ensures.value)
+        subst (λ js. AreSumsBefore Slope m js c.as_slice-4.result.now c.requantize_moved-over.new.work.d c.as_mut_slice-2.result.now c.as_mut_slice-3.result.now s.levels.items) (sym c.as_slice-3.ensures.value)
+            (subst (λ l. AreSumsBefore Slope m s.moved.items l c.requantize_moved-over.new.work.d c.as_mut_slice-2.result.now c.as_mut_slice-3.result.now s.levels.items) (sym levels)
+            (subst (λ d. AreSumsBefore Slope m s.moved.items fresh d c.as_mut_slice-2.result.now c.as_mut_slice-3.result.now s.levels.items) (sym of_d)
+            (subst (λ v. AreSumsBefore Slope m s.moved.items fresh s.work.d v c.as_mut_slice-3.result.now s.levels.items) (sym c.as_mut_slice-2.ensures.value)
+            (subst (λ ls. AreSumsBefore Slope m s.moved.items fresh s.work.d s.slopes.items ls s.levels.items) (sym c.as_mut_slice-3.ensures.value)
             (levels_before m c.args.tick agenda s taken c.requires.in_time fresh off))))),
       );
       own_slope = λ j inside.
-          ap (λ ls. (line_at ls j).slope) c.as_mut_slice-4.ensures.value
+          ap (λ ls. (line_at ls j).slope) c.as_mut_slice-3.ensures.value
           ∙ own_slope m c.args.tick agenda s taken c.requires.in_time j inside
-          ∙ ap (λ l. int_at l j) (sym c.as_mut_slice-3.ensures.value);
+          ∙ ap (λ l. int_at l j) (sym c.as_mut_slice-2.ensures.value);
       due = λ j inside own.
-          subst (λ ls. IsDue m t j (line_at ls j) (due_at s.agenda j)) (sym c.as_mut_slice-4.ensures.value)
+          subst (λ ls. IsDue m t j (line_at ls j) (due_at s.agenda j)) (sym c.as_mut_slice-3.ensures.value)
           (kept_due m c.args.tick agenda s taken c.requires.in_time c.args.q.now.name fresh (allowed none_both.0) j inside
-          (ap (λ ls. (line_at ls j).level) (sym c.as_mut_slice-4.ensures.value) ∙ own ∙ ap (λ l. int_at l j) levels));
+          (ap (λ ls. (line_at ls j).level) (sym c.as_mut_slice-3.ensures.value) ∙ own ∙ ap (λ l. int_at l j) levels));
     }
 
 pub go_on_moved-requires-clause-watched : goal.go_on_moved-requires-clause-watched
@@ -214,23 +213,23 @@ go_on_moved-requires-clause-watched g c place inside =
     let taken = c.requires.taken.1 in
     let calm : c.requantize_moved-over.result ≡ None = not_some c.requantize_moved-over.result (sym c.is_some.ensures ∙ c.if-is_some.false) in
     let x : List ℤ = states_at s.lines.items t in
-    let fresh : List ℤ = c.requantize_moved-over.new.fresh in
+    let fresh : List ℤ = c.requantize_moved-over.ensures.taken.0 in
     let h : Handling = record { states = x; discretes = s.work.d; rows = []; overflow = first_past 88 x } in
     let is_h : h ≡ handling_at m t (world_of c.args.tick s) = sym (handled m c.args.tick agenda s taken c.requires.in_time c.requires.none_changes) in
     let allowed : first_past 88 x ≡ None → AreNextLevels (IsRuled c.args.q.now.name) m x s.levels.items fresh = λ none.
     subst (λ ls. AreNextLevels (IsRuled c.args.q.now.name) m (states_at ls t) s.levels.items fresh) c.as_slice.ensures.value
     (subst (λ l. AreNextLevels (IsRuled c.args.q.now.name) m (states_at c.as_slice.result.now t) l fresh) c.as_mut_slice.ensures.value
-    (c.requantize_moved-over.ensures.allowed (ap (λ ls. first_past 88 (states_at ls t)) c.as_slice.ensures.value ∙ none))) in
+    (c.requantize_moved-over.ensures.taken.1.allowed (ap (λ ls. first_past 88 (states_at ls t)) c.as_slice.ensures.value ∙ none))) in
     let over : c.requantize_moved-over.result ≡ option_or (first_past 88 x) (option_or (first_past 43 fresh) (position (is_overweight m fresh s.work.d) m.rows)) =
-    c.requantize_moved-over.ensures.over
+    c.requantize_moved-over.ensures.taken.1.over_is
     ∙ ap (λ ls. option_or (first_past 88 (states_at ls t)) (option_or (first_past 43 fresh) (position (is_overweight m fresh s.work.d) m.rows))) c.as_slice.ensures.value in
     let none_both = both_none (first_past 88 x) (option_or (first_past 43 fresh) (position (is_overweight m fresh s.work.d) m.rows)) (sym calm ∙ over) in
     let many : length c.requantize_moved-over.new.levels ≡ s.levels.len = c.requantize_moved-over.auto.levels ∙ c.as_mut_slice.ensures.len in
     let levels : c.as_slice-4.result.now ≡ fresh =
-    c.as_slice-4.ensures.value ∙ with_items_is s.levels c.requantize_moved-over.new.levels many ∙ c.requantize_moved-over.ensures.levels calm in
+    c.as_slice-4.ensures.value ∙ with_items_is s.levels c.requantize_moved-over.new.levels many ∙ c.requantize_moved-over.ensures.taken.1.levels calm in
     let of_d : c.requantize_moved-over.new.work.d ≡ s.work.d = ap (λ (v : Values). v.d) c.requantize_moved-over.ensures.work in
-    subst (λ ls. IsWatched m t (states_at ls t) c.requantize_moved-over.new.work.d c.as_mut_slice-3.result.now place (watch_at s.conditions.watches.items place) (due_at s.agenda (state_count m + place))) (sym c.as_mut_slice-4.ensures.value)
-    (subst (λ v. IsWatched m t x c.requantize_moved-over.new.work.d v place (watch_at s.conditions.watches.items place) (due_at s.agenda (state_count m + place))) (sym c.as_mut_slice-3.ensures.value)
+    subst (λ ls. IsWatched m t (states_at ls t) c.requantize_moved-over.new.work.d c.as_mut_slice-2.result.now place (watch_at s.conditions.watches.items place) (due_at s.agenda (state_count m + place))) (sym c.as_mut_slice-3.ensures.value)
+    (subst (λ v. IsWatched m t x c.requantize_moved-over.new.work.d v place (watch_at s.conditions.watches.items place) (due_at s.agenda (state_count m + place))) (sym c.as_mut_slice-2.ensures.value)
     (subst (λ d. IsWatched m t x d s.slopes.items place (watch_at s.conditions.watches.items place) (due_at s.agenda (state_count m + place))) (sym of_d)
     (watched m c.args.tick agenda s taken c.requires.in_time c.requires.none_changes place inside)))
 
@@ -257,20 +256,20 @@ returns g c =
     let taken = c.requires.taken.1 in
     let calm : c.requantize_moved-over.result ≡ None = not_some c.requantize_moved-over.result (sym c.is_some.ensures ∙ c.if-is_some.false) in
     let x : List ℤ = states_at s.lines.items t in
-    let fresh : List ℤ = c.requantize_moved-over.new.fresh in
+    let fresh : List ℤ = c.requantize_moved-over.ensures.taken.0 in
     let h : Handling = record { states = x; discretes = s.work.d; rows = []; overflow = first_past 88 x } in
     let is_h : h ≡ handling_at m t (world_of c.args.tick s) = sym (handled m c.args.tick agenda s taken c.requires.in_time c.requires.none_changes) in
     let allowed : first_past 88 x ≡ None → AreNextLevels (IsRuled c.args.q.now.name) m x s.levels.items fresh = λ none.
     subst (λ ls. AreNextLevels (IsRuled c.args.q.now.name) m (states_at ls t) s.levels.items fresh) c.as_slice.ensures.value
     (subst (λ l. AreNextLevels (IsRuled c.args.q.now.name) m (states_at c.as_slice.result.now t) l fresh) c.as_mut_slice.ensures.value
-    (c.requantize_moved-over.ensures.allowed (ap (λ ls. first_past 88 (states_at ls t)) c.as_slice.ensures.value ∙ none))) in
+    (c.requantize_moved-over.ensures.taken.1.allowed (ap (λ ls. first_past 88 (states_at ls t)) c.as_slice.ensures.value ∙ none))) in
     let over : c.requantize_moved-over.result ≡ option_or (first_past 88 x) (option_or (first_past 43 fresh) (position (is_overweight m fresh s.work.d) m.rows)) =
-    c.requantize_moved-over.ensures.over
+    c.requantize_moved-over.ensures.taken.1.over_is
     ∙ ap (λ ls. option_or (first_past 88 (states_at ls t)) (option_or (first_past 43 fresh) (position (is_overweight m fresh s.work.d) m.rows))) c.as_slice.ensures.value in
     let none_both = both_none (first_past 88 x) (option_or (first_past 43 fresh) (position (is_overweight m fresh s.work.d) m.rows)) (sym calm ∙ over) in
     let many : length c.requantize_moved-over.new.levels ≡ s.levels.len = c.requantize_moved-over.auto.levels ∙ c.as_mut_slice.ensures.len in
     let levels : c.as_slice-4.result.now ≡ fresh =
-    c.as_slice-4.ensures.value ∙ with_items_is s.levels c.requantize_moved-over.new.levels many ∙ c.requantize_moved-over.ensures.levels calm in
+    c.as_slice-4.ensures.value ∙ with_items_is s.levels c.requantize_moved-over.new.levels many ∙ c.requantize_moved-over.ensures.taken.1.levels calm in
     let of_d : c.requantize_moved-over.new.work.d ≡ s.work.d = ap (λ (v : Values). v.d) c.requantize_moved-over.ensures.work in
     let fits = taken.stands.fits in
     let work : c.requantize_moved-over.new.work ≡ record s.work { x = c.requantize_moved-over.new.work.x } = c.requantize_moved-over.ensures.work in
@@ -281,7 +280,6 @@ returns g c =
       levels = with_items s.levels c.requantize_moved-over.new.levels;
       slopes = with_items s.slopes c.go_on_moved.new.slopes;
       lines = with_items s.lines c.go_on_moved.new.lines;
-      fresh = with_items s.fresh fresh;
       weights = c.requantize_moved-over.new.weights;
       calm = c.catch_up.new.calm;
       agenda = c.go_on_moved.new.agenda;
@@ -294,7 +292,6 @@ returns g c =
       lines = same_length s.lines c.go_on_moved.new.lines ∙ fits.lines;
       levels = same_length s.levels c.requantize_moved-over.new.levels ∙ fits.levels;
       slopes = same_length s.slopes c.go_on_moved.new.slopes ∙ fits.slopes;
-      fresh = same_length s.fresh fresh ∙ fits.fresh;
       weights = (c.requantize_moved-over.ensures.weights calm).as_many;
       moved_room = fits.moved_room;
       changed_room = fits.changed_room;
@@ -309,8 +306,8 @@ returns g c =
       work_room = omega (arith, ap (λ (v : Values). v.room) work, fits.work_room);
       row_room = omega (arith, c.requantize_moved-over.ensures.room, fits.row_room);
     } in
-    let of_slopes : next.slopes.items ≡ c.go_on_moved.new.slopes = with_items_is s.slopes c.go_on_moved.new.slopes (c.go_on_moved.auto.slopes ∙ c.as_mut_slice-3.ensures.len) in
-    let of_lines : next.lines.items ≡ c.go_on_moved.new.lines = with_items_is s.lines c.go_on_moved.new.lines (c.go_on_moved.auto.lines ∙ c.as_mut_slice-4.ensures.len) in
+    let of_slopes : next.slopes.items ≡ c.go_on_moved.new.slopes = with_items_is s.slopes c.go_on_moved.new.slopes (c.go_on_moved.auto.slopes ∙ c.as_mut_slice-2.ensures.len) in
+    let of_lines : next.lines.items ≡ c.go_on_moved.new.lines = with_items_is s.lines c.go_on_moved.new.lines (c.go_on_moved.auto.lines ∙ c.as_mut_slice-3.ensures.len) in
     let of_arrived : next.conditions.arrived.items ≡ s.conditions.settled.items =
     with_items_is own.arrived c.catch_up.new.arrived (c.catch_up.auto.arrived ∙ c.as_mut_slice-arrived.ensures.len) ∙ c.catch_up.ensures.arrived ∙ c.as_slice-settled.ensures.value ∙ own_settled in
     let own_levels : next.levels.items ≡ c.as_slice-4.result.now = sym c.as_slice-4.ensures.value in
@@ -322,26 +319,25 @@ returns g c =
     let settled : s.conditions.settled.items ≡ truths m x next.work.d t =
     same_truths m c.args.tick agenda s taken c.requires.in_time c.requires.none_changes ∙ ap (λ d. truths m x d t) (sym of_d) in
     let again = stands_again m t next x many_states good
-    (λ j inside. subst (λ l. IsWithin 43 (int_at l j)) (sym (own_levels ∙ levels ∙ sym (c.requantize_moved-over.ensures.levels calm)))
+    (λ j inside. subst (λ l. IsWithin 43 (int_at l j)) (sym (own_levels ∙ levels ∙ sym (c.requantize_moved-over.ensures.taken.1.levels calm)))
     (c.requantize_moved-over.ensures.small calm j (pos 0) (omega (arith, inside, many, s.levels.ok.0, fits.levels))))
     light
     (of_slopes ∙ c.go_on_moved.ensures.slopes ∙ ap (λ l. tabulate (state_count m) (λ j. slope_at m j l next.work.d)) (sym own_levels))
-    (subst (λ l. AreWeights m l next.work.d next.weights) (sym (own_levels ∙ levels ∙ sym (c.requantize_moved-over.ensures.levels calm)))
+    (subst (λ l. AreWeights m l next.work.d next.weights) (sym (own_levels ∙ levels ∙ sym (c.requantize_moved-over.ensures.taken.1.levels calm)))
     (subst (λ d. AreWeights m c.requantize_moved-over.new.levels d next.weights) (sym of_d) (c.requantize_moved-over.ensures.weights calm)))
     (λ j inside.
     subst (λ ls. IsTurned m t (int_at x j) (int_at next.levels.items j) (slope_at m j next.levels.items next.work.d) j (line_at ls j) (due_at next.agenda j)) (sym of_lines)
     (subst (λ l. IsTurned m t (int_at x j) (int_at l j) (slope_at m j l next.work.d) j (line_at c.go_on_moved.new.lines j) (due_at next.agenda j)) (sym own_levels)
     (subst (λ y. IsTurned m t y (int_at c.as_slice-4.result.now j) (slope_at m j c.as_slice-4.result.now next.work.d) j (line_at c.go_on_moved.new.lines j) (due_at next.agenda j))
-    (ap (λ ls. state_at (line_at ls j) t) c.as_mut_slice-4.ensures.value ∙ sym (leads m c.args.tick agenda s taken c.requires.in_time j inside)) (c.go_on_moved.ensures.lines j inside))))
+    (ap (λ ls. state_at (line_at ls j) t) c.as_mut_slice-3.ensures.value ∙ sym (leads m c.args.tick agenda s taken c.requires.in_time j inside)) (c.go_on_moved.ensures.lines j inside))))
     (own_settled ∙ settled)
     (λ place inside.
     subst (λ sl. IsWatched m t x next.work.d sl place (watch_at own.watches.items place) (due_at next.agenda (state_count m + place))) (sym of_slopes)
-    (subst (λ ls. IsWatched m t (states_at ls t) next.work.d c.go_on_moved.new.slopes place (watch_at own.watches.items place) (due_at next.agenda (state_count m + place))) c.as_mut_slice-4.ensures.value
+    (subst (λ ls. IsWatched m t (states_at ls t) next.work.d c.go_on_moved.new.slopes place (watch_at own.watches.items place) (due_at next.agenda (state_count m + place))) c.as_mut_slice-3.ensures.value
     (c.go_on_moved.ensures.watches place inside)))
     (not_rising m c.args.tick agenda s taken c.requires.in_time c.requires.none_changes ∙ sym (none_rises_then (world_of c.args.tick s) (world_of t next) of_arrived own_settled))
     (rising m c.args.tick agenda s taken c.requires.in_time c.requires.none_changes next.agenda
     (c.go_on_moved.ensures.beyond (state_count m + length (conditions m)) (omega arith)))
-    (with_items_is s.fresh fresh (c.requantize_moved-over.auto.fresh ∙ c.as_mut_slice-2.ensures.len) ∙ sym (own_levels ∙ levels))
     (λ e. of_arrived ∙ sym own_settled) in
     let w : World = world_of c.args.tick s in
     let new_levels : next.levels.items ≡ fresh = own_levels ∙ levels in
@@ -355,8 +351,8 @@ returns g c =
     ∙ ap (λ (b : List Bool). record { states = x; levels = fresh; discretes = s.work.d; arrived = truths m (moved_states m w) s.work.d t; settled = b })
     (own_settled ∙ same_truths m c.args.tick agenda s taken c.requires.in_time c.requires.none_changes) in
     let counted : c.go_on_moved.new.steps ≡ c.args.steps.now + renewals (state_count m) next.levels.items c.go_on_moved.new.slopes s.lines.items =
-    subst (λ ls. c.go_on_moved.new.steps ≡ c.args.steps.now + renewals (state_count m) next.levels.items c.go_on_moved.new.slopes ls) c.as_mut_slice-4.ensures.value
-    (subst (λ l. c.go_on_moved.new.steps ≡ c.args.steps.now + renewals (state_count m) l c.go_on_moved.new.slopes c.as_mut_slice-4.result.now) (sym own_levels) c.go_on_moved.ensures.counted) in
+    subst (λ ls. c.go_on_moved.new.steps ≡ c.args.steps.now + renewals (state_count m) next.levels.items c.go_on_moved.new.slopes ls) c.as_mut_slice-3.ensures.value
+    (subst (λ l. c.go_on_moved.new.steps ≡ c.args.steps.now + renewals (state_count m) l c.go_on_moved.new.slopes c.as_mut_slice-3.result.now) (sym own_levels) c.go_on_moved.ensures.counted) in
     let touched : renewals (state_count m) next.levels.items c.go_on_moved.new.slopes s.lines.items ≤ touches_at m t w (Ok (world_of t next)) =
     renewals_touched m t w (world_of t next) taken.stands.stands_for.left.one_each good.levels fits.discretes good.discretes s.lines.items c.go_on_moved.new.slopes
     (λ j inside. (taken.stands.stands_for.lines j inside).own_level) (λ j inside. (taken.stands.stands_for.lines j inside).own_slope)
@@ -366,7 +362,7 @@ returns g c =
       rows = λ none.
           c.requantize_moved-over.ensures.rows calm
           ∙ ap (λ l. level_rows t l c.requantize_moved-over.new.levels (states_at c.as_slice.result.now t)) c.as_mut_slice.ensures.value
-          ∙ ap (λ l. level_rows t s.levels.items l (states_at c.as_slice.result.now t)) (c.requantize_moved-over.ensures.levels calm ∙ sym new_levels)
+          ∙ ap (λ l. level_rows t s.levels.items l (states_at c.as_slice.result.now t)) (c.requantize_moved-over.ensures.taken.1.levels calm ∙ sym new_levels)
           ∙ ap (λ ls. level_rows t s.levels.items next.levels.items (states_at ls t)) c.as_slice.ensures.value
           ∙ ap (λ y. level_rows t s.levels.items next.levels.items y) (sym again.0)
           ∙ sym (rows_then m c.args.tick agenda s taken c.requires.in_time c.requires.none_changes (world_of t next));

@@ -60,7 +60,6 @@ returns c =
       lines = same_length s.lines c.set_out.new.lines ∙ fits.lines;
       levels = fits.levels;
       slopes = same_length s.slopes c.set_out.new.slopes ∙ fits.slopes;
-      fresh = fits.fresh;
       weights = c.start.ensures.as_many;
       moved_room = fits.moved_room;
       changed_room = fits.changed_room;
@@ -97,7 +96,6 @@ returns c =
     (c.set_out.ensures.watches place inside))
     (blank.not_rising ∙ sym (ap (λ a. list_any (λ flag. flag) (due_flags next.conditions.settled.items a next.conditions.settled.items)) same ∙ settled_twice next.conditions.settled.items))
     (c.set_out.ensures.rising ∙ sym (ap (λ b. if b then Some (0 + 1) else None) blank.not_rising))
-    blank.fresh_levels
     (λ e. same) in
     let of_states : states_at next.lines.items 0 ≡ start_states m = again.0 ∙ blank.states in
     let settled : next.conditions.settled.items ≡ truths m (start_states m) (start_discretes m) 0 =
