@@ -49,7 +49,7 @@ first_more : (test next : ℕ → Bool) (places : List ℕ) (i : ℕ) (first : O
 first_more test next places i (Some first) b rising h same here found = (
   among_more places i first h ∙ or_left (is_among (take i places) first) (eqb (get_or places i 0) first) found.0,
   same first found.0 ∙ found.1,
-  λ place less e. by_turn place less (among_either places i place h e),
+  (λ place less e. by_turn place less (among_either places i place h e)),
 )
   where
     by_turn : (place : ℕ) → place < first → (is_among (take i places) place ≡ true) ⊎ (eqb (get_or places i 0) place ≡ true) → next place ≡ false
@@ -59,7 +59,7 @@ first_more test next places i None true rising h same here found = (
   among_more places i (get_or places i 0) h
       ∙ or_right (is_among (take i places) (get_or places i 0)) (eqb (get_or places i 0) (get_or places i 0)) (eq-eqb (get_or places i 0) (get_or places i 0) refl),
   here,
-  λ place less e. by_turn place less (among_either places i place h e),
+  (λ place less e. by_turn place less (among_either places i place h e)),
 )
   where
     by_turn : (place : ℕ) → place < get_or places i 0 → (is_among (take i places) place ≡ true) ⊎ (eqb (get_or places i 0) place ≡ true) → next place ≡ false
