@@ -186,7 +186,7 @@ module _ (at : Arrival) (name : Option Rule) (old kept : List ℤ) (before rows 
       )
 
   -- where nothing overflows no state passed its limit
-  pub none_passed : over ≡ None → first_past 88 states ≡ None
+  none_passed : over ≡ None → first_past 88 states ≡ None
   none_passed none = by_over (first_past 88 states) refl
     where
       by_over : (o : Option ℕ) → first_past 88 states ≡ o → first_past 88 states ≡ None

@@ -69,23 +69,13 @@ fn arrival_of(at: &Arrival, state: u32) -> i128
 // The moved states arrive, each of which leaves the quantum of its level there, and take the rule's answers, with a row for
 // each that is another level. It gives the least that is past its limit on arrival, if one is; else the least whose level is past
 // its limit, if one is.
-fn leave_due(
-    at: &Arrival,
-    q: &Quantizer,
-    x: &mut [i128],
-    levels: &mut [i64],
-    rows: &mut Vec<Row>,
-) -> Option<u32>
+fn leave_due(at: &Arrival, q: &Quantizer, levels: &mut [i64], rows: &mut Vec<Row>) -> Option<u32>
     requires ready { CanArrive at.now levels.old }
-    requires states { length x.old ≡ state_count at.now.machine.now }
     requires levels { length levels.old ≡ state_count at.now.machine.now }
     requires small_levels { All (IsWithin 43) levels.old }
     requires room { vec_len rows.old + state_count at.now.machine.now ≤ vec_capacity rows.old }
     ensures passed { (var : ℕ) → first_past 88 (states_at at.now.lines.now at.now.tick) ≡ Some var
         → result ≡ Some var }
-    ensures arrived { first_past 88 (states_at at.now.lines.now at.now.tick) ≡ None
-        → IsWritten (pos 0) (λ j z. z ≡ state_at (line_at at.now.lines.now j) at.now.tick)
-        at.now.moved.now x.old x.new }
     ensures taken { first_past 88 (states_at at.now.lines.now at.now.tick) ≡ None
         → (new : List ℤ) × AreRequantized at.now.machine.now q.now.name at.now.tick
         (states_at at.now.lines.now at.now.tick)
@@ -100,7 +90,6 @@ fn leave_due(
         if passes(value, 88) {
             return Some(*state);
         }
-        x[j] = value;
         let fresh = q.answer(value, levels[j], unit);
         let past = take_within(rows, at.tick, *state, &mut levels[j], fresh, value);
         first = found_or(first, *state, past);
@@ -190,15 +179,12 @@ pub(crate) fn arrive_within(
 pub(crate) fn requantize_due(
     at: &Arrival,
     q: &Quantizer,
-    x: &mut [i128],
     levels: &mut [i64],
     rows: &mut Vec<Row>,
 ) -> Option<u32>
     requires ready { CanArrive at.now levels.old }
-    requires states { length x.old ≡ state_count at.now.machine.now }
     requires levels { length levels.old ≡ state_count at.now.machine.now }
     requires small_levels { All (IsWithin 43) levels.old }
-    requires small_x { All (IsWithin 88) x.old }
     requires room { state_count at.now.machine.now ≤ vec_capacity rows.old }
     ensures taken { (new : List ℤ) × AreRequantizedOnArrival at.now q.now.name
         levels.old levels.new new (first_past 43 new) result }
@@ -206,10 +192,8 @@ pub(crate) fn requantize_due(
     ensures rows { result ≡ None
         → rows.new.items ≡ level_rows at.now.tick levels.old levels.new
         (states_at at.now.lines.now at.now.tick) }
-    ensures states { length x.new ≡ length x.old }
-    ensures small_x { result ≡ None → All (IsWithin 88) x.new }
     ensures room { vec_capacity rows.new ≡ vec_capacity rows.old }
 {
     rows.clear();
-    leave_due(at, q, x, levels, rows)
+    leave_due(at, q, levels, rows)
 }

@@ -5,14 +5,13 @@ ghost use Rattle.std.specs.Option.{option_or};
 ghost use Rattle.mu_num.specs.Sizes.{IsWithin};
 ghost use Rattle.qss_machine.specs.Numbers.{int_at, first_past};
 ghost use Rattle.qss_machine.specs.Handlers.{conditions};
-ghost use Rattle.qss_machine.specs.Machines.{state_count, slope_at};
+ghost use Rattle.qss_machine.specs.Machines.{state_count, discrete_count, slope_at};
 ghost use Rattle.qss_machine.specs.Ticks.{is_overweight, world_unless, Step};
 ghost use Rattle.qss_machine.specs.Runs.{level_rows, tick_rows};
 ghost use Rattle.qss_quant.specs.Lines.{state_at};
 ghost use Rattle.qss_sched.specs.Ranks.{due_at};
 ghost use Rattle.qss_run.specs.Kept.{AreWeights};
 ghost use Rattle.qss_run.specs.Levels.{AreRequantizedOnArrival};
-ghost use Rattle.qss_run.specs.Moments.{AreWithin};
 ghost use Rattle.qss_run.specs.Places.{AreConditionsOf, AreWatched, HasPlaces, line_at, IsTurned};
 ghost use Rattle.qss_run.specs.Renewals.{renewals};
 ghost use Rattle.qss_quiet.specs.Rules.{IsRuled};
@@ -33,67 +32,36 @@ use qss_quant::{Integrator, Quantizer, Steps};
 use qss_sched::Agenda;
 use std::sync::ledger::Ledger;
 
-// The due states arrive and take their new levels.
-fn requantize_in(
-    at: &Arrival,
-    q: &Quantizer,
-    work: &mut Work,
-    levels: &mut [i64],
-    rows: &mut Vec<Row>,
-) -> Option<u32>
-    requires ready { CanArrive at.now levels.old }
-    requires states { length work.old.x ≡ state_count at.now.machine.now }
-    requires levels { length levels.old ≡ state_count at.now.machine.now }
-    requires small_levels { All (IsWithin 43) levels.old }
-    requires small_x { All (IsWithin 88) work.old.x }
-    requires room { state_count at.now.machine.now ≤ vec_capacity rows.old }
-    ensures taken { (new : List ℤ) × AreRequantizedOnArrival at.now q.now.name
-        levels.old levels.new new (first_past 43 new) result }
-    ensures small { result ≡ None → All (IsWithin 43) levels.new }
-    ensures rows { result ≡ None
-        → rows.new.items ≡ level_rows at.now.tick levels.old levels.new
-        (states_at at.now.lines.now at.now.tick) }
-    ensures work { work.new ≡ record work.old { x = work.new.x } }
-    ensures states { length work.new.x ≡ length work.old.x }
-    ensures small_x { result ≡ None → All (IsWithin 88) work.new.x }
-    ensures room { vec_capacity rows.new ≡ vec_capacity rows.old }
-{
-    let x = work.x.as_mut_slice();
-    requantize_due(at, q, x, levels, rows)
-}
-
 // The due states arrive and take their new levels. It gives the variable that overflows, on arrival, by its level or by
 // its row.
 fn requantize_moved(
     at: &Arrival,
     q: &Quantizer,
-    work: &mut Work,
+    work: &Work,
     levels: &mut [i64],
     weights: &mut Weights,
     rows: &mut Vec<Row>,
 ) -> Option<u32>
     requires ready { CanArrive at.now levels.old }
-    requires values { AreWithin at.now.machine.now work.old.x work.old.d }
-    requires held { HoldsLevels at.now.machine.now at.now.lines.now work.old.d
+    requires discretes { length work.now.d ≡ discrete_count at.now.machine.now }
+    requires small_discretes { All (IsWithin 43) work.now.d }
+    requires held { HoldsLevels at.now.machine.now at.now.lines.now work.now.d
         levels.old weights.old }
     requires room { state_count at.now.machine.now ≤ vec_capacity rows.old }
     ensures taken { (new : List ℤ) × AreRequantizedOnArrival at.now q.now.name
         levels.old levels.new new
         (option_or (first_past 43 new)
-        (position (is_overweight at.now.machine.now new work.old.d) at.now.machine.now.rows))
+        (position (is_overweight at.now.machine.now new work.now.d) at.now.machine.now.rows))
         result }
     ensures small { result ≡ None → All (IsWithin 43) levels.new }
     ensures weights { result ≡ None
-        → AreWeights at.now.machine.now levels.new work.old.d weights.new }
+        → AreWeights at.now.machine.now levels.new work.now.d weights.new }
     ensures rows { result ≡ None
         → rows.new.items ≡ level_rows at.now.tick levels.old levels.new
         (states_at at.now.lines.now at.now.tick) }
-    ensures work { work.new ≡ record work.old { x = work.new.x } }
-    ensures states { length work.new.x ≡ length work.old.x }
-    ensures small_x { result ≡ None → All (IsWithin 88) work.new.x }
     ensures room { vec_capacity rows.new ≡ vec_capacity rows.old }
 {
-    let over = requantize_in(at, q, work, levels, rows);
+    let over = requantize_due(at, q, levels, rows);
     if over.is_some() {
         return over;
     }
@@ -181,7 +149,7 @@ pub(crate) fn visit_due<L: Ledger>(
     let over = requantize_moved(
         &arrival,
         q,
-        &mut s.work,
+        &s.work,
         s.levels.as_mut_slice(),
         &mut s.weights,
         &mut s.rows,

@@ -16,7 +16,7 @@ use Rattle.qss_quiet.proofs.DueFirsts.{first_of, none_of, not_before}
 use Rattle.qss_quiet.proofs.LevelRows.{row_of}
 use Rattle.qss_quiet.proofs.NextLevels.{next_by}
 use Rattle.qss_quiet.proofs.Ranges.{unit_fits}
-use Rattle.qss_quiet.proofs.Writes.{among_at, written_more, written_all}
+use Rattle.qss_quiet.proofs.Writes.{among_at}
 use Rattle.qss_run.specs.Levels.{AreRequantized}
 use Rattle.qss_run.specs.Places.{line_at}
 use Rattle.qss_run.specs.Stores.{states_at}
@@ -32,7 +32,6 @@ pub loop-state-init : goal.loop-state-init
 loop-state-init g c =
     let at = c.args.at.now in
     record {
-      arrived = record { as_many = refl; each = λ place e. absurd (cc); others = λ place e. refl };
       none_past = λ k h. absurd (omega (arith, h));
       taken = (c.args.levels.now, none_taken at.machine.now c.args.q.now.name at.tick (states_at at.lines.now at.tick) c.args.levels.now c.args.rows.now.items);
       few = omega arith;
@@ -69,23 +68,6 @@ returns-then-passes-clause-passed g c var e =
     (λ j h none. c.requires.ready.others_small j (omega (arith, h, c.requires.ready.arrival.lines)) none)
     (first_of (λ j. passes 88 (state_at (line_at lines j) tick)) moved i c.requires.ready.arrival.moved.rising c.loop-state-test.true c.loop-state.invariant.none_past past) in
     over ∙ e
-
-pub returns-then-passes-clause-arrived : goal.returns-then-passes-clause-arrived
-returns-then-passes-clause-arrived g c none =
-    let i = c.loop-state.state-index in
-    let moved : List ℕ = c.args.at.now.moved.now in
-    let lines = c.args.at.now.lines.now in
-    let tick = c.args.at.now.tick in
-    let value : ℤ = c.arrival_of-value.result in
-    let fits : FitsSigned w128 value = record { sfits = c.arrival_of-value.type_inv } in
-    let past : passes 88 (state_at (line_at lines (get_or moved i 0)) tick) ≡ true =
-    ap (passes 88) (sym c.arrival_of-value.ensures) ∙ sym (rw (to_z-of_z w128 value fits) at c.passes.ensures) ∙ c.if-passes.true in
-    let over : Some (get_or moved i 0) ≡ first_past 88 (states_at lines tick) =
-    past_on_arrival tick lines moved (subst (λ n. AreNumbers n moved) (sym c.requires.ready.arrival.lines) c.requires.ready.arrival.moved) (Some (get_or moved i 0))
-    (λ j h none. c.requires.ready.others_small j (omega (arith, h, c.requires.ready.arrival.lines)) none)
-    (first_of (λ j. passes 88 (state_at (line_at lines j) tick)) moved i c.requires.ready.arrival.moved.rising c.loop-state-test.true c.loop-state.invariant.none_past past) in
-    let clash : Some (get_or moved i 0) ≡ None = over ∙ none in
-    absurd (cc)
 
 pub returns-then-passes-clause-taken : goal.returns-then-passes-clause-taken
 returns-then-passes-clause-taken g c none =
@@ -175,8 +157,6 @@ loop-state-preserved g c =
     ∙ ap (λ z. c.loop-state.rows.items ++ row_of tick j (int_at c.loop-state.levels j) fresh z) (to_z-of_z w128 value fits ∙ state)
     ∙ ap (λ z. c.loop-state.rows.items ++ row_of tick j z fresh (int_at states j)) same in
     record {
-      arrived = written_more (pos 0) (λ k z. z ≡ state_at (line_at lines k) tick) moved c.args.x.now c.loop-state.x i _ h (omega (arith, inside, inv.arrived.as_many, c.requires.states)) inv.arrived
-          (to_z-of_z w128 value fits ∙ here);
       none_past = below_more (λ k. passes 88 (state_at (line_at lines (get_or moved k 0)) tick) ≡ false) i inv.none_past none;
       taken = (
         set inv.taken.0 j fresh,
@@ -201,11 +181,6 @@ returns-clause-passed g c var e =
     (none_of (λ j. passes 88 (state_at (line_at lines j) tick)) moved c.loop-state.state-index c.loop-state-test.false c.loop-state.invariant.none_past) in
     let clash : None ≡ Some var = none ∙ e in
     absurd (cc)
-
-pub returns-clause-arrived : goal.returns-clause-arrived
-returns-clause-arrived g c none =
-    written_all (pos 0) (λ j z. z ≡ state_at (line_at c.args.at.now.lines.now j) c.args.at.now.tick) c.args.at.now.moved.now c.args.x.now c.loop-state.x c.loop-state.state-index c.loop-state-test.false
-    c.loop-state.invariant.arrived
 
 pub returns-clause-taken : goal.returns-clause-taken
 returns-clause-taken g c none =

@@ -15,12 +15,12 @@ pub follow-requires-clause-before : goal.follow-requires-clause-before
 follow-requires-clause-before g c =
     let m = c.args.at.now.machine.now in
     let old : List ℤ = c.args.levels.now in
-    let none : c.requantize_in-over.result ≡ None = not_some c.requantize_in-over.result (sym c.is_some.ensures ∙ c.if-is_some.false) in
+    let none : c.requantize_due-over.result ≡ None = not_some c.requantize_due-over.result (sym c.is_some.ensures ∙ c.if-is_some.false) in
     let of_d : c.as_slice-d.result.now ≡ c.args.work.now.d =
-    c.as_slice-d.ensures.value ∙ ap (λ (v : Values). v.d) c.work.view_is ∙ ap (λ (v : Values). v.d) c.requantize_in-over.ensures.work in (
+    c.as_slice-d.ensures.value ∙ ap (λ (v : Values). v.d) c.work.view_is in (
       old,
       record {
-        off = subst (IsOff c.args.at.now.moved.now old) (sym (c.requantize_in-over.ensures.taken.1.levels none)) c.requantize_in-over.ensures.taken.1.others;
+        off = subst (IsOff c.args.at.now.moved.now old) (sym (c.requantize_due-over.ensures.taken.1.levels none)) c.requantize_due-over.ensures.taken.1.others;
         small = c.requires.held.small_levels;
         light = subst (λ (d : List ℤ). position (is_overweight m old d) m.rows ≡ None) (sym of_d) c.requires.held.light;
         own = subst (λ (d : List ℤ). AreWeights m old d c.args.weights.now) (sym of_d) c.requires.held.weights;
@@ -31,24 +31,24 @@ follow-requires-clause-before g c =
 pub returns-then-is_some-clause-taken : goal.returns-then-is_some-clause-taken
 returns-then-is_some-clause-taken g c =
     let some = sym c.is_some.ensures ∙ c.if-is_some.true in
-    let taken = c.requantize_in-over.ensures.taken in (
+    let taken = c.requantize_due-over.ensures.taken in (
       taken.0,
       record {
-        over_is = over_sooner c.requantize_in-over.result _ (first_past 43 taken.0) (position (is_overweight c.args.at.now.machine.now taken.0 c.args.work.now.d) c.args.at.now.machine.now.rows) some
+        over_is = over_sooner c.requantize_due-over.result _ (first_past 43 taken.0) (position (is_overweight c.args.at.now.machine.now taken.0 c.args.work.now.d) c.args.at.now.machine.now.rows) some
             taken.1.over_is;
         allowed = taken.1.allowed;
         others = taken.1.others;
-        levels = λ none. clash c.requantize_in-over.result some none;
+        levels = λ none. clash c.requantize_due-over.result some none;
       },
     )
 
 pub returns-clause-taken : goal.returns-clause-taken
 returns-clause-taken g c =
     let m = c.args.at.now.machine.now in
-    let none : c.requantize_in-over.result ≡ None = not_some c.requantize_in-over.result (sym c.is_some.ensures ∙ c.if-is_some.false) in
+    let none : c.requantize_due-over.result ≡ None = not_some c.requantize_due-over.result (sym c.is_some.ensures ∙ c.if-is_some.false) in
     let of_d : c.as_slice-d.result.now ≡ c.args.work.now.d =
-    c.as_slice-d.ensures.value ∙ ap (λ (v : Values). v.d) c.work.view_is ∙ ap (λ (v : Values). v.d) c.requantize_in-over.ensures.work in
-    let taken = c.requantize_in-over.ensures.taken in
+    c.as_slice-d.ensures.value ∙ ap (λ (v : Values). v.d) c.work.view_is in
+    let taken = c.requantize_due-over.ensures.taken in
     let new : List ℤ = taken.0 in
     let weighed : c.follow.result ≡ position (is_overweight m new c.args.work.now.d) m.rows =
     c.follow.ensures.over
@@ -56,7 +56,7 @@ returns-clause-taken g c =
     ∙ ap (λ (d : List ℤ). position (is_overweight m new d) m.rows) of_d in (
       new,
       record {
-        over_is = over_later c.requantize_in-over.result _ (first_past 43 new) c.follow.result (position (is_overweight m new c.args.work.now.d) m.rows) none taken.1.over_is weighed;
+        over_is = over_later c.requantize_due-over.result _ (first_past 43 new) c.follow.result (position (is_overweight m new c.args.work.now.d) m.rows) none taken.1.over_is weighed;
         allowed = taken.1.allowed;
         others = taken.1.others;
         levels = λ calm. taken.1.levels none;

@@ -13,7 +13,6 @@ use Rattle.qss_machine.specs.Ticks.{World, moved_states, handling_at, is_near, i
 use Rattle.qss_machine.specs.Runs.{level_rows}
 use Rattle.qss_quant.specs.Lines.{state_at, IsNear}
 use Rattle.qss_sched.specs.Ranks.{due_at}
-use Rattle.qss_hand.specs.Values.{Values}
 use Rattle.qss_run.specs.RowSums.{AreSumsBefore}
 use Rattle.qss_run.specs.declared.shifts.RowSum.TheVariants.{Slope}
 use Rattle.qss_run.specs.declared.conditions.Conditions.{Conditions}
@@ -66,10 +65,11 @@ requantize_moved-over-requires-clause-ready g c =
           ∙ rest_near m c.args.tick agenda s taken c.requires.in_time j h (ap (λ l. is_among l j) (sym c.as_slice-2.ensures.value) ∙ none);
     }
 
-pub requantize_moved-over-requires-clause-values : goal.requantize_moved-over-requires-clause-values
-requantize_moved-over-requires-clause-values g c =
-    let fits = c.requires.taken.1.stands.fits in
-    record { states = fits.states; discretes = fits.discretes; small_states = fits.small_states; small_discretes = fits.small_discretes }
+pub requantize_moved-over-requires-clause-discretes : goal.requantize_moved-over-requires-clause-discretes
+requantize_moved-over-requires-clause-discretes g c = c.requires.taken.1.stands.fits.discretes
+
+pub requantize_moved-over-requires-clause-small_discretes : goal.requantize_moved-over-requires-clause-small_discretes
+requantize_moved-over-requires-clause-small_discretes g c = c.requires.taken.1.stands.fits.small_discretes
 
 pub requantize_moved-over-requires-clause-held : goal.requantize_moved-over-requires-clause-held
 requantize_moved-over-requires-clause-held g c =
@@ -129,7 +129,6 @@ go_on_moved-requires-clause-small_states g c =
     let many : length c.requantize_moved-over.new.levels ≡ s.levels.len = c.requantize_moved-over.auto.levels ∙ c.as_mut_slice.ensures.len in
     let levels : c.as_slice-4.result.now ≡ fresh =
     c.as_slice-4.ensures.value ∙ with_items_is s.levels c.requantize_moved-over.new.levels many ∙ c.requantize_moved-over.ensures.taken.1.levels calm in
-    let of_d : c.requantize_moved-over.new.work.d ≡ s.work.d = ap (λ (v : Values). v.d) c.requantize_moved-over.ensures.work in
     subst (λ ls. All (IsWithin 88) (states_at ls t)) (sym c.as_mut_slice-3.ensures.value) (all_within 88 x none_both.0)
 
 pub go_on_moved-requires-clause-ready : goal.go_on_moved-requires-clause-ready
@@ -155,7 +154,6 @@ go_on_moved-requires-clause-ready g c =
     let many : length c.requantize_moved-over.new.levels ≡ s.levels.len = c.requantize_moved-over.auto.levels ∙ c.as_mut_slice.ensures.len in
     let levels : c.as_slice-4.result.now ≡ fresh =
     c.as_slice-4.ensures.value ∙ with_items_is s.levels c.requantize_moved-over.new.levels many ∙ c.requantize_moved-over.ensures.taken.1.levels calm in
-    let of_d : c.requantize_moved-over.new.work.d ≡ s.work.d = ap (λ (v : Values). v.d) c.requantize_moved-over.ensures.work in
     let off : IsOff s.moved.items s.levels.items fresh =
     subst (λ l. IsOff l s.levels.items fresh) c.as_slice-2.ensures.value (subst (λ l. IsOff c.as_slice-2.result.now l fresh) c.as_mut_slice.ensures.value c.requantize_moved-over.ensures.taken.1.others) in
     let fits = taken.stands.fits in
@@ -166,13 +164,12 @@ go_on_moved-requires-clause-ready g c =
         levels = ap length c.as_slice-4.ensures.value ∙ same_length s.levels c.requantize_moved-over.new.levels ∙ fits.levels;
         small_levels = subst (All (IsWithin 43)) (sym (levels ∙ sym (c.requantize_moved-over.ensures.taken.1.levels calm))) (c.requantize_moved-over.ensures.small calm);
       };
-      discretes = ap length of_d ∙ fits.discretes;
-      small_discretes = subst (All (IsWithin 43)) (sym of_d) fits.small_discretes;
+      discretes = fits.discretes;
+      small_discretes = fits.small_discretes;
       slopes = ap length c.as_mut_slice-2.ensures.value ∙ fits.slopes;
       lines = ap length c.as_mut_slice-3.ensures.value ∙ fits.lines;
       places = omega (arith, taken.without.as_many, fits.places);
-      light = ap (λ l. position (is_overweight m l c.requantize_moved-over.new.work.d) m.rows) levels
-          ∙ ap (λ d. position (is_overweight m fresh d) m.rows) of_d
+      light = ap (λ l. position (is_overweight m l s.work.d) m.rows) levels
           ∙ (both_none (first_past 43 fresh) (position (is_overweight m fresh s.work.d) m.rows) (sym none_both.1)).1;
       in_time = omega (arith, c.requires.in_time, m.has_units.last_tick);
       earlier = λ j inside.
@@ -187,12 +184,11 @@ go_on_moved-requires-clause-ready g c =
           (near m c.args.tick agenda s taken c.requires.in_time c.args.q.now.name fresh (allowed none_both.0) j inside));
       before = (
         s.levels.items,
-        subst (λ js. AreSumsBefore Slope m js c.as_slice-4.result.now c.requantize_moved-over.new.work.d c.as_mut_slice-2.result.now c.as_mut_slice-3.result.now s.levels.items) (sym c.as_slice-3.ensures.value)
-            (subst (λ l. AreSumsBefore Slope m s.moved.items l c.requantize_moved-over.new.work.d c.as_mut_slice-2.result.now c.as_mut_slice-3.result.now s.levels.items) (sym levels)
-            (subst (λ d. AreSumsBefore Slope m s.moved.items fresh d c.as_mut_slice-2.result.now c.as_mut_slice-3.result.now s.levels.items) (sym of_d)
+        subst (λ js. AreSumsBefore Slope m js c.as_slice-4.result.now s.work.d c.as_mut_slice-2.result.now c.as_mut_slice-3.result.now s.levels.items) (sym c.as_slice-3.ensures.value)
+            (subst (λ l. AreSumsBefore Slope m s.moved.items l s.work.d c.as_mut_slice-2.result.now c.as_mut_slice-3.result.now s.levels.items) (sym levels)
             (subst (λ v. AreSumsBefore Slope m s.moved.items fresh s.work.d v c.as_mut_slice-3.result.now s.levels.items) (sym c.as_mut_slice-2.ensures.value)
             (subst (λ ls. AreSumsBefore Slope m s.moved.items fresh s.work.d s.slopes.items ls s.levels.items) (sym c.as_mut_slice-3.ensures.value)
-            (levels_before m c.args.tick agenda s taken c.requires.in_time fresh off))))),
+            (levels_before m c.args.tick agenda s taken c.requires.in_time fresh off)))),
       );
       own_slope = λ j inside.
           ap (λ ls. (line_at ls j).slope) c.as_mut_slice-3.ensures.value
@@ -227,11 +223,9 @@ go_on_moved-requires-clause-watched g c place inside =
     let many : length c.requantize_moved-over.new.levels ≡ s.levels.len = c.requantize_moved-over.auto.levels ∙ c.as_mut_slice.ensures.len in
     let levels : c.as_slice-4.result.now ≡ fresh =
     c.as_slice-4.ensures.value ∙ with_items_is s.levels c.requantize_moved-over.new.levels many ∙ c.requantize_moved-over.ensures.taken.1.levels calm in
-    let of_d : c.requantize_moved-over.new.work.d ≡ s.work.d = ap (λ (v : Values). v.d) c.requantize_moved-over.ensures.work in
-    subst (λ ls. IsWatched m t (states_at ls t) c.requantize_moved-over.new.work.d c.as_mut_slice-2.result.now place (watch_at s.conditions.watches.items place) (due_at s.agenda (state_count m + place))) (sym c.as_mut_slice-3.ensures.value)
-    (subst (λ v. IsWatched m t x c.requantize_moved-over.new.work.d v place (watch_at s.conditions.watches.items place) (due_at s.agenda (state_count m + place))) (sym c.as_mut_slice-2.ensures.value)
-    (subst (λ d. IsWatched m t x d s.slopes.items place (watch_at s.conditions.watches.items place) (due_at s.agenda (state_count m + place))) (sym of_d)
-    (watched m c.args.tick agenda s taken c.requires.in_time c.requires.none_changes place inside)))
+    subst (λ ls. IsWatched m t (states_at ls t) s.work.d c.as_mut_slice-2.result.now place (watch_at s.conditions.watches.items place) (due_at s.agenda (state_count m + place))) (sym c.as_mut_slice-3.ensures.value)
+    (subst (λ v. IsWatched m t x s.work.d v place (watch_at s.conditions.watches.items place) (due_at s.agenda (state_count m + place))) (sym c.as_mut_slice-2.ensures.value)
+    (watched m c.args.tick agenda s taken c.requires.in_time c.requires.none_changes place inside))
 
 pub catch_up-requires-clause-as_many : goal.catch_up-requires-clause-as_many
 catch_up-requires-clause-as_many g c =
@@ -270,9 +264,7 @@ returns g c =
     let many : length c.requantize_moved-over.new.levels ≡ s.levels.len = c.requantize_moved-over.auto.levels ∙ c.as_mut_slice.ensures.len in
     let levels : c.as_slice-4.result.now ≡ fresh =
     c.as_slice-4.ensures.value ∙ with_items_is s.levels c.requantize_moved-over.new.levels many ∙ c.requantize_moved-over.ensures.taken.1.levels calm in
-    let of_d : c.requantize_moved-over.new.work.d ≡ s.work.d = ap (λ (v : Values). v.d) c.requantize_moved-over.ensures.work in
     let fits = taken.stands.fits in
-    let work : c.requantize_moved-over.new.work ≡ record s.work { x = c.requantize_moved-over.new.work.x } = c.requantize_moved-over.ensures.work in
     let own : Conditions = c.go_on_moved.new.watched in
     let own_settled : own.settled.items ≡ s.conditions.settled.items = ap (λ (all : Conditions). all.settled.items) c.go_on_moved.ensures.rest in
     let next : Store = record s {
@@ -283,7 +275,6 @@ returns g c =
       weights = c.requantize_moved-over.new.weights;
       calm = c.catch_up.new.calm;
       agenda = c.go_on_moved.new.agenda;
-      work = c.requantize_moved-over.new.work;
       rows = c.requantize_moved-over.new.rows;
     } in
     let good : FitsMachine m next = record {
@@ -298,12 +289,12 @@ returns g c =
       fired_room = fits.fired_room;
       assigned_room = fits.assigned_room;
       places = c.go_on_moved.ensures.places ∙ taken.without.as_many ∙ fits.places;
-      states = c.requantize_moved-over.ensures.states ∙ fits.states;
-      discretes = ap length of_d ∙ fits.discretes;
-      before = ap (λ (v : Values). length v.pre) work ∙ fits.before;
-      small_states = c.requantize_moved-over.ensures.small_x calm;
-      small_discretes = subst (All (IsWithin 43)) (sym of_d) fits.small_discretes;
-      work_room = omega (arith, ap (λ (v : Values). v.room) work, fits.work_room);
+      states = fits.states;
+      discretes = fits.discretes;
+      before = fits.before;
+      small_states = fits.small_states;
+      small_discretes = fits.small_discretes;
+      work_room = fits.work_room;
       row_room = omega (arith, c.requantize_moved-over.ensures.room, fits.row_room);
     } in
     let of_slopes : next.slopes.items ≡ c.go_on_moved.new.slopes = with_items_is s.slopes c.go_on_moved.new.slopes (c.go_on_moved.auto.slopes ∙ c.as_mut_slice-2.ensures.len) in
@@ -313,18 +304,16 @@ returns g c =
     let own_levels : next.levels.items ≡ c.as_slice-4.result.now = sym c.as_slice-4.ensures.value in
     let light : position (is_overweight m next.levels.items next.work.d) m.rows ≡ None =
     ap (λ l. position (is_overweight m l next.work.d) m.rows) (own_levels ∙ levels)
-    ∙ ap (λ d. position (is_overweight m fresh d) m.rows) of_d
     ∙ (both_none (first_past 43 fresh) (position (is_overweight m fresh s.work.d) m.rows) (sym none_both.1)).1 in
     let many_states : length x ≡ state_count m = length-map-range_with_len (λ j. state_at (line_at s.lines.items j) t) 0 (length s.lines.items) ∙ fits.lines in
-    let settled : s.conditions.settled.items ≡ truths m x next.work.d t =
-    same_truths m c.args.tick agenda s taken c.requires.in_time c.requires.none_changes ∙ ap (λ d. truths m x d t) (sym of_d) in
+    let settled : s.conditions.settled.items ≡ truths m x next.work.d t = same_truths m c.args.tick agenda s taken c.requires.in_time c.requires.none_changes in
     let again = stands_again m t next x many_states good
     (λ j inside. subst (λ l. IsWithin 43 (int_at l j)) (sym (own_levels ∙ levels ∙ sym (c.requantize_moved-over.ensures.taken.1.levels calm)))
     (c.requantize_moved-over.ensures.small calm j (pos 0) (omega (arith, inside, many, s.levels.ok.0, fits.levels))))
     light
     (of_slopes ∙ c.go_on_moved.ensures.slopes ∙ ap (λ l. tabulate (state_count m) (λ j. slope_at m j l next.work.d)) (sym own_levels))
     (subst (λ l. AreWeights m l next.work.d next.weights) (sym (own_levels ∙ levels ∙ sym (c.requantize_moved-over.ensures.taken.1.levels calm)))
-    (subst (λ d. AreWeights m c.requantize_moved-over.new.levels d next.weights) (sym of_d) (c.requantize_moved-over.ensures.weights calm)))
+    (c.requantize_moved-over.ensures.weights calm))
     (λ j inside.
     subst (λ ls. IsTurned m t (int_at x j) (int_at next.levels.items j) (slope_at m j next.levels.items next.work.d) j (line_at ls j) (due_at next.agenda j)) (sym of_lines)
     (subst (λ l. IsTurned m t (int_at x j) (int_at l j) (slope_at m j l next.work.d) j (line_at c.go_on_moved.new.lines j) (due_at next.agenda j)) (sym own_levels)
@@ -346,7 +335,6 @@ returns g c =
     let end : world_of t next ≡ end_of m t w h fresh =
     ap (λ (y : List ℤ). record { states = y; levels = next.levels.items; discretes = next.work.d; arrived = next.conditions.arrived.items; settled = next.conditions.settled.items }) again.0
     ∙ ap (λ (l : List ℤ). record { states = x; levels = l; discretes = next.work.d; arrived = next.conditions.arrived.items; settled = next.conditions.settled.items }) new_levels
-    ∙ ap (λ (d : List ℤ). record { states = x; levels = fresh; discretes = d; arrived = next.conditions.arrived.items; settled = next.conditions.settled.items }) of_d
     ∙ ap (λ (a : List Bool). record { states = x; levels = fresh; discretes = s.work.d; arrived = a; settled = next.conditions.settled.items }) (of_arrived ∙ still)
     ∙ ap (λ (b : List Bool). record { states = x; levels = fresh; discretes = s.work.d; arrived = truths m (moved_states m w) s.work.d t; settled = b })
     (own_settled ∙ same_truths m c.args.tick agenda s taken c.requires.in_time c.requires.none_changes) in
