@@ -1,5 +1,5 @@
 -- Where only moved states arrive and take new levels, all states have the levels of a tick.
-use Rattle.std.proofs.Common.{◌≡◌, ℕ, ◌<◌, Bool, true, false, List, [], ◌∷◌, ◌++◌, length, ℤ, pos, refl, sym, ap, ◌∙◌, subst, inl, inr, ◌⊎◌, arith}
+use Rattle.std.proofs.Common.{◌≡◌, ℕ, ◌<◌, true, false, List, [], ◌∷◌, ◌++◌, length, ℤ, pos, refl, sym, ap, ◌∙◌, subst, inl, inr, ◌⊎◌, arith}
 use Rattle.std.proofs.lemmas.Bool.{cases_Bool}
 use Rattle.std.proofs.lemmas.Bool.Decides.{Decides-int_eq}
 use Rattle.std.proofs.lemmas.List.{get_or_default}
@@ -48,7 +48,7 @@ no_row tick j old new state kept =
     let test : int_eq old new ≡ true = (Decides-int_eq old new).1 (sym kept) in
     ap (λ b. if b then [] else record { tick = tick; kind = kind.Level; var = j; level = new; state = state } ∷ []) test
 
-moved_inside : (n : ℕ) (moved : List ℕ) → AreNumbers n moved → (j : ℕ) → is_among moved j ≡ true → j < n
+pub moved_inside : (n : ℕ) (moved : List ℕ) → AreNumbers n moved → (j : ℕ) → is_among moved j ≡ true → j < n
 moved_inside n moved numbers j e = let at = index_of moved j e in omega (arith, at.2, numbers.below at.0 0 at.1)
 
 module _ (tick : ℕ) (lines : List Line) (moved : List ℕ) (numbers : AreNumbers (length lines) moved) where

@@ -103,6 +103,7 @@ fits_then m s arrived calm fits many = record {
   slopes = fits.slopes;
   weights = fits.weights;
   moved_room = fits.moved_room;
+  touched_room = fits.touched_room;
   changed_room = fits.changed_room;
   fired_room = fits.fired_room;
   assigned_room = fits.assigned_room;

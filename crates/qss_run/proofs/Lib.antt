@@ -35,6 +35,7 @@ pub mod Terms
 pub mod Room
 pub mod Found
 pub mod Taken
+pub mod Gathering
 pub mod Kept
 pub mod Reinitialized
 pub mod Reinits

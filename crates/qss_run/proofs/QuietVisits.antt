@@ -1,6 +1,7 @@
 -- A store after a tick at which nothing but states was due.
 use Rattle.std.proofs.Common.{◌≡◌, ◌≢◌, ℕ, ◌+◌, ◌≤◌, ◌<◌, true, false, List, [], ◌++◌, length, ℤ, pos, refl, sym, ◌∙◌, ap, subst, arith, inl, inr}
 use Rattle.std.proofs.lemmas.Bool.{cases_Bool}
+use Rattle.std.proofs.lemmas.Int.{ints}
 use Rattle.std.proofs.lemmas.List.{get_or_default}
 use Rattle.std.specs.Option.{option_or}
 use Rattle.std.specs.Prelude.{Option, Some, None, position, if◌then◌else◌}
@@ -117,6 +118,16 @@ module _ (m : Machine) (tick : ℕ) (agenda : List (Option ℕ)) (s : Store) (ta
     near j h =
         subst (λ x. IsNear (level_unit m) x (int_at levels j) (quantum_of m j (int_at levels j))) (leads j h)
         (next_is_near name m j (int_at (states_at s.lines.items (tick + 1)) j) (int_at s.levels.items j) (int_at levels j) h (allowed.each j h))
+
+    -- a moved state takes another level, since it left the quantum of the old one
+    pub moved_changes : (j : ℕ) → is_among s.moved.items j ≡ true → int_at levels j ≢ int_at s.levels.items j
+    moved_changes j among same =
+        let found = index_of s.moved.items j among in
+        let inside : j < state_count m = omega (arith, found.2, taken.due.numbers.below found.0 0 found.1) in
+        let left = due_left j among in
+        let still : IsNear (level_unit m) (state_at (line_at s.lines.items j) (tick + 1)) (int_at s.levels.items j) (quantum_of m j (int_at s.levels.items j)) =
+        subst (λ l. IsNear (level_unit m) (state_at (line_at s.lines.items j) (tick + 1)) l (quantum_of m j l)) same (near j inside) in
+        omega (arith, ints, left, still)
 
     -- a line at its level keeps its due tick, and then its state was not due
     pub kept_due : (j : ℕ) → j < state_count m → (line_at s.lines.items j).level ≡ int_at levels j → IsDue m (tick + 1) j (line_at s.lines.items j) (due_at s.agenda j)

@@ -153,6 +153,7 @@ stands_with m tick s moved changed stands moved_room changed_room =
         slopes = fits.slopes;
         weights = fits.weights;
         moved_room = omega (arith, moved_room, fits.moved_room);
+        touched_room = fits.touched_room;
         changed_room = omega (arith, changed_room, fits.changed_room);
         fired_room = fits.fired_room;
         assigned_room = fits.assigned_room;

@@ -16,3 +16,4 @@ pub mod Rewatchings
 pub mod Reads
 pub mod Visitings
 pub mod Levels
+pub mod Gatherings

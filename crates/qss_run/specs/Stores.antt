@@ -49,6 +49,7 @@ pub record FitsMachine (m : Machine) (s : Store) : Type 0 where
   pub slopes : length s.slopes.items ≡ state_count m
   pub weights : length s.weights.of_rows.items ≡ state_count m
   pub moved_room : state_count m ≤ vec_capacity s.moved
+  pub touched_room : state_count m ≤ vec_capacity s.touched
   pub changed_room : length (conditions m) ≤ vec_capacity s.changed
   pub fired_room : length (conditions m) ≤ vec_capacity s.fired
   pub assigned_room : row_room m.clauses ≤ vec_capacity s.assigned

@@ -27,6 +27,7 @@ use Rattle.qss_run.specs.declared.visiting.Handled.{Handled}
 use Rattle.qss_run.specs.declared.visiting.HandledArrival.{HandledArrival}
 use Rattle.qss_run.specs.declared.visiting.Mode.{Mode}
 use Rattle.qss_run.specs.declared.visiting.NewLevels.{NewLevels}
+use Rattle.qss_run.specs.declared.visiting.QuietLevels.{QuietLevels}
 use Rattle.qss_run.specs.declared.weights.Weights.{Weights}
 use Rattle.qss_run.specs.Handlings.{AreDiscretes, AreAssigned, is_reinitialized, states_with}
 use Rattle.qss_run.specs.Kept.{AreWeights, AreWeightsBefore}
@@ -136,21 +137,37 @@ pub record AreStatesOf (m : Machine) (x : List ℤ) : Type 0 where
   pub as_many : length x ≡ state_count m
   pub small : All (IsWithin 88) x
 
+-- a machine's readers, numbers of its states, and a level of each state and discrete values, within the limit
+pub record AreQuietLevels (at : QuietLevels) : Type 0 where
+  pub uses : at.uses.now ≡ uses_of at.machine.now
+  pub moved : AreNumbers (state_count at.machine.now) at.moved.now
+  pub levels : length at.levels.now ≡ state_count at.machine.now
+  pub small_levels : All (IsWithin 43) at.levels.now
+  pub discretes : length at.discretes.now ≡ discrete_count at.machine.now
+  pub small_discretes : All (IsWithin 43) at.discretes.now
+
+-- the slopes of all rows there
+abbrev pub quiet_slopes : QuietLevels → List ℤ
+quiet_slopes at = tabulate (state_count at.machine.now) (λ j. slope_at at.machine.now j at.levels.now at.discretes.now)
+
+-- slopes and lines of the levels before, at the same discrete values
+abbrev pub WereSlopes : QuietLevels → List ℤ → List Line → Type 0
+WereSlopes at slopes lines =
+    (old : List ℤ) × AreSumsBefore Slope at.machine.now at.moved.now at.levels.now at.discretes.now slopes lines old
+
 -- the moved states may go on at their new levels, and all states at their new slopes, from the slopes, the lines and the due ticks before
-pub record CanReslope (at : NewLevels) (d slopes_old : List ℤ) (lines_old : List Line) (dues_old : List (Option ℕ)) : Type 0 where
-  pub new : AreNewLevels at
-  pub discretes : length d ≡ discrete_count at.machine.now
-  pub small_discretes : All (IsWithin 43) d
+pub record CanReslope (at : QuietLevels) (slopes_old : List ℤ) (lines_old : List Line) (dues_old : List (Option ℕ)) : Type 0 where
+  pub new : AreQuietLevels at
   pub slopes : length slopes_old ≡ state_count at.machine.now
   pub lines : length lines_old ≡ state_count at.machine.now
   pub places : state_count at.machine.now ≤ length dues_old
-  pub light : first_overweight at d ≡ None
+  pub light : position (is_overweight at.machine.now at.levels.now at.discretes.now) at.machine.now.rows ≡ None
   pub in_time : at.tick ≤ tick_limit
   pub earlier : (j : ℕ) → j < state_count at.machine.now → (line_at lines_old j).tick < at.tick
   pub small_states : (j : ℕ) → j < state_count at.machine.now → IsWithin 88 (state_at (line_at lines_old j) at.tick)
   pub near : (j : ℕ) → j < state_count at.machine.now →
       IsNear (level_unit at.machine.now) (state_at (line_at lines_old j) at.tick) (int_at at.levels.now j) (quantum_of at.machine.now j (int_at at.levels.now j))
-  pub before : WereSums Slope at d slopes_old lines_old
+  pub before : WereSlopes at slopes_old lines_old
   pub own_slope : (j : ℕ) → j < state_count at.machine.now → (line_at lines_old j).slope ≡ int_at slopes_old j
   pub due : (j : ℕ) → j < state_count at.machine.now → (line_at lines_old j).level ≡ int_at at.levels.now j →
       IsDue at.machine.now at.tick j (line_at lines_old j) (due_at dues_old j)

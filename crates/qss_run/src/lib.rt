@@ -10,6 +10,7 @@ mod crossings;
 mod due;
 mod ends;
 mod fired;
+mod gathered;
 mod handling;
 mod held;
 mod jump;

@@ -1,6 +1,7 @@
 //! A tick at which nothing but states is due.
 
-ghost use Rattle.std.specs.Prelude.{◌≡◌, ℕ, ◌+◌, ◌<◌, ◌≤◌, ◌^◌, [], All, length, position, List, ℤ, Option, None, vec_capacity};
+ghost use Rattle.std.specs.Prelude.{◌≡◌, ℕ, ◌+◌, ◌<◌, ◌≤◌, ◌^◌, [], All, length, position, List, ℤ, Option, None, count_by, vec_capacity};
+ghost use Rattle.std.specs.List.{range_with_len};
 ghost use Rattle.std.specs.Option.{option_or};
 ghost use Rattle.mu_num.specs.Sizes.{IsWithin};
 ghost use Rattle.qss_machine.specs.Numbers.{int_at, first_past};
@@ -10,21 +11,22 @@ ghost use Rattle.qss_machine.specs.Ticks.{is_overweight, world_unless, Step};
 ghost use Rattle.qss_machine.specs.Runs.{level_rows, tick_rows};
 ghost use Rattle.qss_quant.specs.Lines.{state_at};
 ghost use Rattle.qss_sched.specs.Ranks.{due_at};
+ghost use Rattle.qss_quiet.specs.Among.{is_among};
+ghost use Rattle.qss_run.specs.Gatherings.{reached};
 ghost use Rattle.qss_run.specs.Kept.{AreWeights};
 ghost use Rattle.qss_run.specs.Levels.{AreRequantizedOnArrival};
 ghost use Rattle.qss_run.specs.Places.{AreConditionsOf, AreWatched, HasPlaces, line_at, IsTurned};
-ghost use Rattle.qss_run.specs.Renewals.{renewals};
 ghost use Rattle.qss_quiet.specs.Rules.{IsRuled};
 ghost use Rattle.qss_run.specs.Stores.{states_at, world_of, Stands, IsTaken};
 ghost use Rattle.qss_run.specs.Touches.{touches_at};
-ghost use Rattle.qss_run.specs.Visitings.{CanArrive, CanReslope, HoldsLevels, new_slopes};
+ghost use Rattle.qss_run.specs.Visitings.{CanArrive, CanReslope, HoldsLevels, quiet_slopes};
 
 use crate::calm::catch_up;
 use crate::conditions::Conditions;
+use crate::gathered::reslope_of;
 use crate::relevel::requantize_due;
 use crate::store::Store;
-use crate::turned::reslope_of;
-use crate::visiting::{Arrival, NewLevels};
+use crate::visiting::{Arrival, NewLevels, QuietLevels};
 use crate::weights::Weights;
 use qss_hand::Work;
 use qss_machine::{Machine, Row};
@@ -79,30 +81,31 @@ fn requantize_moved(
 // The moved states and those whose rows read one of them go on from a tick at their new slopes, and the conditions that
 // read these at their new speeds.
 fn go_on_moved<L: Ledger>(
-    at: &NewLevels,
-    work: &Work,
+    at: &QuietLevels,
     slopes: &mut [i128],
     lines: &mut [Integrator],
+    touched: &mut Vec<u32>,
     watched: &mut Conditions,
     agenda: &mut Agenda,
     steps: &mut Steps<L>,
 )
-    requires ready { CanReslope at.now work.now.d slopes.old lines.old agenda.old }
+    requires ready { CanReslope at.now slopes.old lines.old agenda.old }
+    requires room { state_count at.now.machine.now ≤ vec_capacity touched.old }
     requires fits { AreConditionsOf at.now.machine.now watched.old }
     requires places { HasPlaces at.now.machine.now agenda.old }
     requires small_states { All (IsWithin 88) (states_at lines.old at.now.tick) }
     requires in_time { at.now.tick < 2 ^ 32 }
     requires watched { AreWatched at.now.machine.now at.now.tick
-        (states_at lines.old at.now.tick) work.now.d
+        (states_at lines.old at.now.tick) at.now.discretes.now
         slopes.old watched.old.watches.items agenda.old }
-    ensures slopes { slopes.new ≡ new_slopes at.now work.now.d }
+    ensures slopes { slopes.new ≡ quiet_slopes at.now }
     ensures lines { (j : ℕ) → j < state_count at.now.machine.now
         → IsTurned at.now.machine.now at.now.tick (state_at (line_at lines.old j) at.now.tick)
         (int_at at.now.levels.now j)
-        (slope_at at.now.machine.now j at.now.levels.now work.now.d)
+        (slope_at at.now.machine.now j at.now.levels.now at.now.discretes.now)
         j (line_at lines.new j) (due_at agenda.new j) }
     ensures watches { AreWatched at.now.machine.now at.now.tick
-        (states_at lines.old at.now.tick) work.now.d
+        (states_at lines.old at.now.tick) at.now.discretes.now
         slopes.new watched.new.watches.items agenda.new }
     ensures rest { watched.new ≡ record watched.old { watches = watched.new.watches } }
     ensures fits { AreConditionsOf at.now.machine.now watched.new }
@@ -111,11 +114,11 @@ fn go_on_moved<L: Ledger>(
         → state_count at.now.machine.now + length (conditions at.now.machine.now) ≤ place
         → due_at agenda.new place ≡ due_at agenda.old place }
     ensures counted { steps.new
-        ≡ steps.old + renewals
-        (state_count at.now.machine.now) at.now.levels.now slopes.new lines.old }
+        ≤ steps.old + count_by (is_among (reached at.now.machine.now at.now.moved.now))
+        (range_with_len 0 (state_count at.now.machine.now)) }
+    ensures room { vec_capacity touched.new ≡ vec_capacity touched.old }
 {
-    let d = work.d.as_slice();
-    reslope_of(at, d, slopes, lines, agenda, steps);
+    reslope_of(at, slopes, lines, touched, agenda, steps);
     watched.rewatch_of(at.machine, at.uses, at.tick, at.moved, slopes, agenda);
 }
 
@@ -138,11 +141,10 @@ pub(crate) fn visit_due<L: Ledger>(
     ensures room { vec_capacity s.new.rows ≡ vec_capacity s.old.rows }
     ensures counted { steps.new ≤ steps.old + touches_at m.now (tick + 1) (world_of tick s.old) (world_unless result (world_of (tick + 1) s.new)) }
 {
-    let next = tick + 1;
     let arrival = Arrival {
         machine: m,
         uses: &s.uses,
-        tick: next,
+        tick: tick + 1,
         lines: s.lines.as_slice(),
         moved: s.moved.as_slice(),
     };
@@ -157,18 +159,19 @@ pub(crate) fn visit_due<L: Ledger>(
     if over.is_some() {
         return over;
     }
-    let new = NewLevels {
+    let new = QuietLevels {
         machine: m,
         uses: &s.uses,
-        tick: next,
+        tick: tick + 1,
         moved: s.moved.as_slice(),
         levels: s.levels.as_slice(),
+        discretes: s.work.d.as_slice(),
     };
     go_on_moved(
         &new,
-        &s.work,
         s.slopes.as_mut_slice(),
         s.lines.as_mut_slice(),
+        &mut s.touched,
         &mut s.conditions,
         &mut s.agenda,
         steps,

@@ -159,6 +159,7 @@ fn blank_store(alloc: Global, m: &Machine) -> Result<Store, AllocError>
         calm: true,
         agenda: Agenda::with_places(alloc, (states + conditions + 1) as u32)?,
         rows: Vec::with_capacity(alloc, work.log.capacity() + states + work.d.len() + 1)?,
+        touched: Vec::with_capacity(alloc, states)?,
         work,
     })
 }

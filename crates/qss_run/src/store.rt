@@ -9,9 +9,9 @@ use qss_sched::Agenda;
 
 /// By state: its line, its level and its slope. `weights` says when a row is past its limits. `uses` says which rows and
 /// conditions read a variable. The agenda has a place for each state, then one for each condition, and one for a condition that became true through the handlers; `rising` says whether one did. While `calm` is set, each
-/// condition is on arrival as after the last handlers. `moved`, `changed`, `fired` and `assigned` are room for a tick's work:
-/// the numbers of due and reinitialized states, of conditions to be looked at, of due branches and of assigned discrete
-/// variables.
+/// condition is on arrival as after the last handlers. `moved`, `touched`, `changed`, `fired` and `assigned` are room for a tick's
+/// work: the numbers of due and reinitialized states, of touched ones, of conditions to be looked at, of due branches and of
+/// assigned discrete variables.
 #[derive(Drop)]
 pub(crate) struct Store {
     pub conditions: Conditions,
@@ -21,6 +21,7 @@ pub(crate) struct Store {
     pub slopes: Vec<i128>,
     pub weights: Weights,
     pub moved: Vec<u32>,
+    pub touched: Vec<u32>,
     pub changed: Vec<u32>,
     pub fired: Vec<u32>,
     pub assigned: Vec<u32>,

@@ -256,6 +256,7 @@ go_on_handled-requires g c =
         slopes = fits.slopes;
         weights = (c.requantize_handled-over.ensures.weights fine).as_many;
         moved_room = omega (arith, c.handle-over.ensures.moved_room, fits.moved_room);
+        touched_room = fits.touched_room;
         changed_room = fits.changed_room;
         fired_room = omega (arith, c.handle-over.ensures.fired_room, fits.fired_room);
         assigned_room = omega (arith, c.handle-over.ensures.assigned_room, fits.assigned_room);

@@ -123,6 +123,7 @@ returns c =
         slopes = fits.slopes;
         weights = fits.weights;
         moved_room = fits.moved_room;
+        touched_room = fits.touched_room;
         changed_room = fits.changed_room;
         fired_room = fits.fired_room;
         assigned_room = fits.assigned_room;

@@ -1,7 +1,8 @@
 -- A tick at which nothing but states is due.
-use Rattle.std.proofs.Common.{◌≡◌, ℕ, ◌+◌, ◌≤◌, List, Bool, [], length, ℤ, pos, sym, ◌∙◌, ap, subst, arith}
+use Rattle.std.proofs.Common.{◌≡◌, ℕ, ◌+◌, ◌<◌, ◌≤◌, List, Bool, [], length, count_by, ℤ, pos, sym, ◌∙◌, ap, subst, arith}
 use Rattle.std.proofs.lemmas.List.{with_items_is}
 use Rattle.std.proofs.lemmas.List.FromFn.{length-map-range_with_len}
+use Rattle.std.specs.List.{range_with_len}
 use Rattle.std.specs.Option.{option_or}
 use Rattle.std.specs.Prelude.{Option, None, Ok, All, position}
 use Rattle.std.specs.Vec.{with_items}
@@ -13,24 +14,26 @@ use Rattle.qss_machine.specs.Ticks.{World, moved_states, handling_at, is_near, i
 use Rattle.qss_machine.specs.Runs.{level_rows}
 use Rattle.qss_quant.specs.Lines.{state_at, IsNear}
 use Rattle.qss_sched.specs.Ranks.{due_at}
+use Rattle.qss_hand.specs.Values.{Values}
 use Rattle.qss_run.specs.RowSums.{AreSumsBefore}
 use Rattle.qss_run.specs.declared.shifts.RowSum.TheVariants.{Slope}
 use Rattle.qss_run.specs.declared.conditions.Conditions.{Conditions}
 use Rattle.qss_run.specs.declared.store.Store.{Store}
 use Rattle.qss_quiet.specs.Among.{is_among, AreNumbers, IsOff}
 use Rattle.qss_run.specs.Places.{line_at, watch_at, IsTurned, IsWatched}
-use Rattle.qss_run.specs.Renewals.{renewals}
 use Rattle.qss_quiet.specs.Rules.{IsRuled}
 use Rattle.qss_quiet.specs.Sims.{IsDue}
 use Rattle.qss_quiet.proofs.Overs.{not_some, clash, all_within}
+use Rattle.qss_run.specs.Gatherings.{reached}
 use Rattle.qss_run.specs.Kept.{AreWeights}
 use Rattle.qss_run.specs.Stores.{states_at, world_of, FitsMachine}
 use Rattle.qss_run.specs.Visitings.{HasLeft}
 use Rattle.qss_run.specs.Touches.{touches_at}
+use Rattle.qss_run.proofs.DueLevels.{moved_inside}
 use Rattle.qss_run.proofs.OwnConditions.{arrived_anew}
-use Rattle.qss_run.proofs.QuietVisits.{steps_or, leads, rest_small, rest_near, due_left, own_slope, levels_before, handled, arrived, near, kept_due, same_truths, watched, not_rising, rising, rows_then}
+use Rattle.qss_run.proofs.QuietVisits.{steps_or, leads, rest_small, rest_near, due_left, moved_changes, own_slope, levels_before, handled, arrived, near, kept_due, same_truths, watched, not_rising, rising, rows_then}
 use Rattle.qss_run.proofs.QuietTick.{none_rises_then}
-use Rattle.qss_run.proofs.Touched.{renewals_touched}
+use Rattle.qss_run.proofs.Touched.{changes, reached_touched}
 use Rattle.qss_run.proofs.Visits.{stands_again, end_of, both_none, same_length, levels_small, state_within}
 use Rattle.qss_run.proofs.sparse.visit_due.Goals as goal
 
@@ -156,6 +159,7 @@ go_on_moved-requires-clause-ready g c =
     c.as_slice-4.ensures.value ∙ with_items_is s.levels c.requantize_moved-over.new.levels many ∙ c.requantize_moved-over.ensures.taken.1.levels calm in
     let off : IsOff s.moved.items s.levels.items fresh =
     subst (λ l. IsOff l s.levels.items fresh) c.as_slice-2.ensures.value (subst (λ l. IsOff c.as_slice-2.result.now l fresh) c.as_mut_slice.ensures.value c.requantize_moved-over.ensures.taken.1.others) in
+    let of_d : c.as_slice-5.result.now ≡ s.work.d = c.as_slice-5.ensures.value ∙ ap (λ (v : Values). v.d) c.work.view_is in
     let fits = taken.stands.fits in
     record {
       new = record {
@@ -163,13 +167,14 @@ go_on_moved-requires-clause-ready g c =
         moved = subst (AreNumbers (state_count m)) (sym c.as_slice-3.ensures.value) taken.due.numbers;
         levels = ap length c.as_slice-4.ensures.value ∙ same_length s.levels c.requantize_moved-over.new.levels ∙ fits.levels;
         small_levels = subst (All (IsWithin 43)) (sym (levels ∙ sym (c.requantize_moved-over.ensures.taken.1.levels calm))) (c.requantize_moved-over.ensures.small calm);
+        discretes = ap length of_d ∙ fits.discretes;
+        small_discretes = subst (All (IsWithin 43)) (sym of_d) fits.small_discretes;
       };
-      discretes = fits.discretes;
-      small_discretes = fits.small_discretes;
       slopes = ap length c.as_mut_slice-2.ensures.value ∙ fits.slopes;
       lines = ap length c.as_mut_slice-3.ensures.value ∙ fits.lines;
       places = omega (arith, taken.without.as_many, fits.places);
-      light = ap (λ l. position (is_overweight m l s.work.d) m.rows) levels
+      light = ap (λ l. position (is_overweight m l c.as_slice-5.result.now) m.rows) levels
+          ∙ ap (λ d. position (is_overweight m fresh d) m.rows) of_d
           ∙ (both_none (first_past 43 fresh) (position (is_overweight m fresh s.work.d) m.rows) (sym none_both.1)).1;
       in_time = omega (arith, c.requires.in_time, m.has_units.last_tick);
       earlier = λ j inside.
@@ -184,11 +189,12 @@ go_on_moved-requires-clause-ready g c =
           (near m c.args.tick agenda s taken c.requires.in_time c.args.q.now.name fresh (allowed none_both.0) j inside));
       before = (
         s.levels.items,
-        subst (λ js. AreSumsBefore Slope m js c.as_slice-4.result.now s.work.d c.as_mut_slice-2.result.now c.as_mut_slice-3.result.now s.levels.items) (sym c.as_slice-3.ensures.value)
-            (subst (λ l. AreSumsBefore Slope m s.moved.items l s.work.d c.as_mut_slice-2.result.now c.as_mut_slice-3.result.now s.levels.items) (sym levels)
+        subst (λ js. AreSumsBefore Slope m js c.as_slice-4.result.now c.as_slice-5.result.now c.as_mut_slice-2.result.now c.as_mut_slice-3.result.now s.levels.items) (sym c.as_slice-3.ensures.value)
+            (subst (λ l. AreSumsBefore Slope m s.moved.items l c.as_slice-5.result.now c.as_mut_slice-2.result.now c.as_mut_slice-3.result.now s.levels.items) (sym levels)
+            (subst (λ d. AreSumsBefore Slope m s.moved.items fresh d c.as_mut_slice-2.result.now c.as_mut_slice-3.result.now s.levels.items) (sym of_d)
             (subst (λ v. AreSumsBefore Slope m s.moved.items fresh s.work.d v c.as_mut_slice-3.result.now s.levels.items) (sym c.as_mut_slice-2.ensures.value)
             (subst (λ ls. AreSumsBefore Slope m s.moved.items fresh s.work.d s.slopes.items ls s.levels.items) (sym c.as_mut_slice-3.ensures.value)
-            (levels_before m c.args.tick agenda s taken c.requires.in_time fresh off)))),
+            (levels_before m c.args.tick agenda s taken c.requires.in_time fresh off))))),
       );
       own_slope = λ j inside.
           ap (λ ls. (line_at ls j).slope) c.as_mut_slice-3.ensures.value
@@ -223,9 +229,14 @@ go_on_moved-requires-clause-watched g c place inside =
     let many : length c.requantize_moved-over.new.levels ≡ s.levels.len = c.requantize_moved-over.auto.levels ∙ c.as_mut_slice.ensures.len in
     let levels : c.as_slice-4.result.now ≡ fresh =
     c.as_slice-4.ensures.value ∙ with_items_is s.levels c.requantize_moved-over.new.levels many ∙ c.requantize_moved-over.ensures.taken.1.levels calm in
-    subst (λ ls. IsWatched m t (states_at ls t) s.work.d c.as_mut_slice-2.result.now place (watch_at s.conditions.watches.items place) (due_at s.agenda (state_count m + place))) (sym c.as_mut_slice-3.ensures.value)
-    (subst (λ v. IsWatched m t x s.work.d v place (watch_at s.conditions.watches.items place) (due_at s.agenda (state_count m + place))) (sym c.as_mut_slice-2.ensures.value)
-    (watched m c.args.tick agenda s taken c.requires.in_time c.requires.none_changes place inside))
+    let of_d : c.as_slice-5.result.now ≡ s.work.d = c.as_slice-5.ensures.value ∙ ap (λ (v : Values). v.d) c.work.view_is in
+    subst (λ ls. IsWatched m t (states_at ls t) c.as_slice-5.result.now c.as_mut_slice-2.result.now place (watch_at s.conditions.watches.items place) (due_at s.agenda (state_count m + place))) (sym c.as_mut_slice-3.ensures.value)
+    (subst (λ v. IsWatched m t x c.as_slice-5.result.now v place (watch_at s.conditions.watches.items place) (due_at s.agenda (state_count m + place))) (sym c.as_mut_slice-2.ensures.value)
+    (subst (λ d. IsWatched m t x d s.slopes.items place (watch_at s.conditions.watches.items place) (due_at s.agenda (state_count m + place))) (sym of_d)
+    (watched m c.args.tick agenda s taken c.requires.in_time c.requires.none_changes place inside)))
+
+pub go_on_moved-requires-clause-room : goal.go_on_moved-requires-clause-room
+go_on_moved-requires-clause-room g c = c.requires.taken.1.stands.fits.touched_room
 
 pub catch_up-requires-clause-as_many : goal.catch_up-requires-clause-as_many
 catch_up-requires-clause-as_many g c =
@@ -264,6 +275,7 @@ returns g c =
     let many : length c.requantize_moved-over.new.levels ≡ s.levels.len = c.requantize_moved-over.auto.levels ∙ c.as_mut_slice.ensures.len in
     let levels : c.as_slice-4.result.now ≡ fresh =
     c.as_slice-4.ensures.value ∙ with_items_is s.levels c.requantize_moved-over.new.levels many ∙ c.requantize_moved-over.ensures.taken.1.levels calm in
+    let of_d : c.as_slice-5.result.now ≡ s.work.d = c.as_slice-5.ensures.value ∙ ap (λ (v : Values). v.d) c.work.view_is in
     let fits = taken.stands.fits in
     let own : Conditions = c.go_on_moved.new.watched in
     let own_settled : own.settled.items ≡ s.conditions.settled.items = ap (λ (all : Conditions). all.settled.items) c.go_on_moved.ensures.rest in
@@ -275,6 +287,7 @@ returns g c =
       weights = c.requantize_moved-over.new.weights;
       calm = c.catch_up.new.calm;
       agenda = c.go_on_moved.new.agenda;
+      touched = c.go_on_moved.new.touched;
       rows = c.requantize_moved-over.new.rows;
     } in
     let good : FitsMachine m next = record {
@@ -285,6 +298,7 @@ returns g c =
       slopes = same_length s.slopes c.go_on_moved.new.slopes ∙ fits.slopes;
       weights = (c.requantize_moved-over.ensures.weights calm).as_many;
       moved_room = fits.moved_room;
+      touched_room = omega (arith, c.go_on_moved.ensures.room, fits.touched_room);
       changed_room = fits.changed_room;
       fired_room = fits.fired_room;
       assigned_room = fits.assigned_room;
@@ -307,23 +321,30 @@ returns g c =
     ∙ (both_none (first_past 43 fresh) (position (is_overweight m fresh s.work.d) m.rows) (sym none_both.1)).1 in
     let many_states : length x ≡ state_count m = length-map-range_with_len (λ j. state_at (line_at s.lines.items j) t) 0 (length s.lines.items) ∙ fits.lines in
     let settled : s.conditions.settled.items ≡ truths m x next.work.d t = same_truths m c.args.tick agenda s taken c.requires.in_time c.requires.none_changes in
+    let slopes : c.go_on_moved.new.slopes ≡ tabulate (state_count m) (λ j. slope_at m j next.levels.items next.work.d) =
+    c.go_on_moved.ensures.slopes
+    ∙ ap (λ d. tabulate (state_count m) (λ j. slope_at m j c.as_slice-4.result.now d)) of_d
+    ∙ ap (λ l. tabulate (state_count m) (λ j. slope_at m j l next.work.d)) (sym own_levels) in
     let again = stands_again m t next x many_states good
     (λ j inside. subst (λ l. IsWithin 43 (int_at l j)) (sym (own_levels ∙ levels ∙ sym (c.requantize_moved-over.ensures.taken.1.levels calm)))
     (c.requantize_moved-over.ensures.small calm j (pos 0) (omega (arith, inside, many, s.levels.ok.0, fits.levels))))
     light
-    (of_slopes ∙ c.go_on_moved.ensures.slopes ∙ ap (λ l. tabulate (state_count m) (λ j. slope_at m j l next.work.d)) (sym own_levels))
+    (of_slopes ∙ slopes)
     (subst (λ l. AreWeights m l next.work.d next.weights) (sym (own_levels ∙ levels ∙ sym (c.requantize_moved-over.ensures.taken.1.levels calm)))
     (c.requantize_moved-over.ensures.weights calm))
     (λ j inside.
     subst (λ ls. IsTurned m t (int_at x j) (int_at next.levels.items j) (slope_at m j next.levels.items next.work.d) j (line_at ls j) (due_at next.agenda j)) (sym of_lines)
     (subst (λ l. IsTurned m t (int_at x j) (int_at l j) (slope_at m j l next.work.d) j (line_at c.go_on_moved.new.lines j) (due_at next.agenda j)) (sym own_levels)
     (subst (λ y. IsTurned m t y (int_at c.as_slice-4.result.now j) (slope_at m j c.as_slice-4.result.now next.work.d) j (line_at c.go_on_moved.new.lines j) (due_at next.agenda j))
-    (ap (λ ls. state_at (line_at ls j) t) c.as_mut_slice-3.ensures.value ∙ sym (leads m c.args.tick agenda s taken c.requires.in_time j inside)) (c.go_on_moved.ensures.lines j inside))))
+    (ap (λ ls. state_at (line_at ls j) t) c.as_mut_slice-3.ensures.value ∙ sym (leads m c.args.tick agenda s taken c.requires.in_time j inside))
+    (subst (λ d. IsTurned m t (state_at (line_at c.as_mut_slice-3.result.now j) t) (int_at c.as_slice-4.result.now j) (slope_at m j c.as_slice-4.result.now d) j (line_at c.go_on_moved.new.lines j) (due_at next.agenda j))
+    of_d (c.go_on_moved.ensures.lines j inside)))))
     (own_settled ∙ settled)
     (λ place inside.
     subst (λ sl. IsWatched m t x next.work.d sl place (watch_at own.watches.items place) (due_at next.agenda (state_count m + place))) (sym of_slopes)
     (subst (λ ls. IsWatched m t (states_at ls t) next.work.d c.go_on_moved.new.slopes place (watch_at own.watches.items place) (due_at next.agenda (state_count m + place))) c.as_mut_slice-3.ensures.value
-    (c.go_on_moved.ensures.watches place inside)))
+    (subst (λ d. IsWatched m t (states_at c.as_mut_slice-3.result.now t) d c.go_on_moved.new.slopes place (watch_at own.watches.items place) (due_at next.agenda (state_count m + place))) of_d
+    (c.go_on_moved.ensures.watches place inside))))
     (not_rising m c.args.tick agenda s taken c.requires.in_time c.requires.none_changes ∙ sym (none_rises_then (world_of c.args.tick s) (world_of t next) of_arrived own_settled))
     (rising m c.args.tick agenda s taken c.requires.in_time c.requires.none_changes next.agenda
     (c.go_on_moved.ensures.beyond (state_count m + length (conditions m)) (omega arith)))
@@ -338,13 +359,13 @@ returns g c =
     ∙ ap (λ (a : List Bool). record { states = x; levels = fresh; discretes = s.work.d; arrived = a; settled = next.conditions.settled.items }) (of_arrived ∙ still)
     ∙ ap (λ (b : List Bool). record { states = x; levels = fresh; discretes = s.work.d; arrived = truths m (moved_states m w) s.work.d t; settled = b })
     (own_settled ∙ same_truths m c.args.tick agenda s taken c.requires.in_time c.requires.none_changes) in
-    let counted : c.go_on_moved.new.steps ≡ c.args.steps.now + renewals (state_count m) next.levels.items c.go_on_moved.new.slopes s.lines.items =
-    subst (λ ls. c.go_on_moved.new.steps ≡ c.args.steps.now + renewals (state_count m) next.levels.items c.go_on_moved.new.slopes ls) c.as_mut_slice-3.ensures.value
-    (subst (λ l. c.go_on_moved.new.steps ≡ c.args.steps.now + renewals (state_count m) l c.go_on_moved.new.slopes c.as_mut_slice-3.result.now) (sym own_levels) c.go_on_moved.ensures.counted) in
-    let touched : renewals (state_count m) next.levels.items c.go_on_moved.new.slopes s.lines.items ≤ touches_at m t w (Ok (world_of t next)) =
-    renewals_touched m t w (world_of t next) taken.stands.stands_for.left.one_each good.levels fits.discretes good.discretes s.lines.items c.go_on_moved.new.slopes
-    (λ j inside. (taken.stands.stands_for.lines j inside).own_level) (λ j inside. (taken.stands.stands_for.lines j inside).own_slope)
-    (c.go_on_moved.ensures.slopes ∙ ap (λ l. tabulate (state_count m) (λ j. slope_at m j l next.work.d)) (sym own_levels)) in
+    let few : count_by (is_among (reached m s.moved.items)) (range_with_len 0 (state_count m)) ≤ touches_at m t w (Ok (world_of t next)) =
+    reached_touched m t w (world_of t next) s.moved.items taken.due.numbers (λ j among.
+    let inside : j < state_count m = moved_inside (state_count m) s.moved.items taken.due.numbers j among in
+    changes m w (world_of t next) j inside (λ same.
+    moved_changes m c.args.tick agenda s taken c.requires.in_time c.args.q.now.name fresh (allowed none_both.0) j among (ap (λ l. int_at l j) (sym new_levels) ∙ sym same))) in
+    let counted : c.go_on_moved.new.steps ≤ c.args.steps.now + count_by (is_among (reached m s.moved.items)) (range_with_len 0 (state_count m)) =
+    subst (λ js. c.go_on_moved.new.steps ≤ c.args.steps.now + count_by (is_among (reached m js)) (range_with_len 0 (state_count m))) c.as_slice-3.ensures.value c.go_on_moved.ensures.counted in
     record {
       stepped = steps_or (IsRuled c.args.q.now.name) m t w (world_of t next) h fresh None is_h allowed (sym calm ∙ over) (λ none. end);
       rows = λ none.
@@ -356,5 +377,5 @@ returns g c =
           ∙ sym (rows_then m c.args.tick agenda s taken c.requires.in_time c.requires.none_changes (world_of t next));
       stands = λ none. again.1;
       room = c.requantize_moved-over.ensures.room;
-      counted = omega (arith, counted, touched);
+      counted = omega (arith, counted, few);
     }

@@ -62,6 +62,7 @@ returns c =
       slopes = same_length s.slopes c.set_out.new.slopes ∙ fits.slopes;
       weights = c.start.ensures.as_many;
       moved_room = fits.moved_room;
+      touched_room = fits.touched_room;
       changed_room = fits.changed_room;
       fired_room = fits.fired_room;
       assigned_room = fits.assigned_room;

@@ -48,6 +48,7 @@ returns c =
         slopes = ap length c.in_ok-copies-2.ensures ∙ length-replicate _ _ ∙ states;
         weights = ap length c.in_ok-copies-3.ensures ∙ length-replicate _ _ ∙ states;
         moved_room = omega (arith, c.in_ok-moved.ensures.0, states);
+        touched_room = omega (arith, c.in_ok-with_capacity-3.ensures.capacity, states);
         changed_room = omega (arith, c.in_ok-moved.ensures.1, places);
         fired_room = omega (arith, c.in_ok-moved.ensures.2, places);
         assigned_room = omega (arith, c.in_ok-with_capacity.ensures.capacity, c.capacity.ensures, ap (λ (v : Values). v.room) c.work.view_is, room);
