@@ -147,7 +147,7 @@ module _ (m : Machine) (name : Option Rule) (tick : ℕ) (states : List ℤ) (ol
 module _ (at : Arrival) (name : Option Rule) (old kept : List ℤ) (before rows : List Row) (over : Option ℕ) (ready : CanArrive at old) (many : length old ≡ state_count at.machine.now)
     (small : All (IsWithin 43) old) (passed : (var : ℕ) → first_past 88 (states_at at.lines.now at.tick) ≡ Some var → over ≡ Some var)
     (taken : first_past 88 (states_at at.lines.now at.tick) ≡ None →
-        (new : List ℤ) × AreRequantized at.machine.now name at.tick (states_at at.lines.now at.tick) at.moved.now old kept new before rows over) where
+    (new : List ℤ) × AreRequantized at.machine.now name at.tick (states_at at.lines.now at.tick) at.moved.now old kept new before rows over) where
   abbrev states : List ℤ
   states = states_at at.lines.now at.tick
 

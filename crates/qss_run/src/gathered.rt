@@ -192,13 +192,7 @@ fn go_on_as(m: &Machine, j: u32, here: &Integrator, line: &mut Integrator, agend
 }
 
 // A state goes on from a tick at its level and its slope, from where its line leads.
-fn go_on(
-    at: &QuietLevels,
-    slopes: &[i128],
-    j: u32,
-    lines: &mut [Integrator],
-    agenda: &mut Agenda,
-)
+fn go_on(at: &QuietLevels, slopes: &[i128], j: u32, lines: &mut [Integrator], agenda: &mut Agenda)
     requires new { AreQuietLevels at.now }
     requires slopes_of { AreSlopesOf at.now.machine.now slopes.now }
     requires state { j < state_count at.now.machine.now }

@@ -9,14 +9,7 @@ use mu_num::passes;
 use qss_machine::{Row, RowKind};
 
 // A state takes a level, with a row where it is another one.
-fn take_level(
-    rows: &mut Vec<Row>,
-    tick: u64,
-    var: u32,
-    level: &mut i64,
-    fresh: i128,
-    state: i128,
-)
+fn take_level(rows: &mut Vec<Row>, tick: u64, var: u32, level: &mut i64, fresh: i128, state: i128)
     requires small { IsWithin 43 fresh }
     requires room { vec_len rows.old < vec_capacity rows.old }
     ensures level { level.new ≡ fresh }
@@ -55,9 +48,9 @@ pub(crate) fn take_within(
     ensures rows { result ≡ false
         → rows.new.items ≡ rows.old.items
         ++ (if int_eq level.old fresh
-            then []
-            else record { tick = tick; kind = kind.Level; var = var; level = fresh; state = state }
-            ∷ []) }
+        then []
+        else record { tick = tick; kind = kind.Level; var = var; level = fresh; state = state }
+        ∷ []) }
     ensures few { vec_len rows.new ≤ vec_len rows.old + 1 }
     ensures room { vec_capacity rows.new ≡ vec_capacity rows.old }
 {

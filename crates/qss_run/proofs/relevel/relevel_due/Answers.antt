@@ -88,10 +88,10 @@ loop-state-preserved g c =
       taken = (
         set inv.taken.0 j fresh,
         subst (λ (first : Option ℕ). AreRequantized m name tick states (take (i + 1) moved) olds (set c.loop-state.levels j c.take_within-past.new.level) (set inv.taken.0 j fresh) c.args.rows.now.items
-        c.take_within-past.new.rows.items first) (sym c.found_or.ensures)
-        (taken_more m name tick states olds c.args.rows.now.items moved i c.loop-state.levels inv.taken.0 c.loop-state.rows.items c.take_within-past.new.rows.items c.loop-state.first fresh
-        c.take_within-past.new.level c.take_within-past.result h rising (omega (arith, inside, c.requires.levels)) inv.taken.1 next past
-        (λ e. c.take_within-past.ensures.level e ∙ to_z-of_z w128 fresh fresh_fits) row),
+            c.take_within-past.new.rows.items first) (sym c.found_or.ensures)
+            (taken_more m name tick states olds c.args.rows.now.items moved i c.loop-state.levels inv.taken.0 c.loop-state.rows.items c.take_within-past.new.rows.items c.loop-state.first fresh
+            c.take_within-past.new.level c.take_within-past.result h rising (omega (arith, inside, c.requires.levels)) inv.taken.1 next past
+            (λ e. c.take_within-past.ensures.level e ∙ to_z-of_z w128 fresh fresh_fits) row),
       );
       few = omega (arith, inv.few, c.take_within-past.ensures.few);
       room = c.take_within-past.ensures.room ∙ inv.room;
@@ -100,7 +100,8 @@ loop-state-preserved g c =
 pub returns-clause-taken : goal.returns-clause-taken
 returns-clause-taken g c =
     let at = c.args.at.now in
-    let taken = c.loop-state.invariant.taken in
-    (taken.0,
-    taken_all at.machine.now c.args.q.now.name at.tick c.args.x.now c.args.levels.now c.args.rows.now.items at.moved.now c.loop-state.state-index c.loop-state.levels taken.0
-    c.loop-state.rows.items c.loop-state.first c.loop-state-test.false taken.1)
+    let taken = c.loop-state.invariant.taken in (
+      taken.0,
+      taken_all at.machine.now c.args.q.now.name at.tick c.args.x.now c.args.levels.now c.args.rows.now.items at.moved.now c.loop-state.state-index c.loop-state.levels taken.0
+          c.loop-state.rows.items c.loop-state.first c.loop-state-test.false taken.1,
+    )
