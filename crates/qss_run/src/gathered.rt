@@ -135,15 +135,7 @@ fn follow_level<L: Ledger>(
         machine: at.machine,
         discretes: at.discretes,
     };
-    shift_rows(
-        RowSum::Slope,
-        &mode,
-        at.uses,
-        state,
-        old,
-        new,
-        slopes,
-    );
+    shift_rows(RowSum::Slope, &mode, at.uses, state, old, new, slopes);
     gather(at.tick, state, lines, touched, steps);
     gather_each(at.tick, rows, lines, touched, steps);
 }
