@@ -177,7 +177,8 @@ fn go_on_as(m: &Machine, j: u32, here: &Integrator, line: &mut Integrator, agend
     ensures turned { IsTurned m.now here.now.tick here.now.x here.now.level here.now.slope j
         line.new (due_at agenda.new j) }
     ensures as_many { length agenda.new ≡ length agenda.old }
-    ensures others { (place : ℕ) → (place ≡ j → ⊥) → due_at agenda.new place ≡ due_at agenda.old place }
+    ensures others { (place : ℕ) → (place ≡ j → ⊥)
+        → due_at agenda.new place ≡ due_at agenda.old place }
 {
     *line = *here;
     agenda.set(j, leaving(m, j, here));
@@ -202,7 +203,8 @@ fn go_on(at: &QuietLevels, slopes: &[i128], j: u32, lines: &mut [Integrator], ag
         (due_at agenda.new j) }
     ensures lines { (k : ℕ) → (k ≡ j → ⊥) → line_at lines.new k ≡ line_at lines.old k }
     ensures places { length agenda.new ≡ length agenda.old }
-    ensures dues { (place : ℕ) → (place ≡ j → ⊥) → due_at agenda.new place ≡ due_at agenda.old place }
+    ensures dues { (place : ℕ) → (place ≡ j → ⊥)
+        → due_at agenda.new place ≡ due_at agenda.old place }
 {
     let slope = slopes[j as usize];
     let level = at.levels[j as usize];

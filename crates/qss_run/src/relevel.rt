@@ -39,7 +39,8 @@ fn arrive_due(lines: &[Integrator], tick: u64, moved: &[u32], x: &mut [i128]) ->
     requires moved { AreNumbers (length lines.now) moved.now }
     requires later { (j : ℕ) → j < length lines.now → (line_at lines.now j).tick ≤ tick }
     requires in_time { tick ≤ tick_limit }
-    ensures first { IsFirstOf (λ j. passes 88 (state_at (line_at lines.now j) tick)) moved.now result }
+    ensures first { IsFirstOf (λ j. passes 88 (state_at (line_at lines.now j) tick)) moved.now
+        result }
     ensures arrived { IsWritten (pos 0)
         (λ j z. z ≡ state_at (line_at lines.now j) tick) moved.now x.old x.new }
 {
@@ -166,10 +167,13 @@ pub(crate) fn arrive_within(
     requires moved { AreNumbers (length lines.now) moved.now }
     requires later { (j : ℕ) → j < length lines.now → (line_at lines.now j).tick ≤ tick }
     requires in_time { tick < 2 ^ 32 }
-    requires others_small { (j : ℕ) → j < length lines.now → is_among moved.now j ≡ false → IsWithin 88 (state_at (line_at lines.now j) tick) }
+    requires others_small { (j : ℕ) → j < length lines.now
+        → is_among moved.now j ≡ false
+        → IsWithin 88 (state_at (line_at lines.now j) tick) }
     requires small_x { All (IsWithin 88) x.old }
     ensures over { result ≡ first_past 88 (states_at lines.now tick) }
-    ensures arrived { IsWritten (pos 0) (λ j z. z ≡ state_at (line_at lines.now j) tick) moved.now x.old x.new }
+    ensures arrived { IsWritten (pos 0) (λ j z. z ≡ state_at (line_at lines.now j) tick) moved.now
+        x.old x.new }
     ensures small_x { result ≡ None → All (IsWithin 88) x.new }
 {
     arrive_due(lines, tick, moved, x)
