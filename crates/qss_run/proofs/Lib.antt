@@ -6,6 +6,8 @@ pub mod Branches
 pub mod NamedRows
 pub mod Dues
 pub mod Called
+pub mod PlaceSets
+pub mod Apart
 pub mod Takes
 pub mod DueLevels
 pub mod Speeds

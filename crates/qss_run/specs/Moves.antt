@@ -32,6 +32,15 @@ pub record AreChanging (n conditions tick : ℕ) (due : List (Option ℕ)) (chan
 abbrev pub became_true : List Bool → List Bool → ℕ → Bool
 became_true arrived settled place = flag_at settled place && not (flag_at arrived place)
 
+-- flags that are alike but for those of these places
+abbrev pub AreAlikeBut : List ℕ → List Bool → List Bool → Type 0
+AreAlikeBut places one other = (place : ℕ) → is_among places place ≡ false → flag_at one place ≡ flag_at other place
+
+-- whether two flags differ
+abbrev pub differ : Bool → Bool → Bool
+differ true other = not other
+differ false other = other
+
 -- the conditions, of `conditions`, to be looked at at a tick, rising: those that change there, and those that became true through the handlers before
 pub record AreLookedAt (n conditions tick : ℕ) (due : List (Option ℕ)) (w : World) (changed : List ℕ) : Type 0 where
   pub numbers : AreNumbers conditions changed

@@ -4,6 +4,7 @@
 mod advance;
 mod calm;
 mod conditions;
+mod copies;
 mod course;
 mod crossings;
 mod due;
@@ -16,6 +17,7 @@ mod levels;
 mod logged;
 mod moment;
 mod outcome;
+mod place_set;
 mod readers;
 mod reading;
 mod relevel;
