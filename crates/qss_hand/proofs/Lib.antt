@@ -1,2 +1,3 @@
 pub mod AfterStatements
 pub mod Turns
+pub mod Assigned
