@@ -15,3 +15,4 @@ pub mod Handlings
 pub mod Rewatchings
 pub mod Reads
 pub mod Visitings
+pub mod PlaceSets
