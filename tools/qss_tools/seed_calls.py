@@ -1,6 +1,8 @@
-"""The command `seed-calls`: two parts of the transcript (docs/TRANSCRIPT.md), of models that seeds give, with the answers that are worked
-out tick by tick."""
+"""The command `seed-calls`: three parts of the transcript (docs/TRANSCRIPT.md), of models that seeds give and of examples, with the
+answers that are worked out tick by tick."""
+import glob
 import os
+import re
 from collections import Counter
 from multiprocessing import Pool
 
@@ -11,9 +13,15 @@ from .program import ROOT
 from .seeds import HEAVY, RARE, plain_source, source
 
 FOLDER = os.path.join(ROOT, "crates", "transcript")
+EXAMPLES = os.path.join(ROOT, "examples")
+ROOM = 1 << 18  # bytes of out, where a script says nothing else
 SEEDS, SECOND_SEEDS = 440, 300
 FIRST = "# Models that seeds give, run by each rule, and by `floor` as coupled models too: as tools/seed-calls writes them, with the answers of tools/by-ticks.\n"
 SECOND = "# Models without clauses that seeds give, and four rare ones, run in second order: as those above.\n"
+GALLERY = "# Examples, run by events and as coupled models: as tools/seed-calls writes them, with the answers of tools/by-ticks.\n"
+# Other stop times: of those that take long as coupled models, where a tick takes as long as the model is large, and of two with
+# so many ticks that to go through them takes ten minutes.
+STOPS = {"airconds.mo": "8", "average.mo": "400", "dcmotor.mo": "12", "heat2d.mo": "5", "massspring.mo": "0.75", "neurons.mo": "25"}
 # The rules, with shares of a level's size that a quantum is at least, in 4096ths.
 SETTINGS = (("floor", 0), ("near", 0), ("inward", 0), ("floor", 300), ("near", 2048), ("inward", 64))
 
@@ -46,6 +54,7 @@ class Part:
     def call(self, words, answer):
         """A call, shown whole where it wrote nothing, and else summed."""
         self.counts.update(answer.counts)
+        self.say("room %d\n" % len(answer.text) if len(answer.text) > ROOM else "")
         self.say("$ qss %s%s\n" % (words, " > rows" if answer.text else ""))
         self.answers += "! " + answer.line if answer.line else ""
         self.answers += "[status %d]\n" % answer.status if answer.status else ""
@@ -83,6 +92,34 @@ def second_calls(name, text):
     return part
 
 
+def changed(name, text):
+    """What the script changes in the text of an example: its stop time, or nothing."""
+    if name not in STOPS:
+        return None
+    return re.search("StopTime = [0-9.]+", text).group(), "StopTime = " + STOPS[name]
+
+
+def example_file(name, text):
+    """The lines that make a file of an example, and its text with the stop time that they give it."""
+    part = Part("file %s\n" % name + "".join("| %s\n" % line for line in text.split("\n")[:-1]))
+    change = changed(name, text)
+    if change is None:
+        return part, text
+    part.say("change %s %s\n" % tuple(word.replace(" ", "\\s") for word in change))
+    return part, text.replace(*change)
+
+
+def example_calls(path):
+    """An example and its run, by events and as a coupled model."""
+    name = os.path.basename(path)
+    part, text = example_file(name, read_bytes(path).decode())
+    answer = first_order(name, text.encode())
+    for verb in ("run", "devs"):
+        part.call("%s %s" % (verb, name), answer)
+    part.counts["model"] += bool(answer.text)
+    return part
+
+
 def seed_calls(seed):
     return first_calls("seed-%d.mo" % seed, source(seed))
 
@@ -103,19 +140,28 @@ def joined(heading, parts):
     return whole
 
 
-def worked(calls, seeds, jobs):
-    """The calls of each seed."""
+def worked(calls, given, jobs):
+    """The calls of each seed, or of each example."""
     if jobs == 1:
-        return [calls(seed) for seed in range(seeds)]
+        return [calls(one) for one in given]
     with Pool(jobs) as pool:
-        return pool.map(calls, range(seeds), 4)
+        return pool.map(calls, given, 1)
 
 
-def parts(seeds, second_seeds, jobs):
-    """Both parts, with so many seeds."""
-    first = joined(FIRST, [first_calls("heavy.mo", HEAVY)] + worked(seed_calls, seeds, jobs))
+def seeds_part(seeds, jobs):
+    """The part of first order, with so many seeds."""
+    return joined(FIRST, [first_calls("heavy.mo", HEAVY)] + worked(seed_calls, range(seeds), jobs))
+
+
+def second_part(seeds, jobs):
+    """The part of second order, with so many seeds."""
     rare = [second_calls(name + ".mo", text) for name, text in RARE.items()]
-    return first, joined(SECOND, rare + worked(plain_calls, second_seeds, jobs))
+    return joined(SECOND, rare + worked(plain_calls, range(seeds), jobs))
+
+
+def examples_part(folder, jobs):
+    """The part with each model of a folder."""
+    return joined(GALLERY, worked(example_calls, sorted(glob.glob(os.path.join(folder, "*.mo"))), jobs))
 
 
 def replaced(path, heading, text):
@@ -128,26 +174,39 @@ def replaced(path, heading, text):
     return held[:begin] + text + (held[end + 1:] if end >= 0 else "")
 
 
+def write(folder, heading, part):
+    """Puts a part into both files."""
+    for name, text in (("stdin", part.script), ("stdout", part.answers)):
+        path = os.path.join(folder, name)
+        whole = replaced(path, heading, text)
+        with Output(path) as output:
+            output.write(whole)
+
+
 def number(text):
     if not (text.isascii() and text.isdigit()):
         raise Fault("'%s' is no whole number" % text)
     return int(text)
 
 
+PARTS = {"seeds": FIRST, "second": SECOND, "examples": GALLERY}
+
+
 def tool(arguments):
-    words = Words(prog="seed-calls", description="Writes the two parts of the transcript that have models from seeds, with the answers "
-                  "of by-ticks, in the place of those that are there or behind all else.")
+    words = Words(prog="seed-calls", description="Writes the three parts of the transcript that have models from seeds and examples, "
+                  "with the answers of by-ticks, in the place of those that are there or behind all else.")
+    words.add_argument("--part", choices=tuple(PARTS), action="append",
+                       help="a part to write: models from seeds, those run in second order, examples (default: all three)")
     words.add_argument("--seeds", default=str(SEEDS), metavar="N", help="how many seeds, from 0 on, give a model (default: %d)" % SEEDS)
     words.add_argument("--second", default=str(SECOND_SEEDS), metavar="N",
                        help="how many give one without clauses (default: %d)" % SECOND_SEEDS)
-    words.add_argument("--jobs", default="1", metavar="N", help="how many seeds are worked on at once (default: 1)")
+    words.add_argument("--examples", default=EXAMPLES, metavar="PATH", help="where the examples stand (default: examples)")
+    words.add_argument("--jobs", default="1", metavar="N", help="how many models are worked on at once (default: 1)")
     words.add_argument("--folder", default=FOLDER, metavar="PATH", help="where stdin and stdout stand (default: crates/transcript)")
     given = words.parse_args(arguments)
-    found = parts(number(given.seeds), number(given.second), max(1, number(given.jobs)))
-    for heading, part in zip((FIRST, SECOND), found):
-        for name, text in (("stdin", part.script), ("stdout", part.answers)):
-            path = os.path.join(given.folder, name)
-            whole = replaced(path, heading, text)
-            with Output(path) as output:
-                output.write(whole)
+    seeds, second, jobs = number(given.seeds), number(given.second), max(1, number(given.jobs))
+    makers = {"seeds": lambda: seeds_part(seeds, jobs), "second": lambda: second_part(second, jobs), "examples": lambda: examples_part(given.examples, jobs)}
+    for name, heading in PARTS.items():
+        if given.part is None or name in given.part:
+            write(given.folder, heading, makers[name]())
     return FINE

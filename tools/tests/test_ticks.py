@@ -1,4 +1,5 @@
 """Runs that are worked out tick by tick: those of worked rows, those of the transcript, and those of a few seeds."""
+import glob
 import os
 import re
 import unittest
@@ -10,7 +11,8 @@ from support import InFolder, run
 from qss_tools import seeds
 from qss_tools.by_ticks import MOST_SHARE, first_order, machine_of, second_order
 from qss_tools.machines import NoMachine, nearest
-from qss_tools.seed_calls import FIRST, HEAVY, SECOND, digest, first_calls, parts, plain_calls, replaced, seed_calls
+from qss_tools.seed_calls import (EXAMPLES, FIRST, GALLERY, HEAVY, SECOND, STOPS, digest, example_file, examples_part, first_calls, plain_calls,
+                                  replaced, second_part, seed_calls, seeds_part)
 from qss_tools.seeds import Chance
 from qss_tools.ticks import RULES
 
@@ -112,8 +114,26 @@ class Transcript(unittest.TestCase):
                     wanted = getattr(part, kind)
                     begin = text.index(wanted, begin)
 
+    def test_examples_of_the_transcript(self):
+        """Each example stands there as its file has it, but for the stop times of six, and both its runs have one sum."""
+        left = {}
+        for path in glob.glob(os.path.join(EXAMPLES, "*.mo")):
+            name = os.path.basename(path)
+            with open(path, encoding="ascii") as file:
+                left["run %s > rows" % name] = left["devs %s > rows" % name] = example_file(name, file.read())[1]
+        self.assertEqual(len(left), 66)
+        self.assertTrue(set(STOPS) <= {call.split()[1] for call in left})
+        sums = {}
+        for call in scripts.calls():
+            words = " ".join(call.words)
+            if words in left and call.files[call.words[1]] == left[words]:
+                del left[words]
+                self.assertEqual(sums.setdefault(call.words[1], (call.answer, call.summed)), (call.answer, call.summed), words)
+        self.assertEqual(left, {})
+        self.assertNotIn(None, [summed for _, summed in sums.values()])
 
-class Seeds(InFolder):
+
+class Parts(InFolder):
     def test_sources(self):
         # The numbers behind 0 are 1442695040888963407 and that times 6364136223846793005, plus itself, modulo 2^64; of each the
         # upper 31 bits are taken.
@@ -128,7 +148,7 @@ class Seeds(InFolder):
             self.assertTrue(source.startswith(front + "algorithm "))
 
     def test_parts_take_the_place_of_those_that_are_there(self):
-        first, second = parts(1, 1, 1)
+        first, second = seeds_part(1, 1), second_part(1, 1)
         self.assertEqual(digest("ab"), 31 * 97 + 98)
         self.assertTrue(first.script.startswith("\n" + FIRST + "# Of 2 models 1 mean a machine. Rows of their runs: level 7, overflow 7, start 28.\nfile heavy.mo\n+ model m "))
         self.assertIn("\n$ qss run heavy.mo --rule near --relative 2048 > rows\n! overflow: x0 at tick 2\n[status 6]\n$ sum rows\n", first.answers)
@@ -139,14 +159,36 @@ class Seeds(InFolder):
         self.assertEqual(replaced(self.file("stdin", both), FIRST, "\n# C\n"), "# A\n\n# B\nfile b\n\n# C\n" + second.script)
         self.assertEqual(replaced(self.file("stdin", both), SECOND, second.script), both)
 
+    def test_examples(self):
+        self.file("decay.mo", DECAY + "\n")
+        self.file("heat2d.mo", "// A heading.\n" + DECAY.replace("StopTime = 1", "StopTime = 200") + "\n")
+        part = examples_part(self.folder, 1)
+        self.assertTrue(part.script.startswith("\n" + GALLERY + "# Of 2 models 2 mean a machine. Rows of their runs: end 4, level "))
+        self.assertIn("\nfile decay.mo\n| %s\n$ qss run decay.mo > rows\n$ sum rows\n$ qss devs decay.mo > rows\n$ sum rows\nfile heat2d.mo\n| // A heading.\n| model " % DECAY,
+                      part.script)
+        self.assertTrue(part.script.endswith("\nchange StopTime\\s=\\s200 StopTime\\s=\\s5\n$ qss run heat2d.mo > rows\n$ sum rows\n$ qss devs heat2d.mo > rows\n$ sum rows\n"))
+        for text in (DECAY, DECAY.replace("StopTime = 1", "StopTime = 5")):
+            rows = first_order("m", text.encode()).text
+            told = "%d bytes, digest %d\n" % (len(rows), digest(rows))
+            self.assertIn(" > rows\n$ sum rows\n%s$ qss devs " % told, part.answers)
+
+    def test_long_answers_have_room(self):
+        self.file("long.mo", "model m Real x; equation der(x) = 1; annotation(experiment(StopTime = 20000, QSS_CoefBits = 0, QSS_TickBits = 0,"
+                  " QSS_LevelBits = 0, QSS_Quantum = 1)); end m;\n")
+        rows = ["tick,event,name,level,state", "0,start,x,0,0"] + ["%d,level,x,%d,%d" % ((tick,) * 3) for tick in range(1, 20001)] + ["20000,end,x,20000,20000"]
+        size = sum(len(row) + 1 for row in rows)
+        self.assertIn("\nroom %d\n$ qss run long.mo > rows\n" % size, examples_part(self.folder, 1).script)
+
     def test_the_parts_are_written(self):
         for name in ("stdin", "stdout"):
             self.file(name, "# A\n")
-        self.assertEqual(run("seed-calls", "--folder", self.folder, "--seeds", "2", "--second", "1", "--jobs", "2"), (0, "", ""))
-        first, second = parts(2, 1, 1)
-        for name, text in (("stdin", first.script + second.script), ("stdout", first.answers + second.answers)):
+        self.file("decay.mo", DECAY + "\n")
+        self.assertEqual(run("seed-calls", "--folder", self.folder, "--examples", self.folder, "--seeds", "2", "--second", "1", "--jobs", "2"), (0, "", ""))
+        made = (seeds_part(2, 1), second_part(1, 1), examples_part(self.folder, 1))
+        self.assertEqual(run("seed-calls", "--folder", self.folder, "--part", "second", "--second", "1"), (0, "", ""))
+        for name, kind in (("stdin", "script"), ("stdout", "answers")):
             with open(os.path.join(self.folder, name), encoding="ascii") as file:
-                self.assertEqual(file.read(), "# A\n" + text)
+                self.assertEqual(file.read(), "# A\n" + "".join(getattr(part, kind) for part in made))
         self.assert_fault(run("seed-calls", "--seeds", "few"), "'few' is no whole number")
 
 

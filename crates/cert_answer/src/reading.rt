@@ -56,7 +56,10 @@ fn read_short(alloc: Global, m: &Machine, bytes: &[u8]) -> Result<Certificate, E
 
 // How a call ends that cannot read a certificate for this.
 fn unread(why: CertErr) -> Ending
-    ensures refused { (m : Machine) (bytes : List ℕ) → IsInScope m → length bytes ≤ limit → IsRefusedFor m bytes why → RefusesBy m bytes result }
+    ensures refused { (m : Machine) (bytes : List ℕ) → IsInScope m
+        → length bytes ≤ limit
+        → IsRefusedFor m bytes why
+        → RefusesBy m bytes result }
     ensures told { why ≢ CertErr.Memory → result ≡ Ending.Refused (CertificateRefusal.Unread why) }
 {
     match why {

@@ -25,7 +25,8 @@ pub fn upgrade<O: Sink>(alloc: Global, m: &Machine, bytes: &[u8], out: &mut O) -
 
 // Writes a certificate with all its lines.
 fn write_newest<O: Sink>(alloc: Global, c: &Certificate, out: &mut O) -> Ending
-    ensures { Ends O.written O.faults O.failed (λ answer. answer ≡ upgraded c.now) result out.old out.new }
+    ensures { Ends O.written O.faults O.failed (λ answer. answer ≡ upgraded c.now) result out.old
+        out.new }
 {
     match write_certificate(alloc, c) {
         Ok(text) => write_text(&text, out),

@@ -38,8 +38,11 @@ fn write_row(m: &Machine, discretes: &[i64], coef: &mut Matrix, j: u8)
     requires row { j < state_count m.now }
     ensures size { length coef.new ≡ state_count m.now }
     ensures square { IsSquare coef.new }
-    ensures row { (k : ℕ) → k < state_count m.now → table coef.new j k ≡ start_coefficient m.now j k }
-    ensures others { (i k : ℕ) → i < j → k < state_count m.now → table coef.new i k ≡ table coef.old i k }
+    ensures row { (k : ℕ) → k < state_count m.now
+        → table coef.new j k ≡ start_coefficient m.now j k }
+    ensures others { (i k : ℕ) → i < j
+        → k < state_count m.now
+        → table coef.new i k ≡ table coef.old i k }
 {
     for k in 0..coef.size() {
         let coefficient = m.mode_coef(u32::from(j), u32::from(k), discretes);

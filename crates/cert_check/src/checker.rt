@@ -199,10 +199,12 @@ pub fn check(m: &Machine, c: &Certificate) -> Verdict
     requires size { c.now.n ≡ state_count m.now }
 
     // Not accepted: the first fault, a sum that is out of range or an inequality that fails.
-    ensures verdict { IsFirstFaultOf (system_of m.now) (claim c.now) inequalities (fault_of result) }
+    ensures verdict { IsFirstFaultOf (system_of m.now) (claim c.now) inequalities
+        (fault_of result) }
 
     // Accepted exactly where all inequalities hold and all sums by which they are taken are in range.
-    ensures accepted { (result ≡ Verdict.Accepted) ↔ (Holds (system_of m.now) (claim c.now) × AreSumsInRange (system_of m.now) (claim c.now)) }
+    ensures accepted { (result ≡ Verdict.Accepted)
+        ↔ (Holds (system_of m.now) (claim c.now) × AreSumsInRange (system_of m.now) (claim c.now)) }
 
     // Then every two legitimate runs from the certificate's starts stay within its bounds, and the machine's own runs are
     // among them where its start is one of the two.

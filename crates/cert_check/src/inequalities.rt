@@ -106,8 +106,10 @@ fn slope_sides(m: &AffineSystem, x: &Certificate, j: u8) -> Option<Sides>
     requires formed { IsWellFormed m.now x.now }
     requires row { j < m.now.n }
     ensures in_range { IsSome result ↔ IsSlopeSidesInRange (system m.now) (claim x.now) j }
-    ensures left { IfSome result (λ sides. sides.left ≡ left_of (system m.now) (claim x.now) Inequality.Slope j) }
-    ensures right { IfSome result (λ sides. sides.right ≡ right_of (system m.now) (claim x.now) Inequality.Slope j) }
+    ensures left { IfSome result
+        (λ sides. sides.left ≡ left_of (system m.now) (claim x.now) Inequality.Slope j) }
+    ensures right { IfSome result
+        (λ sides. sides.right ≡ right_of (system m.now) (claim x.now) Inequality.Slope j) }
 {
     let right = slope_bound_at(m, x, j)?;
     let left = product(m.unit, at(&x.s, j))?;
@@ -119,8 +121,10 @@ fn centre_gain_sides(m: &AffineSystem, x: &Certificate, i: u8) -> Option<Sides>
     requires formed { IsWellFormed m.now x.now }
     requires row { i < m.now.n }
     ensures in_range { IsSome result ↔ IsCentreSidesInRange (system m.now) (claim x.now) i }
-    ensures left { IfSome result (λ sides. sides.left ≡ left_of (system m.now) (claim x.now) Inequality.CentreGain i) }
-    ensures right { IfSome result (λ sides. sides.right ≡ right_of (system m.now) (claim x.now) Inequality.CentreGain i) }
+    ensures left { IfSome result
+        (λ sides. sides.left ≡ left_of (system m.now) (claim x.now) Inequality.CentreGain i) }
+    ensures right { IfSome result
+        (λ sides. sides.right ≡ right_of (system m.now) (claim x.now) Inequality.CentreGain i) }
 {
     let gain = centre_gain_at(m, x, i)?;
     let left = product(at(&x.mu, i), at(&x.sigma_r, i))?;
@@ -133,8 +137,10 @@ fn pair_gain_sides(m: &AffineSystem, x: &Certificate, i: u8) -> Option<Sides>
     requires formed { IsWellFormed m.now x.now }
     requires row { i < m.now.n }
     ensures in_range { IsSome result ↔ IsPairSidesInRange (system m.now) (claim x.now) i }
-    ensures left { IfSome result (λ sides. sides.left ≡ left_of (system m.now) (claim x.now) Inequality.PairGain i) }
-    ensures right { IfSome result (λ sides. sides.right ≡ right_of (system m.now) (claim x.now) Inequality.PairGain i) }
+    ensures left { IfSome result
+        (λ sides. sides.left ≡ left_of (system m.now) (claim x.now) Inequality.PairGain i) }
+    ensures right { IfSome result
+        (λ sides. sides.right ≡ right_of (system m.now) (claim x.now) Inequality.PairGain i) }
 {
     let gain = pair_gain_at(m, x, i)?;
     let left = product(at(&x.mu, i), at(&x.sigma_c, i))?;
@@ -146,7 +152,8 @@ fn pair_gain_sides(m: &AffineSystem, x: &Certificate, i: u8) -> Option<Sides>
 fn some_share_sides(m: &AffineSystem, x: &Certificate, j: u8) -> Option<Sides>
     ensures in_range { IsSome result ↔ IsShareInRange (system m.now) (claim x.now) j }
     ensures left { IfSome result (λ sides. sides.left ≡ pos 4096 *ℤ (claim x.now).q j) }
-    ensures right { IfSome result (λ sides. sides.right ≡ m.now.share *ℤ level_reach (claim x.now) j) }
+    ensures right { IfSome result
+        (λ sides. sides.right ≡ m.now.share *ℤ level_reach (claim x.now) j) }
 {
     let reach = level_reach_at(x, j)?;
     let right = product(m.share, reach)?;
@@ -156,9 +163,12 @@ fn some_share_sides(m: &AffineSystem, x: &Certificate, j: u8) -> Option<Sides>
 
 /// The same, with both sides 0 where there are no shares.
 fn share_sides(m: &AffineSystem, x: &Certificate, j: u8) -> Option<Sides>
-    ensures in_range { IsSome result ↔ IsPlaceInRange (system m.now) (claim x.now) Inequality.Share j }
-    ensures left { IfSome result (λ sides. sides.left ≡ left_of (system m.now) (claim x.now) Inequality.Share j) }
-    ensures right { IfSome result (λ sides. sides.right ≡ right_of (system m.now) (claim x.now) Inequality.Share j) }
+    ensures in_range { IsSome result
+        ↔ IsPlaceInRange (system m.now) (claim x.now) Inequality.Share j }
+    ensures left { IfSome result
+        (λ sides. sides.left ≡ left_of (system m.now) (claim x.now) Inequality.Share j) }
+    ensures right { IfSome result
+        (λ sides. sides.right ≡ right_of (system m.now) (claim x.now) Inequality.Share j) }
 {
     if m.share == 0 {
         return Some(Sides { left: 0, right: 0 });
@@ -171,8 +181,10 @@ pub fn sides_of(m: &AffineSystem, x: &Certificate, inequality: Inequality, k: u8
     requires formed { IsWellFormed m.now x.now }
     requires place { k < places_of m.now.n inequality }
     ensures in_range { IsSome result ↔ IsPlaceInRange (system m.now) (claim x.now) inequality k }
-    ensures left { IfSome result (λ sides. sides.left ≡ left_of (system m.now) (claim x.now) inequality k) }
-    ensures right { IfSome result (λ sides. sides.right ≡ right_of (system m.now) (claim x.now) inequality k) }
+    ensures left { IfSome result
+        (λ sides. sides.left ≡ left_of (system m.now) (claim x.now) inequality k) }
+    ensures right { IfSome result
+        (λ sides. sides.right ≡ right_of (system m.now) (claim x.now) inequality k) }
 {
     match inequality {
         Inequality::SignP => at_least(at(&x.p, k), 1),

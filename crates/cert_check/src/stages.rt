@@ -36,7 +36,9 @@ fn diagonal_at(numbers: &Items<i128>, i: u8, j: u8) -> i128
 fn surplus_at(x: &Certificate, i: u8, j: u8) -> Option<i128>
     requires row { i < length x.now.pm }
     requires column { j < length x.now.pm }
-    ensures in_range { IsSome result ↔ (unsigned_abs ((claim x.now).pm i j) + unsigned_abs (diagonal (claim x.now).p i j) ≤ 2 ^ 126) }
+    ensures in_range { IsSome result
+        ↔ (unsigned_abs ((claim x.now).pm i j) + unsigned_abs (diagonal (claim x.now).p i j)
+        ≤ 2 ^ 126) }
     ensures value { IfSome result (λ value. value ≡ surplus (claim x.now) i j) }
 {
     let entry = RangedSum::new().plus(x.pm.get(i, j), 1)?;
@@ -67,7 +69,8 @@ fn part_at(m: &AffineSystem, x: &Certificate, stage: Stage, i: u8, j: u8) -> Opt
     requires row { i < m.now.n }
     requires column { j < m.now.n }
     ensures in_range { IsSome result ↔ IsPartInRange (system m.now) (claim x.now) stage i j }
-    ensures value { IfSome result (λ value. value ≡ matrix_of (system m.now) (claim x.now) stage i j) }
+    ensures value { IfSome result
+        (λ value. value ≡ matrix_of (system m.now) (claim x.now) stage i j) }
 {
     match stage {
         Stage::Bounded => surplus_at(x, i, j),
@@ -81,7 +84,10 @@ fn stage_row(m: &AffineSystem, x: &Certificate, stage: Stage, i: u8) -> Option<M
     requires row { i < m.now.n }
     ensures in_range { IsSome result ↔ ArePartsInRange (system m.now) (claim x.now) stage i }
     ensures size { IfSome result (λ rows. length rows ≡ m.now.n) }
-    ensures value { IfSome result (λ rows. (j : ℕ) → j < m.now.n → table rows i j ≡ matrix_of (system m.now) (claim x.now) stage i j) }
+    ensures value { IfSome result
+        (λ rows. (j : ℕ)
+        → j < m.now.n
+        → table rows i j ≡ matrix_of (system m.now) (claim x.now) stage i j) }
 {
     let mut rows = Matrix::new(m.n);
     for j in 0..m.n {
@@ -122,8 +128,13 @@ pub fn bound_sides(m: &AffineSystem, x: &Certificate, i: u8) -> Option<Sides>
     requires formed { IsWellFormed m.now x.now }
     requires row { i < m.now.n }
     ensures in_range { IsSome result ↔ IsStageInRange (system m.now) (claim x.now) Stage.Bounded i }
-    ensures left { IfSome result (λ sides. sides.left ≡ less_gram m.now.n x.now.h1 (surplus (claim x.now)) (claim x.now).g1 i i) }
-    ensures right { IfSome result (λ sides. sides.right ≡ beside m.now.n (less_gram m.now.n x.now.h1 (surplus (claim x.now)) (claim x.now).g1) i) }
+    ensures left { IfSome result
+        (λ sides. sides.left
+        ≡ less_gram m.now.n x.now.h1 (surplus (claim x.now)) (claim x.now).g1 i i) }
+    ensures right { IfSome result
+        (λ sides. sides.right
+        ≡ beside m.now.n (less_gram m.now.n x.now.h1 (surplus (claim x.now)) (claim x.now).g1)
+        i) }
 {
     let rows = stage_row(m, x, Stage::Bounded, i)?;
     let sides = gram_row(&x.h1, &rows, &x.g1, i)?;
@@ -137,9 +148,17 @@ pub fn bound_sides(m: &AffineSystem, x: &Certificate, i: u8) -> Option<Sides>
 pub fn decay_sides(m: &AffineSystem, x: &Certificate, i: u8) -> Option<Sides>
     requires formed { IsWellFormed m.now x.now }
     requires row { i < m.now.n }
-    ensures in_range { IsSome result ↔ IsStageInRange (system m.now) (claim x.now) Stage.Decaying i }
-    ensures left { IfSome result (λ sides. sides.left ≡ less_gram m.now.n x.now.h2 (decay (system m.now) (claim x.now)) (claim x.now).g2 i i) }
-    ensures right { IfSome result (λ sides. sides.right ≡ beside m.now.n (less_gram m.now.n x.now.h2 (decay (system m.now) (claim x.now)) (claim x.now).g2) i) }
+    ensures in_range { IsSome result
+        ↔ IsStageInRange (system m.now) (claim x.now) Stage.Decaying i }
+    ensures left { IfSome result
+        (λ sides. sides.left
+        ≡ less_gram m.now.n x.now.h2 (decay (system m.now) (claim x.now)) (claim x.now).g2 i
+        i) }
+    ensures right { IfSome result
+        (λ sides. sides.right
+        ≡ beside m.now.n
+        (less_gram m.now.n x.now.h2 (decay (system m.now) (claim x.now)) (claim x.now).g2)
+        i) }
 {
     let rows = stage_row(m, x, Stage::Decaying, i)?;
     let sides = gram_row(&x.h2, &rows, &x.g2, i)?;
@@ -151,8 +170,12 @@ pub fn decay_sides(m: &AffineSystem, x: &Certificate, i: u8) -> Option<Sides>
 
 /// The number of `start` at place `k`, less `factor` times that of `base`.
 fn gap_at(start: &Items<i128>, factor: &i128, base: &Items<i128>, k: u8) -> Option<i128>
-    ensures in_range { IsSome result ↔ (unsigned_abs (vector start.now k) + unsigned_abs factor.now * unsigned_abs (vector base.now k) ≤ 2 ^ 126) }
-    ensures value { IfSome result (λ value. value ≡ gap (vector start.now) factor.now (vector base.now) k) }
+    ensures in_range { IsSome result
+        ↔ (unsigned_abs (vector start.now k)
+        + unsigned_abs factor.now * unsigned_abs (vector base.now k)
+        ≤ 2 ^ 126) }
+    ensures value { IfSome result
+        (λ value. value ≡ gap (vector start.now) factor.now (vector base.now) k) }
 {
     let first = RangedSum::new().plus(at(start, k), 1)?;
     let part = first.minus(*factor, at(base, k))?;
@@ -162,8 +185,15 @@ fn gap_at(start: &Items<i128>, factor: &i128, base: &Items<i128>, k: u8) -> Opti
 /// These differences at the first `n` places.
 fn gaps_of(n: u8, start: &Items<i128>, factor: &i128, base: &Items<i128>) -> Option<[i128; 16]>
     requires { n ≤ 16 }
-    ensures in_range { IsSome result ↔ ((k : ℕ) → k < n → unsigned_abs (vector start.now k) + unsigned_abs factor.now * unsigned_abs (vector base.now k) ≤ 2 ^ 126) }
-    ensures value { IfSome result (λ gaps. (k : ℕ) → k < n → vector gaps k ≡ gap (vector start.now) factor.now (vector base.now) k) }
+    ensures in_range { IsSome result
+        ↔ ((k : ℕ) → k < n
+        → unsigned_abs (vector start.now k)
+        + unsigned_abs factor.now * unsigned_abs (vector base.now k)
+        ≤ 2 ^ 126) }
+    ensures value { IfSome result
+        (λ gaps. (k : ℕ)
+        → k < n
+        → vector gaps k ≡ gap (vector start.now) factor.now (vector base.now) k) }
 {
     let mut gaps = [0; 16];
     for k in 0..n {
@@ -182,8 +212,12 @@ pub fn gap_sides(
     bound: &i128,
 ) -> Option<Sides>
     requires { IsWellFormed m.now x.now }
-    ensures in_range { IsSome result ↔ IsGapInRange (system m.now) (claim x.now) (vector start.now) factor.now (vector base.now) bound.now }
-    ensures left { IfSome result (λ sides. sides.left ≡ form m.now.n (claim x.now).pm (gap (vector start.now) factor.now (vector base.now))) }
+    ensures in_range { IsSome result
+        ↔ IsGapInRange (system m.now) (claim x.now) (vector start.now) factor.now (vector base.now)
+        bound.now }
+    ensures left { IfSome result
+        (λ sides. sides.left
+        ≡ form m.now.n (claim x.now).pm (gap (vector start.now) factor.now (vector base.now))) }
     ensures right { IfSome result (λ sides. sides.right ≡ m.now.unit *ℤ m.now.unit *ℤ bound.now) }
 {
     let gaps = gaps_of(m.n, start, factor, base)?;
@@ -208,9 +242,12 @@ fn are_same(n: u8, first: &Items<i128>, second: &Items<i128>) -> bool
 /// The form of the difference of both starts, against its bound; both sides are 0 where they are equal.
 pub fn apart_sides(m: &AffineSystem, x: &Certificate) -> Option<Sides>
     requires { IsWellFormed m.now x.now }
-    ensures in_range { IsSome result ↔ IsPlaceInRange (system m.now) (claim x.now) Inequality.StartsApart 0 }
-    ensures left { IfSome result (λ sides. sides.left ≡ left_of (system m.now) (claim x.now) Inequality.StartsApart 0) }
-    ensures right { IfSome result (λ sides. sides.right ≡ right_of (system m.now) (claim x.now) Inequality.StartsApart 0) }
+    ensures in_range { IsSome result
+        ↔ IsPlaceInRange (system m.now) (claim x.now) Inequality.StartsApart 0 }
+    ensures left { IfSome result
+        (λ sides. sides.left ≡ left_of (system m.now) (claim x.now) Inequality.StartsApart 0) }
+    ensures right { IfSome result
+        (λ sides. sides.right ≡ right_of (system m.now) (claim x.now) Inequality.StartsApart 0) }
 {
     if are_same(m.n, &x.start1, &x.start2) {
         return Some(Sides { left: 0, right: 0 });
@@ -253,8 +290,10 @@ pub fn pair_sides(m: &AffineSystem, x: &Certificate, k: u8) -> Option<Sides>
     requires formed { IsWellFormed m.now x.now }
     requires place { k < pairs m.now.n }
     ensures some { IsSome result }
-    ensures left { IfSome result (λ sides. sides.left ≡ (claim x.now).pm (pair_of m.now.n k).0 (pair_of m.now.n k).1) }
-    ensures right { IfSome result (λ sides. sides.right ≡ (claim x.now).pm (pair_of m.now.n k).1 (pair_of m.now.n k).0) }
+    ensures left { IfSome result
+        (λ sides. sides.left ≡ (claim x.now).pm (pair_of m.now.n k).0 (pair_of m.now.n k).1) }
+    ensures right { IfSome result
+        (λ sides. sides.right ≡ (claim x.now).pm (pair_of m.now.n k).1 (pair_of m.now.n k).0) }
 {
     let pair = pair_at(m.n, k);
     Some(Sides {

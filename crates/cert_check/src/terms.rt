@@ -52,7 +52,8 @@ pub fn product_entry(m: &AffineSystem, x: &Certificate, i: u8, j: u8) -> Option<
     requires row { i < m.now.n }
     requires column { j < m.now.n }
     ensures in_range { IsSome result ↔ IsProductEntryInRange (system m.now) (claim x.now) i j }
-    ensures value { IfSome result (λ value. value ≡ matrix_product m.now.n (claim x.now).pm (system m.now).coef i j) }
+    ensures value { IfSome result
+        (λ value. value ≡ matrix_product m.now.n (claim x.now).pm (system m.now).coef i j) }
 {
     let mut sum = RangedSum::new();
     for k in 0..m.n {
@@ -90,7 +91,9 @@ pub fn weighted_rest_at(m: &AffineSystem, x: &Certificate, i: u8) -> Option<i128
     requires form { length x.now.pm ≡ m.now.n }
     requires row { i < m.now.n }
     ensures in_range { IsSome result ↔ IsWeightedRestInRange (system m.now) (claim x.now) i }
-    ensures value { IfSome result (λ value. value ≡ times m.now.n (claim x.now).pm (rest_slope (system m.now) (claim x.now)) i) }
+    ensures value { IfSome result
+        (λ value. value
+        ≡ times m.now.n (claim x.now).pm (rest_slope (system m.now) (claim x.now)) i) }
 {
     let mut sum = RangedSum::new();
     for j in 0..m.n {
@@ -106,7 +109,10 @@ pub fn width_sum_at(m: &AffineSystem, x: &Certificate, i: u8) -> Option<RangedSu
     requires row { i < m.now.n }
     ensures in_range { IsSome result ↔ IsWidthSumInRange (system m.now) (claim x.now) i }
     ensures total { IfSome result (λ sum. total_of sum ≡ width_sum (system m.now) (claim x.now) i) }
-    ensures weight { IfSome result (λ sum. weight_of sum ≡ weight m.now.n (matrix_product m.now.n (claim x.now).pm (system m.now).coef i) (width (claim x.now))) }
+    ensures weight { IfSome result
+        (λ sum. weight_of sum
+        ≡ weight m.now.n (matrix_product m.now.n (claim x.now).pm (system m.now).coef i)
+        (width (claim x.now))) }
 {
     let mut sum = RangedSum::new();
     for j in 0..m.n {

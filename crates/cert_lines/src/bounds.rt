@@ -11,7 +11,8 @@ use std::alloc::{AllocError, Global};
 
 // The text of a record of two fields.
 fn record_text(alloc: Global, fields: &[&[u8]]) -> Result<Vec<u8>, Error>
-    ensures { IfOk result (λ text. text.items ≡ row_text default_writer (map (λ f. f.now) fields.now)) }
+    ensures { IfOk result
+        (λ text. text.items ≡ row_text default_writer (map (λ f. f.now) fields.now)) }
 {
     let mut writer = WriterBuilder::new().from_writer(Vec::new(alloc));
     writer.write_fields(fields)?;
@@ -42,7 +43,8 @@ fn add_lines(
     states: &[StateInfo],
     bounds: &[i128],
 ) -> Result<(), AllocError>
-    ensures { OnOk result (text.new.items ≡ text.old.items ++ Spec.bound_lines states.now bounds.now) }
+    ensures { OnOk result
+        (text.new.items ≡ text.old.items ++ Spec.bound_lines states.now bounds.now) }
 {
     for (state, bound) in states.iter().zip(bounds.iter()) {
         add_line(alloc, text, state.name.bytes(), bound)?;

@@ -76,7 +76,8 @@ fn rejected_line(
     left: i128,
     right: i128,
 ) -> Result<Vec<u8>, AllocError>
-    ensures { IfOk result (λ line. line.items ≡ Spec.verdict_line (Verdict.Rejected number place left right)) }
+    ensures { IfOk result
+        (λ line. line.items ≡ Spec.verdict_line (Verdict.Rejected number place left right)) }
 {
     let mut line = Vec::new(alloc);
     add_count(alloc, &mut line, b"rejected: inequality ", number)?;

@@ -21,8 +21,10 @@ fn gram_entry(h: i128, m: &Matrix, g: &Matrix, i: u8, j: u8) -> Option<i128>
     requires same { length g.now ≡ length m.now }
     requires row { i < length m.now }
     requires column { j < length m.now }
-    ensures in_range { IsSome result ↔ (entry_weight (length m.now) h (table m.now) (table g.now) i j ≤ 2 ^ 126) }
-    ensures value { IfSome result (λ entry. entry ≡ less_gram (length m.now) h (table m.now) (table g.now) i j) }
+    ensures in_range { IsSome result
+        ↔ (entry_weight (length m.now) h (table m.now) (table g.now) i j ≤ 2 ^ 126) }
+    ensures value { IfSome result
+        (λ entry. entry ≡ less_gram (length m.now) h (table m.now) (table g.now) i j) }
     ensures bound { IfSome result (λ entry. unsigned_abs entry ≤ 2 ^ 126) }
 {
     let mut sum = RangedSum::new().plus(h, m.get(i, j))?;
@@ -37,8 +39,11 @@ fn gram_size(h: &i128, m: &Matrix, g: &Matrix, i: u8, j: u8) -> Option<i128>
     requires same { length g.now ≡ length m.now }
     requires row { i < length m.now }
     requires column { j < length m.now }
-    ensures in_range { IsSome result ↔ (entry_weight (length m.now) h.now (table m.now) (table g.now) i j ≤ 2 ^ 126) }
-    ensures value { IfSome result (λ value. value ≡ size_beside (less_gram (length m.now) h.now (table m.now) (table g.now)) i j) }
+    ensures in_range { IsSome result
+        ↔ (entry_weight (length m.now) h.now (table m.now) (table g.now) i j ≤ 2 ^ 126) }
+    ensures value { IfSome result
+        (λ value. value
+        ≡ size_beside (less_gram (length m.now) h.now (table m.now) (table g.now)) i j) }
 {
     let entry = gram_entry(*h, m, g, i, j)?;
     Some(if i == j { 0 } else { entry.abs() })
@@ -55,9 +60,14 @@ pub struct RowSides {
 pub fn gram_row(h: &i128, m: &Matrix, g: &Matrix, i: u8) -> Option<RowSides>
     requires same { length g.now ≡ length m.now }
     requires row { i < length m.now }
-    ensures in_range { IsSome result ↔ IsRowInRange (length m.now) h.now (table m.now) (table g.now) i }
-    ensures left { IfSome result (λ sides. sides.left ≡ less_gram (length m.now) h.now (table m.now) (table g.now) i i) }
-    ensures right { IfSome result (λ sides. sides.right ≡ beside (length m.now) (less_gram (length m.now) h.now (table m.now) (table g.now)) i) }
+    ensures in_range { IsSome result
+        ↔ IsRowInRange (length m.now) h.now (table m.now) (table g.now) i }
+    ensures left { IfSome result
+        (λ sides. sides.left ≡ less_gram (length m.now) h.now (table m.now) (table g.now) i i) }
+    ensures right { IfSome result
+        (λ sides. sides.right
+        ≡ beside (length m.now) (less_gram (length m.now) h.now (table m.now) (table g.now))
+        i) }
 {
     let left = gram_entry(*h, m, g, i, i)?;
     let mut beside = RangedSum::new();
@@ -100,7 +110,10 @@ pub fn gram_test(h: i128, m: &Matrix, g: &Matrix) -> Test
     ensures verdict { IsVerdict (length m.now) h (table m.now) (table g.now) result }
 
     // A symmetric matrix that passes has a form that is never negative.
-    ensures never_negative { result ≡ Test.Holds → pos 1 ≤ℤ h → IsSymmetric (length m.now) (table m.now) → IsNeverNegative (length m.now) (table m.now) }
+    ensures never_negative { result ≡ Test.Holds
+        → pos 1 ≤ℤ h
+        → IsSymmetric (length m.now) (table m.now)
+        → IsNeverNegative (length m.now) (table m.now) }
 {
     test_rows(&h, m, g)
 }

@@ -66,7 +66,8 @@ fn row_times(m: &Matrix, i: u8, y: &[i128]) -> Option<i128>
     requires row { i < length m.now }
     requires length { length y.now ≡ length m.now }
     ensures in_range { IsSome result ↔ IsInRange (length m.now) (table m.now i) (vector y.now) }
-    ensures value { IfSome result (λ sum. sum ≡ times (length m.now) (table m.now) (vector y.now) i) }
+    ensures value { IfSome result
+        (λ sum. sum ≡ times (length m.now) (table m.now) (vector y.now) i) }
 {
     let mut sum = RangedSum::new();
     for j in 0..m.size() {
@@ -79,7 +80,8 @@ fn row_times(m: &Matrix, i: u8, y: &[i128]) -> Option<i128>
 pub fn quad(m: &Matrix, y: &[i128]) -> Option<i128>
     requires { length y.now ≡ length m.now }
     ensures in_range { IsSome result ↔ IsFormInRange (length m.now) (table m.now) (vector y.now) }
-    ensures value { IfSome result (λ value. value ≡ form (length m.now) (table m.now) (vector y.now)) }
+    ensures value { IfSome result
+        (λ value. value ≡ form (length m.now) (table m.now) (vector y.now)) }
 {
     let mut sum = RangedSum::new();
     for i in 0..m.size() {

@@ -39,9 +39,11 @@ impl RangedSum {
 
     /// The sum with the product of `a` and `b`, where it stays in range.
     pub fn plus(self, a: i128, b: i128) -> Option<Self>
-        ensures out_of_range { IsNone result ↔ (2 ^ 126 < weight_of self + unsigned_abs a * unsigned_abs b) }
+        ensures out_of_range { IsNone result
+            ↔ (2 ^ 126 < weight_of self + unsigned_abs a * unsigned_abs b) }
         ensures total { IfSome result (λ sum. total_of sum ≡ total_of self +ℤ a *ℤ b) }
-        ensures weight { IfSome result (λ sum. weight_of sum ≡ weight_of self + unsigned_abs a * unsigned_abs b) }
+        ensures weight { IfSome result
+            (λ sum. weight_of sum ≡ weight_of self + unsigned_abs a * unsigned_abs b) }
     {
         let size = a.unsigned_abs().checked_mul(b.unsigned_abs())?;
         if size > Self::LIMIT - self.weight {
@@ -55,9 +57,11 @@ impl RangedSum {
 
     /// The sum with the product of the size of `a` and `b`, where it stays in range.
     pub fn plus_size(self, a: i128, b: i128) -> Option<Self>
-        ensures out_of_range { IsNone result ↔ (2 ^ 126 < weight_of self + unsigned_abs a * unsigned_abs b) }
+        ensures out_of_range { IsNone result
+            ↔ (2 ^ 126 < weight_of self + unsigned_abs a * unsigned_abs b) }
         ensures total { IfSome result (λ sum. total_of sum ≡ total_of self +ℤ size a *ℤ b) }
-        ensures weight { IfSome result (λ sum. weight_of sum ≡ weight_of self + unsigned_abs a * unsigned_abs b) }
+        ensures weight { IfSome result
+            (λ sum. weight_of sum ≡ weight_of self + unsigned_abs a * unsigned_abs b) }
     {
         if a < 0 {
             self.minus(a, b)
@@ -68,9 +72,11 @@ impl RangedSum {
 
     /// The sum less the product of `a` and `b`, where it stays in range.
     pub fn minus(self, a: i128, b: i128) -> Option<Self>
-        ensures out_of_range { IsNone result ↔ (2 ^ 126 < weight_of self + unsigned_abs a * unsigned_abs b) }
+        ensures out_of_range { IsNone result
+            ↔ (2 ^ 126 < weight_of self + unsigned_abs a * unsigned_abs b) }
         ensures total { IfSome result (λ sum. total_of sum ≡ total_of self -ℤ a *ℤ b) }
-        ensures weight { IfSome result (λ sum. weight_of sum ≡ weight_of self + unsigned_abs a * unsigned_abs b) }
+        ensures weight { IfSome result
+            (λ sum. weight_of sum ≡ weight_of self + unsigned_abs a * unsigned_abs b) }
     {
         let size = a.unsigned_abs().checked_mul(b.unsigned_abs())?;
         if size > Self::LIMIT - self.weight {

@@ -14,7 +14,8 @@ use std::alloc::{AllocError, Global};
 pub(crate) fn column_by<F: Fn(u8) -> Option<i128>>(n: u8, number: F) -> Option<Column>
     requires few { n ≤ 16 }
     requires numbers { (k : ℕ) → k < n → F.pre number k }
-    ensures { (f : ℕ → Option ℤ) → ((k : ℕ) (x : Option ℤ) → k < n → F.post number k x → x ≡ f k) → result ≡ vector_by n f }
+    ensures { (f : ℕ → Option ℤ) → ((k : ℕ) (x : Option ℤ) → k < n → F.post number k x → x ≡ f k)
+        → result ≡ vector_by n f }
 {
     let mut column = Column::new();
     for k in 0..n {
@@ -27,7 +28,8 @@ pub(crate) fn column_by<F: Fn(u8) -> Option<i128>>(n: u8, number: F) -> Option<C
 pub(crate) fn column_of<F: Fn(u8) -> i128>(n: u8, number: F) -> Column
     requires few { n ≤ 16 }
     requires numbers { (k : ℕ) → k < n → F.pre number k }
-    ensures { (f : Vector) → ((k : ℕ) (x : ℤ) → k < n → F.post number k x → x ≡ f k) → result ≡ tabulate n f }
+    ensures { (f : Vector) → ((k : ℕ) (x : ℤ) → k < n → F.post number k x → x ≡ f k)
+        → result ≡ tabulate n f }
 {
     let mut column = Column::new();
     for k in 0..n {

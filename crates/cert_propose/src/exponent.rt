@@ -19,7 +19,8 @@ pub(crate) fn power(q: u8) -> i128
 fn is_above(a: &Matrix, i: u8, q: u8) -> bool
     requires row { i < length a.now }
     requires few { q < 64 }
-    ensures { result ≡ int_le (pos 16 *ℤ Step.row_size (length a.now) (table a.now) i) (pos (2 ^ q)) }
+    ensures { result
+        ≡ int_le (pos 16 *ℤ Step.row_size (length a.now) (table a.now) i) (pos (2 ^ q)) }
 {
     match row_size(a, i) {
         Some(size) => size <= (1 << q) / 16,

@@ -57,7 +57,9 @@ fn next_at(q: u8, y: &Matrix, i: u8, j: u8) -> Option<i128>
     requires few { q < 64 }
     requires row { i < length y.now }
     requires column { j < length y.now }
-    ensures { result ≡ ranged_sum (Step.on_diagonal (pos 1024) i j) (nearest_of (table y.now i j) (pos (2 ^ (2 * q)))) }
+    ensures { result
+        ≡ ranged_sum (Step.on_diagonal (pos 1024) i j)
+        (nearest_of (table y.now i j) (pos (2 ^ (2 * q)))) }
 {
     add(on_diagonal(1024, i, j), near_div(y.get(i, j), power(2 * q)))
 }

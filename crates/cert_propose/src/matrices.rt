@@ -16,8 +16,15 @@ fn write_row<F: Fn(u8, u8) -> Option<i128>>(m: &mut Matrix, i: u8, entry: &F) ->
     ensures size { length m.new ≡ length m.old }
     ensures square { IsSquare m.new }
     ensures others { (h k : ℕ) → h < i → k < length m.old → table m.new h k ≡ table m.old h k }
-    ensures written { result ≡ true → (f : ℕ → Option ℤ) → ((j : ℕ) (x : Option ℤ) → j < length m.old → F.post entry.now i j x → x ≡ f j) → (j : ℕ) → j < length m.old → f j ≡ Some (table m.new i j) }
-    ensures missing { result ≡ false → (f : ℕ → Option ℤ) → ((j : ℕ) (x : Option ℤ) → j < length m.old → F.post entry.now i j x → x ≡ f j) → vector_by (length m.old) f ≡ None }
+    ensures written { result ≡ true
+        → (f : ℕ → Option ℤ)
+        → ((j : ℕ) (x : Option ℤ) → j < length m.old → F.post entry.now i j x → x ≡ f j)
+        → (j : ℕ) → j < length m.old
+        → f j ≡ Some (table m.new i j) }
+    ensures missing { result ≡ false
+        → (f : ℕ → Option ℤ)
+        → ((j : ℕ) (x : Option ℤ) → j < length m.old → F.post entry.now i j x → x ≡ f j)
+        → vector_by (length m.old) f ≡ None }
 {
     for j in 0..m.size() {
         match entry(i, j) {
@@ -33,7 +40,9 @@ pub(crate) fn matrix_by<F: Fn(u8, u8) -> Option<i128>>(n: u8, entry: F) -> Optio
     requires some { 1 ≤ n }
     requires few { n ≤ 16 }
     requires entries { (i j : ℕ) → i < n → j < n → F.pre entry i j }
-    ensures { (f : ℕ → ℕ → Option ℤ) → ((i j : ℕ) (x : Option ℤ) → i < n → j < n → F.post entry i j x → x ≡ f i j) → result ≡ table_by n f }
+    ensures { (f : ℕ → ℕ → Option ℤ)
+        → ((i j : ℕ) (x : Option ℤ) → i < n → j < n → F.post entry i j x → x ≡ f i j)
+        → result ≡ table_by n f }
 {
     let mut m = Matrix::new(n);
     for i in 0..n {
@@ -49,7 +58,8 @@ pub(crate) fn matrix_of<F: Fn(u8, u8) -> i128>(n: u8, entry: F) -> Matrix
     requires some { 1 ≤ n }
     requires few { n ≤ 16 }
     requires entries { (i j : ℕ) → i < n → j < n → F.pre entry i j }
-    ensures { (f : Table) → ((i j : ℕ) (x : ℤ) → i < n → j < n → F.post entry i j x → x ≡ f i j) → result ≡ tabulate n (λ i. tabulate n (f i)) }
+    ensures { (f : Table) → ((i j : ℕ) (x : ℤ) → i < n → j < n → F.post entry i j x → x ≡ f i j)
+        → result ≡ tabulate n (λ i. tabulate n (f i)) }
 {
     let mut m = Matrix::new(n);
     for i in 0..n {
@@ -66,7 +76,10 @@ fn fill_row<F: Fn(u8, u8) -> i128>(m: &mut Matrix, i: u8, entry: &F)
     ensures size { length m.new ≡ length m.old }
     ensures square { IsSquare m.new }
     ensures others { (h k : ℕ) → h < i → k < length m.old → table m.new h k ≡ table m.old h k }
-    ensures written { (f : ℕ → ℤ) → ((j : ℕ) (x : ℤ) → j < length m.old → F.post entry.now i j x → x ≡ f j) → (j : ℕ) → j < length m.old → table m.new i j ≡ f j }
+    ensures written { (f : ℕ → ℤ)
+        → ((j : ℕ) (x : ℤ) → j < length m.old → F.post entry.now i j x → x ≡ f j)
+        → (j : ℕ) → j < length m.old
+        → table m.new i j ≡ f j }
 {
     for j in 0..m.size() {
         let value = entry(i, j);

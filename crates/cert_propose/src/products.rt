@@ -22,7 +22,8 @@ fn row_times(base: i128, m: &Matrix, i: u8, y: &Column) -> Option<i128>
 
 /// Each row of a matrix times a column, and a number.
 pub(crate) fn rows_times(base: &Column, m: &Matrix, y: &Column) -> Option<Column>
-    ensures { result ≡ Spec.rows_times (length m.now) (vector base.now) (table m.now) (vector y.now) }
+    ensures { result
+        ≡ Spec.rows_times (length m.now) (vector base.now) (table m.now) (vector y.now) }
 {
     column_by(m.size(), |i| row_times(base.at(i), m, i, y))
 }
@@ -38,7 +39,8 @@ fn row_sizes_times(base: i128, m: &Matrix, i: u8, y: &Column) -> Option<i128>
 
 /// The sizes of each row of a matrix times a column, and the size of a number.
 pub(crate) fn sizes_times(base: &Column, m: &Matrix, y: &Column) -> Option<Column>
-    ensures { result ≡ Spec.sizes_times (length m.now) (vector base.now) (table m.now) (vector y.now) }
+    ensures { result
+        ≡ Spec.sizes_times (length m.now) (vector base.now) (table m.now) (vector y.now) }
 {
     column_by(m.size(), |i| row_sizes_times(base.at(i), m, i, y))
 }
@@ -70,7 +72,9 @@ fn beside_diagonal(m: &Matrix, i: u8, j: u8) -> i128
 // The number on the diagonal in row `i`, less the sizes beside it.
 fn over_sizes_at(m: &Matrix, i: u8) -> Option<i128>
     requires { i < length m.now }
-    ensures { result ≡ Spec.ranged_sizes (table m.now i i) (length m.now) (Step.beside_diagonal (table m.now) i) (λ j. neg_ℤ (pos 1)) }
+    ensures { result
+        ≡ Spec.ranged_sizes (table m.now i i) (length m.now) (Step.beside_diagonal (table m.now) i)
+        (λ j. neg_ℤ (pos 1)) }
 {
     let start = RangedSum::new().plus(m.get(i, i), 1)?;
     sum_sizes_by(start, m.size(), |k| beside_diagonal(m, i, k), |_k| -1)

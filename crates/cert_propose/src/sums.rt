@@ -50,7 +50,9 @@ pub(crate) fn sum_by<F: Fn(u8) -> i128, G: Fn(u8) -> i128>(
 ) -> Option<i128>
     requires left { (k : ℕ) → k < n → F.pre left k }
     requires right { (k : ℕ) → k < n → G.pre right k }
-    ensures { (f g : Vector) → ((k : ℕ) (x : ℤ) → k < n → F.post left k x → x ≡ f k) → ((k : ℕ) (x : ℤ) → k < n → G.post right k x → x ≡ g k) → result ≡ ranged base n f g }
+    ensures { (f g : Vector) → ((k : ℕ) (x : ℤ) → k < n → F.post left k x → x ≡ f k)
+        → ((k : ℕ) (x : ℤ) → k < n → G.post right k x → x ≡ g k)
+        → result ≡ ranged base n f g }
 {
     let mut sum = RangedSum::new().plus(base, 1)?;
     for k in 0..n {
@@ -68,7 +70,11 @@ pub(crate) fn sum_sizes_by<F: Fn(u8) -> i128, G: Fn(u8) -> i128>(
 ) -> Option<i128>
     requires left { (k : ℕ) → k < n → F.pre left k }
     requires right { (k : ℕ) → k < n → G.pre right k }
-    ensures { (f g : Vector) → ((k : ℕ) (x : ℤ) → k < n → F.post left k x → x ≡ f k) → ((k : ℕ) (x : ℤ) → k < n → G.post right k x → x ≡ g k) → result ≡ where_in_range (weight_of start + weight n f g) (total_of start +ℤ total n (λ k. size (f k) *ℤ g k)) }
+    ensures { (f g : Vector) → ((k : ℕ) (x : ℤ) → k < n → F.post left k x → x ≡ f k)
+        → ((k : ℕ) (x : ℤ) → k < n → G.post right k x → x ≡ g k)
+        → result
+        ≡ where_in_range (weight_of start + weight n f g)
+        (total_of start +ℤ total n (λ k. size (f k) *ℤ g k)) }
 {
     let mut sum = start;
     for k in 0..n {

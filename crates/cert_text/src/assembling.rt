@@ -18,7 +18,9 @@ pub fn assemble(alloc: Global, n: u8, rows: &[Items<i128>]) -> Result<Certificat
     requires size { IsSize n }
     requires rows { AreAllRows n rows.now }
     ensures size { IfOk result (λ c. c.n ≡ n) }
-    ensures lines { IfOk result (λ c. lines (vector (slice_index_or rows.now 0 []) 0) c ≡ lines_from (layout n) 0 rows.now) }
+    ensures lines { IfOk result
+        (λ c. lines (vector (slice_index_or rows.now 0 []) 0) c
+        ≡ lines_from (layout n) 0 rows.now) }
     ensures start1 { IfOk result (λ c. c.start1 ≡ slice_index_or rows.now (3 * n + 6 + 8) []) }
     ensures start2 { IfOk result (λ c. c.start2 ≡ slice_index_or rows.now (3 * n + 6 + 9) []) }
     ensures quanta { IfOk result (λ c. c.q ≡ slice_index_or rows.now (3 * n + 6 + 10) []) }

@@ -34,7 +34,9 @@ fn write_row(matrix: &mut Matrix, i: u8, row: &Items<i128>)
     ensures size { length matrix.new ≡ length matrix.old }
     ensures square { IsSquare matrix.new }
     ensures row { (k : ℕ) → k < length matrix.old → table matrix.new i k ≡ vector row.now k }
-    ensures others { (h k : ℕ) → h < i → k < length matrix.old → table matrix.new h k ≡ table matrix.old h k }
+    ensures others { (h k : ℕ) → h < i
+        → k < length matrix.old
+        → table matrix.new h k ≡ table matrix.old h k }
 {
     let numbers = row.as_slice();
     for j in 0..matrix.size() {

@@ -23,7 +23,10 @@ fn are_digits(bytes: &[u8]) -> bool
 /// The number that digits spell, where it is at most 2^126.
 fn value_of(digits: &[u8]) -> Option<u128>
     requires { all_ascii_digits digits.now ≡ true }
-    ensures { result ≡ (if nat_le (digits_value 10 digits.now) (2 ^ 126) then Some (digits_value 10 digits.now) else None) }
+    ensures { result
+        ≡ (if nat_le (digits_value 10 digits.now) (2 ^ 126)
+        then Some (digits_value 10 digits.now)
+        else None) }
 {
     let mut value = 0;
     for byte in digits {

@@ -40,7 +40,8 @@ pub fn read_certificate(alloc: Global, bytes: &[u8], m: &Machine) -> Result<Cert
     ensures refused { IfErr result (λ why. IsRefusedFor m.now bytes.now why) }
 
     // So where the answer is an error other than want of memory, the bytes are a text of no certificate.
-    ensures unreadable { IfErr result (λ why. why ≢ CertErr.Memory → (c : Certificate) → IsTextOf m.now bytes.now c → ⊥) }
+    ensures unreadable { IfErr result
+        (λ why. why ≢ CertErr.Memory → (c : Certificate) → IsTextOf m.now bytes.now c → ⊥) }
 {
     read_text(alloc, bytes, m)
 }

@@ -33,11 +33,13 @@ fn number_at(found: &ByteRecord, place: usize) -> Option<i128>
 fn numbers_of(alloc: Global, line: u32, found: &ByteRecord) -> Result<Items<i128>, CertErr>
     requires some { 1 ≤ length (fields_of found.now) }
     requires few { length (fields_of found.now) ≤ 2 ^ 20 }
-    ensures spelt { IfOk result (λ row. map number_in (drop 1 (fields_of found.now)) ≡ map (λ z. Some z) row) }
+    ensures spelt { IfOk result
+        (λ row. map number_in (drop 1 (fields_of found.now)) ≡ map (λ z. Some z) row) }
     ensures numbers { IfOk result (λ row. IsVector (length (drop 1 (fields_of found.now))) row) }
     ensures refused { IfErr result (λ why. ((why ≡ CertErr.Memory) × (is_no_number (slice_index_or (fields_of found.now) 1 []) ≡ false))
         ⊎ (option_map (λ field. CertErr.Number line field) (position_from is_no_number 2 (drop 1 (fields_of found.now))) ≡ Some why)) }
-    ensures read { IfOk result (λ row. position_from is_no_number 2 (drop 1 (fields_of found.now)) ≡ None) }
+    ensures read { IfOk result
+        (λ row. position_from is_no_number 2 (drop 1 (fields_of found.now)) ≡ None) }
 {
     let mut row = Vec::new(alloc);
     for place in 1..found.len() {
@@ -74,9 +76,15 @@ fn read_record(
 ) -> Result<Items<i128>, CertErr>
     requires keyword { 1 ≤ length keyword.now }
     requires few { length (fields_of found.now) ≤ 2 ^ 20 }
-    ensures read { IfOk result (λ row. IsReadAs (expected keyword.now count) (fields_of found.now) row) }
-    ensures sound { IfOk result (λ row. record_fault line (expected keyword.now count) (fields_of found.now) ≡ None) }
-    ensures refused { IfErr result (λ why. ((why ≡ CertErr.Memory) × TakesMemory (expected keyword.now count) (fields_of found.now)) ⊎ (record_fault line (expected keyword.now count) (fields_of found.now) ≡ Some why)) }
+    ensures read { IfOk result
+        (λ row. IsReadAs (expected keyword.now count) (fields_of found.now) row) }
+    ensures sound { IfOk result
+        (λ row. record_fault line (expected keyword.now count) (fields_of found.now) ≡ None) }
+    ensures refused { IfErr result
+        (λ why.
+        ((why ≡ CertErr.Memory)
+        × TakesMemory (expected keyword.now count) (fields_of found.now))
+        ⊎ (record_fault line (expected keyword.now count) (fields_of found.now) ≡ Some why)) }
 {
     if !has_keyword(found, keyword) {
         return Err(CertErr::Keyword { line });
@@ -91,7 +99,8 @@ fn read_record(
 
 /// The form that a number names.
 fn form_named(got: i128) -> Result<u8, CertErr>
-    ensures form { IfOk result (λ form. (form_in got ≡ Some form) × (got ≡ pos form) × (1 ≤ form) × (form ≤ 3)) }
+    ensures form { IfOk result
+        (λ form. (form_in got ≡ Some form) × (got ≡ pos form) × (1 ≤ form) × (form ≤ 3)) }
     ensures none { IfErr result (λ why. (form_in got ≡ None) × (why ≡ CertErr.Form got)) }
 {
     if got == 1 {
@@ -109,10 +118,16 @@ fn form_named(got: i128) -> Result<u8, CertErr>
 /// The form that the first record names.
 pub fn form_of(alloc: Global, records: &[ByteRecord]) -> Result<u8, CertErr>
     requires { All (λ found. length (fields_of found) ≤ 2 ^ 20) records.now }
-    ensures named { IfOk result (λ form. first_number (slice_index_or (map fields_of records.now) 0 []) ≡ pos form) }
-    ensures sound { IfOk result (λ form. (n : ℕ) → text_fault n (map fields_of records.now) ≡ first_fault 1 (take (line_count n form) (layout n)) (map fields_of records.now)) }
+    ensures named { IfOk result
+        (λ form. first_number (slice_index_or (map fields_of records.now) 0 []) ≡ pos form) }
+    ensures sound { IfOk result
+        (λ form. (n : ℕ)
+        → text_fault n (map fields_of records.now)
+        ≡ first_fault 1 (take (line_count n form) (layout n)) (map fields_of records.now)) }
     ensures one_of_three { IfOk result (λ form. (1 ≤ form) × (form ≤ 3)) }
-    ensures refused { IfErr result (λ why. ((why ≡ CertErr.Memory) × FirstTakesMemory 1 (map fields_of records.now)) ⊎ ((n : ℕ) → text_fault n (map fields_of records.now) ≡ Some why)) }
+    ensures refused { IfErr result
+        (λ why. ((why ≡ CertErr.Memory) × FirstTakesMemory 1 (map fields_of records.now))
+        ⊎ ((n : ℕ) → text_fault n (map fields_of records.now) ≡ Some why)) }
 {
     if records.is_empty() {
         return Err(CertErr::Missing { line: 1 });
@@ -133,7 +148,9 @@ pub fn read_rows(
     requires count { count ≤ 3 * n + 17 }
     requires few { All (λ found. length (fields_of found) ≤ 2 ^ 20) records.now }
     ensures read { IfOk result (λ rows. AreReadAs n count (map fields_of records.now) rows.items) }
-    ensures refused { IfErr result (λ why. ((why ≡ CertErr.Memory) × FirstTakesMemory count (map fields_of records.now)) ⊎ (first_fault 1 (take count (layout n)) (map fields_of records.now) ≡ Some why)) }
+    ensures refused { IfErr result
+        (λ why. ((why ≡ CertErr.Memory) × FirstTakesMemory count (map fields_of records.now))
+        ⊎ (first_fault 1 (take count (layout n)) (map fields_of records.now) ≡ Some why)) }
 {
     let mut rows = Vec::new(alloc);
     for k in 0..count {

@@ -29,7 +29,8 @@ fn record_text(alloc: Global, found: &ByteRecord) -> Result<Vec<u8>, Error>
 
 /// The record of a line.
 fn record_of(alloc: Global, keyword: &[u8], numbers: &[i128]) -> Result<ByteRecord, AllocError>
-    ensures { IfOk result (λ found. fields_of found ≡ fields_of_line (line keyword.now numbers.now)) }
+    ensures { IfOk result
+        (λ found. fields_of found ≡ fields_of_line (line keyword.now numbers.now)) }
 {
     let mut record = ByteRecord::new(alloc);
     record.push_field(keyword)?;
@@ -47,7 +48,8 @@ fn write_line(
     keyword: &[u8],
     numbers: &[i128],
 ) -> Result<(), AllocError>
-    ensures { OnOk result (text.new.items ≡ text.old.items ++ line_text (line keyword.now numbers.now)) }
+    ensures { OnOk result
+        (text.new.items ≡ text.old.items ++ line_text (line keyword.now numbers.now)) }
 {
     let record = record_of(alloc, keyword, numbers)?;
     let Ok(more) = record_text(alloc, &record) else {
@@ -76,7 +78,8 @@ fn write_rows(
     keyword: &[u8],
     matrix: &Matrix,
 ) -> Result<(), AllocError>
-    ensures { OnOk result (text.new.items ≡ text.old.items ++ lines_text (row_lines keyword.now matrix.now)) }
+    ensures { OnOk result
+        (text.new.items ≡ text.old.items ++ lines_text (row_lines keyword.now matrix.now)) }
 {
     for i in 0..matrix.size() {
         let row = row_of(alloc, matrix, i)?;
@@ -87,7 +90,8 @@ fn write_rows(
 
 /// Writes the lines of the form and of `P`.
 fn write_form(alloc: Global, text: &mut Vec<u8>, c: &Certificate) -> Result<(), AllocError>
-    ensures { OnOk result (text.new.items ≡ text.old.items ++ lines_text (form_lines (pos 3) c.now)) }
+    ensures { OnOk result
+        (text.new.items ≡ text.old.items ++ lines_text (form_lines (pos 3) c.now)) }
 {
     write_line(alloc, text, b"form", &[3])?;
     write_rows(alloc, text, b"P", &c.pm)?;
@@ -149,7 +153,8 @@ pub fn write_certificate(alloc: Global, c: &Certificate) -> Result<Vec<u8>, Allo
     ensures text { IfOk result (λ text. text.items ≡ lines_text (lines (pos 3) c.now)) }
 
     // Read again, it is the certificate.
-    ensures reads_back { IfOk result (λ text. (m : Machine) → c.now.n ≡ state_count m → IsTextOf m text.items c.now) }
+    ensures reads_back { IfOk result
+        (λ text. (m : Machine) → c.now.n ≡ state_count m → IsTextOf m text.items c.now) }
 {
     let mut text = Vec::new(alloc);
     write_form(alloc, &mut text, c)?;

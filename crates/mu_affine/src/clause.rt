@@ -24,7 +24,8 @@ fn difference(
 ) -> Result<ExactForm, AffineErr>
     requires left { IsFinished place left.now }
     requires right { IsFinished place right.now }
-    ensures { IsAnswer place (join_forms place true at (form_meaning left.now) (form_meaning right.now)) result }
+    ensures { IsAnswer place
+        (join_forms place true at (form_meaning left.now) (form_meaning right.now)) result }
 {
     // Its clauses say that the constant is in lowest terms.
     let _ = left.constant.den();
@@ -47,7 +48,8 @@ pub(crate) fn condition_form(
     requires sizes { place.sizes.states + place.sizes.discretes + place.sizes.discretes < 2 ^ 32 }
     requires left { IsNumbered place (length solved.now) (flat_expression branch.now.left) }
     requires right { IsNumbered place (length solved.now) (flat_expression branch.now.right) }
-    ensures { IsAnswer place (condition_form (context_of place solved.now) (flat_branch branch.now)) result }
+    ensures { IsAnswer place (condition_form (context_of place solved.now) (flat_branch branch.now))
+        result }
 {
     let left = form_of(alloc, place, solved, &branch.left)?;
     let right = form_of(alloc, place, solved, &branch.right)?;
@@ -64,7 +66,8 @@ pub(crate) fn action_form(
     requires solved { AreSolved place solved.now }
     requires sizes { place.sizes.states + place.sizes.discretes + place.sizes.discretes < 2 ^ 32 }
     requires numbered { IsNumberedAction place (length solved.now) (flat_action action.now) }
-    ensures { IsAnswer place (action_form (context_of place solved.now) (flat_action action.now)) result }
+    ensures { IsAnswer place (action_form (context_of place solved.now) (flat_action action.now))
+        result }
 {
     match action {
         FlatStatement::FlatSet { value, .. } => form_of(alloc, place, solved, value),

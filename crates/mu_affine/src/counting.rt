@@ -43,7 +43,8 @@ fn has_time(form: &ExactForm) -> bool
 /// One form more.
 pub(crate) fn counted(count: u32, form: &ExactForm) -> Result<u32, AffineErr>
     requires { count ≤ 2 ^ 16 }
-    ensures { (p : Place) → IsFinished p form.now → result ≡ counted p.sizes count (form_meaning form.now) }
+    ensures { (p : Place) → IsFinished p form.now
+        → result ≡ counted p.sizes count (form_meaning form.now) }
 {
     let with_names = with_more(count, form.entries.as_slice().len())?;
     let with_pairs = with_more(with_names, form.products.as_slice().len())?;

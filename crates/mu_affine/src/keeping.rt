@@ -26,13 +26,16 @@ pub(crate) fn keep_states(
 ) -> Result<(), AffineErr>
     requires sizes { sizes ≡ sizes_of (flat_model m.now) }
     requires fit { sizes.states + sizes.discretes + sizes.discretes < 2 ^ 32 }
-    requires equations { All (λ e. IsNumbered (of_equations sizes) (length solved.now) e.value) (map flat_equation m.now.equations.items) }
+    requires equations { All (λ e. IsNumbered (of_equations sizes) (length solved.now) e.value)
+        (map flat_equation m.now.equations.items) }
     requires firsts { AreFirsts (map flat_equation m.now.equations.items) firsts.now }
     requires states { sizes.states ≤ length firsts.now }
     requires solved { AreSolved (of_equations sizes) solved.now }
     requires none { kept.old.forms.items ≡ [] }
     requires few { kept.old.count ≤ 2 ^ 16 }
-    ensures { KeepsAll sizes solved.now (keep_states (flat_model m.now) 0 sizes.states (kept_so_far solved.now kept.old)) kept.new result }
+    ensures { KeepsAll sizes solved.now
+        (keep_states (flat_model m.now) 0 sizes.states (kept_so_far solved.now kept.old)) kept.new
+        result }
 {
     for var in 0..sizes.states {
         let form = right_side_form(alloc, sizes, &m.equations, firsts, solved, var)?;
@@ -51,9 +54,12 @@ fn keep_actions(
 ) -> Result<(), AffineErr>
     requires fit { sizes.states + sizes.discretes + sizes.discretes < 2 ^ 32 }
     requires solved { AreSolved (of_clauses sizes) solved.now }
-    requires numbered { All (IsNumberedAction (of_clauses sizes) (length solved.now)) (map flat_action actions.now) }
+    requires numbered { All (IsNumberedAction (of_clauses sizes) (length solved.now))
+        (map flat_action actions.now) }
     requires kept { IsKept sizes kept.old }
-    ensures { KeepsAll sizes solved.now (keep_actions sizes (map flat_action actions.now) (kept_so_far solved.now kept.old)) kept.new result }
+    ensures { KeepsAll sizes solved.now
+        (keep_actions sizes (map flat_action actions.now) (kept_so_far solved.now kept.old))
+        kept.new result }
 {
     let place = Place {
         sizes,
@@ -76,9 +82,12 @@ fn keep_branches(
 ) -> Result<(), AffineErr>
     requires fit { sizes.states + sizes.discretes + sizes.discretes < 2 ^ 32 }
     requires solved { AreSolved (of_clauses sizes) solved.now }
-    requires numbered { All (IsNumberedBranch (of_clauses sizes) (length solved.now)) (map flat_branch branches.now) }
+    requires numbered { All (IsNumberedBranch (of_clauses sizes) (length solved.now))
+        (map flat_branch branches.now) }
     requires kept { IsKept sizes kept.old }
-    ensures { KeepsAll sizes solved.now (keep_branches sizes (map flat_branch branches.now) (kept_so_far solved.now kept.old)) kept.new result }
+    ensures { KeepsAll sizes solved.now
+        (keep_branches sizes (map flat_branch branches.now) (kept_so_far solved.now kept.old))
+        kept.new result }
 {
     let place = Place {
         sizes,
@@ -102,9 +111,12 @@ pub(crate) fn keep_clauses(
 ) -> Result<(), AffineErr>
     requires fit { sizes.states + sizes.discretes + sizes.discretes < 2 ^ 32 }
     requires solved { AreSolved (of_clauses sizes) solved.now }
-    requires numbered { All (All (IsNumberedBranch (of_clauses sizes) (length solved.now))) (map flat_clause clauses.now) }
+    requires numbered { All (All (IsNumberedBranch (of_clauses sizes) (length solved.now)))
+        (map flat_clause clauses.now) }
     requires kept { IsKept sizes kept.old }
-    ensures { KeepsAll sizes solved.now (keep_clauses sizes (map flat_clause clauses.now) (kept_so_far solved.now kept.old)) kept.new result }
+    ensures { KeepsAll sizes solved.now
+        (keep_clauses sizes (map flat_clause clauses.now) (kept_so_far solved.now kept.old))
+        kept.new result }
 {
     for clause in clauses {
         keep_branches(alloc, sizes, solved, &clause.branches, kept)?;

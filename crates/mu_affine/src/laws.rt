@@ -12,10 +12,20 @@ ghost use Rattle.mu_affine.specs.Normal.{Taken, forms_of};
 /// The forms that are solved along an order are a solution: each algebraic variable has the form of
 /// the right side of each of its equations.
 pub fn law_of_solution()
-    ensures { (m : FlatModelTree) (order : List ℕ) (taken : Taken) → IsFlatModel m → AreCounted m → IsOrder (IsAlgebraic m) (DependsOn m) order → forms_of m order ≡ Ok taken → IsSolution (sizes_of m) m.equations taken.solved }
+    ensures { (m : FlatModelTree) (order : List ℕ) (taken : Taken) → IsFlatModel m
+        → AreCounted m
+        → IsOrder (IsAlgebraic m) (DependsOn m) order
+        → forms_of m order ≡ Ok taken
+        → IsSolution (sizes_of m) m.equations taken.solved }
 {}
 
 /// Two solutions agree on every algebraic variable of a flat model with an order.
 pub fn law_of_one_solution()
-    ensures { (m : FlatModelTree) (order : List ℕ) (first second : ℕ → AffineForm) → IsFlatModel m → AreCounted m → IsOrder (IsAlgebraic m) (DependsOn m) order → IsSolution (sizes_of m) m.equations first → IsSolution (sizes_of m) m.equations second → (v : ℕ) → IsAlgebraic m v → first v ≡ second v }
+    ensures { (m : FlatModelTree) (order : List ℕ) (first second : ℕ → AffineForm) → IsFlatModel m
+        → AreCounted m
+        → IsOrder (IsAlgebraic m) (DependsOn m) order
+        → IsSolution (sizes_of m) m.equations first
+        → IsSolution (sizes_of m) m.equations second
+        → (v : ℕ) → IsAlgebraic m v
+        → first v ≡ second v }
 {}

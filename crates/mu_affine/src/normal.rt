@@ -24,7 +24,8 @@ use std::alloc::Global;
 /// the sequence: algebraic variables in their order, states, conditions and statements.
 pub fn normal(alloc: Global, m: &FlatModel, order: &Order) -> Result<Forms, AffineErr>
     requires flat { IsFlatModel (flat_model m.now) }
-    requires order { IsOrder (IsAlgebraic (flat_model m.now)) (DependsOn (flat_model m.now)) order.now.vars }
+    requires order { IsOrder (IsAlgebraic (flat_model m.now)) (DependsOn (flat_model m.now))
+        order.now.vars }
     ensures ok { IfOk result (AreForms (flat_model m.now) order.now.vars) }
     ensures err { IfErr result (IsAffineFault (flat_model m.now) order.now.vars) }
 {

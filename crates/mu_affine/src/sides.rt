@@ -44,7 +44,8 @@ pub(crate) fn first_equations(
     equations: &[FlatEquation],
 ) -> Result<Vec<usize>, AllocError>
     requires { All (λ e. e.target < variables) (map flat_equation equations.now) }
-    ensures firsts { IfOk result (λ firsts. AreFirsts (map flat_equation equations.now) firsts.items) }
+    ensures firsts { IfOk result
+        (λ firsts. AreFirsts (map flat_equation equations.now) firsts.items) }
     ensures one_each { IfOk result (λ firsts. length firsts.items ≡ variables) }
 {
     let mut firsts = vec![in alloc; equations.len(); variables]?;
@@ -63,12 +64,16 @@ pub(crate) fn right_side_form(
     solved: &[ExactForm],
     var: u32,
 ) -> Result<ExactForm, AffineErr>
-    requires equations { All (λ e. IsNumbered (of_equations sizes) (length solved.now) e.value) (map flat_equation equations.now) }
+    requires equations { All (λ e. IsNumbered (of_equations sizes) (length solved.now) e.value)
+        (map flat_equation equations.now) }
     requires sizes { sizes.states + sizes.discretes + sizes.discretes < 2 ^ 32 }
     requires firsts { AreFirsts (map flat_equation equations.now) firsts.now }
     requires solved { AreSolved (of_equations sizes) solved.now }
     requires within { var < length firsts.now }
-    ensures { IsAnswer (of_equations sizes) (form_of (equation_context sizes (forms_in solved.now)) (right_side (map flat_equation equations.now) var)) result }
+    ensures { IsAnswer (of_equations sizes)
+        (form_of (equation_context sizes (forms_in solved.now))
+        (right_side (map flat_equation equations.now) var))
+        result }
 {
     let place = Place {
         sizes,

@@ -38,11 +38,13 @@ fn solve(
 ) -> Result<(), AffineErr>
     requires sizes { sizes ≡ sizes_of (flat_model m.now) }
     requires fit { sizes.states + sizes.discretes + sizes.discretes < 2 ^ 32 }
-    requires equations { All (λ e. IsNumbered (of_equations sizes) (length firsts.now) e.value) (map flat_equation m.now.equations.items) }
+    requires equations { All (λ e. IsNumbered (of_equations sizes) (length firsts.now) e.value)
+        (map flat_equation m.now.equations.items) }
     requires firsts { AreFirsts (map flat_equation m.now.equations.items) firsts.now }
     requires solved { IsSolved sizes (length firsts.now) solved.old }
     requires within { var < length firsts.now }
-    ensures { Solves sizes (length firsts.now) (solve (flat_model m.now) var (solved_so_far solved.old)) solved.new result }
+    ensures { Solves sizes (length firsts.now)
+        (solve (flat_model m.now) var (solved_so_far solved.old)) solved.new result }
 {
     let form = right_side_form(alloc, sizes, &m.equations, firsts, &solved.forms, var)?;
     solved.count = counted(solved.count, &form)?;
@@ -60,10 +62,12 @@ pub(crate) fn solve_all(
 ) -> Result<CountedForms, AffineErr>
     requires sizes { sizes ≡ sizes_of (flat_model m.now) }
     requires fit { sizes.states + sizes.discretes + sizes.discretes < 2 ^ 32 }
-    requires equations { All (λ e. IsNumbered (of_equations sizes) (length firsts.now) e.value) (map flat_equation m.now.equations.items) }
+    requires equations { All (λ e. IsNumbered (of_equations sizes) (length firsts.now) e.value)
+        (map flat_equation m.now.equations.items) }
     requires firsts { AreFirsts (map flat_equation m.now.equations.items) firsts.now }
     requires within { All (λ v. v < length firsts.now) order.now }
-    ensures { SolvesAll sizes (length firsts.now) (solve_all (flat_model m.now) order.now nothing_taken) result }
+    ensures { SolvesAll sizes (length firsts.now)
+        (solve_all (flat_model m.now) order.now nothing_taken) result }
 {
     let forms = zeros(alloc, firsts.len())?;
     let mut solved = CountedForms { forms, count: 0 };

@@ -56,7 +56,8 @@ fn previous(alloc: Global, place: Place, var: u32) -> Result<ExactForm, AffineEr
 
 // The form of the time, which stands outside of equations.
 fn time(alloc: Global, place: Place, at: u32) -> Result<ExactForm, AffineErr>
-    ensures { IsAnswer place (if place.in_equation then Err (TimeHere at) else Ok time_form) result }
+    ensures { IsAnswer place (if place.in_equation then Err (TimeHere at) else Ok time_form)
+        result }
 {
     if place.in_equation {
         Err(AffineErr::TimeHere { at })
@@ -95,7 +96,8 @@ fn take_factor(
 ) -> Result<ExactForm, AffineErr>
     requires total { IsFinished place total.now }
     requires form { IsFinished place form.now }
-    ensures { IsAnswer place (multiply_forms place divides at (form_meaning total.now) (form_meaning form.now)) result }
+    ensures { IsAnswer place
+        (multiply_forms place divides at (form_meaning total.now) (form_meaning form.now)) result }
 {
     if divides {
         divide(alloc, place, at, total, form)
@@ -115,7 +117,8 @@ pub(crate) fn form_of(
     requires solved { AreSolved place solved.now }
     requires sizes { place.sizes.states + place.sizes.discretes + place.sizes.discretes < 2 ^ 32 }
     requires numbered { IsNumbered place (length solved.now) (flat_expression e.now) }
-    ensures { IsAnswer place (form_of (context_of place solved.now) (flat_expression e.now)) result }
+    ensures { IsAnswer place (form_of (context_of place solved.now) (flat_expression e.now))
+        result }
 {
     match e {
         FlatExpr::Const { value, .. } => Ok(ExactForm::constant(alloc, *value)),
@@ -141,8 +144,12 @@ fn sum_of(
 ) -> Result<ExactForm, AffineErr>
     requires solved { AreSolved place solved.now }
     requires sizes { place.sizes.states + place.sizes.discretes + place.sizes.discretes < 2 ^ 32 }
-    requires numbered { AreNumbered place (length solved.now) (flat_terms_of (map flat_signed terms.now)) }
-    ensures { IsAnswer place (sum_form (context_of place solved.now) (Ok (constant_form none)) (flat_terms_of (map flat_signed terms.now))) result }
+    requires numbered { AreNumbered place (length solved.now)
+        (flat_terms_of (map flat_signed terms.now)) }
+    ensures { IsAnswer place
+        (sum_form (context_of place solved.now) (Ok (constant_form none))
+        (flat_terms_of (map flat_signed terms.now)))
+        result }
 {
     let mut total = RunningForm::new(alloc);
     for term in terms {
@@ -163,8 +170,12 @@ fn product_of(
 ) -> Result<ExactForm, AffineErr>
     requires solved { AreSolved place solved.now }
     requires sizes { place.sizes.states + place.sizes.discretes + place.sizes.discretes < 2 ^ 32 }
-    requires numbered { AreNumberedFactors place (length solved.now) (flat_factors_of (map flat_scaled factors.now)) }
-    ensures { IsAnswer place (product_of (context_of place solved.now) (Ok (constant_form (whole (pos 1)))) (flat_factors_of (map flat_scaled factors.now))) result }
+    requires numbered { AreNumberedFactors place (length solved.now)
+        (flat_factors_of (map flat_scaled factors.now)) }
+    ensures { IsAnswer place
+        (product_of (context_of place solved.now) (Ok (constant_form (whole (pos 1))))
+        (flat_factors_of (map flat_scaled factors.now)))
+        result }
 {
     let mut total = ExactForm::constant(alloc, Ratio::whole(1));
     for factor in factors {

@@ -24,7 +24,8 @@ pub enum Given {
 impl Given {
     // What a later equation for the variable makes of it.
     fn and(self, number: u32) -> Self
-        ensures { (numbers : List ℕ) → IsGiven numbers self → IsGiven (numbers ++ number ∷ []) result }
+        ensures { (numbers : List ℕ) → IsGiven numbers self
+            → IsGiven (numbers ++ number ∷ []) result }
     {
         match self {
             Given::Never => Given::Once(number),
@@ -52,7 +53,11 @@ fn equations_by_target(
 ) -> Result<Vec<Given>, AllocError>
     requires { length equations.now < 2 ^ 32 }
     ensures count { IfOk result (λ given. length given.items ≡ count) }
-    ensures each { IfOk result (λ given. (v : ℕ) → v < count → IsGiven (numbers_from 1 (map flat_equation equations.now) v) (slice_index_or given.items v Never)) }
+    ensures each { IfOk result
+        (λ given. (v : ℕ)
+        → v < count
+        → IsGiven (numbers_from 1 (map flat_equation equations.now) v)
+        (slice_index_or given.items v Never)) }
 {
     let mut given = vec![in alloc; Given::Never; count]?;
     for (place, equation) in equations.iter().enumerate() {

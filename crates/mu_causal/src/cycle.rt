@@ -28,7 +28,8 @@ fn blocker(graph: &[Vec<u32>], marks: &[bool], v: usize) -> usize
 fn least_place(numbers: &[u32]) -> usize
     requires { 0 < length numbers.now }
     ensures inside { result < length numbers.now }
-    ensures least { (k : ℕ) → k < length numbers.now → slice_index numbers.now result ≤ slice_index numbers.now k }
+    ensures least { (k : ℕ) → k < length numbers.now
+        → slice_index numbers.now result ≤ slice_index numbers.now k }
 {
     let mut least = 0;
     for place in 1..numbers.len() {
@@ -74,7 +75,9 @@ pub fn cycle_from(
     requires size { length graph.now < 2 ^ 32 }
     requires marks { length marks.now ≡ length graph.now }
     requires closed { IsClosed graph.now }
-    requires blocked { (w : ℕ) → w < length graph.now → IsUnmarked marks.now w → IsBlocked graph.now marks.now w }
+    requires blocked { (w : ℕ) → w < length graph.now
+        → IsUnmarked marks.now w
+        → IsBlocked graph.now marks.now w }
     requires there { start < length graph.now }
     requires unmarked { IsUnmarked marks.now start }
     ensures { IfOk result (λ vars. IsCycle (Needs graph.now marks.now) vars.items) }

@@ -14,8 +14,11 @@ pub fn first_unmarked(names: &[u32], marks: &[bool], from: usize) -> usize
     requires known { All (λ w. w < length marks.now) names.now }
     ensures from { from ≤ result }
     ensures end { result ≤ length names.now }
-    ensures marked { (k : ℕ) → from ≤ k → k < result → IsMarked marks.now (slice_index_or names.now k 0) }
-    ensures unmarked { result < length names.now → IsUnmarked marks.now (slice_index_or names.now result 0) }
+    ensures marked { (k : ℕ) → from ≤ k
+        → k < result
+        → IsMarked marks.now (slice_index_or names.now k 0) }
+    ensures unmarked { result < length names.now
+        → IsUnmarked marks.now (slice_index_or names.now result 0) }
 {
     for place in from..names.len() {
         if !marks[names[place] as usize] {
@@ -32,8 +35,12 @@ fn next_ready(graph: &[Vec<u32>], marks: &[bool], passed: &mut [usize]) -> Optio
     requires passed { ArePassed graph.now marks.now passed.old }
     ensures passed { ArePassed graph.now marks.now passed.new }
     ensures found { IfSome result (λ v. IsUnblocked graph.now marks.now v) }
-    ensures least { IfSome result (λ v. (w : ℕ) → w < v → IsUnmarked marks.now w → IsBlocked graph.now marks.now w) }
-    ensures none { IfNone result ((w : ℕ) → w < length graph.now → IsUnmarked marks.now w → IsBlocked graph.now marks.now w) }
+    ensures least { IfSome result
+        (λ v. (w : ℕ) → w < v → IsUnmarked marks.now w → IsBlocked graph.now marks.now w) }
+    ensures none { IfNone result
+        ((w : ℕ) → w < length graph.now
+        → IsUnmarked marks.now w
+        → IsBlocked graph.now marks.now w) }
 {
     for v in 0..graph.len() {
         if !marks[v] {

@@ -30,7 +30,9 @@ fn push_names(e: &FlatExpr, names: &mut Vec<u32>) -> Result<(), AllocError>
 #[cycle(naming)]
 #[tactic(auto, using(std::proofs::Common::append_assoc))]
 fn push_names_of_terms(terms: &[FlatTerm], names: &mut Vec<u32>) -> Result<(), AllocError>
-    ensures { OnOk result (names.new.items ≡ names.old.items ++ names_of_terms (flat_terms_of (map flat_signed terms.now))) }
+    ensures { OnOk result
+        (names.new.items
+        ≡ names.old.items ++ names_of_terms (flat_terms_of (map flat_signed terms.now))) }
 {
     for term in terms {
         push_names(&term.value, names)?;
@@ -42,7 +44,9 @@ fn push_names_of_terms(terms: &[FlatTerm], names: &mut Vec<u32>) -> Result<(), A
 #[cycle(naming)]
 #[tactic(auto, using(std::proofs::Common::append_assoc))]
 fn push_names_of_factors(factors: &[FlatFactor], names: &mut Vec<u32>) -> Result<(), AllocError>
-    ensures { OnOk result (names.new.items ≡ names.old.items ++ names_of_factors (flat_factors_of (map flat_scaled factors.now))) }
+    ensures { OnOk result
+        (names.new.items
+        ≡ names.old.items ++ names_of_factors (flat_factors_of (map flat_scaled factors.now))) }
 {
     for factor in factors {
         push_names(&factor.value, names)?;
@@ -75,7 +79,8 @@ fn is_known(role: FlatRole) -> bool
 
 /// Which variables are known from the start.
 pub fn known_of(alloc: Global, vars: &[FlatVar]) -> Result<Vec<bool>, AllocError>
-    ensures { IfOk result (λ known. known.items ≡ map (λ v. is_known v.role) (map flat_variable vars.now)) }
+    ensures { IfOk result
+        (λ known. known.items ≡ map (λ v. is_known v.role) (map flat_variable vars.now)) }
 {
     let mut known = Vec::new(alloc);
     for variable in vars {

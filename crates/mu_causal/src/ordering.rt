@@ -20,7 +20,8 @@ use std::alloc::Global;
 pub fn order(alloc: Global, m: &FlatModel) -> Result<Order, CausalErr>
     requires { IsNumbered (flat_model m.now) }
     ensures counted { IfOk result (λ _. AreCounted (flat_model m.now)) }
-    ensures order { IfOk result (λ o. IsOrder (IsAlgebraic (flat_model m.now)) (DependsOn (flat_model m.now)) o.vars) }
+    ensures order { IfOk result
+        (λ o. IsOrder (IsAlgebraic (flat_model m.now)) (DependsOn (flat_model m.now)) o.vars) }
     ensures refused { IfErr result (IsCausalFault (flat_model m.now)) }
 {
     if let Err(fault) = check_counts(alloc, m) {
@@ -45,16 +46,24 @@ pub fn order(alloc: Global, m: &FlatModel) -> Result<Order, CausalErr>
 
 /// A flat model with an order has no cycle: so a cycle is answered exactly where there is one.
 pub fn law_of_exclusion()
-    ensures { (m : FlatModelTree) (vars round : List ℕ) → IsOrder (IsAlgebraic m) (DependsOn m) vars → IsCycle (DependsOn m) round → ⊥ }
+    ensures { (m : FlatModelTree) (vars round : List ℕ)
+        → IsOrder (IsAlgebraic m) (DependsOn m) vars
+        → IsCycle (DependsOn m) round
+        → ⊥ }
 {}
 
 /// A flat model with an order has no closed chain of algebraic variables, each of which names the next one, whether or not it is a cycle that
 /// begins with its least and names none twice.
 pub fn law_of_chains()
-    ensures { (m : FlatModelTree) (vars : List ℕ) (v : ℕ) (vs : List ℕ) → IsOrder (IsAlgebraic m) (DependsOn m) vars → Chain (DependsOn m) v vs v → ⊥ }
+    ensures { (m : FlatModelTree) (vars : List ℕ) (v : ℕ) (vs : List ℕ)
+        → IsOrder (IsAlgebraic m) (DependsOn m) vars
+        → Chain (DependsOn m) v vs v
+        → ⊥ }
 {}
 
 /// A flat model has one order.
 pub fn law_of_one_order()
-    ensures { (m : FlatModelTree) (a b : List ℕ) → IsOrder (IsAlgebraic m) (DependsOn m) a → IsOrder (IsAlgebraic m) (DependsOn m) b → a ≡ b }
+    ensures { (m : FlatModelTree) (a b : List ℕ) → IsOrder (IsAlgebraic m) (DependsOn m) a
+        → IsOrder (IsAlgebraic m) (DependsOn m) b
+        → a ≡ b }
 {}

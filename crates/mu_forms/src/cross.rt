@@ -43,7 +43,8 @@ fn set_names(
     by: Ratio,
 ) -> Result<Result<(), NumErr>, AllocError>
     requires { IsRising nat_cmp (map named entries.now) }
-    ensures { IfOk result (SetsList nat_cmp by row.old.entries row.new.entries (map named entries.now)) }
+    ensures { IfOk result
+        (SetsList nat_cmp by row.old.entries row.new.entries (map named entries.now)) }
 {
     for entry in entries {
         match entry.coef.mul(by) {
@@ -62,7 +63,8 @@ fn set_pairs(
     by: Ratio,
 ) -> Result<Result<(), NumErr>, AllocError>
     requires { IsRising nat_cmp (map named discretes.now) }
-    ensures { IfOk result (SetsList pair_cmp by row.old.entries row.new.entries (map (beside state) discretes.now)) }
+    ensures { IfOk result
+        (SetsList pair_cmp by row.old.entries row.new.entries (map (beside state) discretes.now)) }
 {
     for discrete in discretes {
         match discrete.coef.mul(by) {
@@ -81,7 +83,9 @@ fn set_table(
 ) -> Result<Result<(), NumErr>, AllocError>
     requires states { IsRising nat_cmp (map named states.now) }
     requires discretes { IsRising nat_cmp (map named discretes.now) }
-    ensures { IfOk result (SetsTable row.old.entries row.new.entries (map named states.now) (map named discretes.now)) }
+    ensures { IfOk result
+        (SetsTable row.old.entries row.new.entries (map named states.now)
+        (map named discretes.now)) }
 {
     for state in states {
         match set_pairs(row, state.var, discretes, state.coef)? {
@@ -150,7 +154,11 @@ pub(crate) fn cross(
     requires right { IsFinished place discretes.now }
     requires states { IsOfStates place.sizes states.now }
     requires discretes { IsOfDiscretes place.sizes discretes.now }
-    ensures { IsAnswer place (placed at (checked_form place.sizes (product_form place.sizes (form_meaning states.now) (form_meaning discretes.now)))) result }
+    ensures { IsAnswer place
+        (placed at
+        (checked_form place.sizes
+        (product_form place.sizes (form_meaning states.now) (form_meaning discretes.now))))
+        result }
 {
     // Their clauses say that the denominators are above 0.
     let _ = (states.constant.den(), discretes.constant.den());

@@ -30,7 +30,8 @@ fn are_states(sizes: Sizes, entries: &[ExactEntry]) -> bool
 
 // Whether all these names are discrete variables.
 fn are_discretes(sizes: Sizes, entries: &[ExactEntry]) -> bool
-    ensures { IsTrue result ↔ All (λ e. (sizes.states ≤ e.var) × (e.var < sizes.states + sizes.discretes)) entries.now }
+    ensures { IsTrue result
+        ↔ All (λ e. (sizes.states ≤ e.var) × (e.var < sizes.states + sizes.discretes)) entries.now }
 {
     entries.iter().all(|entry| sizes.states <= entry.var
         && entry.var - sizes.states < sizes.discretes)

@@ -18,7 +18,10 @@ use std::alloc::Global;
 
 // The product of a form and a number.
 fn times(alloc: Global, at: u32, form: &ExactForm, by: Ratio) -> Result<ExactForm, AffineErr>
-    ensures { (p : Place) → IsFinished p form.now → IsAnswer p (placed at (checked_form p.sizes (scaled_form false (form_meaning form.now) by))) result }
+    ensures { (p : Place) → IsFinished p form.now
+        → IsAnswer p
+        (placed at (checked_form p.sizes (scaled_form false (form_meaning form.now) by)))
+        result }
 {
     // Their clauses say that the denominators are above 0.
     let _ = (by.den(), form.constant.den());
@@ -42,7 +45,8 @@ pub fn divide(
 ) -> Result<ExactForm, AffineErr>
     requires left { IsFinished place left.now }
     requires right { IsFinished place right.now }
-    ensures { IsAnswer place (multiply_forms place true at (form_meaning left.now) (form_meaning right.now)) result }
+    ensures { IsAnswer place
+        (multiply_forms place true at (form_meaning left.now) (form_meaning right.now)) result }
 {
     if !is_constant(right) {
         return Err(AffineErr::NotAffine { at });
@@ -92,7 +96,8 @@ fn multiply_variables(
 ) -> Result<ExactForm, AffineErr>
     requires left { IsVariable place left.now }
     requires right { IsVariable place right.now }
-    ensures { IsAnswer place (multiply_forms place false at (form_meaning left.now) (form_meaning right.now)) result }
+    ensures { IsAnswer place
+        (multiply_forms place false at (form_meaning left.now) (form_meaning right.now)) result }
 {
     if !place.in_equation {
         return Err(AffineErr::NotAffine { at });
@@ -118,7 +123,8 @@ pub fn multiply(
 ) -> Result<ExactForm, AffineErr>
     requires left { IsFinished place left.now }
     requires right { IsFinished place right.now }
-    ensures { IsAnswer place (multiply_forms place false at (form_meaning left.now) (form_meaning right.now)) result }
+    ensures { IsAnswer place
+        (multiply_forms place false at (form_meaning left.now) (form_meaning right.now)) result }
 {
     // Their clauses say that the denominators are above 0.
     let _ = (left.constant.den(), right.constant.den());

@@ -86,7 +86,8 @@ pub(crate) fn join_names(
 ) -> Result<Result<(), NumErr>, AllocError>
     requires rising { IsRising nat_cmp (map named entries.now) }
     requires reduced { AreReduced nat_cmp row.old.entries }
-    ensures { IfOk result (JoinsList nat_cmp minus row.old.entries row.new.entries (map named entries.now)) }
+    ensures { IfOk result
+        (JoinsList nat_cmp minus row.old.entries row.new.entries (map named entries.now)) }
 {
     for entry in entries {
         match join_at_name(row, minus, entry.var, entry.coef)? {
@@ -105,7 +106,8 @@ pub(crate) fn join_pairs(
 ) -> Result<Result<(), NumErr>, AllocError>
     requires rising { IsRising pair_cmp (map paired products.now) }
     requires reduced { AreReduced pair_cmp row.old.entries }
-    ensures { IfOk result (JoinsList pair_cmp minus row.old.entries row.new.entries (map paired products.now)) }
+    ensures { IfOk result
+        (JoinsList pair_cmp minus row.old.entries row.new.entries (map paired products.now)) }
 {
     for product in products {
         let pair = (product.state, product.discrete);
@@ -122,7 +124,8 @@ pub(crate) fn finished_names(
     alloc: Global,
     row: &BTreeMap<u32, Ratio>,
 ) -> Result<Vec<ExactEntry>, AllocError>
-    ensures kept { IfOk result (λ v. map named v.items ≡ filter (λ c. is_nonzero c.1) row.now.entries) }
+    ensures kept { IfOk result
+        (λ v. map named v.items ≡ filter (λ c. is_nonzero c.1) row.now.entries) }
     ensures rising { IfOk result (λ v. IsRising nat_cmp row.now.entries) }
 {
     let mut all = Vec::new(alloc);
@@ -142,7 +145,8 @@ pub(crate) fn finished_pairs(
     alloc: Global,
     row: &BTreeMap<(u32, u32), Ratio>,
 ) -> Result<Vec<ExactProduct>, AllocError>
-    ensures kept { IfOk result (λ v. map paired v.items ≡ filter (λ c. is_nonzero c.1) row.now.entries) }
+    ensures kept { IfOk result
+        (λ v. map paired v.items ≡ filter (λ c. is_nonzero c.1) row.now.entries) }
     ensures rising { IfOk result (λ v. IsRising pair_cmp row.now.entries) }
 {
     let mut all = Vec::new(alloc);

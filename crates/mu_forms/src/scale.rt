@@ -78,7 +78,10 @@ pub(crate) fn scaled_form(
 ) -> Result<Result<ExactForm, NumErr>, AllocError>
     requires nonzero { is_nonzero by ≡ true }
     requires positive { 0 < by.den }
-    ensures { IfOk result (λ answer. (p : Place) → IsFinished p form.now → IsCheckedAnswer p (scaled_form divide (form_meaning form.now) by) answer) }
+    ensures { IfOk result
+        (λ answer. (p : Place)
+        → IsFinished p form.now
+        → IsCheckedAnswer p (scaled_form divide (form_meaning form.now) by) answer) }
 {
     let entries = match scaled_names(alloc, form.entries.as_slice(), divide, by)? {
         Ok(entries) => entries,

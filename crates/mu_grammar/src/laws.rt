@@ -34,7 +34,9 @@ pub fn judged_once()
 /// The canonical text of a model that some tokens spell is read as tokens that spell this model
 /// again but for places, and are nested no deeper.
 pub fn models_read_back()
-    ensures { (limit : ℕ) (ts : List Symbol) (m : ModelTree) → All IsToken ts → SpellsModel limit ts m → ReadsBack limit m }
+    ensures { (limit : ℕ) (ts : List Symbol) (m : ModelTree) → All IsToken ts
+        → SpellsModel limit ts m
+        → ReadsBack limit m }
 {}
 
 /// The tokens that a lexer finds in a source are tokens of the grammar, of which the laws above speak.

@@ -39,23 +39,30 @@ pub trait Shelf {
 
     /// Selects a file at its beginning. After an error nothing is selected.
     fn select(&mut self, name: &str) -> Result<(), SelectErr>
-        ensures there { OnOk result (IfSome (files self.old) (λ files. IsSome (file_of files name.now))) }
+        ensures there { OnOk result
+            (IfSome (files self.old) (λ files. IsSome (file_of files name.now))) }
         ensures begins { OnOk result (selected self.new ≡ Some (name.now, 0)) }
         ensures nothing { OnErr result (selected self.new ≡ None) }
         ensures files { files self.new ≡ files self.old }
         ensures counts { OnlyCounts name.now (faults self.old) (faults self.new) }
-        ensures calm { result ≢ Err SelectErr.Fault → faults self.new name.now ≡ faults self.old name.now }
+        ensures calm { result ≢ Err SelectErr.Fault
+            → faults self.new name.now ≡ faults self.old name.now }
         ensures cause { result ≡ Err SelectErr.Fault → Rose (faults self.old name.now) (faults self.new name.now) };
 
     /// Reads the next bytes of the selected file, none only at its end or with no room.
     fn read(&mut self, buf: &mut [u8]) -> Result<usize, Fault>
         requires { IsSome (selected self.old) }
         ensures bound { ReadsAtMost result buf.new }
-        ensures bytes { ReadConsumes (bytes_left (files self.old) (selected self.old)) (bytes_left (files self.new) (selected self.new)) result buf.new }
-        ensures moved { MatchResult result (λ n. selected self.new ≡ advanced (selected self.old) n) (λ _. selected self.new ≡ selected self.old) }
+        ensures bytes { ReadConsumes (bytes_left (files self.old) (selected self.old))
+            (bytes_left (files self.new) (selected self.new)) result buf.new }
+        ensures moved { MatchResult result (λ n. selected self.new ≡ advanced (selected self.old) n)
+            (λ _. selected self.new ≡ selected self.old) }
         ensures files { files self.new ≡ files self.old }
-        ensures counts { IfSome (selected self.old) (λ place. OnlyCounts place.0 (faults self.old) (faults self.new)) }
-        ensures calm { OnOk result (IfSome (selected self.old) (λ place. faults self.new place.0 ≡ faults self.old place.0)) }
+        ensures counts { IfSome (selected self.old)
+            (λ place. OnlyCounts place.0 (faults self.old) (faults self.new)) }
+        ensures calm { OnOk result
+            (IfSome (selected self.old)
+            (λ place. faults self.new place.0 ≡ faults self.old place.0)) }
         ensures cause { OnErr result (IfSome (selected self.old) (λ place. Rose (faults self.old place.0) (faults self.new place.0))) };
 }
 
@@ -69,13 +76,18 @@ pub fn read_all<S: Shelf>(
     name: &str,
     limit: usize,
 ) -> Result<Vec<u8>, ReadErr>
-    ensures bytes { IfOk result (λ bytes. IfSome (S.files shelf.old) (λ files. file_of files name.now ≡ Some bytes.items)) }
+    ensures bytes { IfOk result
+        (λ bytes. IfSome (S.files shelf.old) (λ files. file_of files name.now ≡ Some bytes.items)) }
     ensures within { IfOk result (λ bytes. length bytes.items ≤ limit) }
-    ensures too_long { result ≡ Err ReadErr.TooLong → IfSome (S.files shelf.old) (λ files. IsSomeAnd (file_of files name.now) (λ bytes. limit < length bytes)) }
+    ensures too_long { result ≡ Err ReadErr.TooLong
+        → IfSome (S.files shelf.old)
+        (λ files. IsSomeAnd (file_of files name.now) (λ bytes. limit < length bytes)) }
     ensures files { S.files shelf.new ≡ S.files shelf.old }
     ensures counts { OnlyCounts name.now (S.faults shelf.old) (S.faults shelf.new) }
-    ensures calm { result ≢ Err ReadErr.Fault → S.faults shelf.new name.now ≡ S.faults shelf.old name.now }
-    ensures cause { result ≡ Err ReadErr.Fault → Rose (S.faults shelf.old name.now) (S.faults shelf.new name.now) }
+    ensures calm { result ≢ Err ReadErr.Fault
+        → S.faults shelf.new name.now ≡ S.faults shelf.old name.now }
+    ensures cause { result ≡ Err ReadErr.Fault
+        → Rose (S.faults shelf.old name.now) (S.faults shelf.new name.now) }
 {
     match shelf.select(name) {
         Ok(()) => {}

@@ -198,10 +198,13 @@ pub fn lex(alloc: Global, source: &[u8]) -> Result<Vec<Token>, LexErr>
 
 /// A source has at most one list of tokens.
 pub fn one_reading()
-    ensures { (source : List ℕ) (ts us : List Token) → AreTokens source ts → AreTokens source us → ts ≡ us }
+    ensures { (source : List ℕ) (ts us : List Token) → AreTokens source ts
+        → AreTokens source us
+        → ts ≡ us }
 {}
 
 /// Texts of tokens with a blank behind each are read as these tokens.
 pub fn spaced_reading()
-    ensures { (pieces : List Piece) → All IsSpelled pieces → AreTokens (spaced_text pieces) (spaced_tokens 0 pieces) }
+    ensures { (pieces : List Piece) → All IsSpelled pieces
+        → AreTokens (spaced_text pieces) (spaced_tokens 0 pieces) }
 {}

@@ -44,8 +44,10 @@ fn form_at(
 ) -> Result<Form, MachineErr>
     requires few { length forms.now ≤ 2 ^ 16 }
     requires place { place < length forms.now }
-    ensures form { IfOk result (λ form. form ≡ rounded_form units.p units.f (form_at forms.now place)) }
-    ensures ok { IfOk result (λ _. first_failed (form_checks units.p units.f forms.now place 1) ≡ None) }
+    ensures form { IfOk result
+        (λ form. form ≡ rounded_form units.p units.f (form_at forms.now place)) }
+    ensures ok { IfOk result
+        (λ _. first_failed (form_checks units.p units.f forms.now place 1) ≡ None) }
     ensures err { IfErr result (IsRefusal (form_checks units.p units.f forms.now place 1)) }
 {
     let Some(form) = rounded_form(alloc, &forms[place], units)? else {
@@ -66,8 +68,10 @@ fn action_of(
 ) -> Result<Action, MachineErr>
     requires few { length forms.now ≤ 2 ^ 16 }
     requires place { place < length forms.now }
-    ensures action { IfOk result (λ action. action ≡ action_of units.p units.f forms.now place (flat_action statement.now)) }
-    ensures ok { IfOk result (λ _. first_failed (form_checks units.p units.f forms.now place 1) ≡ None) }
+    ensures action { IfOk result
+        (λ action. action ≡ action_of units.p units.f forms.now place (flat_action statement.now)) }
+    ensures ok { IfOk result
+        (λ _. first_failed (form_checks units.p units.f forms.now place 1) ≡ None) }
     ensures err { IfErr result (IsRefusal (form_checks units.p units.f forms.now place 1)) }
 {
     let form = form_at(alloc, forms, place, units)?;
@@ -87,9 +91,13 @@ fn actions_of(
 ) -> Result<Vec<Action>, MachineErr>
     requires few { length forms.now ≤ 2 ^ 16 }
     requires within { first + length body.now ≤ length forms.now }
-    ensures actions { IfOk result (λ actions. actions.items ≡ actions_of units.p units.f forms.now first (map flat_action body.now)) }
-    ensures ok { IfOk result (λ _. first_failed (form_checks units.p units.f forms.now first (length body.now)) ≡ None) }
-    ensures err { IfErr result (IsRefusal (form_checks units.p units.f forms.now first (length body.now))) }
+    ensures actions { IfOk result
+        (λ actions. actions.items
+        ≡ actions_of units.p units.f forms.now first (map flat_action body.now)) }
+    ensures ok { IfOk result
+        (λ _. first_failed (form_checks units.p units.f forms.now first (length body.now)) ≡ None) }
+    ensures err { IfErr result
+        (IsRefusal (form_checks units.p units.f forms.now first (length body.now))) }
 {
     let mut actions = Vec::new(alloc);
     for (place, statement) in body.iter().enumerate() {
@@ -109,9 +117,16 @@ fn branch_of(
 ) -> Result<BranchInfo, MachineErr>
     requires few { length forms.now ≤ 2 ^ 16 }
     requires within { first + branch_forms (flat_branch branch.now) ≤ length forms.now }
-    ensures branch { IfOk result (λ made. made ≡ branch_of units.p units.f forms.now first (flat_branch branch.now)) }
-    ensures ok { IfOk result (λ _. first_failed (form_checks units.p units.f forms.now first (branch_forms (flat_branch branch.now))) ≡ None) }
-    ensures err { IfErr result (IsRefusal (form_checks units.p units.f forms.now first (branch_forms (flat_branch branch.now)))) }
+    ensures branch { IfOk result
+        (λ made. made ≡ branch_of units.p units.f forms.now first (flat_branch branch.now)) }
+    ensures ok { IfOk result
+        (λ _. first_failed
+        (form_checks units.p units.f forms.now first
+        (branch_forms (flat_branch branch.now)))
+        ≡ None) }
+    ensures err { IfErr result
+        (IsRefusal
+        (form_checks units.p units.f forms.now first (branch_forms (flat_branch branch.now)))) }
 {
     let form = form_at(alloc, forms, first, units)?;
     let actions = actions_of(alloc, &branch.body, forms, first + 1, units)?;
@@ -134,10 +149,21 @@ fn branches_of(
 ) -> Result<Placed<BranchInfo>, MachineErr>
     requires few { length forms.now ≤ 2 ^ 16 }
     requires within { first + clause_forms (map flat_branch branches.now) ≤ length forms.now }
-    ensures branches { IfOk result (λ made. made.items.items ≡ placed branch_forms (branch_of units.p units.f forms.now) first (map flat_branch branches.now)) }
-    ensures next { IfOk result (λ made. made.next ≡ first + clause_forms (map flat_branch branches.now)) }
-    ensures ok { IfOk result (λ _. first_failed (form_checks units.p units.f forms.now first (clause_forms (map flat_branch branches.now))) ≡ None) }
-    ensures err { IfErr result (IsRefusal (form_checks units.p units.f forms.now first (clause_forms (map flat_branch branches.now)))) }
+    ensures branches { IfOk result
+        (λ made. made.items.items
+        ≡ placed branch_forms (branch_of units.p units.f forms.now) first
+        (map flat_branch branches.now)) }
+    ensures next { IfOk result
+        (λ made. made.next ≡ first + clause_forms (map flat_branch branches.now)) }
+    ensures ok { IfOk result
+        (λ _. first_failed
+        (form_checks units.p units.f forms.now first
+        (clause_forms (map flat_branch branches.now)))
+        ≡ None) }
+    ensures err { IfErr result
+        (IsRefusal
+        (form_checks units.p units.f forms.now first
+        (clause_forms (map flat_branch branches.now)))) }
 {
     let mut items = Vec::new(alloc);
     let mut next = first;
@@ -159,9 +185,18 @@ pub(crate) fn clauses_of(
 ) -> Result<Vec<ClauseInfo>, MachineErr>
     requires few { length forms.now ≤ 2 ^ 16 }
     requires within { first + sum_by clause_forms (map flat_clause clauses.now) ≤ length forms.now }
-    ensures clauses { IfOk result (λ made. made.items ≡ clauses_of units.p units.f forms.now first (map flat_clause clauses.now)) }
-    ensures ok { IfOk result (λ _. first_failed (form_checks units.p units.f forms.now first (sum_by clause_forms (map flat_clause clauses.now))) ≡ None) }
-    ensures err { IfErr result (IsRefusal (form_checks units.p units.f forms.now first (sum_by clause_forms (map flat_clause clauses.now)))) }
+    ensures clauses { IfOk result
+        (λ made. made.items
+        ≡ clauses_of units.p units.f forms.now first (map flat_clause clauses.now)) }
+    ensures ok { IfOk result
+        (λ _. first_failed
+        (form_checks units.p units.f forms.now first
+        (sum_by clause_forms (map flat_clause clauses.now)))
+        ≡ None) }
+    ensures err { IfErr result
+        (IsRefusal
+        (form_checks units.p units.f forms.now first
+        (sum_by clause_forms (map flat_clause clauses.now)))) }
 {
     let mut all = Vec::new(alloc);
     let mut next = first;

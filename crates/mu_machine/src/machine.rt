@@ -29,7 +29,8 @@ pub fn to_machine(
     requires model { IsFlatModel (flat_model m.now) }
     requires forms { AreFormsFor f.now.forms (flat_model m.now) }
     ensures machine { IfOk result (IsMachineOf f.now.forms (flat_model m.now) s.now) }
-    ensures refused { IfErr result (IsRefusal (machine_checks f.now.forms (flat_model m.now) s.now)) }
+    ensures refused { IfErr result
+        (IsRefusal (machine_checks f.now.forms (flat_model m.now) s.now)) }
 {
     let units = units_of(s)?;
     let kinds = kinds_of(&m.vars);
@@ -55,10 +56,18 @@ fn assembled(
     clauses: Vec<ClauseInfo>,
 ) -> Machine
     requires variables { AreVariables (pos (2 ^ (units.p + units.k))) states.items discretes.items }
-    requires rows { AreRows units.f (pos (2 ^ (units.p + units.k))) states.items discretes.items rows.items }
+    requires rows { AreRows units.f (pos (2 ^ (units.p + units.k))) states.items discretes.items
+        rows.items }
     requires clauses { AreClauses (length states.items) (length discretes.items) clauses.items }
-    ensures units { (result.p ≡ units.p) × (result.k ≡ units.k) × (result.f ≡ units.f) × (result.last ≡ units.last) × (result.relative ≡ 0) }
-    ensures lists { (result.states ≡ states.items) × (result.discretes ≡ discretes.items) × (result.rows ≡ rows.items) × (result.clauses ≡ clauses.items) }
+    ensures units { (result.p ≡ units.p)
+        × (result.k ≡ units.k)
+        × (result.f ≡ units.f)
+        × (result.last ≡ units.last)
+        × (result.relative ≡ 0) }
+    ensures lists { (result.states ≡ states.items)
+        × (result.discretes ≡ discretes.items)
+        × (result.rows ≡ rows.items)
+        × (result.clauses ≡ clauses.items) }
 {
     Machine {
         p: units.p,

@@ -19,7 +19,9 @@ use std::alloc::{AllocError, Global};
 
 // Adds an entry, unless its coefficient is 0.
 fn push_entry(entries: &mut Vec<Entry>, entry: Entry) -> Result<(), AllocError>
-    ensures { OnOk result (entries.new.items ≡ entries.old.items ++ (if is_some_number entry.coef then entry ∷ [] else [])) }
+    ensures { OnOk result
+        (entries.new.items
+        ≡ entries.old.items ++ (if is_some_number entry.coef then entry ∷ [] else [])) }
 {
     if is_some_number(i128::from(entry.coef)) {
         entries.push(entry)?;
@@ -29,7 +31,9 @@ fn push_entry(entries: &mut Vec<Entry>, entry: Entry) -> Result<(), AllocError>
 
 // Adds a product, unless its coefficient is 0.
 fn push_product(products: &mut Vec<Product>, product: Product) -> Result<(), AllocError>
-    ensures { OnOk result (products.new.items ≡ products.old.items ++ (if is_some_number product.coef then product ∷ [] else [])) }
+    ensures { OnOk result
+        (products.new.items
+        ≡ products.old.items ++ (if is_some_number product.coef then product ∷ [] else [])) }
 {
     if is_some_number(i128::from(product.coef)) {
         products.push(product)?;
@@ -44,8 +48,13 @@ fn rounded_entries(
     p: u8,
 ) -> Result<Option<Vec<Entry>>, AllocError>
     requires { p ≤ 64 }
-    ensures none { IfOk result (λ entries. IfNone entries (list_all (λ e. not (passes 44 e.coef)) (rounded_entries p exact.now) ≡ false)) }
-    ensures some { IfOk result (λ entries. IfSome entries (λ entries. (entries.items ≡ rounded_entries p exact.now) × (list_all (λ e. not (passes 44 e.coef)) entries.items ≡ true))) }
+    ensures none { IfOk result
+        (λ entries. IfNone entries
+        (list_all (λ e. not (passes 44 e.coef)) (rounded_entries p exact.now) ≡ false)) }
+    ensures some { IfOk result
+        (λ entries. IfSome entries
+        (λ entries. (entries.items ≡ rounded_entries p exact.now)
+        × (list_all (λ e. not (passes 44 e.coef)) entries.items ≡ true))) }
 {
     let mut entries = Vec::new(alloc);
     for e in exact {
@@ -69,8 +78,13 @@ fn rounded_products(
     p: u8,
 ) -> Result<Option<Vec<Product>>, AllocError>
     requires { p ≤ 64 }
-    ensures none { IfOk result (λ products. IfNone products (list_all (λ e. not (passes 44 e.coef)) (rounded_products p exact.now) ≡ false)) }
-    ensures some { IfOk result (λ products. IfSome products (λ products. (products.items ≡ rounded_products p exact.now) × (list_all (λ e. not (passes 44 e.coef)) products.items ≡ true))) }
+    ensures none { IfOk result
+        (λ products. IfNone products
+        (list_all (λ e. not (passes 44 e.coef)) (rounded_products p exact.now) ≡ false)) }
+    ensures some { IfOk result
+        (λ products. IfSome products
+        (λ products. (products.items ≡ rounded_products p exact.now)
+        × (list_all (λ e. not (passes 44 e.coef)) products.items ≡ true))) }
 {
     let mut products = Vec::new(alloc);
     for e in exact {
@@ -94,8 +108,11 @@ pub(crate) fn rounded_row(
     form: &ExactForm,
     units: Units,
 ) -> Result<Option<SlopeRow>, AllocError>
-    ensures none { IfOk result (λ row. IfNone row (row_fits (rounded_row units.p units.f form.now) ≡ false)) }
-    ensures some { IfOk result (λ row. IfSome row (λ row. (row ≡ rounded_row units.p units.f form.now) × (row_fits row ≡ true))) }
+    ensures none { IfOk result
+        (λ row. IfNone row (row_fits (rounded_row units.p units.f form.now) ≡ false)) }
+    ensures some { IfOk result
+        (λ row. IfSome row
+        (λ row. (row ≡ rounded_row units.p units.f form.now) × (row_fits row ≡ true))) }
 {
     let Some(entries) = rounded_entries(alloc, form.entries.as_slice(), units.p)? else {
         return Ok(None);
@@ -152,8 +169,11 @@ pub(crate) fn rounded_form(
     form: &ExactForm,
     units: Units,
 ) -> Result<Option<Form>, AllocError>
-    ensures none { IfOk result (λ form'. IfNone form' (form_fits (rounded_form units.p units.f form.now) ≡ false)) }
-    ensures some { IfOk result (λ form'. IfSome form' (λ form'. (form' ≡ rounded_form units.p units.f form.now) × (form_fits form' ≡ true))) }
+    ensures none { IfOk result
+        (λ form'. IfNone form' (form_fits (rounded_form units.p units.f form.now) ≡ false)) }
+    ensures some { IfOk result
+        (λ form'. IfSome form'
+        (λ form'. (form' ≡ rounded_form units.p units.f form.now) × (form_fits form' ≡ true))) }
 {
     let Some(entries) = rounded_entries(alloc, form.entries.as_slice(), units.p)? else {
         return Ok(None);
@@ -183,8 +203,19 @@ pub(crate) fn check_starts(
     requires forms { All (IsRightSide (length levels.now) (length values.now)) forms.now }
     requires levels { All (IsWithin 43) levels.now }
     requires values { All (IsWithin 43) values.now }
-    ensures ok { IfOk result (λ _. first_failed (checks (λ form. row_starts units.f levels.now values.now (rounded_row units.p units.f form)) Start 0 forms.now) ≡ None) }
-    ensures err { IfErr result (IsRefusal (checks (λ form. row_starts units.f levels.now values.now (rounded_row units.p units.f form)) Start 0 forms.now)) }
+    ensures ok { IfOk result
+        (λ _. first_failed
+        (checks
+        (λ form. row_starts units.f levels.now values.now
+        (rounded_row units.p units.f form))
+        Start 0 forms.now)
+        ≡ None) }
+    ensures err { IfErr result
+        (IsRefusal
+        (checks
+        (λ form. row_starts units.f levels.now values.now
+        (rounded_row units.p units.f form))
+        Start 0 forms.now)) }
 {
     for (place, form) in forms.iter().enumerate() {
         if !starts_well(alloc, form, levels, values, units)? {
@@ -206,7 +237,9 @@ fn starts_well(
     requires form { IsRightSide (length levels.now) (length values.now) form.now }
     requires levels { All (IsWithin 43) levels.now }
     requires values { All (IsWithin 43) values.now }
-    ensures { IfOk result (λ holds. holds ≡ row_starts units.f levels.now values.now (rounded_row units.p units.f form.now)) }
+    ensures { IfOk result
+        (λ holds. holds
+        ≡ row_starts units.f levels.now values.now (rounded_row units.p units.f form.now)) }
 {
     let Some(row) = rounded_row(alloc, form, units)? else {
         return Ok(true);
@@ -222,8 +255,15 @@ pub(crate) fn rows_of(
 ) -> Result<Vec<SlopeRow>, MachineErr>
     requires few { length forms.now ≤ 4096 }
     ensures rows { IfOk result (λ rows. rows.items ≡ map (rounded_row units.p units.f) forms.now) }
-    ensures ok { IfOk result (λ _. first_failed (checks (λ form. row_fits (rounded_row units.p units.f form)) Coefficient 1 forms.now) ≡ None) }
-    ensures err { IfErr result (IsRefusal (checks (λ form. row_fits (rounded_row units.p units.f form)) Coefficient 1 forms.now)) }
+    ensures ok { IfOk result
+        (λ _. first_failed
+        (checks (λ form. row_fits (rounded_row units.p units.f form)) Coefficient 1
+        forms.now)
+        ≡ None) }
+    ensures err { IfErr result
+        (IsRefusal
+        (checks (λ form. row_fits (rounded_row units.p units.f form)) Coefficient 1
+        forms.now)) }
 {
     let mut rows = Vec::new(alloc);
     for (place, form) in forms.iter().enumerate() {

@@ -34,7 +34,8 @@ fn is_bits(value: Ratio, limit: u8) -> bool
 // A number of bits, where it is whole and from 0 to a limit.
 fn bits(value: Ratio, limit: u8) -> Option<u8>
     ensures none { IfNone result (is_bits limit value ≡ false) }
-    ensures some { IfSome result (λ bits. (is_bits limit value ≡ true) × (bits ≡ bits_of value) × (bits ≤ limit)) }
+    ensures some { IfSome result
+        (λ bits. (is_bits limit value ≡ true) × (bits ≡ bits_of value) × (bits ≤ limit)) }
 {
     if is_bits(value, limit) {
         Some(value.num() as u8)
@@ -47,8 +48,13 @@ fn bits(value: Ratio, limit: u8) -> Option<u8>
 fn more_bits(value: Ratio, limit: u8, others: u8, most: u8) -> Option<u8>
     requires limit { limit ≤ 64 }
     requires others { others ≤ 64 }
-    ensures none { IfNone result ((is_bits limit value && nat_le (others + bits_of value) most) ≡ false) }
-    ensures some { IfSome result (λ bits. ((is_bits limit value && nat_le (others + bits_of value) most) ≡ true) × (bits ≡ bits_of value) × (bits ≤ limit) × (others + bits ≤ most)) }
+    ensures none { IfNone result
+        ((is_bits limit value && nat_le (others + bits_of value) most) ≡ false) }
+    ensures some { IfSome result
+        (λ bits. ((is_bits limit value && nat_le (others + bits_of value) most) ≡ true)
+        × (bits ≡ bits_of value)
+        × (bits ≤ limit)
+        × (others + bits ≤ most)) }
 {
     let own = bits(value, limit)?;
     if others + own <= most {
@@ -63,7 +69,10 @@ fn last_tick(stop: Ratio, tick_bits: u8) -> Option<u64>
     requires bits { tick_bits ≤ 20 }
     requires stop { pos 0 ≤ℤ stop.num }
     ensures none { IfNone result (int_lt (rounded_up tick_bits stop) (pos (2 ^ 32)) ≡ false) }
-    ensures some { IfSome result (λ last. (int_lt (rounded_up tick_bits stop) (pos (2 ^ 32)) ≡ true) × (pos last ≡ rounded_up tick_bits stop) × (last < 2 ^ 32)) }
+    ensures some { IfSome result
+        (λ last. (int_lt (rounded_up tick_bits stop) (pos (2 ^ 32)) ≡ true)
+        × (pos last ≡ rounded_up tick_bits stop)
+        × (last < 2 ^ 32)) }
 {
     let last = rounded_up(stop, tick_bits);
     if last < 1 << 32 {
@@ -76,7 +85,10 @@ fn last_tick(stop: Ratio, tick_bits: u8) -> Option<u64>
 /// The units, or the first setting that is not accepted.
 pub(crate) fn units_of(s: &Settings) -> Result<Units, MachineErr>
     ensures ok { IfOk result (λ _. first_failed (setting_checks s.now) ≡ None) }
-    ensures bits { IfOk result (λ u. (u.p ≡ bits_of s.now.coef_bits) × (u.k ≡ bits_of s.now.tick_bits) × (u.f ≡ bits_of s.now.level_bits)) }
+    ensures bits { IfOk result
+        (λ u. (u.p ≡ bits_of s.now.coef_bits)
+        × (u.k ≡ bits_of s.now.tick_bits)
+        × (u.f ≡ bits_of s.now.level_bits)) }
     ensures last { IfOk result (λ u. pos u.last ≡ last_of s.now) }
     ensures err { IfErr result (λ fault. first_failed (setting_checks s.now) ≡ Some fault) }
 {

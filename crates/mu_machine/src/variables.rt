@@ -60,9 +60,11 @@ pub(crate) struct Kinds<'a> {
 /// The states, which come first, and the discrete variables, which come next.
 pub(crate) fn kinds_of(vars: &[FlatVar]) -> Kinds<'_>
     ensures states { map flat_variable result.states.now ≡ states_of (map flat_variable vars.now) }
-    ensures discretes { map flat_variable result.discretes.now ≡ discretes_of (map flat_variable vars.now) }
+    ensures discretes { map flat_variable result.discretes.now
+        ≡ discretes_of (map flat_variable vars.now) }
     ensures state_count { length result.states.now ≡ state_count (map flat_variable vars.now) }
-    ensures discrete_count { length result.discretes.now ≡ discrete_count (map flat_variable vars.now) }
+    ensures discrete_count { length result.discretes.now
+        ≡ discrete_count (map flat_variable vars.now) }
 {
     let first = state_count(vars);
     let past = first + discrete_count(vars);
@@ -74,7 +76,10 @@ pub(crate) fn kinds_of(vars: &[FlatVar]) -> Kinds<'_>
 // The level of a state at the start, where it and the state are within their limits.
 fn start_level(start: Ratio, units: Units) -> Option<i64>
     ensures none { IfNone result (is_start units.p units.k units.f start ≡ false) }
-    ensures some { IfSome result (λ level. (is_start units.p units.k units.f start ≡ true) × (level ≡ start_level units.p units.k units.f start) × IsWithin 43 level) }
+    ensures some { IfSome result
+        (λ level. (is_start units.p units.k units.f start ≡ true)
+        × (level ≡ start_level units.p units.k units.f start)
+        × IsWithin 43 level) }
 {
     let state = rounded(start, units.f + units.p + units.k);
     let level = floor_div(state, unit(units.p + units.k));
@@ -88,7 +93,10 @@ fn start_level(start: Ratio, units: Units) -> Option<i64>
 fn start_value(start: Ratio, level_bits: u8) -> Option<i64>
     requires { level_bits ≤ 24 }
     ensures none { IfNone result (is_value level_bits start ≡ false) }
-    ensures some { IfSome result (λ value. (is_value level_bits start ≡ true) × (value ≡ rounded level_bits start) × IsWithin 43 value) }
+    ensures some { IfSome result
+        (λ value. (is_value level_bits start ≡ true)
+        × (value ≡ rounded level_bits start)
+        × IsWithin 43 value) }
 {
     let value = rounded(start, level_bits);
     if passes(value, 43) {
@@ -101,7 +109,8 @@ fn start_value(start: Ratio, level_bits: u8) -> Option<i64>
 fn own_quantum(quantum: Ratio, level_bits: u8) -> Option<i64>
     requires { level_bits ≤ 24 }
     ensures none { IfNone result (is_quantum level_bits quantum ≡ false) }
-    ensures some { IfSome result (λ own. (is_quantum level_bits quantum ≡ true) × (own ≡ rounded_down level_bits quantum)) }
+    ensures some { IfSome result
+        (λ own. (is_quantum level_bits quantum ≡ true) × (own ≡ rounded_down level_bits quantum)) }
 {
     let own = rounded_down(quantum, level_bits);
     if 1 <= own && own <= 1 << 32 {
@@ -118,10 +127,16 @@ pub(crate) fn levels_of(
     units: Units,
 ) -> Result<Vec<i64>, MachineErr>
     requires few { length states.now ≤ 4096 }
-    ensures levels { IfOk result (λ levels. levels.items ≡ map (λ v. start_level units.p units.k units.f v.start) states.now) }
+    ensures levels { IfOk result
+        (λ levels. levels.items
+        ≡ map (λ v. start_level units.p units.k units.f v.start) states.now) }
     ensures small { IfOk result (λ levels. All (IsWithin 43) levels.items) }
-    ensures ok { IfOk result (λ _. first_failed (checks (λ v. is_start units.p units.k units.f v.start) Start 0 states.now) ≡ None) }
-    ensures err { IfErr result (IsRefusal (checks (λ v. is_start units.p units.k units.f v.start) Start 0 states.now)) }
+    ensures ok { IfOk result
+        (λ _. first_failed
+        (checks (λ v. is_start units.p units.k units.f v.start) Start 0 states.now)
+        ≡ None) }
+    ensures err { IfErr result
+        (IsRefusal (checks (λ v. is_start units.p units.k units.f v.start) Start 0 states.now)) }
 {
     let mut levels = Vec::new(alloc);
     for (place, state) in states.iter().enumerate() {
@@ -141,10 +156,14 @@ pub(crate) fn values_of(
     units: Units,
 ) -> Result<Vec<i64>, MachineErr>
     requires few { first + length discretes.now ≤ 4096 }
-    ensures values { IfOk result (λ values. values.items ≡ map (λ v. rounded units.f v.start) discretes.now) }
+    ensures values { IfOk result
+        (λ values. values.items ≡ map (λ v. rounded units.f v.start) discretes.now) }
     ensures small { IfOk result (λ values. All (IsWithin 43) values.items) }
-    ensures ok { IfOk result (λ _. first_failed (checks (λ v. is_value units.f v.start) Start first discretes.now) ≡ None) }
-    ensures err { IfErr result (IsRefusal (checks (λ v. is_value units.f v.start) Start first discretes.now)) }
+    ensures ok { IfOk result
+        (λ _. first_failed (checks (λ v. is_value units.f v.start) Start first discretes.now)
+        ≡ None) }
+    ensures err { IfErr result
+        (IsRefusal (checks (λ v. is_value units.f v.start) Start first discretes.now)) }
 {
     let mut values = Vec::new(alloc);
     for (place, discrete) in discretes.iter().enumerate() {
@@ -165,9 +184,14 @@ pub(crate) fn states_of(
     units: Units,
 ) -> Result<Vec<StateInfo>, MachineErr>
     requires few { length states.now ≤ 4096 }
-    ensures states { IfOk result (λ all. all.items ≡ map (λ v. rounded_state units.p units.k units.f (flat_variable v)) states.now) }
-    ensures ok { IfOk result (λ _. first_failed (checks (λ v. is_quantum units.f v.quantum) Quantum 0 states.now) ≡ None) }
-    ensures err { IfErr result (IsRefusal (checks (λ v. is_quantum units.f v.quantum) Quantum 0 states.now)) }
+    ensures states { IfOk result
+        (λ all. all.items
+        ≡ map (λ v. rounded_state units.p units.k units.f (flat_variable v)) states.now) }
+    ensures ok { IfOk result
+        (λ _. first_failed (checks (λ v. is_quantum units.f v.quantum) Quantum 0 states.now)
+        ≡ None) }
+    ensures err { IfErr result
+        (IsRefusal (checks (λ v. is_quantum units.f v.quantum) Quantum 0 states.now)) }
 {
     let mut all = Vec::new(alloc);
     for (place, state) in states.iter().enumerate() {
@@ -191,7 +215,9 @@ pub(crate) fn discretes_of(
     level_bits: u8,
 ) -> Result<Vec<DiscreteInfo>, AllocError>
     requires { values.now ≡ map (λ v. rounded level_bits v.start) discretes.now }
-    ensures { IfOk result (λ all. all.items ≡ map (λ v. rounded_discrete level_bits (flat_variable v)) discretes.now) }
+    ensures { IfOk result
+        (λ all. all.items
+        ≡ map (λ v. rounded_discrete level_bits (flat_variable v)) discretes.now) }
 {
     let mut all = Vec::new(alloc);
     for (place, discrete) in discretes.iter().enumerate() {

@@ -75,7 +75,8 @@ fn multiply(
     least: &mut Option<NameErr>,
 ) -> Option<Ratio>
     ensures value { result ≡ both (multiplied divide) total value }
-    ensures faults { least.new ≡ least_of least.old (both_faults at (multiplied divide) total value) }
+    ensures faults { least.new
+        ≡ least_of least.old (both_faults at (multiplied divide) total value) }
 {
     match (total, value) {
         (Some(total), Some(value)) => valued(multiplied(total, divide, value), at, least),
@@ -140,7 +141,8 @@ fn evaluate_reference<M: Meanings>(
     least: &mut Option<NameErr>,
 ) -> Option<Ratio>
     ensures value { result ≡ reference_value (M.meaning meanings.now) (reference target.now) }
-    ensures faults { least.new ≡ least_of least.old (reference_faults (M.meaning meanings.now) (reference target.now)) }
+    ensures faults { least.new
+        ≡ least_of least.old (reference_faults (M.meaning meanings.now) (reference target.now)) }
 {
     let meaning = meanings.meaning(target.name.bytes());
     match &target.index {
@@ -157,7 +159,8 @@ fn evaluate_reference<M: Meanings>(
 #[cycle(evaluate)]
 #[tactic(auto, using(crate::proofs::LeastLemmas::least_of_append))]
 fn evaluate_previous<M: Meanings>(meanings: &M, target: &Ref, least: &mut Option<NameErr>)
-    ensures { least.new ≡ least_of least.old (previous_faults (M.meaning meanings.now) (reference target.now)) }
+    ensures { least.new
+        ≡ least_of least.old (previous_faults (M.meaning meanings.now) (reference target.now)) }
 {
     let meaning = meanings.meaning(target.name.bytes());
     match &target.index {
@@ -177,8 +180,13 @@ fn evaluate_sum<M: Meanings>(
     terms: &[Term],
     least: &mut Option<NameErr>,
 ) -> Option<Ratio>
-    ensures value { result ≡ sum_value (M.meaning meanings.now) (Some (whole (pos 0))) (terms_of (map signed terms.now)) }
-    ensures faults { least.new ≡ least_of least.old (sum_faults (M.meaning meanings.now) (Some (whole (pos 0))) (terms_of (map signed terms.now))) }
+    ensures value { result
+        ≡ sum_value (M.meaning meanings.now) (Some (whole (pos 0)))
+        (terms_of (map signed terms.now)) }
+    ensures faults { least.new
+        ≡ least_of least.old
+        (sum_faults (M.meaning meanings.now) (Some (whole (pos 0)))
+        (terms_of (map signed terms.now))) }
 {
     let mut total = Some(Ratio::whole(0));
     for term in terms {
@@ -196,8 +204,13 @@ fn evaluate_product<M: Meanings>(
     factors: &[Factor],
     least: &mut Option<NameErr>,
 ) -> Option<Ratio>
-    ensures value { result ≡ product_value (M.meaning meanings.now) (Some (whole (pos 1))) (factors_of (map scaled factors.now)) }
-    ensures faults { least.new ≡ least_of least.old (product_faults (M.meaning meanings.now) (Some (whole (pos 1))) (factors_of (map scaled factors.now))) }
+    ensures value { result
+        ≡ product_value (M.meaning meanings.now) (Some (whole (pos 1)))
+        (factors_of (map scaled factors.now)) }
+    ensures faults { least.new
+        ≡ least_of least.old
+        (product_faults (M.meaning meanings.now) (Some (whole (pos 1)))
+        (factors_of (map scaled factors.now))) }
 {
     let mut total = Some(Ratio::whole(1));
     for factor in factors {
@@ -212,7 +225,8 @@ fn evaluate_product<M: Meanings>(
 #[tactic(auto, using(crate::proofs::LeastLemmas::least_of_append))]
 pub fn evaluate<M: Meanings>(meanings: &M, e: &Expr, least: &mut Option<NameErr>) -> Option<Ratio>
     ensures value { result ≡ value (M.meaning meanings.now) (expression e.now) }
-    ensures faults { least.new ≡ least_of least.old (faults (M.meaning meanings.now) (expression e.now)) }
+    ensures faults { least.new
+        ≡ least_of least.old (faults (M.meaning meanings.now) (expression e.now)) }
 {
     match e {
         Expr::Num { digits, at } => valued(decimal(digits.bytes()), *at, least),

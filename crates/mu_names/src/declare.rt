@@ -28,7 +28,10 @@ use std::collections::BTreeMap;
 // Adds the names under a derivative on a left side.
 #[cycle(deriving)]
 fn add_derived<'a>(one: &'a Equation, names: &mut BTreeMap<&'a [u8], ()>) -> Result<(), AllocError>
-    ensures { OnOk result ((q : List ℕ) → is_entry names.new q ≡ is_entry names.old q || is_among (derived (equation one.now)) q) }
+    ensures { OnOk result
+        ((q : List ℕ)
+        → is_entry names.new q
+        ≡ is_entry names.old q || is_among (derived (equation one.now)) q) }
 {
     match one {
         Equation::Der { target, .. } => add(names, target.name.bytes(), ()),
@@ -43,7 +46,11 @@ fn add_all_derived<'a>(
     equations: &'a [Equation],
     names: &mut BTreeMap<&'a [u8], ()>,
 ) -> Result<(), AllocError>
-    ensures { OnOk result ((q : List ℕ) → is_entry names.new q ≡ is_entry names.old q || is_among (derived_all (equations_of (map equation equations.now))) q) }
+    ensures { OnOk result
+        ((q : List ℕ)
+        → is_entry names.new q
+        ≡ is_entry names.old q
+        || is_among (derived_all (equations_of (map equation equations.now))) q) }
 {
     for one in equations {
         add_derived(one, names)?;
@@ -56,7 +63,9 @@ pub fn derived_names<'a>(
     alloc: Global,
     equations: &'a [Equation],
 ) -> Result<BTreeMap<&'a [u8], ()>, AllocError>
-    ensures { IfOk result (λ names. is_entry names ≡ is_among (derived_all (equations_of (map equation equations.now)))) }
+    ensures { IfOk result
+        (λ names. is_entry names
+        ≡ is_among (derived_all (equations_of (map equation equations.now)))) }
 {
     let mut names = BTreeMap::new(alloc);
     add_all_derived(equations, &mut names)?;
@@ -82,7 +91,8 @@ fn role_by(prefix: Prefix, derived: bool) -> Role
 
 // The role of a declaration.
 fn role_of(derived: &BTreeMap<&[u8], ()>, d: &Decl) -> Role
-    ensures { result ≡ role_by (declaration d.now).prefix (is_entry derived.now (declaration d.now).name) }
+    ensures { result
+        ≡ role_by (declaration d.now).prefix (is_entry derived.now (declaration d.now).name) }
 {
     role_by(d.prefix, find(derived, d.name.bytes()).is_some())
 }
@@ -96,7 +106,10 @@ pub fn declared_names<'a>(
 ) -> Result<BTreeMap<&'a [u8], Standing>, AllocError>
     requires { is_entry derived.now ≡ is_among (derived_in (model m.now)) }
     ensures table { IfOk result (λ table. standing_at table ≡ declared_in (model m.now)) }
-    ensures faults { OnOk result (least.new ≡ least_of least.old (repeated_faults (derived_in (model m.now)) [] (model m.now).decls)) }
+    ensures faults { OnOk result
+        (least.new
+        ≡ least_of least.old
+        (repeated_faults (derived_in (model m.now)) [] (model m.now).decls)) }
 {
     let mut table = BTreeMap::new(alloc);
     for d in &m.decls {
@@ -149,7 +162,9 @@ fn evaluate_optional<M: Meanings>(
     least: &mut Option<NameErr>,
 ) -> Option<Ratio>
     ensures value { result ≡ optional_value (M.meaning meanings.now) (option_map expression e.now) }
-    ensures faults { least.new ≡ least_of least.old (optional_faults (M.meaning meanings.now) (option_map expression e.now)) }
+    ensures faults { least.new
+        ≡ least_of least.old
+        (optional_faults (M.meaning meanings.now) (option_map expression e.now)) }
 {
     match e {
         None => None,
@@ -235,7 +250,8 @@ fn note_binding(constant: bool, array: bool, bound: bool, at: u32, least: &mut O
 #[tactic(auto, using(crate::proofs::LeastLemmas::least_of_append))]
 fn evaluate_declaration<M: Meanings>(meanings: &M, d: &Decl, least: &mut Option<NameErr>) -> Valued
     ensures value { result ≡ valued (M.meaning meanings.now) (declaration d.now) }
-    ensures faults { least.new ≡ least_of least.old (declaration_faults (M.meaning meanings.now) (declaration d.now)) }
+    ensures faults { least.new
+        ≡ least_of least.old (declaration_faults (M.meaning meanings.now) (declaration d.now)) }
 {
     let size = evaluate_optional(meanings, &d.size, least);
     let size = size_from(size, d.at, least);
@@ -260,8 +276,13 @@ fn evaluate_after(
     d: &Decl,
     least: &mut Option<NameErr>,
 ) -> Valued
-    ensures value { result ≡ valued (meaning_after (entry_at constants.now) (standing_at declared.now)) (declaration d.now) }
-    ensures faults { least.new ≡ least_of least.old (declaration_faults (meaning_after (entry_at constants.now) (standing_at declared.now)) (declaration d.now)) }
+    ensures value { result
+        ≡ valued (meaning_after (entry_at constants.now) (standing_at declared.now))
+        (declaration d.now) }
+    ensures faults { least.new
+        ≡ least_of least.old
+        (declaration_faults (meaning_after (entry_at constants.now) (standing_at declared.now))
+        (declaration d.now)) }
 {
     let meanings = Constants {
         declared,
@@ -277,7 +298,11 @@ fn add_constant<'a>(
     name: &'a [u8],
     value: Option<Ratio>,
 ) -> Result<(), AllocError>
-    ensures { OnOk result (entry_at constants.new ≡ (if constant then added_at (entry_at constants.old) name.now value else entry_at constants.old)) }
+    ensures { OnOk result
+        (entry_at constants.new
+        ≡ (if constant
+        then added_at (entry_at constants.old) name.now value
+        else entry_at constants.old)) }
 {
     if constant {
         add(constants, name, value)
@@ -293,9 +318,20 @@ fn declare<'a>(
     d: &'a Decl,
     least: &mut Option<NameErr>,
 ) -> Result<Valued, AllocError>
-    ensures value { IfOk result (λ v. v ≡ valued (meaning_after (entry_at constants.old) (standing_at declared.now)) (declaration d.now)) }
-    ensures constants { OnOk result (entry_at constants.new ≡ constants_with (meaning_after (entry_at constants.old) (standing_at declared.now)) (entry_at constants.old) (declaration d.now)) }
-    ensures faults { OnOk result (least.new ≡ least_of least.old (declaration_faults (meaning_after (entry_at constants.old) (standing_at declared.now)) (declaration d.now))) }
+    ensures value { IfOk result
+        (λ v. v
+        ≡ valued (meaning_after (entry_at constants.old) (standing_at declared.now))
+        (declaration d.now)) }
+    ensures constants { OnOk result
+        (entry_at constants.new
+        ≡ constants_with (meaning_after (entry_at constants.old) (standing_at declared.now))
+        (entry_at constants.old) (declaration d.now)) }
+    ensures faults { OnOk result
+        (least.new
+        ≡ least_of least.old
+        (declaration_faults
+        (meaning_after (entry_at constants.old) (standing_at declared.now))
+        (declaration d.now))) }
 {
     let valued = evaluate_after(declared, constants, d, least);
     add_constant(
@@ -317,9 +353,19 @@ pub fn evaluate_declarations<'a>(
     decls: &'a [Decl],
     least: &mut Option<NameErr>,
 ) -> Result<Vec<Valued>, AllocError>
-    ensures values { IfOk result (λ all. all.items ≡ all_valued (standing_at declared.now) (entry_at constants.old) (map declaration decls.now)) }
-    ensures constants { OnOk result (entry_at constants.new ≡ constants_after (standing_at declared.now) (entry_at constants.old) (map declaration decls.now)) }
-    ensures faults { OnOk result (least.new ≡ least_of least.old (declarations_faults (standing_at declared.now) (entry_at constants.old) (map declaration decls.now))) }
+    ensures values { IfOk result
+        (λ all. all.items
+        ≡ all_valued (standing_at declared.now) (entry_at constants.old)
+        (map declaration decls.now)) }
+    ensures constants { OnOk result
+        (entry_at constants.new
+        ≡ constants_after (standing_at declared.now) (entry_at constants.old)
+        (map declaration decls.now)) }
+    ensures faults { OnOk result
+        (least.new
+        ≡ least_of least.old
+        (declarations_faults (standing_at declared.now) (entry_at constants.old)
+        (map declaration decls.now))) }
 {
     let mut all = Vec::new(alloc);
     for d in decls {
@@ -402,8 +448,10 @@ fn evaluate_settings<M: Meanings>(
     items: &[SettingItem],
     least: &mut Option<NameErr>,
 ) -> Settings
-    ensures settings { result ≡ settings_from (M.meaning meanings.now) default_settings (map setting items.now) }
-    ensures faults { least.new ≡ least_of least.old (settings_faults (M.meaning meanings.now) [] (map setting items.now)) }
+    ensures settings { result
+        ≡ settings_from (M.meaning meanings.now) default_settings (map setting items.now) }
+    ensures faults { least.new
+        ≡ least_of least.old (settings_faults (M.meaning meanings.now) [] (map setting items.now)) }
 {
     let mut settings = default_settings();
     let mut written = [false; 6];
@@ -424,8 +472,13 @@ pub fn model_settings(
     items: &[SettingItem],
     least: &mut Option<NameErr>,
 ) -> Settings
-    ensures settings { result ≡ settings_from (meaning_after (entry_at constants.now) (standing_at declared.now)) default_settings (map setting items.now) }
-    ensures faults { least.new ≡ least_of least.old (settings_faults (meaning_after (entry_at constants.now) (standing_at declared.now)) [] (map setting items.now)) }
+    ensures settings { result
+        ≡ settings_from (meaning_after (entry_at constants.now) (standing_at declared.now))
+        default_settings (map setting items.now) }
+    ensures faults { least.new
+        ≡ least_of least.old
+        (settings_faults (meaning_after (entry_at constants.now) (standing_at declared.now)) []
+        (map setting items.now)) }
 {
     let meanings = Constants {
         declared,
@@ -452,7 +505,11 @@ fn known_of(
     d: &Decl,
     value: Valued,
 ) -> Result<Known, AllocError>
-    ensures { IfOk result (λ known. known ≡ known_as quantum (role_by (declaration d.now).prefix (is_entry derived.now (declaration d.now).name)) (declaration d.now) value) }
+    ensures { IfOk result
+        (λ known. known
+        ≡ known_as quantum
+        (role_by (declaration d.now).prefix (is_entry derived.now (declaration d.now).name))
+        (declaration d.now) value) }
 {
     let role = role_of(derived, d);
     let name = d.name.copy(alloc)?;
@@ -477,7 +534,9 @@ pub fn known_names(
 ) -> Result<Vec<Known>, AllocError>
     requires derived { is_entry derived.now ≡ is_among (derived_in (model m.now)) }
     requires same { length values.now ≡ length (model m.now).decls }
-    ensures { IfOk result (λ known. known.items ≡ all_known quantum (derived_in (model m.now)) (model m.now).decls values.now) }
+    ensures { IfOk result
+        (λ known. known.items
+        ≡ all_known quantum (derived_in (model m.now)) (model m.now).decls values.now) }
 {
     let mut known = Vec::new(alloc);
     for (place, d) in m.decls.iter().enumerate() {

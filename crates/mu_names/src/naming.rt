@@ -99,7 +99,10 @@ fn check_reference(
     target: &Ref,
     least: &mut Option<NameErr>,
 )
-    ensures { least.new ≡ least_of least.old (reference_faults want (standing_in loops.now (standing_at declared.now)) (reference target.now)) }
+    ensures { least.new
+        ≡ least_of least.old
+        (reference_faults want (standing_in loops.now (standing_at declared.now))
+        (reference target.now)) }
 {
     let standing = standing(declared, loops, target.name.bytes());
     match &target.index {
@@ -121,7 +124,10 @@ fn check_expression(
     e: &Expr,
     least: &mut Option<NameErr>,
 )
-    ensures { least.new ≡ least_of least.old (expression_faults reading (standing_in loops.now (standing_at declared.now)) (expression e.now)) }
+    ensures { least.new
+        ≡ least_of least.old
+        (expression_faults reading (standing_in loops.now (standing_at declared.now))
+        (expression e.now)) }
 {
     match e {
         Expr::Num { .. } => {}
@@ -146,7 +152,10 @@ fn check_terms(
     terms: &[Term],
     least: &mut Option<NameErr>,
 )
-    ensures { least.new ≡ least_of least.old (terms_faults reading (standing_in loops.now (standing_at declared.now)) (terms_of (map signed terms.now))) }
+    ensures { least.new
+        ≡ least_of least.old
+        (terms_faults reading (standing_in loops.now (standing_at declared.now))
+        (terms_of (map signed terms.now))) }
 {
     for term in terms {
         check_expression(declared, loops, reading, &term.value, least);
@@ -163,7 +172,10 @@ fn check_factors(
     factors: &[Factor],
     least: &mut Option<NameErr>,
 )
-    ensures { least.new ≡ least_of least.old (factors_faults reading (standing_in loops.now (standing_at declared.now)) (factors_of (map scaled factors.now))) }
+    ensures { least.new
+        ≡ least_of least.old
+        (factors_faults reading (standing_in loops.now (standing_at declared.now))
+        (factors_of (map scaled factors.now))) }
 {
     for factor in factors {
         check_expression(declared, loops, reading, &factor.value, least);
@@ -181,7 +193,10 @@ fn check_range(
     to: &Expr,
     least: &mut Option<NameErr>,
 )
-    ensures { least.new ≡ least_of least.old (range_faults (standing_in loops.now (standing_at declared.now)) (range var.now at (expression from.now) (expression to.now))) }
+    ensures { least.new
+        ≡ least_of least.old
+        (range_faults (standing_in loops.now (standing_at declared.now))
+        (range var.now at (expression from.now) (expression to.now))) }
 {
     note_taken(at, standing(declared, loops, var.bytes()), least);
     check_expression(declared, loops, Reading::Constant, from, least);
@@ -199,7 +214,10 @@ fn check_sides(
     value: &Expr,
     least: &mut Option<NameErr>,
 )
-    ensures { least.new ≡ least_of least.old (sides_faults want reading (standing_in loops.now (standing_at declared.now)) (reference target.now) (expression value.now)) }
+    ensures { least.new
+        ≡ least_of least.old
+        (sides_faults want reading (standing_in loops.now (standing_at declared.now))
+        (reference target.now) (expression value.now)) }
 {
     check_reference(declared, loops, want, target, least);
     check_expression(declared, loops, reading, value, least);
@@ -227,7 +245,10 @@ fn check_equation(
     one: &Equation,
     least: &mut Option<NameErr>,
 ) -> Result<(), AllocError>
-    ensures { OnOk result (least.new ≡ least_of least.old (equation_faults (standing_at declared.now) loops.now (equation one.now))) }
+    ensures { OnOk result
+        (least.new
+        ≡ least_of least.old
+        (equation_faults (standing_at declared.now) loops.now (equation one.now))) }
 {
     match one {
         Equation::Der { target, value } => {
@@ -278,7 +299,11 @@ pub fn check_equations(
     equations: &[Equation],
     least: &mut Option<NameErr>,
 ) -> Result<(), AllocError>
-    ensures { OnOk result (least.new ≡ least_of least.old (equations_faults (standing_at declared.now) loops.now (equations_of (map equation equations.now)))) }
+    ensures { OnOk result
+        (least.new
+        ≡ least_of least.old
+        (equations_faults (standing_at declared.now) loops.now
+        (equations_of (map equation equations.now)))) }
 {
     for one in equations {
         check_equation(alloc, declared, loops, one, least)?;
@@ -296,7 +321,10 @@ fn check_statement(
     one: &Statement,
     least: &mut Option<NameErr>,
 ) -> Result<(), AllocError>
-    ensures { OnOk result (least.new ≡ least_of least.old (statement_faults (standing_at declared.now) loops.now (statement one.now))) }
+    ensures { OnOk result
+        (least.new
+        ≡ least_of least.old
+        (statement_faults (standing_at declared.now) loops.now (statement one.now))) }
 {
     match one {
         Statement::Set { target, value } => {
@@ -347,7 +375,11 @@ fn check_statements(
     statements: &[Statement],
     least: &mut Option<NameErr>,
 ) -> Result<(), AllocError>
-    ensures { OnOk result (least.new ≡ least_of least.old (statements_faults (standing_at declared.now) loops.now (statements_of (map statement statements.now)))) }
+    ensures { OnOk result
+        (least.new
+        ≡ least_of least.old
+        (statements_faults (standing_at declared.now) loops.now
+        (statements_of (map statement statements.now)))) }
 {
     for one in statements {
         check_statement(alloc, declared, loops, one, least)?;
@@ -365,7 +397,10 @@ fn check_start(
     one: &Statement,
     least: &mut Option<NameErr>,
 ) -> Result<(), AllocError>
-    ensures { OnOk result (least.new ≡ least_of least.old (start_faults (standing_at declared.now) loops.now (statement one.now))) }
+    ensures { OnOk result
+        (least.new
+        ≡ least_of least.old
+        (start_faults (standing_at declared.now) loops.now (statement one.now))) }
 {
     match one {
         Statement::Set { target, value } => {
@@ -405,7 +440,11 @@ pub fn check_starts(
     statements: &[Statement],
     least: &mut Option<NameErr>,
 ) -> Result<(), AllocError>
-    ensures { OnOk result (least.new ≡ least_of least.old (starts_faults (standing_at declared.now) loops.now (statements_of (map statement statements.now)))) }
+    ensures { OnOk result
+        (least.new
+        ≡ least_of least.old
+        (starts_faults (standing_at declared.now) loops.now
+        (statements_of (map statement statements.now)))) }
 {
     for one in statements {
         check_start(alloc, declared, loops, one, least)?;
@@ -422,7 +461,10 @@ fn check_branch(
     one: &Branch,
     least: &mut Option<NameErr>,
 ) -> Result<(), AllocError>
-    ensures { OnOk result (least.new ≡ least_of least.old (branch_faults (standing_at declared.now) loops.now (branch one.now))) }
+    ensures { OnOk result
+        (least.new
+        ≡ least_of least.old
+        (branch_faults (standing_at declared.now) loops.now (branch one.now))) }
 {
     check_expression(declared, loops, Reading::Clause, &one.cond.left, least);
     check_expression(declared, loops, Reading::Clause, &one.cond.right, least);
@@ -438,7 +480,10 @@ fn check_branches(
     branches: &[Branch],
     least: &mut Option<NameErr>,
 ) -> Result<(), AllocError>
-    ensures { OnOk result (least.new ≡ least_of least.old (branches_faults (standing_at declared.now) loops.now (map branch branches.now))) }
+    ensures { OnOk result
+        (least.new
+        ≡ least_of least.old
+        (branches_faults (standing_at declared.now) loops.now (map branch branches.now))) }
 {
     for one in branches {
         check_branch(alloc, declared, loops, one, least)?;
@@ -456,7 +501,10 @@ fn check_clause(
     one: &Clause,
     least: &mut Option<NameErr>,
 ) -> Result<(), AllocError>
-    ensures { OnOk result (least.new ≡ least_of least.old (clause_faults (standing_at declared.now) loops.now (clause one.now))) }
+    ensures { OnOk result
+        (least.new
+        ≡ least_of least.old
+        (clause_faults (standing_at declared.now) loops.now (clause one.now))) }
 {
     match one {
         Clause::When { branches } => check_branches(alloc, declared, loops, branches, least),
@@ -484,7 +532,11 @@ pub fn check_clauses(
     clauses: &[Clause],
     least: &mut Option<NameErr>,
 ) -> Result<(), AllocError>
-    ensures { OnOk result (least.new ≡ least_of least.old (clauses_faults (standing_at declared.now) loops.now (clauses_of (map clause clauses.now)))) }
+    ensures { OnOk result
+        (least.new
+        ≡ least_of least.old
+        (clauses_faults (standing_at declared.now) loops.now
+        (clauses_of (map clause clauses.now)))) }
 {
     for one in clauses {
         check_clause(alloc, declared, loops, one, least)?;

@@ -19,7 +19,12 @@ use std::collections::BTreeMap;
 
 // Notes that the name after the last `end` is not the model's.
 fn check_end(m: &Model, least: &mut Option<NameErr>)
-    ensures { least.new ≡ least_of least.old (if bytes_eq (model m.now).name (model m.now).end_name then [] else EndName (model m.now).end_at ∷ []) }
+    ensures { least.new
+        ≡ least_of least.old
+        (if bytes_eq (model m.now).name (model m.now).end_name
+        then []
+        else EndName (model m.now).end_at
+        ∷ []) }
 {
     if m.name.bytes() != m.end_name.bytes() {
         note(least, NameErr::EndName { at: m.end_at });

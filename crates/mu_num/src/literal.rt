@@ -142,8 +142,11 @@ struct Digits {
 fn continued(digits: Digits, byte: u8) -> Digits
     requires number { digits.number ≤ 2 ^ 64 }
     requires zeros { digits.zeros < 2 ^ 64 }
-    ensures number { result.number ≡ min (byte_after (record { number = digits.number; zeros = digits.zeros }) byte).number (2 ^ 64) }
-    ensures zeros { result.zeros ≡ (byte_after (record { number = digits.number; zeros = digits.zeros }) byte).zeros }
+    ensures number { result.number
+        ≡ min (byte_after (record { number = digits.number; zeros = digits.zeros }) byte).number
+        (2 ^ 64) }
+    ensures zeros { result.zeros
+        ≡ (byte_after (record { number = digits.number; zeros = digits.zeros }) byte).zeros }
     ensures cut { result.number ≤ 2 ^ 64 }
     ensures few { result.zeros ≤ digits.zeros + 1 }
 {

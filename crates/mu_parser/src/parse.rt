@@ -26,7 +26,8 @@ pub fn parse(alloc: Global, source: &[u8], tokens: &[Token]) -> Result<Model, Pa
     requires few { length tokens.now < 2 ^ 32 }
     requires spans { All (IsWithin source.now) tokens.now }
     ensures spelled { IfOk result (λ m. SpellsModel 64 (symbols source.now tokens.now) (model m)) }
-    ensures only { (m : ModelTree) → SpellsModel 64 (symbols source.now tokens.now) m → Gives model m result }
+    ensures only { (m : ModelTree) → SpellsModel 64 (symbols source.now tokens.now) m
+        → Gives model m result }
     ensures fault { IfErr result (IsFault SpellsModel 64 (symbols source.now tokens.now)) }
 {
     let mut state = State::Expects(Fixed::ModelWord, Then::ModelName);

@@ -80,7 +80,8 @@ fn setting_text(which: SettingName) -> &'static [u8]
 
 // Adds the canonical text of a condition.
 fn write_condition(out: &mut Vec<u8>, cond: &Cond) -> Result<(), AllocError>
-    ensures { OnOk result (out.new.items ≡ out.old.items ++ joined (written_condition (condition cond.now))) }
+    ensures { OnOk result
+        (out.new.items ≡ out.old.items ++ joined (written_condition (condition cond.now))) }
 {
     write_expression(out, &cond.left)?;
     token(out, relation_text(cond.rel))?;
@@ -89,7 +90,11 @@ fn write_condition(out: &mut Vec<u8>, cond: &Cond) -> Result<(), AllocError>
 
 // Adds the head of a loop.
 fn write_range(out: &mut Vec<u8>, var: &Name, from: &Expr, to: &Expr) -> Result<(), AllocError>
-    ensures { OnOk result (out.new.items ≡ out.old.items ++ joined (written_range (range var.now 0 (expression from.now) (expression to.now)))) }
+    ensures { OnOk result
+        (out.new.items
+        ≡ out.old.items
+        ++ joined
+        (written_range (range var.now 0 (expression from.now) (expression to.now)))) }
 {
     token(out, b"for")?;
     token(out, var.bytes())?;
@@ -102,7 +107,8 @@ fn write_range(out: &mut Vec<u8>, var: &Name, from: &Expr, to: &Expr) -> Result<
 
 // Adds the end of a clause.
 fn write_end_when(out: &mut Vec<u8>) -> Result<(), AllocError>
-    ensures { OnOk result (out.new.items ≡ out.old.items ++ joined (codes "end" ∷ codes "when" ∷ codes ";" ∷ [])) }
+    ensures { OnOk result
+        (out.new.items ≡ out.old.items ++ joined (codes "end" ∷ codes "when" ∷ codes ";" ∷ [])) }
 {
     token(out, b"end")?;
     token(out, b"when")?;
@@ -121,7 +127,8 @@ fn write_end(out: &mut Vec<u8>) -> Result<(), AllocError>
 // Adds the canonical text of an equation.
 #[cycle(writing_equations)]
 fn write_equation(out: &mut Vec<u8>, one: &Equation) -> Result<(), AllocError>
-    ensures { OnOk result (out.new.items ≡ out.old.items ++ joined (written_equation (equation one.now))) }
+    ensures { OnOk result
+        (out.new.items ≡ out.old.items ++ joined (written_equation (equation one.now))) }
 {
     match one {
         Equation::Der { target, value } => {
@@ -156,7 +163,10 @@ fn write_equation(out: &mut Vec<u8>, one: &Equation) -> Result<(), AllocError>
 // Adds the canonical text of equations.
 #[cycle(writing_equations)]
 fn write_equations(out: &mut Vec<u8>, equations: &[Equation]) -> Result<(), AllocError>
-    ensures { OnOk result (out.new.items ≡ out.old.items ++ joined (written_equations (equations_of (map equation equations.now)))) }
+    ensures { OnOk result
+        (out.new.items
+        ≡ out.old.items
+        ++ joined (written_equations (equations_of (map equation equations.now)))) }
 {
     for one in equations {
         write_equation(out, one)?;
@@ -167,7 +177,8 @@ fn write_equations(out: &mut Vec<u8>, equations: &[Equation]) -> Result<(), Allo
 // Adds the canonical text of a statement.
 #[cycle(writing_statements)]
 fn write_statement(out: &mut Vec<u8>, one: &Statement) -> Result<(), AllocError>
-    ensures { OnOk result (out.new.items ≡ out.old.items ++ joined (written_statement (statement one.now))) }
+    ensures { OnOk result
+        (out.new.items ≡ out.old.items ++ joined (written_statement (statement one.now))) }
 {
     match one {
         Statement::Set { target, value } => {
@@ -202,7 +213,10 @@ fn write_statement(out: &mut Vec<u8>, one: &Statement) -> Result<(), AllocError>
 // Adds the canonical text of statements.
 #[cycle(writing_statements)]
 fn write_statements(out: &mut Vec<u8>, statements: &[Statement]) -> Result<(), AllocError>
-    ensures { OnOk result (out.new.items ≡ out.old.items ++ joined (written_statements (statements_of (map statement statements.now)))) }
+    ensures { OnOk result
+        (out.new.items
+        ≡ out.old.items
+        ++ joined (written_statements (statements_of (map statement statements.now)))) }
 {
     for one in statements {
         write_statement(out, one)?;
@@ -219,7 +233,9 @@ fn word_before(first: bool) -> &'static [u8]
 
 // Adds the canonical text of branches.
 fn write_branches(out: &mut Vec<u8>, branches: &[Branch]) -> Result<(), AllocError>
-    ensures { OnOk result (out.new.items ≡ out.old.items ++ joined (written_branches (map branch branches.now) true)) }
+    ensures { OnOk result
+        (out.new.items
+        ≡ out.old.items ++ joined (written_branches (map branch branches.now) true)) }
 {
     let mut first = true;
     for one in branches {
@@ -235,7 +251,8 @@ fn write_branches(out: &mut Vec<u8>, branches: &[Branch]) -> Result<(), AllocErr
 // Adds the canonical text of a clause.
 #[cycle(writing_clauses)]
 fn write_clause(out: &mut Vec<u8>, one: &Clause) -> Result<(), AllocError>
-    ensures { OnOk result (out.new.items ≡ out.old.items ++ joined (written_clause (clause one.now))) }
+    ensures { OnOk result
+        (out.new.items ≡ out.old.items ++ joined (written_clause (clause one.now))) }
 {
     match one {
         Clause::When { branches } => {
@@ -259,7 +276,9 @@ fn write_clause(out: &mut Vec<u8>, one: &Clause) -> Result<(), AllocError>
 // Adds the canonical text of clauses.
 #[cycle(writing_clauses)]
 fn write_clauses(out: &mut Vec<u8>, clauses: &[Clause]) -> Result<(), AllocError>
-    ensures { OnOk result (out.new.items ≡ out.old.items ++ joined (written_clauses (clauses_of (map clause clauses.now)))) }
+    ensures { OnOk result
+        (out.new.items
+        ≡ out.old.items ++ joined (written_clauses (clauses_of (map clause clauses.now)))) }
 {
     for one in clauses {
         write_clause(out, one)?;
@@ -301,7 +320,11 @@ fn write_type(out: &mut Vec<u8>, whole: bool) -> Result<(), AllocError>
 
 // Adds the size of a component, where it has one.
 fn write_size(out: &mut Vec<u8>, size: &Option<Expr>) -> Result<(), AllocError>
-    ensures { OnOk result (out.new.items ≡ out.old.items ++ joined (optional (codes "[" ∷ []) (option_map expression size.now) (codes "]" ∷ []))) }
+    ensures { OnOk result
+        (out.new.items
+        ≡ out.old.items
+        ++ joined
+        (optional (codes "[" ∷ []) (option_map expression size.now) (codes "]" ∷ []))) }
 {
     match size {
         None => Ok(()),
@@ -315,7 +338,14 @@ fn write_size(out: &mut Vec<u8>, size: &Option<Expr>) -> Result<(), AllocError>
 
 // Adds the start of a component, where it has one.
 fn write_start(out: &mut Vec<u8>, start: &Option<Expr>) -> Result<(), AllocError>
-    ensures { OnOk result (out.new.items ≡ out.old.items ++ joined (optional (codes "(" ∷ codes "start" ∷ codes "=" ∷ []) (option_map expression start.now) (codes ")" ∷ []))) }
+    ensures { OnOk result
+        (out.new.items
+        ≡ out.old.items
+        ++ joined
+        (optional
+        (codes "(" ∷ codes "start" ∷ codes "=" ∷ [])
+        (option_map expression start.now) (codes ")"
+        ∷ []))) }
 {
     match start {
         None => Ok(()),
@@ -331,7 +361,10 @@ fn write_start(out: &mut Vec<u8>, start: &Option<Expr>) -> Result<(), AllocError
 
 // Adds the value of a component, where it has one.
 fn write_value(out: &mut Vec<u8>, value: &Option<Expr>) -> Result<(), AllocError>
-    ensures { OnOk result (out.new.items ≡ out.old.items ++ joined (optional (codes "=" ∷ []) (option_map expression value.now) [])) }
+    ensures { OnOk result
+        (out.new.items
+        ≡ out.old.items
+        ++ joined (optional (codes "=" ∷ []) (option_map expression value.now) [])) }
 {
     match value {
         None => Ok(()),
@@ -344,7 +377,15 @@ fn write_value(out: &mut Vec<u8>, value: &Option<Expr>) -> Result<(), AllocError
 
 // Adds the quantum of a component, where it has one.
 fn write_quantum(out: &mut Vec<u8>, quantum: &Option<Expr>) -> Result<(), AllocError>
-    ensures { OnOk result (out.new.items ≡ out.old.items ++ joined (optional (codes "annotation" ∷ codes "(" ∷ codes "QSS_Quantum" ∷ codes "=" ∷ []) (option_map expression quantum.now) (codes ")" ∷ []))) }
+    ensures { OnOk result
+        (out.new.items
+        ≡ out.old.items
+        ++ joined
+        (optional
+        (codes "annotation"
+        ∷ codes "(" ∷ codes "QSS_Quantum" ∷ codes "=" ∷ [])
+        (option_map expression quantum.now) (codes ")"
+        ∷ []))) }
 {
     match quantum {
         None => Ok(()),
@@ -361,7 +402,15 @@ fn write_quantum(out: &mut Vec<u8>, quantum: &Option<Expr>) -> Result<(), AllocE
 
 // Adds the kind, the name and the size of a declaration.
 fn write_head(out: &mut Vec<u8>, decl: &Decl) -> Result<(), AllocError>
-    ensures { OnOk result (out.new.items ≡ out.old.items ++ joined (written_kind decl.now.prefix decl.now.whole ++ decl.now.name ∷ optional (codes "[" ∷ []) (option_map expression decl.now.size) (codes "]" ∷ []))) }
+    ensures { OnOk result
+        (out.new.items
+        ≡ out.old.items
+        ++ joined
+        (written_kind decl.now.prefix decl.now.whole
+        ++ decl.now.name
+        ∷ optional
+        (codes "[" ∷ []) (option_map expression decl.now.size) (codes "]"
+        ∷ []))) }
 {
     write_kind(out, decl.prefix, decl.whole)?;
     token(out, decl.name.bytes())?;
@@ -370,7 +419,8 @@ fn write_head(out: &mut Vec<u8>, decl: &Decl) -> Result<(), AllocError>
 
 // Adds the canonical text of a declaration.
 fn write_decl(out: &mut Vec<u8>, decl: &Decl) -> Result<(), AllocError>
-    ensures { OnOk result (out.new.items ≡ out.old.items ++ joined (written_declaration (declaration decl.now))) }
+    ensures { OnOk result
+        (out.new.items ≡ out.old.items ++ joined (written_declaration (declaration decl.now))) }
 {
     write_head(out, decl)?;
     write_start(out, &decl.start)?;
@@ -381,7 +431,9 @@ fn write_decl(out: &mut Vec<u8>, decl: &Decl) -> Result<(), AllocError>
 
 // Adds the canonical text of declarations.
 fn write_decls(out: &mut Vec<u8>, decls: &[Decl]) -> Result<(), AllocError>
-    ensures { OnOk result (out.new.items ≡ out.old.items ++ joined (flat_map written_declaration (map declaration decls.now))) }
+    ensures { OnOk result
+        (out.new.items
+        ≡ out.old.items ++ joined (flat_map written_declaration (map declaration decls.now))) }
 {
     for one in decls {
         write_decl(out, one)?;
@@ -391,7 +443,12 @@ fn write_decls(out: &mut Vec<u8>, decls: &[Decl]) -> Result<(), AllocError>
 
 // Adds the section of starts, where there are any.
 fn write_starts(out: &mut Vec<u8>, starts: &[Statement]) -> Result<(), AllocError>
-    ensures { OnOk result (out.new.items ≡ out.old.items ++ joined (section (codes "initial" ∷ codes "algorithm" ∷ []) (map statement starts.now) (written_statements (statements_of (map statement starts.now))))) }
+    ensures { OnOk result
+        (out.new.items
+        ≡ out.old.items
+        ++ joined
+        (section (codes "initial" ∷ codes "algorithm" ∷ []) (map statement starts.now)
+        (written_statements (statements_of (map statement starts.now))))) }
 {
     if starts.is_empty() {
         return Ok(());
@@ -402,7 +459,8 @@ fn write_starts(out: &mut Vec<u8>, starts: &[Statement]) -> Result<(), AllocErro
 
 // Adds what stands before the starts.
 fn begin_starts(out: &mut Vec<u8>) -> Result<(), AllocError>
-    ensures { OnOk result (out.new.items ≡ out.old.items ++ joined (codes "initial" ∷ codes "algorithm" ∷ [])) }
+    ensures { OnOk result
+        (out.new.items ≡ out.old.items ++ joined (codes "initial" ∷ codes "algorithm" ∷ [])) }
 {
     token(out, b"initial")?;
     token(out, b"algorithm")
@@ -410,7 +468,12 @@ fn begin_starts(out: &mut Vec<u8>) -> Result<(), AllocError>
 
 // Adds the section of equations, where there are any.
 fn write_equation_section(out: &mut Vec<u8>, equations: &[Equation]) -> Result<(), AllocError>
-    ensures { OnOk result (out.new.items ≡ out.old.items ++ joined (section (codes "equation" ∷ []) (map equation equations.now) (written_equations (equations_of (map equation equations.now))))) }
+    ensures { OnOk result
+        (out.new.items
+        ≡ out.old.items
+        ++ joined
+        (section (codes "equation" ∷ []) (map equation equations.now)
+        (written_equations (equations_of (map equation equations.now))))) }
 {
     if equations.is_empty() {
         return Ok(());
@@ -421,7 +484,12 @@ fn write_equation_section(out: &mut Vec<u8>, equations: &[Equation]) -> Result<(
 
 // Adds the section of clauses, where there are any.
 fn write_clause_section(out: &mut Vec<u8>, clauses: &[Clause]) -> Result<(), AllocError>
-    ensures { OnOk result (out.new.items ≡ out.old.items ++ joined (section (codes "algorithm" ∷ []) (map clause clauses.now) (written_clauses (clauses_of (map clause clauses.now))))) }
+    ensures { OnOk result
+        (out.new.items
+        ≡ out.old.items
+        ++ joined
+        (section (codes "algorithm" ∷ []) (map clause clauses.now)
+        (written_clauses (clauses_of (map clause clauses.now))))) }
 {
     if clauses.is_empty() {
         return Ok(());
@@ -439,7 +507,9 @@ fn write_comma(out: &mut Vec<u8>, first: bool) -> Result<(), AllocError>
 
 // Adds the canonical text of settings, with commas between them.
 fn write_settings(out: &mut Vec<u8>, settings: &[SettingItem]) -> Result<(), AllocError>
-    ensures { OnOk result (out.new.items ≡ out.old.items ++ joined (written_settings (map setting settings.now) true)) }
+    ensures { OnOk result
+        (out.new.items
+        ≡ out.old.items ++ joined (written_settings (map setting settings.now) true)) }
 {
     let mut first = true;
     for one in settings {
@@ -454,7 +524,8 @@ fn write_settings(out: &mut Vec<u8>, settings: &[SettingItem]) -> Result<(), All
 
 // Adds the annotation with the settings, where there are any.
 fn write_annotation(out: &mut Vec<u8>, settings: &[SettingItem]) -> Result<(), AllocError>
-    ensures { OnOk result (out.new.items ≡ out.old.items ++ joined (written_annotation (map setting settings.now))) }
+    ensures { OnOk result
+        (out.new.items ≡ out.old.items ++ joined (written_annotation (map setting settings.now))) }
 {
     if settings.is_empty() {
         return Ok(());
@@ -468,7 +539,10 @@ fn write_annotation(out: &mut Vec<u8>, settings: &[SettingItem]) -> Result<(), A
 
 // Adds what stands before the settings.
 fn begin_experiment(out: &mut Vec<u8>) -> Result<(), AllocError>
-    ensures { OnOk result (out.new.items ≡ out.old.items ++ joined (codes "annotation" ∷ codes "(" ∷ codes "experiment" ∷ codes "(" ∷ [])) }
+    ensures { OnOk result
+        (out.new.items
+        ≡ out.old.items
+        ++ joined (codes "annotation" ∷ codes "(" ∷ codes "experiment" ∷ codes "(" ∷ [])) }
 {
     token(out, b"annotation")?;
     token(out, b"(")?;

@@ -82,7 +82,8 @@ fn brackets_in_power(value: &Expr) -> bool
 // Adds the canonical text of an expression.
 #[cycle(writing)]
 pub(crate) fn write_expression(out: &mut Vec<u8>, value: &Expr) -> Result<(), AllocError>
-    ensures { OnOk result (out.new.items ≡ out.old.items ++ joined (written (expression value.now))) }
+    ensures { OnOk result
+        (out.new.items ≡ out.old.items ++ joined (written (expression value.now))) }
 {
     match value {
         Expr::Num { digits, at: _ } => token(out, digits.bytes()),
@@ -107,7 +108,9 @@ pub(crate) fn write_expression(out: &mut Vec<u8>, value: &Expr) -> Result<(), Al
 // Adds the canonical text of an expression, in brackets or not.
 #[cycle(writing)]
 fn write_part(out: &mut Vec<u8>, value: &Expr, brackets: bool) -> Result<(), AllocError>
-    ensures { OnOk result (out.new.items ≡ out.old.items ++ joined (bracketed_if brackets (written (expression value.now)))) }
+    ensures { OnOk result
+        (out.new.items
+        ≡ out.old.items ++ joined (bracketed_if brackets (written (expression value.now)))) }
 {
     if brackets {
         token(out, b"(")?;
@@ -121,7 +124,8 @@ fn write_part(out: &mut Vec<u8>, value: &Expr, brackets: bool) -> Result<(), All
 // Adds the canonical text of a reference.
 #[cycle(writing)]
 pub(crate) fn write_reference(out: &mut Vec<u8>, target: &Ref) -> Result<(), AllocError>
-    ensures { OnOk result (out.new.items ≡ out.old.items ++ joined (written_reference (reference target.now))) }
+    ensures { OnOk result
+        (out.new.items ≡ out.old.items ++ joined (written_reference (reference target.now))) }
 {
     token(out, target.name.bytes())?;
     match &target.index {
@@ -137,7 +141,9 @@ pub(crate) fn write_reference(out: &mut Vec<u8>, target: &Ref) -> Result<(), All
 // Adds the canonical text of a sum.
 #[cycle(writing)]
 fn write_terms(out: &mut Vec<u8>, terms: &[Term]) -> Result<(), AllocError>
-    ensures { OnOk result (out.new.items ≡ out.old.items ++ joined (written_terms (terms_of (map signed terms.now)) true)) }
+    ensures { OnOk result
+        (out.new.items
+        ≡ out.old.items ++ joined (written_terms (terms_of (map signed terms.now)) true)) }
 {
     let mut first = true;
     for term in terms {
@@ -151,7 +157,10 @@ fn write_terms(out: &mut Vec<u8>, terms: &[Term]) -> Result<(), AllocError>
 // Adds the canonical text of a product.
 #[cycle(writing)]
 fn write_factors(out: &mut Vec<u8>, factors: &[Factor]) -> Result<(), AllocError>
-    ensures { OnOk result (out.new.items ≡ out.old.items ++ joined (written_factors (factors_of (map scaled factors.now)) true)) }
+    ensures { OnOk result
+        (out.new.items
+        ≡ out.old.items
+        ++ joined (written_factors (factors_of (map scaled factors.now)) true)) }
 {
     let mut first = true;
     for factor in factors {

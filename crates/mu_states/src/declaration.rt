@@ -76,7 +76,8 @@ pub fn import_token(draft: Box<Draft>, symbol: Symbol) -> Effect
 
 /// Behind `parameter` or `constant`.
 pub fn type_token(draft: Box<Draft>, prefix: Prefix, symbol: Symbol) -> Effect
-    ensures { effect_of result ≡ type_token (draft_of draft.value) prefix (symbol_view symbol.entry) }
+    ensures { effect_of result
+        ≡ type_token (draft_of draft.value) prefix (symbol_view symbol.entry) }
 {
     match symbol {
         Symbol::Word(Word::RealType, _) => Effect::Advances(State::Component(draft, prefix, false)),
@@ -96,7 +97,8 @@ fn new_component(
     name: Name,
     at: u32,
 ) -> Result<Component, AllocError>
-    ensures { IfOk result (λ c. component_of c ≡ new_component (draft_of draft.value) prefix whole name at) }
+    ensures { IfOk result
+        (λ c. component_of c ≡ new_component (draft_of draft.value) prefix whole name at) }
 {
     let declared = Decl {
         prefix,
@@ -120,7 +122,9 @@ pub fn component_token(
     whole: bool,
     symbol: Symbol,
 ) -> Result<Effect, AllocError>
-    ensures { IfOk result (λ e. effect_of e ≡ component_token (draft_of draft.value) prefix whole (symbol_view symbol.entry)) }
+    ensures { IfOk result
+        (λ e. effect_of e
+        ≡ component_token (draft_of draft.value) prefix whole (symbol_view symbol.entry)) }
 {
     match symbol {
         Symbol::Name(text, at) => {
@@ -143,7 +147,8 @@ fn with_component(component: Component) -> Result<Box<Draft>, AllocError>
 
 /// Behind a component's annotation.
 pub fn follow_component(component: Component, symbol: Symbol) -> Result<Effect, AllocError>
-    ensures { IfOk result (λ e. effect_of e ≡ follow_component (component_of component) (symbol_view symbol.entry)) }
+    ensures { IfOk result
+        (λ e. effect_of e ≡ follow_component (component_of component) (symbol_view symbol.entry)) }
 {
     let prefix = component.declared.prefix;
     let whole = component.declared.whole;
@@ -162,7 +167,8 @@ pub fn follow_component(component: Component, symbol: Symbol) -> Result<Effect, 
 
 /// Behind a component's string.
 pub fn follow_string(component: Component, symbol: Symbol) -> Result<Effect, AllocError>
-    ensures { IfOk result (λ e. effect_of e ≡ follow_string (component_of component) (symbol_view symbol.entry)) }
+    ensures { IfOk result
+        (λ e. effect_of e ≡ follow_string (component_of component) (symbol_view symbol.entry)) }
 {
     match symbol {
         Symbol::Word(Word::Annotation, _) => Ok(Effect::Descends(
@@ -178,7 +184,8 @@ pub fn follow_string(component: Component, symbol: Symbol) -> Result<Effect, All
 
 /// Behind a component's value.
 pub fn follow_value(component: Component, symbol: Symbol) -> Result<Effect, AllocError>
-    ensures { IfOk result (λ e. effect_of e ≡ follow_value (component_of component) (symbol_view symbol.entry)) }
+    ensures { IfOk result
+        (λ e. effect_of e ≡ follow_value (component_of component) (symbol_view symbol.entry)) }
 {
     match symbol {
         Symbol::Quoted(_) => Ok(Effect::Advances(State::BehindString(component))),
@@ -199,7 +206,9 @@ pub fn follow_modifications(
     component: Component,
     symbol: Symbol,
 ) -> Result<Effect, AllocError>
-    ensures { IfOk result (λ e. effect_of e ≡ follow_modifications (component_of component) (symbol_view symbol.entry)) }
+    ensures { IfOk result
+        (λ e. effect_of e
+        ≡ follow_modifications (component_of component) (symbol_view symbol.entry)) }
 {
     match symbol {
         Symbol::Mark(Mark::Equal, _) => {
@@ -215,7 +224,8 @@ pub fn follow_size(
     component: Component,
     symbol: Symbol,
 ) -> Result<Effect, AllocError>
-    ensures { IfOk result (λ e. effect_of e ≡ follow_size (component_of component) (symbol_view symbol.entry)) }
+    ensures { IfOk result
+        (λ e. effect_of e ≡ follow_size (component_of component) (symbol_view symbol.entry)) }
 {
     match symbol {
         Symbol::Mark(Mark::OpenRound, _) => Ok(Effect::Descends(
@@ -232,7 +242,8 @@ pub fn follow_name(
     component: Component,
     symbol: Symbol,
 ) -> Result<Effect, AllocError>
-    ensures { IfOk result (λ e. effect_of e ≡ follow_name (component_of component) (symbol_view symbol.entry)) }
+    ensures { IfOk result
+        (λ e. effect_of e ≡ follow_name (component_of component) (symbol_view symbol.entry)) }
 {
     let opens = opens_size(symbol);
     if opens {

@@ -80,7 +80,8 @@ fn place_level(place: &Place) -> u128
 
 // An item that is read over begins with a bracket.
 fn open_first(alloc: Global, place: Place, bracket: Bracket) -> Result<Effect, AllocError>
-    ensures { IfOk result (λ e. effect_of e ≡ skip_first (place_of place) (shapes.Opening bracket)) }
+    ensures { IfOk result
+        (λ e. effect_of e ≡ skip_first (place_of place) (shapes.Opening bracket)) }
 {
     let level = place_level(&place);
     let mut brackets = Vec::new(alloc);
@@ -90,7 +91,8 @@ fn open_first(alloc: Global, place: Place, bracket: Bracket) -> Result<Effect, A
 
 // An item that is read over begins with this token.
 fn begin_skipped(alloc: Global, place: Place, symbol: Symbol) -> Result<Effect, AllocError>
-    ensures { IfOk result (λ e. effect_of e ≡ begin_skipped (place_of place) (symbol_view symbol.entry)) }
+    ensures { IfOk result
+        (λ e. effect_of e ≡ begin_skipped (place_of place) (symbol_view symbol.entry)) }
 {
     match symbol {
         Symbol::Mark(Mark::OpenRound, _) => open_first(alloc, place, Bracket::Round),
@@ -117,7 +119,9 @@ fn open_bracket(
     brackets: Vec<Bracket>,
     bracket: Bracket,
 ) -> Result<Effect, AllocError>
-    ensures { IfOk result (λ e. effect_of e ≡ skip_shape (place_of place) (reverse brackets.items) (shapes.Opening bracket)) }
+    ensures { IfOk result
+        (λ e. effect_of e
+        ≡ skip_shape (place_of place) (reverse brackets.items) (shapes.Opening bracket)) }
 {
     let level = skip_level(&place, &brackets);
     let mut brackets = brackets;
@@ -127,7 +131,8 @@ fn open_bracket(
 
 // An item that is read over closes a bracket, or its list ends.
 fn close_bracket(place: Place, brackets: Vec<Bracket>, bracket: Bracket) -> Effect
-    ensures { effect_of result ≡ skip_shape (place_of place) (reverse brackets.items) (shapes.Closing bracket) }
+    ensures { effect_of result
+        ≡ skip_shape (place_of place) (reverse brackets.items) (shapes.Closing bracket) }
 {
     let mut brackets = brackets;
     match brackets.pop() {
@@ -161,7 +166,10 @@ pub fn skip_token(
     brackets: Vec<Bracket>,
     symbol: Symbol,
 ) -> Result<Effect, AllocError>
-    ensures { IfOk result (λ e. effect_of e ≡ skip_shape (place_of place) (reverse brackets.items) (shape_of (symbol_view symbol.entry))) }
+    ensures { IfOk result
+        (λ e. effect_of e
+        ≡ skip_shape (place_of place) (reverse brackets.items)
+        (shape_of (symbol_view symbol.entry))) }
 {
     match symbol {
         Symbol::Mark(Mark::OpenRound, _) => open_bracket(place, brackets, Bracket::Round),
@@ -181,7 +189,8 @@ pub fn begin_bare_mod(
     component: Component,
     symbol: Symbol,
 ) -> Result<Effect, AllocError>
-    ensures { IfOk result (λ e. effect_of e ≡ begin_bare_mod (component_of component) (symbol_view symbol.entry)) }
+    ensures { IfOk result
+        (λ e. effect_of e ≡ begin_bare_mod (component_of component) (symbol_view symbol.entry)) }
 {
     if is_named(b"start", symbol) {
         return Ok(Effect::Advances(State::Expects(
@@ -194,7 +203,8 @@ pub fn begin_bare_mod(
 
 // A modification begins.
 fn begin_mod(alloc: Global, component: Component, symbol: Symbol) -> Result<Effect, AllocError>
-    ensures { IfOk result (λ e. effect_of e ≡ begin_mod (component_of component) (symbol_view symbol.entry)) }
+    ensures { IfOk result
+        (λ e. effect_of e ≡ begin_mod (component_of component) (symbol_view symbol.entry)) }
 {
     match symbol {
         Symbol::Word(Word::Each, _) => Ok(Effect::Advances(State::Each(component))),
@@ -217,7 +227,8 @@ fn open_experiment(alloc: Global, owner: Owner) -> Effect
 
 // An argument of a component's annotation begins.
 fn begin_own(alloc: Global, component: Component, symbol: Symbol) -> Result<Effect, AllocError>
-    ensures { IfOk result (λ e. effect_of e ≡ begin_own (component_of component) (symbol_view symbol.entry)) }
+    ensures { IfOk result
+        (λ e. effect_of e ≡ begin_own (component_of component) (symbol_view symbol.entry)) }
 {
     if is_named(b"experiment", symbol) {
         return Ok(open_experiment(alloc, Owner::OfComponent(component)));
@@ -239,7 +250,10 @@ fn begin_argument(
     settings: Vec<SettingItem>,
     symbol: Symbol,
 ) -> Result<Effect, AllocError>
-    ensures { IfOk result (λ e. effect_of e ≡ begin_argument (draft_of draft.value) (settled_of seen settings.items) (symbol_view symbol.entry)) }
+    ensures { IfOk result
+        (λ e. effect_of e
+        ≡ begin_argument (draft_of draft.value) (settled_of seen settings.items)
+        (symbol_view symbol.entry)) }
 {
     if is_named(b"experiment", symbol) && !seen {
         return Ok(open_experiment(alloc, Owner::OfModel(draft)));
@@ -286,7 +300,10 @@ fn begin_setting(
     settings: Vec<SettingItem>,
     symbol: Symbol,
 ) -> Result<Effect, AllocError>
-    ensures { IfOk result (λ e. effect_of e ≡ begin_setting (owner_of owner) (settings_of settings.items) (symbol_view symbol.entry)) }
+    ensures { IfOk result
+        (λ e. effect_of e
+        ≡ begin_setting (owner_of owner) (settings_of settings.items)
+        (symbol_view symbol.entry)) }
 {
     match symbol {
         Symbol::Name(text, at) => match setting_of(text) {
@@ -305,7 +322,8 @@ fn begin_setting(
 
 /// An item begins.
 pub fn begin_item(alloc: Global, place: Place, symbol: Symbol) -> Result<Effect, AllocError>
-    ensures { IfOk result (λ e. effect_of e ≡ begin_item (place_of place) (symbol_view symbol.entry)) }
+    ensures { IfOk result
+        (λ e. effect_of e ≡ begin_item (place_of place) (symbol_view symbol.entry)) }
 {
     match place {
         Place::Modifications(component) => begin_mod(alloc, component, symbol),
@@ -329,7 +347,8 @@ fn closes_list(symbol: Symbol) -> bool
 
 /// An item begins, or none is there.
 pub fn begin_first_item(alloc: Global, place: Place, symbol: Symbol) -> Result<Effect, AllocError>
-    ensures { IfOk result (λ e. effect_of e ≡ begin_first_item (place_of place) (symbol_view symbol.entry)) }
+    ensures { IfOk result
+        (λ e. effect_of e ≡ begin_first_item (place_of place) (symbol_view symbol.entry)) }
 {
     let closes = closes_list(symbol);
     if closes {

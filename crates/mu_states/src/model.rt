@@ -82,7 +82,10 @@ fn end_name_token(
     settings: Vec<SettingItem>,
     symbol: Symbol,
 ) -> Result<Effect, AllocError>
-    ensures { IfOk result (λ e. effect_of e ≡ end_name_token (draft_of draft.value) (settings_of settings.items) (symbol_view symbol.entry)) }
+    ensures { IfOk result
+        (λ e. effect_of e
+        ≡ end_name_token (draft_of draft.value) (settings_of settings.items)
+        (symbol_view symbol.entry)) }
 {
     match symbol {
         Symbol::Name(text, at) => {
@@ -134,7 +137,8 @@ fn resume(alloc: Global, then: Then) -> State
 
 // A word or mark must come.
 fn fixed_token(alloc: Global, expected: Fixed, then: Then, symbol: Symbol) -> Effect
-    ensures { effect_of result ≡ meets (is_fixed expected (symbol_view symbol.entry)) (then_of then) }
+    ensures { effect_of result
+        ≡ meets (is_fixed expected (symbol_view symbol.entry)) (then_of then) }
 {
     let comes = expected.is(symbol);
     if comes {
@@ -145,7 +149,8 @@ fn fixed_token(alloc: Global, expected: Fixed, then: Then, symbol: Symbol) -> Ef
 
 // One token.
 fn turn(alloc: Global, state: State, symbol: Symbol) -> Result<Effect, AllocError>
-    ensures { IfOk result (λ e. effect_of e ≡ model_turn (state_of state) (symbol_view symbol.entry)) }
+    ensures { IfOk result
+        (λ e. effect_of e ≡ model_turn (state_of state) (symbol_view symbol.entry)) }
 {
     match state {
         State::Expects(expected, then) => Ok(fixed_token(alloc, expected, then, symbol)),
@@ -203,7 +208,9 @@ fn allow(effect: Effect) -> Next
 
 /// One token, where at most 64 levels may be open. `Err` is want of memory.
 pub fn advance(alloc: Global, state: State, symbol: Symbol) -> Result<Next, AllocError>
-    ensures { IfOk result (λ n. next_of n ≡ step_on model_machine 64 (go (state_of state)) (symbol_view symbol.entry)) }
+    ensures { IfOk result
+        (λ n. next_of n
+        ≡ step_on model_machine 64 (go (state_of state)) (symbol_view symbol.entry)) }
 {
     let effect = turn(alloc, state, symbol)?;
     Ok(allow(effect))

@@ -75,7 +75,9 @@ fn with_setting(
     value: Expr,
     at: u32,
 ) -> Result<Vec<SettingItem>, AllocError>
-    ensures { IfOk result (λ all. settings_of all.items ≡ with_setting (settings_of settings.items) which (expression value) at) }
+    ensures { IfOk result
+        (λ all. settings_of all.items
+        ≡ with_setting (settings_of settings.items) which (expression value) at) }
 {
     let mut settings = settings;
     settings.push(SettingItem { which, value, at })?;
@@ -122,7 +124,9 @@ fn receive(
     value: Expr,
     symbol: Symbol,
 ) -> Result<Effect, AllocError>
-    ensures { IfOk result (λ e. effect_of e ≡ receive (waiting_of waiting) (expression value) (symbol_view symbol.entry)) }
+    ensures { IfOk result
+        (λ e. effect_of e
+        ≡ receive (waiting_of waiting) (expression value) (symbol_view symbol.entry)) }
 {
     match waiting {
         Waiting::Size(component) => Ok(close_size(with_size(component, value), symbol)),
@@ -205,7 +209,13 @@ pub fn sum_token(
     frames: Vec<Frame>,
     symbol: Symbol,
 ) -> Result<Effect, AllocError>
-    ensures { IfOk result (λ e. effect_of e ≡ sum_move (waiting_of waiting) (depth_at (outside (waiting_of waiting)) (position_of position) (frames_of frames.items)) (step (position_of position) (frames_of frames.items) (symbol_view symbol.entry)) (symbol_view symbol.entry)) }
+    ensures { IfOk result
+        (λ e. effect_of e
+        ≡ sum_move (waiting_of waiting)
+        (depth_at (outside (waiting_of waiting)) (position_of position)
+        (frames_of frames.items))
+        (step (position_of position) (frames_of frames.items) (symbol_view symbol.entry))
+        (symbol_view symbol.entry)) }
 {
     let level = level_in(&waiting, &position, &frames);
     let mut frames = frames;
@@ -215,7 +225,9 @@ pub fn sum_token(
 
 // The levels that are open in a sum.
 fn level_in(waiting: &Waiting, position: &Position, frames: &[Frame]) -> u128
-    ensures { result ≡ depth_at (outside (waiting_of waiting.now)) (position_of position.now) (frames_of frames.now) }
+    ensures { result
+        ≡ depth_at (outside (waiting_of waiting.now)) (position_of position.now)
+        (frames_of frames.now) }
 {
     outside(waiting) + depth_at(position, frames) as u128
 }

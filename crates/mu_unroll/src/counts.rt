@@ -73,7 +73,8 @@ fn add_term_nodes(before: u32, terms: &[Term]) -> u32
 // The nodes with those of factors, cut past the limit.
 #[cycle(counting)]
 fn add_factor_nodes(before: u32, factors: &[Factor]) -> u32
-    ensures { result ≡ min (before + factor_nodes (factors_of (map scaled factors.now))) (2 ^ 20 + 1) }
+    ensures { result
+        ≡ min (before + factor_nodes (factors_of (map scaled factors.now))) (2 ^ 20 + 1) }
 {
     let mut nodes = before.min(MANY);
     for factor in factors {
@@ -110,7 +111,8 @@ pub fn count_expression(counts: Counts, e: &Expr) -> Result<Counts, UnrollErr>
 /// One item more, with the nodes of two expressions.
 #[tactic(auto, using(crate::proofs::Totals::with_total_min))]
 pub fn count_sides(counts: Counts, left: &Expr, right: &Expr) -> Result<Counts, UnrollErr>
-    ensures { result ≡ with_item counts (node_count (expression left.now) + node_count (expression right.now)) }
+    ensures { result
+        ≡ with_item counts (node_count (expression left.now) + node_count (expression right.now)) }
 {
     count(counts, add_nodes(add_nodes(counts.nodes, left), right))
 }

@@ -40,7 +40,9 @@ fn element_found(
     meant: Meant,
 ) -> Result<Found, UnrollErr>
     requires { IsPlaced 4096 meant }
-    ensures { result ≡ element_found (meant_in loops.now (meant_at declared.now)) at (expression index.now) meant }
+    ensures { result
+        ≡ element_found (meant_in loops.now (meant_at declared.now)) at (expression index.now)
+        meant }
 {
     match meant {
         Meant::Variable(kind, first, Some(size)) => {
@@ -157,8 +159,14 @@ fn flatten_terms(
     terms: &[Term],
 ) -> Result<Vec<FlatTerm>, UnrollErr>
     requires { ArePlaced 4096 (meant_at declared.now) }
-    ensures ok { IfOk result (λ flat. flattened_terms in_clause (meant_in loops.now (meant_at declared.now)) (terms_of (map signed terms.now)) ≡ Ok (map flat_signed flat.items)) }
-    ensures err { IfErr result (IsFault (flattened_terms in_clause (meant_in loops.now (meant_at declared.now)) (terms_of (map signed terms.now)))) }
+    ensures ok { IfOk result
+        (λ flat. flattened_terms in_clause (meant_in loops.now (meant_at declared.now))
+        (terms_of (map signed terms.now))
+        ≡ Ok (map flat_signed flat.items)) }
+    ensures err { IfErr result
+        (IsFault
+        (flattened_terms in_clause (meant_in loops.now (meant_at declared.now))
+        (terms_of (map signed terms.now)))) }
 {
     let mut all = Vec::new(alloc);
     for term in terms {
@@ -190,8 +198,14 @@ fn flatten_factors(
     factors: &[Factor],
 ) -> Result<Vec<FlatFactor>, UnrollErr>
     requires { ArePlaced 4096 (meant_at declared.now) }
-    ensures ok { IfOk result (λ flat. flattened_factors in_clause (meant_in loops.now (meant_at declared.now)) (factors_of (map scaled factors.now)) ≡ Ok (map flat_scaled flat.items)) }
-    ensures err { IfErr result (IsFault (flattened_factors in_clause (meant_in loops.now (meant_at declared.now)) (factors_of (map scaled factors.now)))) }
+    ensures ok { IfOk result
+        (λ flat. flattened_factors in_clause (meant_in loops.now (meant_at declared.now))
+        (factors_of (map scaled factors.now))
+        ≡ Ok (map flat_scaled flat.items)) }
+    ensures err { IfErr result
+        (IsFault
+        (flattened_factors in_clause (meant_in loops.now (meant_at declared.now))
+        (factors_of (map scaled factors.now)))) }
 {
     let mut all = Vec::new(alloc);
     for factor in factors {
@@ -223,8 +237,12 @@ pub fn flatten(
     e: &Expr,
 ) -> Result<FlatExpr, UnrollErr>
     requires { ArePlaced 4096 (meant_at declared.now) }
-    ensures ok { IfOk result (λ flat. flattened in_clause (meant_in loops.now (meant_at declared.now)) (expression e.now) ≡ Ok (flat_expression flat)) }
-    ensures err { IfErr result (IsFault (flattened in_clause (meant_in loops.now (meant_at declared.now)) (expression e.now))) }
+    ensures ok { IfOk result
+        (λ flat. flattened in_clause (meant_in loops.now (meant_at declared.now)) (expression e.now)
+        ≡ Ok (flat_expression flat)) }
+    ensures err { IfErr result
+        (IsFault
+        (flattened in_clause (meant_in loops.now (meant_at declared.now)) (expression e.now))) }
 {
     match e {
         Expr::Num { digits, at } => match literal(digits.bytes(), *at) {

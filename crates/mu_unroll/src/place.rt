@@ -74,7 +74,8 @@ pub fn inner_loops(
     value: i128,
 ) -> Result<Vec<LoopVar>, AllocError>
     requires { unsigned_abs value ≤ 2 ^ 62 }
-    ensures { IfOk result (λ inner. inner.items ≡ loops.now ++ record { name = var.now; value = whole value } ∷ []) }
+    ensures { IfOk result
+        (λ inner. inner.items ≡ loops.now ++ record { name = var.now; value = whole value } ∷ []) }
 {
     let mut inner = Vec::new(alloc);
     for one in loops {

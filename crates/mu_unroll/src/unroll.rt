@@ -50,8 +50,14 @@ fn unroll_one_equation(
     counts: &mut Counts,
 ) -> Result<(), UnrollErr>
     requires { ArePlaced 4096 (meant_at declared.now) }
-    ensures ok { IfOk result (λ _. one_equation der (meant_in loops.now (meant_at declared.now)) (reference target.now) (expression value.now) (progress (map flat_equation done.old.items) counts.old) ≡ Ok (progress (map flat_equation done.new.items) counts.new)) }
-    ensures err { IfErr result (IsFault (one_equation der (meant_in loops.now (meant_at declared.now)) (reference target.now) (expression value.now) (progress (map flat_equation done.old.items) counts.old))) }
+    ensures ok { IfOk result
+        (λ _. one_equation der (meant_in loops.now (meant_at declared.now)) (reference target.now)
+        (expression value.now) (progress (map flat_equation done.old.items) counts.old)
+        ≡ Ok (progress (map flat_equation done.new.items) counts.new)) }
+    ensures err { IfErr result
+        (IsFault
+        (one_equation der (meant_in loops.now (meant_at declared.now)) (reference target.now)
+        (expression value.now) (progress (map flat_equation done.old.items) counts.old))) }
 {
     let counted = match count_expression(*counts, value) {
         Ok(counted) => counted,
@@ -85,8 +91,14 @@ fn unroll_equation(
     counts: &mut Counts,
 ) -> Result<(), UnrollErr>
     requires { ArePlaced 4096 (meant_at declared.now) }
-    ensures ok { IfOk result (λ _. unrolled_equation (meant_at declared.now) loops.now (equation one.now) (progress (map flat_equation done.old.items) counts.old) ≡ Ok (progress (map flat_equation done.new.items) counts.new)) }
-    ensures err { IfErr result (IsFault (unrolled_equation (meant_at declared.now) loops.now (equation one.now) (progress (map flat_equation done.old.items) counts.old))) }
+    ensures ok { IfOk result
+        (λ _. unrolled_equation (meant_at declared.now) loops.now (equation one.now)
+        (progress (map flat_equation done.old.items) counts.old)
+        ≡ Ok (progress (map flat_equation done.new.items) counts.new)) }
+    ensures err { IfErr result
+        (IsFault
+        (unrolled_equation (meant_at declared.now) loops.now (equation one.now)
+        (progress (map flat_equation done.old.items) counts.old))) }
 {
     match one {
         Equation::Der { target, value } => {
@@ -137,8 +149,16 @@ fn unroll_equations(
     counts: &mut Counts,
 ) -> Result<(), UnrollErr>
     requires { ArePlaced 4096 (meant_at declared.now) }
-    ensures ok { IfOk result (λ _. unrolled_equations (meant_at declared.now) loops.now (equations_of (map equation equations.now)) (progress (map flat_equation done.old.items) counts.old) ≡ Ok (progress (map flat_equation done.new.items) counts.new)) }
-    ensures err { IfErr result (IsFault (unrolled_equations (meant_at declared.now) loops.now (equations_of (map equation equations.now)) (progress (map flat_equation done.old.items) counts.old))) }
+    ensures ok { IfOk result
+        (λ _. unrolled_equations (meant_at declared.now) loops.now
+        (equations_of (map equation equations.now))
+        (progress (map flat_equation done.old.items) counts.old)
+        ≡ Ok (progress (map flat_equation done.new.items) counts.new)) }
+    ensures err { IfErr result
+        (IsFault
+        (unrolled_equations (meant_at declared.now) loops.now
+        (equations_of (map equation equations.now))
+        (progress (map flat_equation done.old.items) counts.old))) }
 {
     for one in equations {
         match unroll_equation(alloc, declared, loops, one, done, counts) {
@@ -160,8 +180,16 @@ fn unroll_assignment(
     counts: &mut Counts,
 ) -> Result<(), UnrollErr>
     requires { ArePlaced 4096 (meant_at declared.now) }
-    ensures ok { IfOk result (λ _. one_action assign_to FlatRole.Discrete (meant_in loops.now (meant_at declared.now)) (reference target.now) (expression value.now) (progress (map flat_action done.old.items) counts.old) ≡ Ok (progress (map flat_action done.new.items) counts.new)) }
-    ensures err { IfErr result (IsFault (one_action assign_to FlatRole.Discrete (meant_in loops.now (meant_at declared.now)) (reference target.now) (expression value.now) (progress (map flat_action done.old.items) counts.old))) }
+    ensures ok { IfOk result
+        (λ _. one_action assign_to FlatRole.Discrete (meant_in loops.now (meant_at declared.now))
+        (reference target.now) (expression value.now)
+        (progress (map flat_action done.old.items) counts.old)
+        ≡ Ok (progress (map flat_action done.new.items) counts.new)) }
+    ensures err { IfErr result
+        (IsFault
+        (one_action assign_to FlatRole.Discrete (meant_in loops.now (meant_at declared.now))
+        (reference target.now) (expression value.now)
+        (progress (map flat_action done.old.items) counts.old))) }
 {
     let counted = match count_expression(*counts, value) {
         Ok(counted) => counted,
@@ -195,8 +223,16 @@ fn unroll_restart(
     counts: &mut Counts,
 ) -> Result<(), UnrollErr>
     requires { ArePlaced 4096 (meant_at declared.now) }
-    ensures ok { IfOk result (λ _. one_action restart_of FlatRole.State (meant_in loops.now (meant_at declared.now)) (reference target.now) (expression value.now) (progress (map flat_action done.old.items) counts.old) ≡ Ok (progress (map flat_action done.new.items) counts.new)) }
-    ensures err { IfErr result (IsFault (one_action restart_of FlatRole.State (meant_in loops.now (meant_at declared.now)) (reference target.now) (expression value.now) (progress (map flat_action done.old.items) counts.old))) }
+    ensures ok { IfOk result
+        (λ _. one_action restart_of FlatRole.State (meant_in loops.now (meant_at declared.now))
+        (reference target.now) (expression value.now)
+        (progress (map flat_action done.old.items) counts.old)
+        ≡ Ok (progress (map flat_action done.new.items) counts.new)) }
+    ensures err { IfErr result
+        (IsFault
+        (one_action restart_of FlatRole.State (meant_in loops.now (meant_at declared.now))
+        (reference target.now) (expression value.now)
+        (progress (map flat_action done.old.items) counts.old))) }
 {
     let counted = match count_expression(*counts, value) {
         Ok(counted) => counted,
@@ -230,8 +266,14 @@ fn unroll_statement(
     counts: &mut Counts,
 ) -> Result<(), UnrollErr>
     requires { ArePlaced 4096 (meant_at declared.now) }
-    ensures ok { IfOk result (λ _. unrolled_statement (meant_at declared.now) loops.now (statement one.now) (progress (map flat_action done.old.items) counts.old) ≡ Ok (progress (map flat_action done.new.items) counts.new)) }
-    ensures err { IfErr result (IsFault (unrolled_statement (meant_at declared.now) loops.now (statement one.now) (progress (map flat_action done.old.items) counts.old))) }
+    ensures ok { IfOk result
+        (λ _. unrolled_statement (meant_at declared.now) loops.now (statement one.now)
+        (progress (map flat_action done.old.items) counts.old)
+        ≡ Ok (progress (map flat_action done.new.items) counts.new)) }
+    ensures err { IfErr result
+        (IsFault
+        (unrolled_statement (meant_at declared.now) loops.now (statement one.now)
+        (progress (map flat_action done.old.items) counts.old))) }
 {
     match one {
         Statement::Set { target, value } => {
@@ -282,8 +324,16 @@ fn unroll_statements(
     counts: &mut Counts,
 ) -> Result<(), UnrollErr>
     requires { ArePlaced 4096 (meant_at declared.now) }
-    ensures ok { IfOk result (λ _. unrolled_statements (meant_at declared.now) loops.now (statements_of (map statement statements.now)) (progress (map flat_action done.old.items) counts.old) ≡ Ok (progress (map flat_action done.new.items) counts.new)) }
-    ensures err { IfErr result (IsFault (unrolled_statements (meant_at declared.now) loops.now (statements_of (map statement statements.now)) (progress (map flat_action done.old.items) counts.old))) }
+    ensures ok { IfOk result
+        (λ _. unrolled_statements (meant_at declared.now) loops.now
+        (statements_of (map statement statements.now))
+        (progress (map flat_action done.old.items) counts.old)
+        ≡ Ok (progress (map flat_action done.new.items) counts.new)) }
+    ensures err { IfErr result
+        (IsFault
+        (unrolled_statements (meant_at declared.now) loops.now
+        (statements_of (map statement statements.now))
+        (progress (map flat_action done.old.items) counts.old))) }
 {
     for one in statements {
         match unroll_statement(alloc, declared, loops, one, done, counts) {
@@ -304,8 +354,14 @@ fn unroll_branch(
     counts: &mut Counts,
 ) -> Result<(), UnrollErr>
     requires { ArePlaced 4096 (meant_at declared.now) }
-    ensures ok { IfOk result (λ _. unrolled_branch (meant_at declared.now) loops.now (branch one.now) (progress (map flat_branch done.old.items) counts.old) ≡ Ok (progress (map flat_branch done.new.items) counts.new)) }
-    ensures err { IfErr result (IsFault (unrolled_branch (meant_at declared.now) loops.now (branch one.now) (progress (map flat_branch done.old.items) counts.old))) }
+    ensures ok { IfOk result
+        (λ _. unrolled_branch (meant_at declared.now) loops.now (branch one.now)
+        (progress (map flat_branch done.old.items) counts.old)
+        ≡ Ok (progress (map flat_branch done.new.items) counts.new)) }
+    ensures err { IfErr result
+        (IsFault
+        (unrolled_branch (meant_at declared.now) loops.now (branch one.now)
+        (progress (map flat_branch done.old.items) counts.old))) }
 {
     match count_sides(*counts, &one.cond.left, &one.cond.right) {
         Ok(counted) => *counts = counted,
@@ -347,8 +403,14 @@ fn unroll_branches(
     counts: &mut Counts,
 ) -> Result<(), UnrollErr>
     requires { ArePlaced 4096 (meant_at declared.now) }
-    ensures ok { IfOk result (λ _. unrolled_branches (meant_at declared.now) loops.now (map branch branches.now) (progress (map flat_branch done.old.items) counts.old) ≡ Ok (progress (map flat_branch done.new.items) counts.new)) }
-    ensures err { IfErr result (IsFault (unrolled_branches (meant_at declared.now) loops.now (map branch branches.now) (progress (map flat_branch done.old.items) counts.old))) }
+    ensures ok { IfOk result
+        (λ _. unrolled_branches (meant_at declared.now) loops.now (map branch branches.now)
+        (progress (map flat_branch done.old.items) counts.old)
+        ≡ Ok (progress (map flat_branch done.new.items) counts.new)) }
+    ensures err { IfErr result
+        (IsFault
+        (unrolled_branches (meant_at declared.now) loops.now (map branch branches.now)
+        (progress (map flat_branch done.old.items) counts.old))) }
 {
     for one in branches {
         match unroll_branch(alloc, declared, loops, one, done, counts) {
@@ -369,8 +431,14 @@ fn unroll_one_clause(
     counts: &mut Counts,
 ) -> Result<(), UnrollErr>
     requires { ArePlaced 4096 (meant_at declared.now) }
-    ensures ok { IfOk result (λ _. one_clause (meant_at declared.now) loops.now (map branch branches.now) (progress (map flat_clause done.old.items) counts.old) ≡ Ok (progress (map flat_clause done.new.items) counts.new)) }
-    ensures err { IfErr result (IsFault (one_clause (meant_at declared.now) loops.now (map branch branches.now) (progress (map flat_clause done.old.items) counts.old))) }
+    ensures ok { IfOk result
+        (λ _. one_clause (meant_at declared.now) loops.now (map branch branches.now)
+        (progress (map flat_clause done.old.items) counts.old)
+        ≡ Ok (progress (map flat_clause done.new.items) counts.new)) }
+    ensures err { IfErr result
+        (IsFault
+        (one_clause (meant_at declared.now) loops.now (map branch branches.now)
+        (progress (map flat_clause done.old.items) counts.old))) }
 {
     let mut all = Vec::new(alloc);
     match unroll_branches(alloc, declared, loops, branches, &mut all, counts) {
@@ -394,8 +462,14 @@ fn unroll_clause(
     counts: &mut Counts,
 ) -> Result<(), UnrollErr>
     requires { ArePlaced 4096 (meant_at declared.now) }
-    ensures ok { IfOk result (λ _. unrolled_clause (meant_at declared.now) loops.now (clause one.now) (progress (map flat_clause done.old.items) counts.old) ≡ Ok (progress (map flat_clause done.new.items) counts.new)) }
-    ensures err { IfErr result (IsFault (unrolled_clause (meant_at declared.now) loops.now (clause one.now) (progress (map flat_clause done.old.items) counts.old))) }
+    ensures ok { IfOk result
+        (λ _. unrolled_clause (meant_at declared.now) loops.now (clause one.now)
+        (progress (map flat_clause done.old.items) counts.old)
+        ≡ Ok (progress (map flat_clause done.new.items) counts.new)) }
+    ensures err { IfErr result
+        (IsFault
+        (unrolled_clause (meant_at declared.now) loops.now (clause one.now)
+        (progress (map flat_clause done.old.items) counts.old))) }
 {
     match one {
         Clause::When { branches } => {
@@ -443,8 +517,16 @@ fn unroll_clauses(
     counts: &mut Counts,
 ) -> Result<(), UnrollErr>
     requires { ArePlaced 4096 (meant_at declared.now) }
-    ensures ok { IfOk result (λ _. unrolled_clauses (meant_at declared.now) loops.now (clauses_of (map clause clauses.now)) (progress (map flat_clause done.old.items) counts.old) ≡ Ok (progress (map flat_clause done.new.items) counts.new)) }
-    ensures err { IfErr result (IsFault (unrolled_clauses (meant_at declared.now) loops.now (clauses_of (map clause clauses.now)) (progress (map flat_clause done.old.items) counts.old))) }
+    ensures ok { IfOk result
+        (λ _. unrolled_clauses (meant_at declared.now) loops.now
+        (clauses_of (map clause clauses.now))
+        (progress (map flat_clause done.old.items) counts.old)
+        ≡ Ok (progress (map flat_clause done.new.items) counts.new)) }
+    ensures err { IfErr result
+        (IsFault
+        (unrolled_clauses (meant_at declared.now) loops.now
+        (clauses_of (map clause clauses.now))
+        (progress (map flat_clause done.old.items) counts.old))) }
 {
     for one in clauses {
         match unroll_clause(alloc, declared, loops, one, done, counts) {
@@ -457,7 +539,8 @@ fn unroll_clauses(
 
 // Replaces the start value of a variable, where there is one of the number.
 fn set_start_at(vars: &mut Vec<FlatVar>, number: u32, value: Ratio)
-    ensures { map flat_variable vars.new.items ≡ start_at (map flat_variable vars.old.items) number value }
+    ensures { map flat_variable vars.new.items
+        ≡ start_at (map flat_variable vars.old.items) number value }
 {
     let place = number as usize;
     if place < vars.len() {
@@ -467,7 +550,8 @@ fn set_start_at(vars: &mut Vec<FlatVar>, number: u32, value: Ratio)
 
 // Replaces the start value of a state or of a discrete variable.
 fn set_start(vars: &mut Vec<FlatVar>, target: Found, value: Ratio)
-    ensures { map flat_variable vars.new.items ≡ with_start (map flat_variable vars.old.items) target value }
+    ensures { map flat_variable vars.new.items
+        ≡ with_start (map flat_variable vars.old.items) target value }
 {
     match target {
         Found::Numbered(kind, number) => match kind {
@@ -488,8 +572,14 @@ fn unroll_one_start(
     counts: &mut Counts,
 ) -> Result<(), UnrollErr>
     requires { ArePlaced 4096 (meant_at declared.now) }
-    ensures ok { IfOk result (λ _. one_start (meant_in loops.now (meant_at declared.now)) (reference target.now) (expression value.now) (progress (map flat_variable vars.old.items) counts.old) ≡ Ok (progress (map flat_variable vars.new.items) counts.new)) }
-    ensures err { IfErr result (IsFault (one_start (meant_in loops.now (meant_at declared.now)) (reference target.now) (expression value.now) (progress (map flat_variable vars.old.items) counts.old))) }
+    ensures ok { IfOk result
+        (λ _. one_start (meant_in loops.now (meant_at declared.now)) (reference target.now)
+        (expression value.now) (progress (map flat_variable vars.old.items) counts.old)
+        ≡ Ok (progress (map flat_variable vars.new.items) counts.new)) }
+    ensures err { IfErr result
+        (IsFault
+        (one_start (meant_in loops.now (meant_at declared.now)) (reference target.now)
+        (expression value.now) (progress (map flat_variable vars.old.items) counts.old))) }
 {
     let counted = match count_start(*counts) {
         Ok(counted) => counted,
@@ -519,8 +609,14 @@ fn unroll_start(
     counts: &mut Counts,
 ) -> Result<(), UnrollErr>
     requires { ArePlaced 4096 (meant_at declared.now) }
-    ensures ok { IfOk result (λ _. unrolled_start (meant_at declared.now) loops.now (statement one.now) (progress (map flat_variable vars.old.items) counts.old) ≡ Ok (progress (map flat_variable vars.new.items) counts.new)) }
-    ensures err { IfErr result (IsFault (unrolled_start (meant_at declared.now) loops.now (statement one.now) (progress (map flat_variable vars.old.items) counts.old))) }
+    ensures ok { IfOk result
+        (λ _. unrolled_start (meant_at declared.now) loops.now (statement one.now)
+        (progress (map flat_variable vars.old.items) counts.old)
+        ≡ Ok (progress (map flat_variable vars.new.items) counts.new)) }
+    ensures err { IfErr result
+        (IsFault
+        (unrolled_start (meant_at declared.now) loops.now (statement one.now)
+        (progress (map flat_variable vars.old.items) counts.old))) }
 {
     match one {
         Statement::Set { target, value } => {
@@ -569,8 +665,16 @@ fn unroll_starts(
     counts: &mut Counts,
 ) -> Result<(), UnrollErr>
     requires { ArePlaced 4096 (meant_at declared.now) }
-    ensures ok { IfOk result (λ _. unrolled_starts (meant_at declared.now) loops.now (statements_of (map statement statements.now)) (progress (map flat_variable vars.old.items) counts.old) ≡ Ok (progress (map flat_variable vars.new.items) counts.new)) }
-    ensures err { IfErr result (IsFault (unrolled_starts (meant_at declared.now) loops.now (statements_of (map statement statements.now)) (progress (map flat_variable vars.old.items) counts.old))) }
+    ensures ok { IfOk result
+        (λ _. unrolled_starts (meant_at declared.now) loops.now
+        (statements_of (map statement statements.now))
+        (progress (map flat_variable vars.old.items) counts.old)
+        ≡ Ok (progress (map flat_variable vars.new.items) counts.new)) }
+    ensures err { IfErr result
+        (IsFault
+        (unrolled_starts (meant_at declared.now) loops.now
+        (statements_of (map statement statements.now))
+        (progress (map flat_variable vars.old.items) counts.old))) }
 {
     for one in statements {
         match unroll_start(alloc, declared, loops, one, vars, counts) {
@@ -589,8 +693,12 @@ fn unroll_with(
     vars: Vec<FlatVar>,
 ) -> Result<FlatModel, UnrollErr>
     requires { ArePlaced 4096 (meant_at declared.now) }
-    ensures ok { IfOk result (λ flat. unrolled_with (meant_at declared.now) (model m.now) (map flat_variable vars.items) ≡ Ok (flat_model flat)) }
-    ensures err { IfErr result (IsFault (unrolled_with (meant_at declared.now) (model m.now) (map flat_variable vars.items))) }
+    ensures ok { IfOk result
+        (λ flat. unrolled_with (meant_at declared.now) (model m.now) (map flat_variable vars.items)
+        ≡ Ok (flat_model flat)) }
+    ensures err { IfErr result
+        (IsFault
+        (unrolled_with (meant_at declared.now) (model m.now) (map flat_variable vars.items))) }
 {
     let mut vars = vars;
     let loops = Vec::new(alloc);
@@ -636,7 +744,8 @@ fn unroll_with(
 pub fn unroll(alloc: Global, m: &Model, s: &Scope) -> Result<FlatModel, UnrollErr>
     ensures ok { IfOk result (λ flat. unrolled (model m.now) s.now.known ≡ Ok (flat_model flat)) }
     ensures lists { IfOk result (λ flat. listed (model m.now) s.now.known ≡ Ok (flat_model flat)) }
-    ensures flat { IfOk result (λ flat. IsWellFormed (model m.now) → IsFlatModel (flat_model flat)) }
+    ensures flat { IfOk result
+        (λ flat. IsWellFormed (model m.now) → IsFlatModel (flat_model flat)) }
     ensures numbered { IfOk result (λ flat. IsNumbered (flat_model flat)) }
     ensures err { IfErr result (IsFault (unrolled (model m.now) s.now.known)) }
 {

@@ -50,7 +50,9 @@ fn reference_value(
     loops: &[LoopVar],
     target: &Ref,
 ) -> Result<Ratio, UnrollErr>
-    ensures { result ≡ reference_value (constants_in (meant_in loops.now (meant_at declared.now))) (reference target.now) }
+    ensures { result
+        ≡ reference_value (constants_in (meant_in loops.now (meant_at declared.now)))
+        (reference target.now) }
 {
     match &target.index {
         Some(_) => Ok(Ratio::whole(0)),
@@ -68,7 +70,9 @@ fn sum_value(
     loops: &[LoopVar],
     terms: &[Term],
 ) -> Result<Ratio, UnrollErr>
-    ensures { result ≡ sum_value (constants_in (meant_in loops.now (meant_at declared.now))) zero_value (terms_of (map signed terms.now)) }
+    ensures { result
+        ≡ sum_value (constants_in (meant_in loops.now (meant_at declared.now))) zero_value
+        (terms_of (map signed terms.now)) }
 {
     let mut total = Ratio::whole(0);
     for term in terms {
@@ -91,7 +95,9 @@ fn product_value(
     loops: &[LoopVar],
     factors: &[Factor],
 ) -> Result<Ratio, UnrollErr>
-    ensures { result ≡ product_value (constants_in (meant_in loops.now (meant_at declared.now))) (whole (pos 1)) (factors_of (map scaled factors.now)) }
+    ensures { result
+        ≡ product_value (constants_in (meant_in loops.now (meant_at declared.now))) (whole (pos 1))
+        (factors_of (map scaled factors.now)) }
 {
     let mut total = Ratio::whole(1);
     for factor in factors {
@@ -114,7 +120,9 @@ pub fn constant_value(
     loops: &[LoopVar],
     e: &Expr,
 ) -> Result<Ratio, UnrollErr>
-    ensures { result ≡ constant_value (constants_in (meant_in loops.now (meant_at declared.now))) (expression e.now) }
+    ensures { result
+        ≡ constant_value (constants_in (meant_in loops.now (meant_at declared.now)))
+        (expression e.now) }
 {
     match e {
         Expr::Num { digits, at } => literal(digits.bytes(), *at),
@@ -155,7 +163,8 @@ fn bound_of(
     at: u32,
     e: &Expr,
 ) -> Result<i128, UnrollErr>
-    ensures value { result ≡ bound_of (meant_in loops.now (meant_at declared.now)) at (expression e.now) }
+    ensures value { result
+        ≡ bound_of (meant_in loops.now (meant_at declared.now)) at (expression e.now) }
     ensures size { IfOk result (λ number. unsigned_abs number ≤ 2 ^ 62) }
 {
     match constant_value(declared, loops, e) {
@@ -207,7 +216,9 @@ pub fn bounds_of(
     from: &Expr,
     to: &Expr,
 ) -> Result<Rounds, UnrollErr>
-    ensures value { result ≡ bounds_of (meant_in loops.now (meant_at declared.now)) at (expression from.now) (expression to.now) }
+    ensures value { result
+        ≡ bounds_of (meant_in loops.now (meant_at declared.now)) at (expression from.now)
+        (expression to.now) }
     ensures near { IfOk result IsNear }
 {
     let next = match bound_of(declared, loops, at, from) {

@@ -85,7 +85,9 @@ fn push_elements(
     count: u32,
     vars: &mut Vec<FlatVar>,
 ) -> Result<(), AllocError>
-    ensures { OnOk result (map flat_variable vars.new.items ≡ map flat_variable vars.old.items ++ elements_from kind known.now 1 count) }
+    ensures { OnOk result
+        (map flat_variable vars.new.items
+        ≡ map flat_variable vars.old.items ++ elements_from kind known.now 1 count) }
 {
     for before in 0..count {
         let name = element_name(alloc, known.name.bytes(), before + 1)?;
@@ -106,7 +108,9 @@ fn push_scalars(
     known: &Known,
     vars: &mut Vec<FlatVar>,
 ) -> Result<(), AllocError>
-    ensures { OnOk result (map flat_variable vars.new.items ≡ map flat_variable vars.old.items ++ scalars_of kind known.now) }
+    ensures { OnOk result
+        (map flat_variable vars.new.items
+        ≡ map flat_variable vars.old.items ++ scalars_of kind known.now) }
 {
     match known.size {
         None => {
@@ -130,7 +134,9 @@ fn push_kind(
     known: &[Known],
     vars: &mut Vec<FlatVar>,
 ) -> Result<(), AllocError>
-    ensures { OnOk result (map flat_variable vars.new.items ≡ map flat_variable vars.old.items ++ scalars_of_kind kind known.now) }
+    ensures { OnOk result
+        (map flat_variable vars.new.items
+        ≡ map flat_variable vars.old.items ++ scalars_of_kind kind known.now) }
 {
     for one in known {
         if has_kind(kind, one) {

@@ -22,7 +22,11 @@ pub fn propose_text<O: Sink>(alloc: Global, m: &Machine, out: &mut O) -> Proposa
 
     // Where a text is written, it reads as the certificate that was checked; any two legitimate runs from the machine's start
     // lie within its bounds, and the machine's own runs are among these.
-    ensures promised { result ≡ ProposalEnding.Written → (c : Certificate) × (text : List ℕ) × Appends (O.written out.old) (O.written out.new) text × IsKeptText m.now text c }
+    ensures promised { result ≡ ProposalEnding.Written
+        → (c : Certificate)
+        × (text : List ℕ)
+        × Appends (O.written out.old) (O.written out.new) text
+        × IsKeptText m.now text c }
 {
     match scope(m) {
         Ok(_states) => propose_in_scope(alloc, m, out),
@@ -43,7 +47,8 @@ fn propose_in_scope<O: Sink>(alloc: Global, m: &Machine, out: &mut O) -> Proposa
 
 // Writes the text of what is proposed, where it is accepted.
 fn tell_proposal<O: Sink>(alloc: Global, proposal: &Proposal, out: &mut O) -> ProposalEnding
-    ensures { Ends O.written O.faults O.failed (λ answer. answer ≡ answer_of proposal.now) result out.old out.new }
+    ensures { Ends O.written O.faults O.failed (λ answer. answer ≡ answer_of proposal.now) result
+        out.old out.new }
 {
     match proposal {
         Proposal::Candidate { cert, verdict } => tell(alloc, cert, *verdict, out),
@@ -55,7 +60,8 @@ fn tell_proposal<O: Sink>(alloc: Global, proposal: &Proposal, out: &mut O) -> Pr
 
 // Writes the text of a candidate where it is accepted.
 fn tell<O: Sink>(alloc: Global, c: &Certificate, verdict: Verdict, out: &mut O) -> ProposalEnding
-    ensures { Ends O.written O.faults O.failed (λ answer. answer ≡ answered c.now verdict) result out.old out.new }
+    ensures { Ends O.written O.faults O.failed (λ answer. answer ≡ answered c.now verdict) result
+        out.old out.new }
 {
     match verdict {
         Verdict::Accepted => write_newest(alloc, c, out),
@@ -65,7 +71,8 @@ fn tell<O: Sink>(alloc: Global, c: &Certificate, verdict: Verdict, out: &mut O) 
 
 // Writes a certificate with all its lines.
 fn write_newest<O: Sink>(alloc: Global, c: &Certificate, out: &mut O) -> ProposalEnding
-    ensures { Ends O.written O.faults O.failed (λ answer. answer ≡ written (newest_text c.now)) result out.old out.new }
+    ensures { Ends O.written O.faults O.failed (λ answer. answer ≡ written (newest_text c.now))
+        result out.old out.new }
 {
     match write_certificate(alloc, c) {
         Ok(text) => write_text(&text, out),
@@ -75,7 +82,8 @@ fn write_newest<O: Sink>(alloc: Global, c: &Certificate, out: &mut O) -> Proposa
 
 // Writes the text of an answer.
 fn write_text<O: Sink>(text: &[u8], out: &mut O) -> ProposalEnding
-    ensures { Ends O.written O.faults O.failed (λ answer. answer ≡ written text.now) result out.old out.new }
+    ensures { Ends O.written O.faults O.failed (λ answer. answer ≡ written text.now) result out.old
+        out.new }
 {
     match write_all(out, text) {
         Ok(()) => ProposalEnding::Written,

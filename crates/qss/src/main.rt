@@ -22,16 +22,23 @@ fn finish<O: Write + Drop, E: Write + Drop>(
     out: &mut StdSink<O>,
     err: &mut StdSink<E>,
 ) -> Status
-    ensures turned { (result ≡ status) ⊎ ((result ≡ Status.WriteFault) × ((status ≡ Status.Ok) ⊎ (status ≡ Status.Overflow)) × Rose out.old.faults out.new.faults) }
+    ensures turned { (result ≡ status)
+        ⊎ ((result ≡ Status.WriteFault)
+        × ((status ≡ Status.Ok) ⊎ (status ≡ Status.Overflow))
+        × Rose out.old.faults out.new.faults) }
 
     // Out gains nothing but a front of what it held, and nothing after a write that failed.
-    ensures prefix { AppendsPrefix (O.contents out.old.writer) (O.contents out.new.writer) out.old.held.items }
+    ensures prefix { AppendsPrefix (O.contents out.old.writer) (O.contents out.new.writer)
+        out.old.held.items }
     ensures still { status ≡ Status.WriteFault → out.new.writer ≡ out.old.writer }
 
     // A run that ends well has passed on all that out held, and a status that stays has its line
     // passed on, unless err fails. Nothing is held afterwards.
-    ensures passed { (result ≡ Status.Ok) ⊎ (result ≡ Status.Overflow) → Appends (O.contents out.old.writer) (O.contents out.new.writer) out.old.held.items }
-    ensures told { result ≡ status → Appends (E.contents err.old.writer) (E.contents err.new.writer) err.old.held.items ⊎ Rose err.old.faults err.new.faults }
+    ensures passed { (result ≡ Status.Ok) ⊎ (result ≡ Status.Overflow)
+        → Appends (O.contents out.old.writer) (O.contents out.new.writer) out.old.held.items }
+    ensures told { result ≡ status
+        → Appends (E.contents err.old.writer) (E.contents err.new.writer) err.old.held.items
+        ⊎ Rose err.old.faults err.new.faults }
     ensures emptied { (out.new.held.items ≡ []) × (err.new.held.items ≡ []) }
 {
     let passed = pass_rest(status, out);
@@ -50,8 +57,12 @@ fn finish<O: Write + Drop, E: Write + Drop>(
 
 // Passes on what is still held, nothing after a write that failed. Nothing is held afterwards.
 fn pass_rest<W: Write + Drop>(status: Status, sink: &mut StdSink<W>) -> Result<(), WriteErr>
-    ensures whole { OnOk result (status ≢ Status.WriteFault → Appends (W.contents sink.old.writer) (W.contents sink.new.writer) sink.old.held.items) }
-    ensures prefix { AppendsPrefix (W.contents sink.old.writer) (W.contents sink.new.writer) sink.old.held.items }
+    ensures whole { OnOk result
+        (status ≢ Status.WriteFault
+        → Appends (W.contents sink.old.writer) (W.contents sink.new.writer)
+        sink.old.held.items) }
+    ensures prefix { AppendsPrefix (W.contents sink.old.writer) (W.contents sink.new.writer)
+        sink.old.held.items }
     ensures still { status ≡ Status.WriteFault → sink.new.writer ≡ sink.old.writer }
     ensures cause { OnErr result (Rose sink.old.faults sink.new.faults) }
     ensures emptied { sink.new.held.items ≡ [] }

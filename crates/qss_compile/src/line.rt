@@ -119,7 +119,9 @@ fn add_fields(
     line: &mut Vec<u8>,
     fields: &[Field],
 ) -> Result<(), AllocError>
-    ensures { OnOk result (line.new.items ≡ line.old.items ++ Spec.fields_text (map (field_text names.now) fields.now)) }
+    ensures { OnOk result
+        (line.new.items
+        ≡ line.old.items ++ Spec.fields_text (map (field_text names.now) fields.now)) }
 {
     for field in fields {
         line.push(b' ')?;
@@ -136,7 +138,10 @@ fn reason_line(
     number: u8,
     fields: &[Field],
 ) -> Result<Vec<u8>, AllocError>
-    ensures { IfOk result (λ line. line.items ≡ Spec.reason_line (Spec.reason phase.now number (map (field_text names.now) fields.now))) }
+    ensures { IfOk result
+        (λ line. line.items
+        ≡ Spec.reason_line
+        (Spec.reason phase.now number (map (field_text names.now) fields.now))) }
 {
     let number = number.to_string(alloc)?;
     let mut line = b"refused: ".to_vec(alloc)?;
@@ -209,7 +214,8 @@ fn names_line(alloc: Global, names: &[Name], fault: &NameErr) -> Result<Vec<u8>,
 }
 
 fn unrolling_line(alloc: Global, names: &[Name], fault: &UnrollErr) -> Result<Vec<u8>, AllocError>
-    ensures { IfOk result (λ line. line.items ≡ Spec.reason_line (Spec.unrolling_reason fault.now)) }
+    ensures { IfOk result
+        (λ line. line.items ≡ Spec.reason_line (Spec.unrolling_reason fault.now)) }
 {
     match fault {
         UnrollErr::Index { at, value, size } => {
@@ -250,7 +256,8 @@ fn cycle_fields(alloc: Global, vars: &[u32]) -> Result<Vec<Field>, AllocError>
 }
 
 fn order_line(alloc: Global, names: &[Name], fault: &CausalErr) -> Result<Vec<u8>, AllocError>
-    ensures { IfOk result (λ line. line.items ≡ Spec.reason_line (Spec.order_reason names.now fault.now)) }
+    ensures { IfOk result
+        (λ line. line.items ≡ Spec.reason_line (Spec.order_reason names.now fault.now)) }
 {
     match fault {
         CausalErr::NoEquation { var } => {
@@ -306,7 +313,8 @@ fn forms_line(alloc: Global, names: &[Name], fault: &AffineErr) -> Result<Vec<u8
 }
 
 fn rounding_line(alloc: Global, names: &[Name], fault: &MachineErr) -> Result<Vec<u8>, AllocError>
-    ensures { IfOk result (λ line. line.items ≡ Spec.reason_line (Spec.rounding_reason names.now fault.now)) }
+    ensures { IfOk result
+        (λ line. line.items ≡ Spec.reason_line (Spec.rounding_reason names.now fault.now)) }
 {
     match fault {
         MachineErr::Setting { which, value } => {

@@ -34,7 +34,8 @@ pub struct Flat {
 pub fn read_model(alloc: Global, source: &[u8]) -> Result<Model, ModelErr>
     requires { length source.now ≤ 2 ^ 20 }
     ensures spelled { IfOk result (λ tree. Spec.SpellsTree source.now (model tree)) }
-    ensures refused { IfErr result (λ e. Spec.IsErr (Spec.IsUnspelled source.now) (without_names e)) }
+    ensures refused { IfErr result
+        (λ e. Spec.IsErr (Spec.IsUnspelled source.now) (without_names e)) }
 {
     let tokens = lex(alloc, source)?;
     let tree = parse(alloc, source, &tokens)?;
@@ -48,7 +49,8 @@ fn flatten(alloc: Global, tree: &Model) -> Result<Flat, ModelErr>
     ensures flat { IfOk result (λ flat. Spec.IsFlatOf (model tree.now) (flat_source flat)) }
     ensures model { IfOk result (λ flat. IsFlatModel (flat_model flat.model)) }
     ensures numbered { IfOk result (λ flat. IsNumbered (flat_model flat.model)) }
-    ensures refused { IfErr result (λ e. Spec.IsErr (Spec.IsNotFlat (model tree.now)) (without_names e)) }
+    ensures refused { IfErr result
+        (λ e. Spec.IsErr (Spec.IsNotFlat (model tree.now)) (without_names e)) }
 {
     let scope = roles(alloc, tree)?;
     let model = unroll(alloc, tree, &scope)?;
@@ -64,7 +66,9 @@ fn machine_of(alloc: Global, flat: &Flat) -> Result<Machine, ModelErr>
     requires model { IsFlatModel (flat_model flat.now.model) }
     requires numbered { IsNumbered (flat_model flat.now.model) }
     ensures means { IfOk result (Spec.FlatMeans (flat_source flat.now)) }
-    ensures refused { IfErr result (λ e. Spec.IsErr (Spec.IsFlatRefused (flat_source flat.now)) (with_names (flat_model flat.now.model) e)) }
+    ensures refused { IfErr result
+        (λ e. Spec.IsErr (Spec.IsFlatRefused (flat_source flat.now))
+        (with_names (flat_model flat.now.model) e)) }
 {
     let order = order(alloc, &flat.model)?;
     let forms = normal(alloc, &flat.model, &order)?;

@@ -38,7 +38,8 @@ fn start_parts(
     ensures parts { IfOk result (AreComponents m.now) }
     ensures integrators { IfOk result (λ parts.
         EachAt (IsFirstIntegrator m.now q.now.value) parts.integrators.items) }
-    ensures functions { IfOk result (λ parts. EachAt (IsFirstFunction m.now) parts.functions.items) }
+    ensures functions { IfOk result
+        (λ parts. EachAt (IsFirstFunction m.now) parts.functions.items) }
     ensures crossings { IfOk result (λ parts. EachAt (IsFirstAt m.now) parts.crossings.items) }
 {
     let v = start_values(alloc, m, x, d)?;

@@ -46,7 +46,8 @@ fn first_across(value: i128, bound: i128, speed: i128) -> Option<u64>
     requires speed { IsSmall speed }
     requires low { pos 0 ≤ℤ bound }
     requires high { bound ≤ℤ pos 1 }
-    ensures { FirstAfter (λ n. int_le bound (value +ℤ pos n *ℤ speed) ≢ int_le bound value) 0 result }
+    ensures { FirstAfter (λ n. int_le bound (value +ℤ pos n *ℤ speed) ≢ int_le bound value) 0
+        result }
 {
     if value >= bound {
         first_past(value - bound, -speed)
@@ -90,7 +91,8 @@ impl Detector {
 
     /// The first later tick at which the truth differs, if the speed stays.
     pub fn next_change(&self) -> Option<u64>
-        ensures { FirstAfter (λ tick. holds_at self.now tick ≢ compares self.now.rel self.now.value) self.now.tick result }
+        ensures { FirstAfter (λ tick. holds_at self.now tick ≢ compares self.now.rel self.now.value)
+            self.now.tick result }
     {
         tick_later(
             self.tick,

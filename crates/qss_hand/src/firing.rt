@@ -29,9 +29,15 @@ pub fn fire(m: &Machine, clause: u32, branch: u32, w: &mut Work) -> Result<(), O
     requires clause { clause < length m.now.clauses }
     requires branch { branch < length (clause_at m.now clause).branches }
     requires fits { AreValuesOf m.now w.old }
-    requires room { length w.old.log + 1 + length (branch_at m.now clause branch).actions ≤ w.old.room }
-    ensures values { w.new ≡ values_after w.old (run_branch m.now w.old.tick w.old.pre clause branch (handling_of w.old) (branch_at m.now clause branch).actions) }
-    ensures over { overflow_of result ≡ (run_branch m.now w.old.tick w.old.pre clause branch (handling_of w.old) (branch_at m.now clause branch).actions).overflow }
+    requires room { length w.old.log + 1 + length (branch_at m.now clause branch).actions
+        ≤ w.old.room }
+    ensures values { w.new
+        ≡ values_after w.old
+        (run_branch m.now w.old.tick w.old.pre clause branch (handling_of w.old)
+        (branch_at m.now clause branch).actions) }
+    ensures over { overflow_of result
+        ≡ (run_branch m.now w.old.tick w.old.pre clause branch (handling_of w.old)
+        (branch_at m.now clause branch).actions).overflow }
     ensures fits { AreValuesOf m.now w.new }
 {
     let branches = m.clauses.as_slice()[clause as usize].branches.as_slice();

@@ -24,7 +24,9 @@ fn assigned(m: &Machine, form: &Form, bits: u8, w: &Work) -> i128
     requires form { IsBounded form.now }
     requires fits { AreValuesOf m.now w.now }
     requires bits { bits ≤ 84 }
-    ensures { result ≡ nearest_of (value_of m.now form.now w.now.x w.now.d w.now.pre w.now.tick) (pos (2 ^ bits)) }
+    ensures { result
+        ≡ nearest_of (value_of m.now form.now w.now.x w.now.d w.now.pre w.now.tick)
+        (pos (2 ^ bits)) }
 {
     let value = m.form_value(
         form,
@@ -40,7 +42,22 @@ fn assigned(m: &Machine, form: &Form, bits: u8, w: &Work) -> i128
 fn set_discrete(w: &mut Work, var: u32, place: u32, value: i128) -> Result<(), Over>
     requires place { place < length w.old.d }
     requires room { length w.old.log < w.old.room }
-    ensures values { w.new ≡ (if passes 43 value then w.old else record w.old { d = slice_set w.old.d place value; log = w.old.log ++ record { tick = w.old.tick; kind = kind.Set; var = var; level = value; state = pos 0 } ∷ [] }) }
+    ensures values { w.new
+        ≡ (if passes 43 value
+        then w.old
+        else
+        record w.old {
+          d = slice_set w.old.d place value;
+          log = w.old.log
+              ++ record {
+                tick = w.old.tick;
+                kind = kind.Set;
+                var = var;
+                level = value;
+                state = pos 0;
+              }
+              ∷ [];
+        }) }
     ensures over { overflow_of result ≡ (if passes 43 value then Some var else None) }
 {
     if passes(value, 43) {
@@ -62,7 +79,22 @@ fn set_discrete(w: &mut Work, var: u32, place: u32, value: i128) -> Result<(), O
 fn reinitialize(w: &mut Work, var: u32, value: i128) -> Result<(), Over>
     requires var { var < length w.old.x }
     requires room { length w.old.log < w.old.room }
-    ensures values { w.new ≡ (if passes 88 value then w.old else record w.old { x = slice_set w.old.x var value; log = w.old.log ++ record { tick = w.old.tick; kind = kind.Reinit; var = var; level = pos 0; state = value } ∷ [] }) }
+    ensures values { w.new
+        ≡ (if passes 88 value
+        then w.old
+        else
+        record w.old {
+          x = slice_set w.old.x var value;
+          log = w.old.log
+              ++ record {
+                tick = w.old.tick;
+                kind = kind.Reinit;
+                var = var;
+                level = pos 0;
+                state = value;
+              }
+              ∷ [];
+        }) }
     ensures over { overflow_of result ≡ (if passes 88 value then Some var else None) }
 {
     if passes(value, 88) {
@@ -85,8 +117,11 @@ fn run(m: &Machine, action: &Action, w: &mut Work) -> Result<(), Over>
     requires action { IsAction (state_count m.now) (discrete_count m.now) action.now }
     requires fits { AreValuesOf m.now w.old }
     requires room { length w.old.log < w.old.room }
-    ensures values { w.new ≡ values_after w.old (run_action m.now w.old.tick w.old.pre (handling_of w.old) action.now) }
-    ensures over { overflow_of result ≡ (run_action m.now w.old.tick w.old.pre (handling_of w.old) action.now).overflow }
+    ensures values { w.new
+        ≡ values_after w.old
+        (run_action m.now w.old.tick w.old.pre (handling_of w.old) action.now) }
+    ensures over { overflow_of result
+        ≡ (run_action m.now w.old.tick w.old.pre (handling_of w.old) action.now).overflow }
 {
     match action {
         Action::Set { var, form } => {
@@ -106,8 +141,11 @@ pub(crate) fn run_all(m: &Machine, actions: &[Action], w: &mut Work) -> Result<(
     requires each { All (IsAction (state_count m.now) (discrete_count m.now)) actions.now }
     requires fits { AreValuesOf m.now w.old }
     requires room { length w.old.log + length actions.now ≤ w.old.room }
-    ensures values { w.new ≡ values_after w.old (fold (run_action m.now w.old.tick w.old.pre) (handling_of w.old) actions.now) }
-    ensures over { overflow_of result ≡ (fold (run_action m.now w.old.tick w.old.pre) (handling_of w.old) actions.now).overflow }
+    ensures values { w.new
+        ≡ values_after w.old
+        (fold (run_action m.now w.old.tick w.old.pre) (handling_of w.old) actions.now) }
+    ensures over { overflow_of result
+        ≡ (fold (run_action m.now w.old.tick w.old.pre) (handling_of w.old) actions.now).overflow }
     ensures fits { AreValuesOf m.now w.new }
 {
     for action in actions {

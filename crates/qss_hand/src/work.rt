@@ -77,7 +77,16 @@ impl Work {
 
     /// The start of a machine, with memory for all rows that one tick can have.
     pub fn new(alloc: Global, m: &Machine) -> Result<Work, AllocError>
-        ensures { IfOk result (λ w. w ≡ record { x = start_states m.now; d = start_discretes m.now; pre = start_discretes m.now; tick = 0; log = []; room = row_room m.now.clauses }) }
+        ensures { IfOk result
+            (λ w. w
+            ≡ record {
+              x = start_states m.now;
+              d = start_discretes m.now;
+              pre = start_discretes m.now;
+              tick = 0;
+              log = [];
+              room = row_room m.now.clauses;
+            }) }
     {
         let x = start_states(alloc, m)?;
         let d = start_discretes(alloc, m)?;

@@ -16,7 +16,8 @@ fn coefficients_in(
     var: u32,
 ) -> Result<Vec<i64>, AllocError>
     requires { All (λ row. row < state_count m.now) rows.now }
-    ensures { IfOk result (λ list. list.items ≡ map (λ row. row_coefficient m.now row var) rows.now) }
+    ensures { IfOk result
+        (λ list. list.items ≡ map (λ row. row_coefficient m.now row var) rows.now) }
 {
     let mut list: Vec<i64> = Vec::with_capacity(alloc, rows.len())?;
     for row in rows {

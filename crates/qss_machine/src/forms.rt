@@ -35,7 +35,12 @@ fn input_at(states: &[i128], discretes: &[i64], before: &[i64], unit_bits: u8, v
     requires discretes { All (IsWithin 43) discretes.now }
     requires before { All (IsWithin 43) before.now }
     requires few { length states.now + length discretes.now + length before.now < 2 ^ 32 }
-    ensures value { result ≡ int_at (states.now ++ (map (λ d. d *ℤ pos (2 ^ unit_bits)) discretes.now ++ map (λ d. d *ℤ pos (2 ^ unit_bits)) before.now)) var }
+    ensures value { result
+        ≡ int_at
+        (states.now
+        ++ (map (λ d. d *ℤ pos (2 ^ unit_bits)) discretes.now
+        ++ map (λ d. d *ℤ pos (2 ^ unit_bits)) before.now))
+        var }
     ensures bound { IsWithin 88 result }
 {
     if var < states.len() {
@@ -75,7 +80,12 @@ fn entry_value(
     requires discretes { All (IsWithin 43) discretes.now }
     requires before { All (IsWithin 43) before.now }
     requires few { length states.now + length discretes.now + length before.now < 2 ^ 32 }
-    ensures value { result ≡ entry.coef *ℤ int_at (states.now ++ (map (λ d. d *ℤ pos (2 ^ unit_bits)) discretes.now ++ map (λ d. d *ℤ pos (2 ^ unit_bits)) before.now)) entry.var }
+    ensures value { result
+        ≡ entry.coef *ℤ int_at
+        (states.now
+        ++ (map (λ d. d *ℤ pos (2 ^ unit_bits)) discretes.now
+        ++ map (λ d. d *ℤ pos (2 ^ unit_bits)) before.now))
+        entry.var }
     ensures bound { unsigned_abs result ≤ unsigned_abs entry.coef * 2 ^ 88 }
 {
     weigh(
@@ -98,8 +108,13 @@ pub(crate) fn form_sum(
     requires discretes { All (IsWithin 43) discretes.now }
     requires before { All (IsWithin 43) before.now }
     requires few { length states.now + length discretes.now + length before.now < 2 ^ 32 }
-    ensures value { result ≡ weighted_sum entries.now (states.now ++ (map (λ d. d *ℤ pos (2 ^ unit_bits)) discretes.now ++ map (λ d. d *ℤ pos (2 ^ unit_bits)) before.now)) }
-    ensures bound { unsigned_abs result ≤ sum_by (λ entry. unsigned_abs entry.coef) entries.now * 2 ^ 88 }
+    ensures value { result
+        ≡ weighted_sum entries.now
+        (states.now
+        ++ (map (λ d. d *ℤ pos (2 ^ unit_bits)) discretes.now
+        ++ map (λ d. d *ℤ pos (2 ^ unit_bits)) before.now)) }
+    ensures bound { unsigned_abs result
+        ≤ sum_by (λ entry. unsigned_abs entry.coef) entries.now * 2 ^ 88 }
 {
     let mut sum: i128 = 0;
     for entry in entries {

@@ -25,7 +25,9 @@ fn note_once(list: &mut Vec<u32>, place: u32) -> Result<(), AllocError>
 // Adds a place to the list of a variable, unless it is the last there.
 fn mark(lists: &mut Vec<Vec<u32>>, var: u32, place: u32) -> Result<(), AllocError>
     requires { var < length lists.old.items }
-    ensures { IfOk result (λ done. MarksBy (map (λ list. list.items) lists.old.items) (map (λ list. list.items) lists.new.items) place (λ v. var == v)) }
+    ensures { IfOk result
+        (λ done. MarksBy (map (λ list. list.items) lists.old.items)
+        (map (λ list. list.items) lists.new.items) place (λ v. var == v)) }
 {
     note_once(&mut lists[var as usize], place)
 }
@@ -33,7 +35,9 @@ fn mark(lists: &mut Vec<Vec<u32>>, var: u32, place: u32) -> Result<(), AllocErro
 // Adds a place to the lists of the entries' variables.
 fn mark_entries(lists: &mut Vec<Vec<u32>>, entries: &[Entry], place: u32) -> Result<(), AllocError>
     requires { All (λ entry. entry.var < length lists.old.items) entries.now }
-    ensures { IfOk result (λ done. MarksBy (map (λ list. list.items) lists.old.items) (map (λ list. list.items) lists.new.items) place (λ v. has_entry v entries.now)) }
+    ensures { IfOk result
+        (λ done. MarksBy (map (λ list. list.items) lists.old.items)
+        (map (λ list. list.items) lists.new.items) place (λ v. has_entry v entries.now)) }
 {
     for entry in entries {
         mark(lists, entry.var, place)?;
@@ -43,8 +47,12 @@ fn mark_entries(lists: &mut Vec<Vec<u32>>, entries: &[Entry], place: u32) -> Res
 
 // Adds a place to the lists of a product's state and discrete variable.
 fn mark_product(lists: &mut Vec<Vec<u32>>, product: Product, place: u32) -> Result<(), AllocError>
-    requires { (product.state < length lists.old.items) × (product.discrete < length lists.old.items) }
-    ensures { IfOk result (λ done. MarksBy (map (λ list. list.items) lists.old.items) (map (λ list. list.items) lists.new.items) place (λ v. product.state == v || product.discrete == v)) }
+    requires { (product.state < length lists.old.items)
+        × (product.discrete < length lists.old.items) }
+    ensures { IfOk result
+        (λ done. MarksBy (map (λ list. list.items) lists.old.items)
+        (map (λ list. list.items) lists.new.items) place
+        (λ v. product.state == v || product.discrete == v)) }
 {
     mark(lists, product.state, place)?;
     mark(lists, product.discrete, place)?;
@@ -57,8 +65,14 @@ fn mark_products(
     products: &[Product],
     place: u32,
 ) -> Result<(), AllocError>
-    requires { All (λ product. (product.state < length lists.old.items) × (product.discrete < length lists.old.items)) products.now }
-    ensures { IfOk result (λ done. MarksBy (map (λ list. list.items) lists.old.items) (map (λ list. list.items) lists.new.items) place (λ v. list_any (λ product. product.state == v || product.discrete == v) products.now)) }
+    requires { All
+        (λ product. (product.state < length lists.old.items)
+        × (product.discrete < length lists.old.items))
+        products.now }
+    ensures { IfOk result
+        (λ done. MarksBy (map (λ list. list.items) lists.old.items)
+        (map (λ list. list.items) lists.new.items) place
+        (λ v. list_any (λ product. product.state == v || product.discrete == v) products.now)) }
 {
     for product in products {
         mark_product(lists, *product, place)?;
@@ -69,7 +83,9 @@ fn mark_products(
 // Adds a place to the lists of a row's variables.
 fn mark_row(lists: &mut Vec<Vec<u32>>, row: &SlopeRow, place: u32) -> Result<(), AllocError>
     requires { IsRowOf (length lists.old.items) row.now }
-    ensures { IfOk result (λ done. MarksBy (map (λ list. list.items) lists.old.items) (map (λ list. list.items) lists.new.items) place (λ v. row_reads v row.now)) }
+    ensures { IfOk result
+        (λ done. MarksBy (map (λ list. list.items) lists.old.items)
+        (map (λ list. list.items) lists.new.items) place (λ v. row_reads v row.now)) }
 {
     mark_entries(lists, row.entries.as_slice(), place)?;
     mark_products(lists, row.products.as_slice(), place)?;
@@ -83,10 +99,17 @@ fn mark_branches(
     first: u32,
 ) -> Result<u32, AllocError>
     requires few { first + length branches.now ≤ 16384 }
-    requires known { All (λ branch. IsConditionOf (length lists.old.items) branch.condition) branches.now }
+    requires known { All (λ branch. IsConditionOf (length lists.old.items) branch.condition)
+        branches.now }
     ensures next { IfOk result (λ next. next ≡ first + length branches.now) }
     ensures as_many { IfOk result (λ next. length lists.new.items ≡ length lists.old.items) }
-    ensures marks { IfOk result (λ next. (before : List Condition) → length before ≡ first → Collects condition_reads before (length lists.old.items) (map (λ list. list.items) lists.old.items) → Collects condition_reads (before ++ map (λ branch. branch.condition) branches.now) (length lists.old.items) (map (λ list. list.items) lists.new.items)) }
+    ensures marks { IfOk result
+        (λ next. (before : List Condition)
+        → length before ≡ first
+        → Collects condition_reads before (length lists.old.items)
+        (map (λ list. list.items) lists.old.items)
+        → Collects condition_reads (before ++ map (λ branch. branch.condition) branches.now)
+        (length lists.old.items) (map (λ list. list.items) lists.new.items)) }
 {
     for place in 0..branches.len() {
         let form = &branches[place].condition.form;
@@ -114,7 +137,9 @@ pub(crate) fn rows_by_variable(
 ) -> Result<Vec<Vec<u32>>, AllocError>
     requires few { length rows.now ≤ 4096 }
     requires known { All (IsRowOf count) rows.now }
-    ensures { IfOk result (λ lists. map (λ list. list.items) lists.items ≡ tabulate count (λ var. places_from (row_reads var) 0 rows.now)) }
+    ensures { IfOk result
+        (λ lists. map (λ list. list.items) lists.items
+        ≡ tabulate count (λ var. places_from (row_reads var) 0 rows.now)) }
 {
     let mut lists = no_places(alloc, count)?;
     for place in 0..rows.len() {
@@ -129,9 +154,18 @@ pub(crate) fn conditions_by_variable(
     clauses: &[ClauseInfo],
     count: u32,
 ) -> Result<Vec<Vec<u32>>, AllocError>
-    requires few { length (flat_map (λ clause. map (λ branch. branch.condition) clause.branches) clauses.now) ≤ 16384 }
-    requires known { All (λ clause. All (λ branch. IsConditionOf count branch.condition) clause.branches) clauses.now }
-    ensures { IfOk result (λ lists. map (λ list. list.items) lists.items ≡ tabulate count (λ var. places_from (condition_reads var) 0 (flat_map (λ clause. map (λ branch. branch.condition) clause.branches) clauses.now))) }
+    requires few { length
+        (flat_map (λ clause. map (λ branch. branch.condition) clause.branches) clauses.now)
+        ≤ 16384 }
+    requires known { All
+        (λ clause. All (λ branch. IsConditionOf count branch.condition) clause.branches)
+        clauses.now }
+    ensures { IfOk result
+        (λ lists. map (λ list. list.items) lists.items
+        ≡ tabulate count
+        (λ var. places_from (condition_reads var) 0
+        (flat_map (λ clause. map (λ branch. branch.condition) clause.branches)
+        clauses.now))) }
 {
     let mut lists = no_places(alloc, count)?;
     let mut first: u32 = 0;

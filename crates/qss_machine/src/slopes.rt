@@ -24,7 +24,9 @@ fn rounded_products(
     requires few { state_count + length discretes.now ≤ 4096 }
     requires row { IsRow state_count (length discretes.now) row.now }
     requires small { All (IsWithin 43) discretes.now }
-    ensures { result ≡ nearest_of (products_of row.now.products state_count discretes.now state) (pos (2 ^ level_bits)) }
+    ensures { result
+        ≡ nearest_of (products_of row.now.products state_count discretes.now state)
+        (pos (2 ^ level_bits)) }
 {
     scaled_down(
         product_sum(row.products.as_slice(), state_count, discretes, state),
@@ -57,7 +59,9 @@ fn product_level(
     requires discretes { All (IsWithin 43) discretes.now }
     requires modes { IsTrue (mode_fits level_bits (length levels.now) row.now discretes.now) }
     requires state { state < length levels.now }
-    ensures value { result ≡ nearest_of (products_of row.now.products (length levels.now) discretes.now state) (pos (2 ^ level_bits)) *ℤ int_at levels.now state }
+    ensures value { result
+        ≡ nearest_of (products_of row.now.products (length levels.now) discretes.now state)
+        (pos (2 ^ level_bits)) *ℤ int_at levels.now state }
     ensures bound { unsigned_abs result ≤ 2 ^ 88 }
 {
     let rounded = rounded_products(row, level_bits, levels.len(), discretes, state as u32);
@@ -72,7 +76,10 @@ fn product_slope(row: &SlopeRow, level_bits: u8, levels: &[i64], discretes: &[i6
     requires levels { All (IsWithin 43) levels.now }
     requires discretes { All (IsWithin 43) discretes.now }
     requires modes { IsTrue (mode_fits level_bits (length levels.now) row.now discretes.now) }
-    ensures value { result ≡ sum_below (length levels.now) (λ i. nearest_of (products_of row.now.products (length levels.now) discretes.now i) (pos (2 ^ level_bits)) *ℤ int_at levels.now i) }
+    ensures value { result
+        ≡ sum_below (length levels.now)
+        (λ i. nearest_of (products_of row.now.products (length levels.now) discretes.now i)
+        (pos (2 ^ level_bits)) *ℤ int_at levels.now i) }
     ensures bound { unsigned_abs result ≤ 2 ^ 100 }
 {
     let mut sum: i128 = 0;

@@ -86,7 +86,8 @@ impl Machine {
         requires row { row < state_count self.now }
         requires as_many { length discretes.now ≡ discrete_count self.now }
         requires small { All (IsWithin 43) discretes.now }
-        ensures { result ≡ mode_fits self.now.f (state_count self.now) (row_at self.now row) discretes.now }
+        ensures { result
+            ≡ mode_fits self.now.f (state_count self.now) (row_at self.now row) discretes.now }
     {
         let states = self.states.as_slice().len();
         let right_side = &self.rows.as_slice()[row as usize];
@@ -100,7 +101,8 @@ impl Machine {
         requires discretes { length discretes.now ≡ discrete_count self.now }
         requires small_levels { All (IsWithin 43) levels.now }
         requires small_discretes { All (IsWithin 43) discretes.now }
-        requires modes { IsTrue (mode_fits self.now.f (state_count self.now) (row_at self.now row) discretes.now) }
+        requires modes { IsTrue
+            (mode_fits self.now.f (state_count self.now) (row_at self.now row) discretes.now) }
         ensures value { result ≡ slope_at self.now row levels.now discretes.now }
         ensures bound { IsWithin 101 result }
     {
@@ -115,7 +117,8 @@ impl Machine {
         requires discretes { length discretes.now ≡ discrete_count self.now }
         requires small_levels { All (IsWithin 43) levels.now }
         requires small_discretes { All (IsWithin 43) discretes.now }
-        requires modes { IsTrue (mode_fits self.now.f (state_count self.now) (row_at self.now row) discretes.now) }
+        requires modes { IsTrue
+            (mode_fits self.now.f (state_count self.now) (row_at self.now row) discretes.now) }
         ensures { result ≡ weight_at self.now row levels.now discretes.now }
     {
         let right_side = &self.rows.as_slice()[row as usize];
@@ -176,8 +179,14 @@ impl Machine {
     pub fn with_relative(self, n: u16) -> Machine
         requires { n ≤ 2048 }
         ensures relative { result.relative ≡ n }
-        ensures units { (result.p ≡ self.p) × (result.k ≡ self.k) × (result.f ≡ self.f) × (result.last ≡ self.last) }
-        ensures lists { (result.states ≡ self.states) × (result.discretes ≡ self.discretes) × (result.rows ≡ self.rows) × (result.clauses ≡ self.clauses) }
+        ensures units { (result.p ≡ self.p)
+            × (result.k ≡ self.k)
+            × (result.f ≡ self.f)
+            × (result.last ≡ self.last) }
+        ensures lists { (result.states ≡ self.states)
+            × (result.discretes ≡ self.discretes)
+            × (result.rows ≡ self.rows)
+            × (result.clauses ≡ self.clauses) }
     {
         let mut machine = self;
         machine.relative = n;

@@ -32,7 +32,9 @@ pub fn entry_weight(entries: &[Entry], first: &[i64], second: &[i64]) -> i128
     requires known { All (λ entry. entry.var < length first.now + length second.now) entries.now }
     requires firsts { All (IsWithin 43) first.now }
     requires seconds { All (IsWithin 43) second.now }
-    ensures value { result ≡ sum_over (λ entry. size (entry.coef *ℤ int_at (first.now ++ second.now) entry.var)) entries.now }
+    ensures value { result
+        ≡ sum_over (λ entry. size (entry.coef *ℤ int_at (first.now ++ second.now) entry.var))
+        entries.now }
     ensures bound { unsigned_abs result ≤ 2 ^ 99 }
 {
     let mut sum: i128 = 0;
@@ -76,7 +78,10 @@ fn state_excess(
     requires discretes { All (IsWithin 43) discretes.now }
     requires modes { IsTrue (mode_fits level_bits (length levels.now) row.now discretes.now) }
     requires state { state < length levels.now }
-    ensures value { result ≡ (size (mode_coefficient level_bits (length levels.now) row.now discretes.now state) -ℤ size (coefficient_of row.now.entries state)) *ℤ size (int_at levels.now state) }
+    ensures value { result
+        ≡ (size (mode_coefficient level_bits (length levels.now) row.now discretes.now state) -ℤ
+        size (coefficient_of row.now.entries state))
+        *ℤ size (int_at levels.now state) }
     ensures bound { unsigned_abs result ≤ 2 ^ 88 }
 {
     let own = coefficient_among(row.entries.as_slice(), state as u32);
@@ -92,7 +97,12 @@ fn excess_sum(row: &SlopeRow, level_bits: u8, levels: &[i64], discretes: &[i64])
     requires levels { All (IsWithin 43) levels.now }
     requires discretes { All (IsWithin 43) discretes.now }
     requires modes { IsTrue (mode_fits level_bits (length levels.now) row.now discretes.now) }
-    ensures value { result ≡ sum_below (length levels.now) (λ i. (size (mode_coefficient level_bits (length levels.now) row.now discretes.now i) -ℤ size (coefficient_of row.now.entries i)) *ℤ size (int_at levels.now i)) }
+    ensures value { result
+        ≡ sum_below (length levels.now)
+        (λ i.
+        (size (mode_coefficient level_bits (length levels.now) row.now discretes.now i) -ℤ
+        size (coefficient_of row.now.entries i))
+        *ℤ size (int_at levels.now i)) }
     ensures bound { unsigned_abs result ≤ 2 ^ 100 }
 {
     let mut sum: i128 = 0;
@@ -131,7 +141,9 @@ pub fn is_light(row: &SlopeRow, level_bits: u8, levels: &[i64], discretes: &[i64
     requires row { IsRow (length levels.now) (length discretes.now) row.now }
     requires levels { All (IsWithin 43) levels.now }
     requires discretes { All (IsWithin 43) discretes.now }
-    ensures { result ≡ (mode_fits level_bits (length levels.now) row.now discretes.now && not (passes 88 (weight_of level_bits row.now levels.now discretes.now))) }
+    ensures { result
+        ≡ (mode_fits level_bits (length levels.now) row.now discretes.now
+        && not (passes 88 (weight_of level_bits row.now levels.now discretes.now))) }
 {
     modes_fit(row, level_bits, levels.len(), discretes)
         && !passes(row_weight(row, level_bits, levels, discretes), 88)

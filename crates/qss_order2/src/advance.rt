@@ -17,8 +17,11 @@ use crate::store::Store;
 pub(crate) fn advance(f: &FixedMachine, rule: &SlopeRule, from: u64, s: &mut Store) -> Outcome2
     requires stands { Stands f.now.machine from s.old }
     requires in_time { from ≤ f.now.machine.last }
-    ensures next { IsNext2 (IsRuled2 rule.now.nearest) (standing_of f.now.machine from s.old None) (standing_of f.now.machine (tick_of f.now.machine.last result) s.new (end_of result)) result }
-    ensures stands { end_of result ≡ None → Stands f.now.machine (tick_of f.now.machine.last result) s.new }
+    ensures next { IsNext2 (IsRuled2 rule.now.nearest) (standing_of f.now.machine from s.old None)
+        (standing_of f.now.machine (tick_of f.now.machine.last result) s.new (end_of result))
+        result }
+    ensures stands { end_of result ≡ None
+        → Stands f.now.machine (tick_of f.now.machine.last result) s.new }
 {
     if let Some(var) = s.over {
         set_overflow_row(from, var, &mut s.rows);

@@ -61,9 +61,13 @@ impl Course2 {
     /// answer again and changes nothing. It takes no memory.
     pub fn next_event(&mut self, rule: &SlopeRule) -> Outcome2
         ensures same { self.new.machine ≡ self.old.machine }
-        ensures again { (end : Outcome2) → self.old.end ≡ Some end → (result ≡ end) × (self.new ≡ self.old) }
-        ensures next { self.old.end ≡ None → IsNext2 (IsRuled2 rule.now.nearest) self.old self.new result }
-        ensures rows { rule.now.nearest ≡ true → self.old.end ≡ None → rows2_left near_change self.old ≡ self.new.rows ++ rows2_left near_change self.new }
+        ensures again { (end : Outcome2) → self.old.end ≡ Some end
+            → (result ≡ end) × (self.new ≡ self.old) }
+        ensures next { self.old.end ≡ None
+            → IsNext2 (IsRuled2 rule.now.nearest) self.old self.new result }
+        ensures rows { rule.now.nearest ≡ true
+            → self.old.end ≡ None
+            → rows2_left near_change self.old ≡ self.new.rows ++ rows2_left near_change self.new }
     {
         if let Some(end) = self.end {
             return end;

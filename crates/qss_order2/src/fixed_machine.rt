@@ -92,7 +92,8 @@ fn drive_of(m: &Machine, row: u32, zeros: &[i64], discretes: &[i64]) -> i128
 // That of all rows.
 fn drives_of(alloc: Global, m: &Machine, discretes: &[i64]) -> Result<Vec<i128>, AllocError>
     requires { discretes.now ≡ start_discretes m.now }
-    ensures { IfOk result (λ drives. drives.items ≡ tabulate (state_count m.now) (start_drive m.now)) }
+    ensures { IfOk result
+        (λ drives. drives.items ≡ tabulate (state_count m.now) (start_drive m.now)) }
 {
     let count = m.states.as_slice().len();
     let zeros = copies(alloc, 0, count)?;

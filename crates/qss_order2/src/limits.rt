@@ -49,7 +49,9 @@ fn is_heavy(f: &FixedMachine, row: usize, levels: &[i128]) -> bool
 fn first_heavy(f: &FixedMachine, levels: &[i128]) -> Option<u32>
     requires levels { length levels.now ≡ state_count f.now.machine }
     requires small { All (IsWithin 50) levels.now }
-    ensures { result ≡ first_past 94 (tabulate (state_count f.now.machine) (rise_weight f.now.machine levels.now)) }
+    ensures { result
+        ≡ first_past 94
+        (tabulate (state_count f.now.machine) (rise_weight f.now.machine levels.now)) }
 {
     for row in 0..levels.len() {
         if is_heavy(f, row, levels) {
@@ -72,8 +74,12 @@ fn bends_past(f: &FixedMachine, row: usize, changes: &[i128]) -> bool
 pub(crate) fn first_steep(f: &FixedMachine, changes: &[i128], touched: &[bool]) -> Option<u32>
     requires changes { length changes.now ≡ state_count f.now.machine }
     requires touched { length touched.now ≡ state_count f.now.machine }
-    requires others { (j : ℕ) → j < state_count f.now.machine → flag_at touched.now j ≡ false → passes 94 (bend_weight f.now.machine changes.now j) ≡ false }
-    ensures { result ≡ first_past 94 (tabulate (state_count f.now.machine) (bend_weight f.now.machine changes.now)) }
+    requires others { (j : ℕ) → j < state_count f.now.machine
+        → flag_at touched.now j ≡ false
+        → passes 94 (bend_weight f.now.machine changes.now j) ≡ false }
+    ensures { result
+        ≡ first_past 94
+        (tabulate (state_count f.now.machine) (bend_weight f.now.machine changes.now)) }
 {
     for row in 0..changes.len() {
         if touched[row] && bends_past(f, row, changes) {
@@ -103,7 +109,9 @@ fn is_above(z: i128, bound: i128) -> bool
 
 // Whether no level is more than this in size.
 fn are_within(levels: &[i128], bound: i128) -> bool
-    ensures { result ≡ true → (j : ℕ) → j < length levels.now → size (int_at levels.now j) ≤ℤ bound }
+    ensures { result ≡ true
+        → (j : ℕ) → j < length levels.now
+        → size (int_at levels.now j) ≤ℤ bound }
 {
     for j in 0..levels.len() {
         if is_above(levels[j], bound) {

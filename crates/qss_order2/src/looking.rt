@@ -21,7 +21,8 @@ fn prepare(f: &FixedMachine, tick: u64, s: &mut Store)
     requires stands { Stands f.now.machine tick s.old }
     requires within { s.old.over ≡ None }
     requires in_time { tick < f.now.machine.last }
-    ensures dues { HasDues f.now.machine tick s.new.window (world_of s.new.motion) s.new.dues.items }
+    ensures dues { HasDues f.now.machine tick s.new.window (world_of s.new.motion)
+        s.new.dues.items }
     ensures motion { s.new.motion ≡ s.old.motion }
     ensures fits { FitsMachine f.now.machine s.new }
 {
@@ -40,10 +41,14 @@ fn prepare(f: &FixedMachine, tick: u64, s: &mut Store)
 fn go_on(f: &FixedMachine, tick: u64, s: &mut Store) -> u64
     requires fits { FitsMachine f.now.machine s.old }
     requires moves { Moves f.now.machine s.old.motion }
-    requires dues { HasDues f.now.machine tick s.old.window (world_of s.old.motion) s.old.dues.items }
-    ensures next { IsNextLook f.now.machine tick (world_of s.old.motion) (λ j. until tick (due_at s.old.dues.items j)) s.new.left.items result }
-    ensures arrived { IsArrived f.now.machine (world_of s.old.motion) s.new.left.items result s.new.motion }
-    ensures states { s.new.motion.states.items ≡ (world2_after f.now.machine (world_of s.old.motion) result).states }
+    requires dues { HasDues f.now.machine tick s.old.window (world_of s.old.motion)
+        s.old.dues.items }
+    ensures next { IsNextLook f.now.machine tick (world_of s.old.motion)
+        (λ j. until tick (due_at s.old.dues.items j)) s.new.left.items result }
+    ensures arrived { IsArrived f.now.machine (world_of s.old.motion) s.new.left.items result
+        s.new.motion }
+    ensures states { s.new.motion.states.items
+        ≡ (world2_after f.now.machine (world_of s.old.motion) result).states }
     ensures quiet { AreQuiet f.now.machine s.new.left.items s.new.touched.items }
     ensures kept { (s.new.window ≡ s.old.window) × (s.new.dues ≡ s.old.dues) }
     ensures fits { FitsMachine f.now.machine s.new }

@@ -85,7 +85,9 @@ fn move_states(rises: &[i128], bends: &[i128], ticks: u64, states: &mut [i128])
     requires small_rises { All (IsWithin 94) rises.now }
     requires small_bends { All (IsWithin 94) bends.now }
     requires ticks { ticks ≤ 65536 }
-    ensures { states.new ≡ tabulate (length states.old) (λ j. curve_at (int_at states.old j) (int_at rises.now j) (int_at bends.now j) ticks) }
+    ensures { states.new
+        ≡ tabulate (length states.old)
+        (λ j. curve_at (int_at states.old j) (int_at rises.now j) (int_at bends.now j) ticks) }
 {
     for j in 0..states.len() {
         states[j] = state_after(states[j], rises[j], bends[j], ticks);
@@ -129,7 +131,11 @@ fn move_levels(
     requires small_levels { All (IsWithin 49) levels.old }
     requires small_changes { All (IsWithin 95) changes.now }
     requires ticks { ticks ≤ 65536 }
-    ensures { levels.new ≡ tabulate (length levels.old) (λ j. if flag_at left.now j then floor_of (int_at states.now j) (level_unit f.now.machine) else int_at levels.old j +ℤ pos ticks *ℤ int_at changes.now j) }
+    ensures { levels.new
+        ≡ tabulate (length levels.old)
+        (λ j. if flag_at left.now j
+        then floor_of (int_at states.now j) (level_unit f.now.machine)
+        else int_at levels.old j +ℤ pos ticks *ℤ int_at changes.now j) }
 {
     for j in 0..levels.len() {
         levels[j] = level_after(left[j], f.unit, states[j], levels[j], changes[j], ticks);
@@ -141,8 +147,10 @@ pub(crate) fn move_on(f: &FixedMachine, ticks: u64, left: &[bool], q: &mut Motio
     requires moves { Moves f.now.machine q.old }
     requires left { length left.now ≡ state_count f.now.machine }
     requires ticks { ticks ≤ 65536 }
-    ensures states { q.new.states.items ≡ (world2_after f.now.machine (world_of q.old) ticks).states }
-    ensures levels { q.new.levels.items ≡ levels_after f.now.machine (world_of q.old) left.now ticks }
+    ensures states { q.new.states.items
+        ≡ (world2_after f.now.machine (world_of q.old) ticks).states }
+    ensures levels { q.new.levels.items
+        ≡ levels_after f.now.machine (world_of q.old) left.now ticks }
     ensures changes { q.new.changes ≡ q.old.changes }
     ensures kept { (q.new.rises ≡ q.old.rises) × (q.new.bends ≡ q.old.bends) }
     ensures sized { IsSized f.now.machine q.new }

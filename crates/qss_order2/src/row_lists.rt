@@ -23,7 +23,11 @@ fn push_state(
 )
     requires few { state < 4096 }
     requires room { vec_len rows.old + 2 ≤ vec_capacity rows.old }
-    ensures rows { rows.new.items ≡ rows.old.items ++ record { tick = tick; kind = kind; var = state; level = level; state = x } ∷ record { tick = tick; kind = Slope; var = state; level = change; state = pos 0 } ∷ [] }
+    ensures rows { rows.new.items
+        ≡ rows.old.items
+        ++ record { tick = tick; kind = kind; var = state; level = level; state = x }
+        ∷ record { tick = tick; kind = Slope; var = state; level = change; state = pos 0 }
+        ∷ [] }
     ensures count { vec_len rows.new ≡ vec_len rows.old + 2 }
     ensures room { vec_capacity rows.new ≡ vec_capacity rows.old }
 {
@@ -58,7 +62,10 @@ pub(crate) fn set_left_rows(
     requires levels { length levels.now ≡ length left.now }
     requires changes { length changes.now ≡ length left.now }
     requires room { length left.now + length left.now ≤ vec_capacity rows.old }
-    ensures rows { rows.new.items ≡ rows_of_left kind tick (record { states = states.now; levels = levels.now; changes = changes.now }) left.now (length left.now) }
+    ensures rows { rows.new.items
+        ≡ rows_of_left kind tick
+        (record { states = states.now; levels = levels.now; changes = changes.now }) left.now
+        (length left.now) }
     ensures count { vec_len rows.new ≤ length left.now + length left.now }
     ensures room { vec_capacity rows.new ≡ vec_capacity rows.old }
 {
@@ -76,7 +83,17 @@ fn add_levels(tick: u64, states: &[i128], levels: &[i128], rows: &mut Vec<Row2>)
     requires few { length states.now ≤ 4096 }
     requires levels { length levels.now ≡ length states.now }
     requires room { vec_len rows.old + length states.now ≤ vec_capacity rows.old }
-    ensures rows { rows.new.items ≡ rows.old.items ++ tabulate (length states.now) (λ j. record { tick = tick; kind = End; var = j; level = int_at levels.now j; state = int_at states.now j }) }
+    ensures rows { rows.new.items
+        ≡ rows.old.items
+        ++ tabulate (length states.now)
+        (λ j.
+        record {
+          tick = tick;
+          kind = End;
+          var = j;
+          level = int_at levels.now j;
+          state = int_at states.now j;
+        }) }
     ensures count { vec_len rows.new ≡ vec_len rows.old + length states.now }
     ensures room { vec_capacity rows.new ≡ vec_capacity rows.old }
 {
@@ -113,7 +130,8 @@ pub(crate) fn add_discretes(f: &FixedMachine, kind: Kind2, tick: u64, rows: &mut
 /// The rows of the end.
 pub(crate) fn set_end_rows(f: &FixedMachine, tick: u64, q: &Motion, rows: &mut Vec<Row2>)
     requires sized { IsSized f.now.machine q.now }
-    requires room { state_count f.now.machine + discrete_count f.now.machine ≤ vec_capacity rows.old }
+    requires room { state_count f.now.machine + discrete_count f.now.machine
+        ≤ vec_capacity rows.old }
     ensures { rows.new.items ≡ end_rows f.now.machine tick (world_of q.now) }
 {
     rows.clear();

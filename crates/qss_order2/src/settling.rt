@@ -32,7 +32,8 @@ fn set_rises(f: &FixedMachine, levels: &[i128], rises: &mut [i128])
     requires levels { length levels.now ≡ state_count f.now.machine }
     requires rises { length rises.old ≡ state_count f.now.machine }
     requires small { All (IsWithin 50) levels.now }
-    ensures { rises.new ≡ tabulate (state_count f.now.machine) (λ j. rise_at f.now.machine j levels.now) }
+    ensures { rises.new
+        ≡ tabulate (state_count f.now.machine) (λ j. rise_at f.now.machine j levels.now) }
 {
     for row in 0..rises.len() {
         rises[row] = rise_at(f, row, levels);
@@ -55,7 +56,8 @@ fn rise_after(
     requires rise { IsWithin 94 rise }
     requires bend { IsWithin 94 bend }
     requires ticks { ticks ≤ 65536 }
-    ensures { result ≡ (if touched then rise_at f.now.machine row levels.now else rise +ℤ pos ticks *ℤ bend) }
+    ensures { result
+        ≡ (if touched then rise_at f.now.machine row levels.now else rise +ℤ pos ticks *ℤ bend) }
 {
     if touched {
         rise_at(f, row, levels)
@@ -81,7 +83,11 @@ fn renew_rises(
     requires small_rises { All (IsWithin 94) rises.old }
     requires small_bends { All (IsWithin 94) bends.now }
     requires ticks { ticks ≤ 65536 }
-    ensures { rises.new ≡ tabulate (state_count f.now.machine) (λ j. if flag_at touched.now j then rise_at f.now.machine j levels.now else int_at rises.old j +ℤ pos ticks *ℤ int_at bends.now j) }
+    ensures { rises.new
+        ≡ tabulate (state_count f.now.machine)
+        (λ j. if flag_at touched.now j
+        then rise_at f.now.machine j levels.now
+        else int_at rises.old j +ℤ pos ticks *ℤ int_at bends.now j) }
 {
     for row in 0..rises.len() {
         rises[row] = rise_after(f, touched[row], row, levels, rises[row], bends[row], ticks);
@@ -91,7 +97,8 @@ fn renew_rises(
 // The change of a level: what the rule answers to the state's rise where it is asked, else the old one.
 fn change_of(f: &FixedMachine, rule: &SlopeRule, asked: bool, rise: i128, old: i128) -> i128
     requires { IsWithin 95 rise }
-    ensures { MatchBool asked (IsAnswer rule.now.nearest rise (level_unit f.now.machine) result) (result ≡ old) }
+    ensures { MatchBool asked (IsAnswer rule.now.nearest rise (level_unit f.now.machine) result)
+        (result ≡ old) }
 {
     if asked {
         rule.change(rise, f.unit)
@@ -111,7 +118,8 @@ fn set_changes(
     requires rises { length rises.now ≡ length changes.old }
     requires left { length left.now ≡ length changes.old }
     requires small { All (IsWithin 95) rises.now }
-    ensures { AreAnswers rule.now.nearest (level_unit f.now.machine) rises.now left.now changes.old changes.new }
+    ensures { AreAnswers rule.now.nearest (level_unit f.now.machine) rises.now left.now changes.old
+        changes.new }
 {
     for j in 0..changes.len() {
         changes[j] = change_of(f, rule, left[j], rises[j], changes[j]);
@@ -133,9 +141,14 @@ fn set_bends(f: &FixedMachine, changes: &[i128], touched: &[bool], bends: &mut [
     requires changes { length changes.now ≡ state_count f.now.machine }
     requires touched { length touched.now ≡ state_count f.now.machine }
     requires bends { length bends.old ≡ state_count f.now.machine }
-    requires others { (j : ℕ) → j < state_count f.now.machine → flag_at touched.now j ≡ false → int_at bends.old j ≡ bend_at f.now.machine j changes.now }
-    requires within { first_past 94 (tabulate (state_count f.now.machine) (bend_weight f.now.machine changes.now)) ≡ None }
-    ensures { bends.new ≡ tabulate (state_count f.now.machine) (λ j. bend_at f.now.machine j changes.now) }
+    requires others { (j : ℕ) → j < state_count f.now.machine
+        → flag_at touched.now j ≡ false
+        → int_at bends.old j ≡ bend_at f.now.machine j changes.now }
+    requires within { first_past 94
+        (tabulate (state_count f.now.machine) (bend_weight f.now.machine changes.now))
+        ≡ None }
+    ensures { bends.new
+        ≡ tabulate (state_count f.now.machine) (λ j. bend_at f.now.machine j changes.now) }
 {
     for row in 0..bends.len() {
         if touched[row] {
@@ -149,10 +162,18 @@ fn bend(f: &FixedMachine, changes: &[i128], touched: &[bool], bends: &mut [i128]
     requires changes { length changes.now ≡ state_count f.now.machine }
     requires touched { length touched.now ≡ state_count f.now.machine }
     requires bends { length bends.old ≡ state_count f.now.machine }
-    requires flat { (j : ℕ) → j < state_count f.now.machine → flag_at touched.now j ≡ false → passes 94 (bend_weight f.now.machine changes.now j) ≡ false }
-    requires others { (j : ℕ) → j < state_count f.now.machine → flag_at touched.now j ≡ false → int_at bends.old j ≡ bend_at f.now.machine j changes.now }
-    ensures over { result ≡ first_past 94 (tabulate (state_count f.now.machine) (bend_weight f.now.machine changes.now)) }
-    ensures bends { result ≡ None → bends.new ≡ tabulate (state_count f.now.machine) (λ j. bend_at f.now.machine j changes.now) }
+    requires flat { (j : ℕ) → j < state_count f.now.machine
+        → flag_at touched.now j ≡ false
+        → passes 94 (bend_weight f.now.machine changes.now j) ≡ false }
+    requires others { (j : ℕ) → j < state_count f.now.machine
+        → flag_at touched.now j ≡ false
+        → int_at bends.old j ≡ bend_at f.now.machine j changes.now }
+    ensures over { result
+        ≡ first_past 94
+        (tabulate (state_count f.now.machine) (bend_weight f.now.machine changes.now)) }
+    ensures bends { result ≡ None
+        → bends.new
+        ≡ tabulate (state_count f.now.machine) (λ j. bend_at f.now.machine j changes.now) }
 {
     if let Some(var) = first_steep(f, changes, touched) {
         return Some(var);
@@ -177,10 +198,12 @@ pub(crate) fn settle(
     requires quiet { AreQuiet f.now.machine left.now touched.now }
     requires left { length left.now ≡ state_count f.now.machine }
     requires touched { length touched.now ≡ state_count f.now.machine }
-    requires held { (j : ℕ) → j < state_count f.now.machine → IsWithin 95 (level_unit f.now.machine *ℤ int_at q.old.changes.items j) }
+    requires held { (j : ℕ) → j < state_count f.now.machine
+        → IsWithin 95 (level_unit f.now.machine *ℤ int_at q.old.changes.items j) }
     ensures kept { (q.new.states ≡ q.old.states) × (q.new.levels ≡ q.old.levels) }
     ensures sized { IsSized f.now.machine q.new }
-    ensures settled { IsSettled (IsRuled2 rule.now.nearest) f.now.machine (flag_at left.now) q.old q.new result }
+    ensures settled { IsSettled (IsRuled2 rule.now.nearest) f.now.machine (flag_at left.now) q.old
+        q.new result }
 {
     if let Some(var) = past_calm(f, calm, q.levels.as_slice()) {
         return Some(var);
@@ -208,10 +231,12 @@ pub(crate) fn begin(
     requires left { length left.now ≡ state_count f.now.machine }
     requires all { (j : ℕ) → j < state_count f.now.machine → flag_at left.now j ≡ true }
     requires start { q.old.levels.items ≡ fine_levels f.now.machine }
-    requires held { (j : ℕ) → j < state_count f.now.machine → IsWithin 95 (level_unit f.now.machine *ℤ int_at q.old.changes.items j) }
+    requires held { (j : ℕ) → j < state_count f.now.machine
+        → IsWithin 95 (level_unit f.now.machine *ℤ int_at q.old.changes.items j) }
     ensures kept { (q.new.states ≡ q.old.states) × (q.new.levels ≡ q.old.levels) }
     ensures sized { IsSized f.now.machine q.new }
-    ensures changes { AreChanges (IsRuled2 rule.now.nearest) f.now.machine (flag_at left.now) q.old.levels.items q.old.changes.items q.new.changes.items }
+    ensures changes { AreChanges (IsRuled2 rule.now.nearest) f.now.machine (flag_at left.now)
+        q.old.levels.items q.old.changes.items q.new.changes.items }
     ensures over { result ≡ past_limit f.now.machine q.old.levels.items q.new.changes.items }
     ensures rises { result ≡ None → HasRises f.now.machine q.new }
 {

@@ -37,10 +37,16 @@ impl Sim2 {
     /// Goes on to the next tick with rows, to an overflow, or to the last tick. After the end of the run it gives the same
     /// answer again and changes nothing. It takes no memory.
     pub fn next_event(&mut self) -> Outcome2
-        ensures same { (self.new.course.machine ≡ self.old.course.machine) × (self.new.rule ≡ self.old.rule) }
-        ensures again { (end : Outcome2) → self.old.course.end ≡ Some end → (result ≡ end) × (self.new.course ≡ self.old.course) }
-        ensures next { self.old.course.end ≡ None → IsNext2 (IsRuled2 self.old.rule.nearest) self.old.course self.new.course result }
-        ensures rows { self.old.rule.nearest ≡ true → self.old.course.end ≡ None → rows2_left near_change self.old.course ≡ self.new.course.rows ++ rows2_left near_change self.new.course }
+        ensures same { (self.new.course.machine ≡ self.old.course.machine)
+            × (self.new.rule ≡ self.old.rule) }
+        ensures again { (end : Outcome2) → self.old.course.end ≡ Some end
+            → (result ≡ end) × (self.new.course ≡ self.old.course) }
+        ensures next { self.old.course.end ≡ None
+            → IsNext2 (IsRuled2 self.old.rule.nearest) self.old.course self.new.course result }
+        ensures rows { self.old.rule.nearest ≡ true
+            → self.old.course.end ≡ None
+            → rows2_left near_change self.old.course
+            ≡ self.new.course.rows ++ rows2_left near_change self.new.course }
     {
         self.course.next_event(&self.rule)
     }

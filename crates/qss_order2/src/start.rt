@@ -58,7 +58,8 @@ fn resting_motion(alloc: Global, f: &FixedMachine) -> Result<Motion, AllocError>
     ensures sized { IfOk result (λ q. IsSized f.now.machine q) }
     ensures states { IfOk result (λ q. q.states.items ≡ fine_states f.now.machine) }
     ensures levels { IfOk result (λ q. q.levels.items ≡ fine_levels f.now.machine) }
-    ensures changes { IfOk result (λ q. q.changes.items ≡ replicate (state_count f.now.machine) (pos 0)) }
+    ensures changes { IfOk result
+        (λ q. q.changes.items ≡ replicate (state_count f.now.machine) (pos 0)) }
 {
     let states = start_states(alloc, &f.machine)?;
     let levels = levels_below(alloc, f, states.as_slice())?;
@@ -118,7 +119,8 @@ pub(crate) fn start_store(
     rule: &SlopeRule,
 ) -> Result<Store, AllocError>
     ensures stands { IfOk result (λ s. Stands f.now.machine 0 s) }
-    ensures start { IfOk result (λ s. IsStart2 (IsRuled2 rule.now.nearest) f.now.machine (world_of s.motion)) }
+    ensures start { IfOk result
+        (λ s. IsStart2 (IsRuled2 rule.now.nearest) f.now.machine (world_of s.motion)) }
     ensures rows { IfOk result (λ s. s.rows.items ≡ start_rows f.now.machine (world_of s.motion)) }
 {
     let mut store = blank_store(alloc, f)?;

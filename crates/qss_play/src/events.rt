@@ -20,9 +20,11 @@ fn write_row<S: Simulation, O: Sink>(
     out: &mut O,
 ) -> Result<(), Stop>
     requires { row < length (S.present sim.now) }
-    ensures written { IsWriting O.written O.faults O.failed (result_err result) out.old out.new (bytes_in (line_at (S.present sim.now) row)) }
+    ensures written { IsWriting O.written O.faults O.failed (result_err result) out.old out.new
+        (bytes_in (line_at (S.present sim.now) row)) }
     ensures nothing { result_err result ≡ Some Stop.Memory → out.new ≡ out.old }
-    ensures wanted { result_err result ≡ Some Stop.Memory → IsSome (line_at (S.present sim.now) row) }
+    ensures wanted { result_err result ≡ Some Stop.Memory
+        → IsSome (line_at (S.present sim.now) row) }
 {
     match sim.make_line(row, lines) {
         Ok(true) => write_bytes(lines.line(), out),
@@ -37,8 +39,10 @@ fn write_rows<S: Simulation, O: Sink>(
     lines: &mut LineWriter,
     out: &mut O,
 ) -> Result<(), Stop>
-    ensures written { IsWriting O.written O.faults O.failed (result_err result) out.old out.new (text_in (S.present sim.now)) }
-    ensures stopped { result_err result ≡ Some Stop.Memory → StopsAtLine O.written [] (S.present sim.now) out.old out.new }
+    ensures written { IsWriting O.written O.faults O.failed (result_err result) out.old out.new
+        (text_in (S.present sim.now)) }
+    ensures stopped { result_err result ≡ Some Stop.Memory
+        → StopsAtLine O.written [] (S.present sim.now) out.old out.new }
 {
     for row in 0..sim.row_count() {
         write_row(sim, row, lines, out)?;
@@ -55,11 +59,20 @@ fn write_event<S: Simulation, O: Sink>(
     requires { S.goes_on sim.old }
     ensures machine { S.machine sim.new ≡ S.machine sim.old }
     ensures lines { S.to_come sim.old ≡ S.present sim.new ++ S.to_come sim.new }
-    ensures unended { IfOk result (λ next. next ≡ None → (S.goes_on sim.new) × (S.ticks_left sim.new < S.ticks_left sim.old)) }
-    ensures same_end { IfOk result (λ next. (end : RunEnd) → next ≡ None → S.ends sim.new end → S.ends sim.old end) }
-    ensures ended { IfOk result (λ next. IfSome next (λ end. (S.to_come sim.new ≡ []) × (S.ends sim.old end) × IsEndIn (S.machine sim.old) end)) }
-    ensures written { IsWriting O.written O.faults O.failed (result_err result) out.old out.new (text_in (S.present sim.new)) }
-    ensures stopped { result_err result ≡ Some Stop.Memory → StopsAtLine O.written [] (S.present sim.new) out.old out.new }
+    ensures unended { IfOk result
+        (λ next. next ≡ None
+        → (S.goes_on sim.new) × (S.ticks_left sim.new < S.ticks_left sim.old)) }
+    ensures same_end { IfOk result
+        (λ next. (end : RunEnd) → next ≡ None → S.ends sim.new end → S.ends sim.old end) }
+    ensures ended { IfOk result
+        (λ next. IfSome next
+        (λ end. (S.to_come sim.new ≡ [])
+        × (S.ends sim.old end)
+        × IsEndIn (S.machine sim.old) end)) }
+    ensures written { IsWriting O.written O.faults O.failed (result_err result) out.old out.new
+        (text_in (S.present sim.new)) }
+    ensures stopped { result_err result ≡ Some Stop.Memory
+        → StopsAtLine O.written [] (S.present sim.new) out.old out.new }
 {
     let end = sim.next_event();
     write_rows(sim, lines, out)?;
@@ -74,8 +87,10 @@ pub(crate) fn write_events<S: Simulation, O: Sink>(
 ) -> Result<RunEnd, Stop>
     requires { S.goes_on sim.old }
     ensures machine { S.machine sim.new ≡ S.machine sim.old }
-    ensures written { IsWriting O.written O.faults O.failed (result_err result) out.old out.new (text_in (S.present sim.old ++ S.to_come sim.old)) }
-    ensures stopped { result_err result ≡ Some Stop.Memory → StopsAtLine O.written [] (S.present sim.old ++ S.to_come sim.old) out.old out.new }
+    ensures written { IsWriting O.written O.faults O.failed (result_err result) out.old out.new
+        (text_in (S.present sim.old ++ S.to_come sim.old)) }
+    ensures stopped { result_err result ≡ Some Stop.Memory
+        → StopsAtLine O.written [] (S.present sim.old ++ S.to_come sim.old) out.old out.new }
     ensures end { IfOk result (λ end. (S.ends sim.old end) × IsEndIn (S.machine sim.old) end) }
 {
     write_rows(sim, lines, out)?;

@@ -31,11 +31,14 @@ pub fn play<O: Sink>(
     ensures end { EndsSo m (run_under rule m) result }
 
     // Where the run ends or overflows, all its rows are written; otherwise a prefix of that text.
-    ensures whole { is_whole result ≡ true → Appends (O.written out.old) (O.written out.new) (text_of only m (run_under rule m)) }
-    ensures prefix { AppendsPrefix (O.written out.old) (O.written out.new) (text_of only m (run_under rule m)) }
+    ensures whole { is_whole result ≡ true
+        → Appends (O.written out.old) (O.written out.new) (text_of only m (run_under rule m)) }
+    ensures prefix { AppendsPrefix (O.written out.old) (O.written out.new)
+        (text_of only m (run_under rule m)) }
 
     // Where memory is not found, nothing is written, or whole lines with one still to come, or all up to an overflow.
-    ensures short { result ≡ Played.Memory → IsShort O.written only m (run_under rule m) out.old out.new }
+    ensures short { result ≡ Played.Memory
+        → IsShort O.written only m (run_under rule m) out.old out.new }
 
     // Out fails only where that is told, and is not written to afterwards.
     ensures calm { result ≢ Played.Fault → O.faults out.new ≡ O.faults out.old }
@@ -72,7 +75,8 @@ fn play_by<L: Ledger, O: Sink>(
     requires parts { blank.parts ≡ L.parts }
     requires some { 0 < L.parts }
     requires named { quantizer.name ≡ Some rule }
-    ensures { IsPlayed O.written O.faults O.failed m (run_under rule m) only result out.old out.new }
+    ensures { IsPlayed O.written O.faults O.failed m (run_under rule m) only result out.old
+        out.new }
 {
     match Sim::new(alloc, m, quantizer) {
         Ok(sim) => {

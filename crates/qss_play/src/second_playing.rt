@@ -21,8 +21,10 @@ pub fn play2<O: Sink>(alloc: Global, m: Machine, out: &mut O) -> Played
     ensures end { EndsSo2 m (near_run m) result }
 
     // Where the run ends or overflows, all its rows are written; otherwise a prefix of that text.
-    ensures whole { is_whole result ≡ true → Appends (O.written out.old) (O.written out.new) (text2_of m (near_run m)) }
-    ensures prefix { AppendsPrefix (O.written out.old) (O.written out.new) (text2_of m (near_run m)) }
+    ensures whole { is_whole result ≡ true
+        → Appends (O.written out.old) (O.written out.new) (text2_of m (near_run m)) }
+    ensures prefix { AppendsPrefix (O.written out.old) (O.written out.new)
+        (text2_of m (near_run m)) }
 
     // Where memory is not found, nothing is written, or whole lines with one still to come, or all up to an overflow.
     ensures short { result ≡ Played.Memory → IsShort2 O.written m (near_run m) out.old out.new }

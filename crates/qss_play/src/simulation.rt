@@ -36,7 +36,8 @@ pub(crate) trait Simulation {
         requires { goes_on self.old }
         ensures machine { machine self.new ≡ machine self.old }
         ensures lines { to_come self.old ≡ present self.new ++ to_come self.new }
-        ensures unended { result ≡ None → (goes_on self.new) × (ticks_left self.new < ticks_left self.old) }
+        ensures unended { result ≡ None
+            → (goes_on self.new) × (ticks_left self.new < ticks_left self.old) }
         ensures same_end { (end : RunEnd) → result ≡ None → ends self.new end → ends self.old end }
         ensures ended { IfSome result (λ end. (to_come self.new ≡ []) × (ends self.old end) × IsEndIn (machine self.old) end) };
 
@@ -47,7 +48,8 @@ pub(crate) trait Simulation {
     /// Makes the line of one of these rows; false where it is not to be written.
     fn make_line(&self, row: usize, lines: &mut LineWriter) -> Result<bool, AllocError>
         requires { row < length (present self.now) }
-        ensures made { IfOk result (λ made. line_at (present self.now) row ≡ line_if made (line_in lines.new)) }
+        ensures made { IfOk result
+            (λ made. line_at (present self.now) row ≡ line_if made (line_in lines.new)) }
         ensures wanted { OnErr result (IsSome (line_at (present self.now) row)) };
 
     /// Lends the machine.

@@ -24,7 +24,8 @@ pub(crate) fn write_simulation<S: Simulation, O: Sink>(
     out: &mut O,
 ) -> Played
     requires { S.goes_on sim.old }
-    ensures { IsSimulated O.written O.faults O.failed (S.machine sim.old) (S.ends sim.old) (S.present sim.old ++ S.to_come sim.old) result out.old out.new }
+    ensures { IsSimulated O.written O.faults O.failed (S.machine sim.old) (S.ends sim.old)
+        (S.present sim.old ++ S.to_come sim.old) result out.old out.new }
 {
     match write_run(alloc, sim, out) {
         Ok(end) => ended(alloc, sim.machine(), end),
@@ -41,8 +42,11 @@ fn write_run<S: Simulation, O: Sink>(
 ) -> Result<RunEnd, Stop>
     requires { S.goes_on sim.old }
     ensures machine { S.machine sim.new ≡ S.machine sim.old }
-    ensures written { IsWriting O.written O.faults O.failed (result_err result) out.old out.new (header_line ++ text_in (S.present sim.old ++ S.to_come sim.old)) }
-    ensures stopped { result_err result ≡ Some Stop.Memory → StopsAtLine O.written header_line (S.present sim.old ++ S.to_come sim.old) out.old out.new }
+    ensures written { IsWriting O.written O.faults O.failed (result_err result) out.old out.new
+        (header_line ++ text_in (S.present sim.old ++ S.to_come sim.old)) }
+    ensures stopped { result_err result ≡ Some Stop.Memory
+        → StopsAtLine O.written header_line (S.present sim.old ++ S.to_come sim.old) out.old
+        out.new }
     ensures end { IfOk result (λ end. (S.ends sim.old end) × IsEndIn (S.machine sim.old) end) }
 {
     write_bytes(header(), out)?;

@@ -15,7 +15,8 @@ pub enum Stop {
 
 /// Writes all of the bytes, or a prefix of them where the sink fails.
 pub fn write_bytes<O: Sink>(bytes: &[u8], out: &mut O) -> Result<(), Stop>
-    ensures written { IsWriting O.written O.faults O.failed (result_err result) out.old out.new bytes.now }
+    ensures written { IsWriting O.written O.faults O.failed (result_err result) out.old out.new
+        bytes.now }
     ensures no_memory { result_err result ≢ Some Stop.Memory }
 {
     match write_all(out, bytes) {

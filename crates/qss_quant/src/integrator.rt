@@ -55,7 +55,8 @@ impl Integrator {
         requires quantum { IsPositiveWithin 43 quantum }
         requires unit { IsPositiveWithin 44 unit }
         requires near { IsNear unit self.now.x self.now.level quantum }
-        ensures { FirstAfter (λ tick. IsAway unit (state_at self.now tick) self.now.level quantum) self.now.tick result }
+        ensures { FirstAfter (λ tick. IsAway unit (state_at self.now tick) self.now.level quantum)
+            self.now.tick result }
     {
         let gap = gap_of(self.x, self.level, unit);
         tick_later(

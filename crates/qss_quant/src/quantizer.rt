@@ -22,8 +22,11 @@ impl Quantizer {
 
     /// A quantizer with this rule.
     pub fn new(rule: LevelRule, name: Option<Rule>) -> Quantizer
-        requires callable { (state old unit : ℤ) → IsAsked state old unit → LevelRule.pre rule state old unit }
-        requires keeps { (state old unit answer : ℤ) → IsAsked state old unit → LevelRule.post rule state old unit answer → IsAnswer name state old unit answer }
+        requires callable { (state old unit : ℤ) → IsAsked state old unit
+            → LevelRule.pre rule state old unit }
+        requires keeps { (state old unit answer : ℤ) → IsAsked state old unit
+            → LevelRule.post rule state old unit answer
+            → IsAnswer name state old unit answer }
         ensures rule { result.rule ≡ rule }
         ensures name { result.name ≡ name }
     {

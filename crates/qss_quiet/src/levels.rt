@@ -14,7 +14,8 @@ use qss_quant::{Integrator, LevelRule, Quantizer};
 /// The first tick after its own at which a state's line leaves the quantum of its level.
 pub fn leaving(m: &Machine, j: u32, line: &Integrator) -> Option<u64>
     requires state { j < state_count m.now }
-    requires near { IsNear (level_unit m.now) line.now.x line.now.level (quantum_of m.now j line.now.level) }
+    requires near { IsNear (level_unit m.now) line.now.x line.now.level
+        (quantum_of m.now j line.now.level) }
     ensures { IsDue m.now line.now.tick j line.now result }
 {
     let quantum = m.quantum_at(j, line.level);

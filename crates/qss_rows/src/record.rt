@@ -87,7 +87,10 @@ pub(crate) fn add_fields<'a>(
     state: &'a [u8],
 ) -> Result<(), AllocError>
     requires { IsBetween writer.old }
-    ensures { OnOk result (Gains writer.old writer.new (row_text default_writer (tick.now ∷ event.now ∷ name.now ∷ level.now ∷ state.now ∷ []))) }
+    ensures { OnOk result
+        (Gains writer.old writer.new
+        (row_text default_writer
+        (tick.now ∷ event.now ∷ name.now ∷ level.now ∷ state.now ∷ []))) }
 {
     match add_record(writer, &[tick, event, name, level, state]) {
         Ok(()) => Ok(()),
@@ -98,7 +101,8 @@ pub(crate) fn add_fields<'a>(
 // Adds a record, and holds nothing of it back.
 fn add_record(writer: &mut Writer<Vec<u8>>, fields: &[&[u8]]) -> Result<(), Error>
     requires { IsBetween writer.old }
-    ensures { OnOk result (Gains writer.old writer.new (row_text default_writer (map (λ f. f.now) fields.now))) }
+    ensures { OnOk result
+        (Gains writer.old writer.new (row_text default_writer (map (λ f. f.now) fields.now))) }
 {
     writer.write_fields(fields)?;
     writer.flush()?;

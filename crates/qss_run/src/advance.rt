@@ -29,9 +29,12 @@ pub(crate) fn advance<L: Ledger>(
 ) -> Outcome
     requires stands { Stands m.now from s.old }
     requires in_time { from ≤ m.now.last }
-    ensures next { IsNext (IsRuled q.now.name) (standing_of m.now from s.old None) (standing_of m.now (tick_of m.now.last result) s.new (end_of result)) result }
+    ensures next { IsNext (IsRuled q.now.name) (standing_of m.now from s.old None)
+        (standing_of m.now (tick_of m.now.last result) s.new (end_of result)) result }
     ensures stands { end_of result ≡ None → Stands m.now (tick_of m.now.last result) s.new }
-    ensures counted { MovesTouched (IsRuled q.now.name) (standing_of m.now from s.old None) (standing_of m.now (tick_of m.now.last result) s.new (end_of result)) result (steps.new - steps.old) }
+    ensures counted { MovesTouched (IsRuled q.now.name) (standing_of m.now from s.old None)
+        (standing_of m.now (tick_of m.now.last result) s.new (end_of result)) result
+        (steps.new - steps.old) }
 {
     let mut tick = from;
     while tick < m.last {

@@ -48,7 +48,15 @@ impl Course {
 
     /// A machine at tick 0, with the start rows. It takes all the memory that it ever needs.
     pub fn new(alloc: Global, m: Machine) -> Result<Course, AllocError>
-        ensures { IfOk result (λ course. course ≡ record { machine = m; tick = 0; world = start_world m; rows = world_rows kind.Start 0 (start_world m); end = None }) }
+        ensures { IfOk result
+            (λ course. course
+            ≡ record {
+              machine = m;
+              tick = 0;
+              world = start_world m;
+              rows = world_rows kind.Start 0 (start_world m);
+              end = None;
+            }) }
     {
         let store = start_store(alloc, &m)?;
         Ok(Course {
@@ -63,11 +71,19 @@ impl Course {
     /// same answer again and changes nothing. It takes no memory.
     pub fn next_event<L: Ledger>(&mut self, q: &Quantizer, steps: &mut Steps<L>) -> Outcome
         ensures same { self.new.machine ≡ self.old.machine }
-        ensures again { (end : Outcome) → self.old.end ≡ Some end → (result ≡ end) × (self.new ≡ self.old) × (steps.new ≡ steps.old) }
+        ensures again { (end : Outcome) → self.old.end ≡ Some end
+            → (result ≡ end) × (self.new ≡ self.old) × (steps.new ≡ steps.old) }
         ensures next { self.old.end ≡ None → IsNext (IsRuled q.now.name) self.old self.new result }
-        ensures rows { (rule : Rule) → q.now.name ≡ Some rule → self.old.end ≡ None → rows_left (level_by rule) self.old ≡ self.new.rows ++ rows_left (level_by rule) self.new }
-        ensures counted { self.old.end ≡ None → MovesTouched (IsRuled q.now.name) self.old self.new result (steps.new - steps.old) }
-        ensures touched { (rule : Rule) → q.now.name ≡ Some rule → self.old.end ≡ None → (steps.new - steps.old) + touches_left (level_by rule) self.new ≤ touches_left (level_by rule) self.old }
+        ensures rows { (rule : Rule) → q.now.name ≡ Some rule
+            → self.old.end ≡ None
+            → rows_left (level_by rule) self.old
+            ≡ self.new.rows ++ rows_left (level_by rule) self.new }
+        ensures counted { self.old.end ≡ None
+            → MovesTouched (IsRuled q.now.name) self.old self.new result (steps.new - steps.old) }
+        ensures touched { (rule : Rule) → q.now.name ≡ Some rule
+            → self.old.end ≡ None
+            → (steps.new - steps.old) + touches_left (level_by rule) self.new
+            ≤ touches_left (level_by rule) self.old }
     {
         if let Some(end) = self.end {
             return end;

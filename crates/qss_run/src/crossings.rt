@@ -28,15 +28,24 @@ use std::sync::ledger::Ledger;
 
 // The store knows whether a condition became true through the handlers of a tick, and its agenda has the next tick then.
 fn note_rising(tick: u64, s: &mut Store)
-    requires arrived { length s.old.conditions.arrived.items ≡ length s.old.conditions.settled.items }
-    requires places { length s.old.agenda ≡ length s.old.lines.items + length s.old.conditions.branches.items + 1 }
+    requires arrived { length s.old.conditions.arrived.items
+        ≡ length s.old.conditions.settled.items }
+    requires places { length s.old.agenda
+        ≡ length s.old.lines.items + length s.old.conditions.branches.items + 1 }
     requires few { length s.old.lines.items + length s.old.conditions.branches.items < 2 ^ 32 }
     requires in_time { tick < 2 ^ 32 }
     requires count { s.old.conditions.apart.count ≡ length s.old.conditions.settled.items }
     requires alike { KnowsApart s.old.conditions }
-    ensures rising { s.new.rising ≡ list_any (λ flag. flag) (due_flags s.old.conditions.settled.items s.old.conditions.arrived.items s.old.conditions.settled.items) }
-    ensures own { due_at s.new.agenda (length s.old.lines.items + length s.old.conditions.branches.items) ≡ (if s.new.rising then Some (tick + 1) else None) }
-    ensures others { (place : ℕ) → place < length s.old.lines.items + length s.old.conditions.branches.items → due_at s.new.agenda place ≡ due_at s.old.agenda place }
+    ensures rising { s.new.rising
+        ≡ list_any (λ flag. flag)
+        (due_flags s.old.conditions.settled.items s.old.conditions.arrived.items
+        s.old.conditions.settled.items) }
+    ensures own { due_at s.new.agenda
+        (length s.old.lines.items + length s.old.conditions.branches.items)
+        ≡ (if s.new.rising then Some (tick + 1) else None) }
+    ensures others { (place : ℕ)
+        → place < length s.old.lines.items + length s.old.conditions.branches.items
+        → due_at s.new.agenda place ≡ due_at s.old.agenda place }
     ensures as_many { length s.new.agenda ≡ length s.old.agenda }
     ensures same { s.new ≡ record s.old { rising = s.new.rising; agenda = s.new.agenda } }
 {
@@ -51,9 +60,25 @@ fn note_rising(tick: u64, s: &mut Store)
 fn go_on_handled<L: Ledger>(m: &Machine, tick: u64, s: &mut Store, steps: &mut Steps<L>)
     requires { CanGoOnHandled m.now tick s.old }
     ensures stands { Stands m.now tick s.new }
-    ensures world { world_of tick s.new ≡ record { states = states_with s.old.lines.items tick s.old.moved.items s.old.work.x; levels = s.old.levels.items; discretes = s.old.work.d; arrived = s.old.conditions.arrived.items; settled = truths m.now (states_with s.old.lines.items tick s.old.moved.items s.old.work.x) s.old.work.d tick } }
+    ensures world { world_of tick s.new
+        ≡ record {
+          states = states_with s.old.lines.items tick s.old.moved.items s.old.work.x;
+          levels = s.old.levels.items;
+          discretes = s.old.work.d;
+          arrived = s.old.conditions.arrived.items;
+          settled = truths m.now
+              (states_with s.old.lines.items tick s.old.moved.items s.old.work.x) s.old.work.d
+              tick;
+        } }
     ensures rows { s.new.rows ≡ s.old.rows }
-    ensures counted { steps.new ≡ steps.old + renewals_from (state_count m.now) tick (states_with s.old.lines.items tick s.old.moved.items s.old.work.x) s.old.levels.items (tabulate (state_count m.now) (λ j. slope_at m.now j s.old.levels.items s.old.work.d)) s.old.lines.items }
+    ensures counted { steps.new
+        ≡ steps.old
+        + renewals_from (state_count m.now) tick
+        (states_with s.old.lines.items tick s.old.moved.items s.old.work.x)
+        s.old.levels.items
+        (tabulate (state_count m.now)
+        (λ j. slope_at m.now j s.old.levels.items s.old.work.d))
+        s.old.lines.items }
 {
     let work = &s.work;
     let at = NewLevels {
@@ -93,11 +118,17 @@ pub(crate) fn visit_changed<L: Ledger>(
 ) -> Option<u32>
     requires taken { (agenda : List (Option ℕ)) × IsTaken m.now tick agenda s.old }
     requires in_time { tick < m.now.last }
-    ensures stepped { Step (IsRuled q.now.name) m.now (tick + 1) (world_of tick s.old) (world_unless result (world_of (tick + 1) s.new)) }
-    ensures rows { result ≡ None → s.new.rows.items ≡ tick_rows m.now (tick + 1) (world_of tick s.old) (world_of (tick + 1) s.new) }
+    ensures stepped { Step (IsRuled q.now.name) m.now (tick + 1) (world_of tick s.old)
+        (world_unless result (world_of (tick + 1) s.new)) }
+    ensures rows { result ≡ None
+        → s.new.rows.items
+        ≡ tick_rows m.now (tick + 1) (world_of tick s.old) (world_of (tick + 1) s.new) }
     ensures stands { result ≡ None → Stands m.now (tick + 1) s.new }
     ensures room { vec_capacity s.new.rows ≡ vec_capacity s.old.rows }
-    ensures counted { steps.new ≤ steps.old + touches_at m.now (tick + 1) (world_of tick s.old) (world_unless result (world_of (tick + 1) s.new)) }
+    ensures counted { steps.new
+        ≤ steps.old
+        + touches_at m.now (tick + 1) (world_of tick s.old)
+        (world_unless result (world_of (tick + 1) s.new)) }
 {
     let at = Changing {
         machine: m,

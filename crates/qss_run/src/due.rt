@@ -10,7 +10,8 @@ use qss_sched::Agenda;
 // The least of some first places that is due at a tick, where nothing is due before.
 fn due_place(agenda: &Agenda, tick: u64, places: u32) -> Option<u32>
     requires { (place due : ℕ) → due_at agenda.now place ≡ Some due → tick ≤ due }
-    ensures { MatchOption result ((j : ℕ) → j < places → due_at agenda.now j ≢ Some tick) (λ place. (place < places) × IsLeast agenda.now tick place) }
+    ensures { MatchOption result ((j : ℕ) → j < places → due_at agenda.now j ≢ Some tick)
+        (λ place. (place < places) × IsLeast agenda.now tick place) }
 {
     match agenda.next() {
         Some((due, place)) => {
@@ -84,8 +85,10 @@ pub(crate) fn take_changed(
 pub(crate) fn give_back(agenda: &mut Agenda, tick: u64, moved: &[u32])
     requires { All (λ place. place < length agenda.old) moved.now }
     ensures as_many { length agenda.new ≡ length agenda.old }
-    ensures back { (place : ℕ) → is_among moved.now place ≡ true → due_at agenda.new place ≡ Some tick }
-    ensures others { (place : ℕ) → is_among moved.now place ≡ false → due_at agenda.new place ≡ due_at agenda.old place }
+    ensures back { (place : ℕ) → is_among moved.now place ≡ true
+        → due_at agenda.new place ≡ Some tick }
+    ensures others { (place : ℕ) → is_among moved.now place ≡ false
+        → due_at agenda.new place ≡ due_at agenda.old place }
 {
     for place in moved {
         agenda.set(*place, Some(tick));

@@ -38,7 +38,8 @@ pub(crate) fn set_world_rows(
     requires few { length x.now + length d.now ≤ 4096 }
     requires as_many { length levels.now ≡ length x.now }
     requires room { length x.now + length d.now ≤ vec_capacity rows.old }
-    ensures rows { rows.new.items ≡ state_rows kind tick levels.now x.now ++ discrete_rows kind tick (length x.now) d.now }
+    ensures rows { rows.new.items
+        ≡ state_rows kind tick levels.now x.now ++ discrete_rows kind tick (length x.now) d.now }
     ensures room { vec_capacity rows.new ≡ vec_capacity rows.old }
 {
     rows.clear();

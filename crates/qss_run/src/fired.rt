@@ -32,8 +32,13 @@ pub(crate) fn run_fired(
     requires fired { AreNumbers (length branches.now) fired.now }
     requires fits { AreValuesOf m.now w.old }
     requires room { length w.old.log + row_room m.now.clauses ≤ w.old.room }
-    ensures values { w.new ≡ values_after w.old (run_clauses m.now w.old.tick w.old.pre 0 (handling_of w.old) m.now.clauses (flags_of (length branches.now) fired.now)) }
-    ensures over { overflow_of result ≡ (run_clauses m.now w.old.tick w.old.pre 0 (handling_of w.old) m.now.clauses (flags_of (length branches.now) fired.now)).overflow }
+    ensures values { w.new
+        ≡ values_after w.old
+        (run_clauses m.now w.old.tick w.old.pre 0 (handling_of w.old) m.now.clauses
+        (flags_of (length branches.now) fired.now)) }
+    ensures over { overflow_of result
+        ≡ (run_clauses m.now w.old.tick w.old.pre 0 (handling_of w.old) m.now.clauses
+        (flags_of (length branches.now) fired.now)).overflow }
     ensures fits { AreValuesOf m.now w.new }
 {
     // The clauses before this one have had their turns.
@@ -53,7 +58,8 @@ pub(crate) fn arrive_read(form: &Form, tick: u64, lines: &[Integrator], x: &mut 
     requires as_many { length x.old ≡ length lines.now }
     requires later { (j : ℕ) → j < length lines.now → (line_at lines.now j).tick ≤ tick }
     requires in_time { tick ≤ tick_limit }
-    ensures { AreArrived (λ j. has_entry j form.now.entries) (states_at lines.now tick) x.old x.new }
+    ensures { AreArrived (λ j. has_entry j form.now.entries) (states_at lines.now tick) x.old
+        x.new }
 {
     for entry in form.entries.as_slice() {
         let j = entry.var as usize;
@@ -78,7 +84,8 @@ fn arrive_read_by(actions: &[Action], tick: u64, lines: &[Integrator], x: &mut [
     requires as_many { length x.old ≡ length lines.now }
     requires later { (j : ℕ) → j < length lines.now → (line_at lines.now j).tick ≤ tick }
     requires in_time { tick ≤ tick_limit }
-    ensures { AreArrived (λ j. list_any (action_reads j) actions.now) (states_at lines.now tick) x.old x.new }
+    ensures { AreArrived (λ j. list_any (action_reads j) actions.now) (states_at lines.now tick)
+        x.old x.new }
 {
     for action in actions {
         arrive_read(form_of(action), tick, lines, x);
@@ -99,7 +106,8 @@ fn arrive_for(
     requires as_many { length x.old ≡ length lines.now }
     requires later { (j : ℕ) → j < length lines.now → (line_at lines.now j).tick ≤ tick }
     requires in_time { tick ≤ tick_limit }
-    ensures { AreArrived (λ j. fired_reads j m.now branches.now fired.now) (states_at lines.now tick) x.old x.new }
+    ensures { AreArrived (λ j. fired_reads j m.now branches.now fired.now)
+        (states_at lines.now tick) x.old x.new }
 {
     for place in fired {
         let at = branches[*place as usize];
@@ -124,7 +132,8 @@ fn arrive_in_work(
     requires later { (j : ℕ) → j < length lines.now → (line_at lines.now j).tick ≤ tick }
     requires in_time { tick ≤ tick_limit }
     ensures work { work.new ≡ record work.old { x = work.new.x } }
-    ensures states { AreArrived (λ j. fired_reads j m.now branches.now fired.now) (states_at lines.now tick) work.old.x work.new.x }
+    ensures states { AreArrived (λ j. fired_reads j m.now branches.now fired.now)
+        (states_at lines.now tick) work.old.x work.new.x }
 {
     arrive_for(m, branches, fired, tick, lines, work.x.as_mut_slice());
 }
@@ -145,13 +154,43 @@ pub(crate) fn handle_fired(
     requires lines { AreLinesAt m.now tick lines.now }
     requires values { AreWithin m.now work.old.x work.old.d }
     requires room { row_room m.now.clauses ≤ work.old.room }
-    ensures over { result ≡ (handling_of_fired m.now tick (states_at lines.now tick) work.old.d fired.now).overflow }
-    ensures work { result ≡ None → let h = handling_of_fired m.now tick (states_at lines.now tick) work.old.d fired.now in work.new ≡ record { x = work.new.x; d = h.discretes; pre = work.old.d; tick = tick; log = h.rows; room = work.old.room } }
+    ensures over { result
+        ≡ (handling_of_fired m.now tick (states_at lines.now tick) work.old.d fired.now).overflow }
+    ensures work { result ≡ None
+        → let h = handling_of_fired m.now tick (states_at lines.now tick) work.old.d fired.now in
+        work.new
+        ≡ record {
+          x = work.new.x;
+          d = h.discretes;
+          pre = work.old.d;
+          tick = tick;
+          log = h.rows;
+          room = work.old.room;
+        } }
     ensures fits { result ≡ None → AreValuesOf m.now work.new }
-    ensures many { result ≡ None → length (handling_of_fired m.now tick (states_at lines.now tick) work.old.d fired.now).states ≡ state_count m.now }
-    ensures arrived { result ≡ None → (j : ℕ) → int_at work.old.x j ≡ int_at (states_at lines.now tick) j → int_at work.new.x j ≡ int_at (handling_of_fired m.now tick (states_at lines.now tick) work.old.d fired.now).states j }
-    ensures reinitialized { result ≡ None → let h = handling_of_fired m.now tick (states_at lines.now tick) work.old.d fired.now in (j : ℕ) → is_reinitialized h.rows j ≡ true → int_at work.new.x j ≡ int_at h.states j }
-    ensures others { result ≡ None → let h = handling_of_fired m.now tick (states_at lines.now tick) work.old.d fired.now in (j : ℕ) → fired_reads j m.now branches.now fired.now ≡ false → is_reinitialized h.rows j ≡ false → int_at work.new.x j ≡ int_at work.old.x j }
+    ensures many { result ≡ None
+        → length
+        (handling_of_fired m.now tick (states_at lines.now tick) work.old.d
+        fired.now).states
+        ≡ state_count m.now }
+    ensures arrived { result ≡ None
+        → (j : ℕ) → int_at work.old.x j ≡ int_at (states_at lines.now tick) j
+        → int_at work.new.x j
+        ≡ int_at
+        (handling_of_fired m.now tick (states_at lines.now tick) work.old.d
+        fired.now).states
+        j }
+    ensures reinitialized { result ≡ None
+        → let h = handling_of_fired m.now tick (states_at lines.now tick) work.old.d fired.now in
+        (j : ℕ)
+        → is_reinitialized h.rows j ≡ true
+        → int_at work.new.x j ≡ int_at h.states j }
+    ensures others { result ≡ None
+        → let h = handling_of_fired m.now tick (states_at lines.now tick) work.old.d fired.now in
+        (j : ℕ)
+        → fired_reads j m.now branches.now fired.now ≡ false
+        → is_reinitialized h.rows j ≡ false
+        → int_at work.new.x j ≡ int_at work.old.x j }
 {
     arrive_in_work(m, branches, fired, tick, lines, work);
     work.begin(tick);

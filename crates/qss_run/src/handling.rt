@@ -31,10 +31,13 @@ fn arrive_moved(lines: &[Integrator], tick: u64, moved: &[u32], work: &mut Work)
     requires moved { AreNumbers (length lines.now) moved.now }
     requires later { (j : ℕ) → j < length lines.now → (line_at lines.now j).tick ≤ tick }
     requires in_time { tick < 2 ^ 32 }
-    requires others_small { (j : ℕ) → j < length lines.now → is_among moved.now j ≡ false → IsWithin 88 (state_at (line_at lines.now j) tick) }
+    requires others_small { (j : ℕ) → j < length lines.now
+        → is_among moved.now j ≡ false
+        → IsWithin 88 (state_at (line_at lines.now j) tick) }
     requires small { All (IsWithin 88) work.old.x }
     ensures work { work.new ≡ record work.old { x = work.new.x } }
-    ensures arrived { IsWritten (pos 0) (λ j z. z ≡ state_at (line_at lines.now j) tick) moved.now work.old.x work.new.x }
+    ensures arrived { IsWritten (pos 0) (λ j z. z ≡ state_at (line_at lines.now j) tick) moved.now
+        work.old.x work.new.x }
     ensures over { result ≡ first_past 88 (states_at lines.now tick) }
     ensures small { result ≡ None → All (IsWithin 88) work.new.x }
 {

@@ -25,8 +25,12 @@ fn jump(m: &Machine, tick: u64, s: &mut Store) -> u64
     requires in_time { tick < m.now.last }
     ensures later { tick ≤ result }
     ensures before { result < m.now.last }
-    ensures reached { result + 1 < m.now.last → (place : ℕ) × (due_at s.old.agenda place ≡ Some (result + 1)) }
-    ensures silent { (name : Option Rule) → (silent : List World) × AreSilent (IsRuled name) m.now tick (world_of tick s.old) silent result (world_of result s.new) }
+    ensures reached { result + 1 < m.now.last
+        → (place : ℕ) × (due_at s.old.agenda place ≡ Some (result + 1)) }
+    ensures silent { (name : Option Rule)
+        → (silent : List World)
+        × AreSilent (IsRuled name) m.now tick (world_of tick s.old) silent result
+        (world_of result s.new) }
     ensures stands { Stands m.now result s.new }
     ensures room { vec_capacity s.new.rows ≡ vec_capacity s.old.rows }
 {
@@ -52,8 +56,19 @@ pub(crate) fn go_to_visit<L: Ledger>(
     requires in_time { tick < m.now.last }
     ensures later { tick < result.tick }
     ensures in_time { result.tick ≤ m.now.last }
-    ensures due { result.tick < m.now.last → (place : ℕ) × (due_at s.old.agenda place ≡ Some result.tick) }
-    ensures visited { (silent : List World) × IsVisit (IsRuled q.now.name) m.now tick (world_of tick s.old) silent result.tick (world_unless result.over (world_of result.tick s.new)) × (result.over ≡ None → s.new.rows.items ≡ tick_rows m.now result.tick (last_world (world_of tick s.old) silent) (world_of result.tick s.new)) × (steps.new ≤ steps.old + touches_at m.now result.tick (last_world (world_of tick s.old) silent) (world_unless result.over (world_of result.tick s.new))) }
+    ensures due { result.tick < m.now.last
+        → (place : ℕ) × (due_at s.old.agenda place ≡ Some result.tick) }
+    ensures visited { (silent : List World)
+        × IsVisit (IsRuled q.now.name) m.now tick (world_of tick s.old) silent result.tick
+        (world_unless result.over (world_of result.tick s.new))
+        × (result.over ≡ None
+        → s.new.rows.items
+        ≡ tick_rows m.now result.tick (last_world (world_of tick s.old) silent)
+        (world_of result.tick s.new))
+        × (steps.new
+        ≤ steps.old
+        + touches_at m.now result.tick (last_world (world_of tick s.old) silent)
+        (world_unless result.over (world_of result.tick s.new))) }
     ensures stands { result.over ≡ None → Stands m.now result.tick s.new }
     ensures room { vec_capacity s.new.rows ≡ vec_capacity s.old.rows }
 {

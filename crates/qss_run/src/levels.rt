@@ -19,7 +19,19 @@ pub(crate) fn take_level(
     requires small { IsWithin 43 fresh }
     requires room { vec_len rows.old < vec_capacity rows.old }
     ensures level { level.new ≡ fresh }
-    ensures rows { rows.new.items ≡ rows.old.items ++ (if int_eq level.old fresh then [] else record { tick = tick; kind = kind.Level; var = var; level = fresh; state = state } ∷ []) }
+    ensures rows { rows.new.items
+        ≡ rows.old.items
+        ++ (if int_eq level.old fresh
+        then []
+        else
+        record {
+          tick = tick;
+          kind = kind.Level;
+          var = var;
+          level = fresh;
+          state = state;
+        }
+        ∷ []) }
     ensures few { vec_len rows.new ≤ vec_len rows.old + 1 }
     ensures room { vec_capacity rows.new ≡ vec_capacity rows.old }
 {

@@ -38,8 +38,10 @@ fn assigns(row: &Row) -> bool
 fn give_reinitialized(agenda: &mut Agenda, tick: u64, log: &[Row])
     requires { (j : ℕ) → is_reinitialized log.now j ≡ true → j < length agenda.old }
     ensures as_many { length agenda.new ≡ length agenda.old }
-    ensures given { (place : ℕ) → is_reinitialized log.now place ≡ true → due_at agenda.new place ≡ Some tick }
-    ensures others { (place : ℕ) → is_reinitialized log.now place ≡ false → due_at agenda.new place ≡ due_at agenda.old place }
+    ensures given { (place : ℕ) → is_reinitialized log.now place ≡ true
+        → due_at agenda.new place ≡ Some tick }
+    ensures others { (place : ℕ) → is_reinitialized log.now place ≡ false
+        → due_at agenda.new place ≡ due_at agenda.old place }
 {
     for row in log {
         if reinitializes(row) {
@@ -62,7 +64,8 @@ pub(crate) fn join_reinitialized(
     requires known { (j : ℕ) → is_reinitialized log.now j ≡ true → j < states }
     requires taken { IsTakenFrom tick moved.old.items agenda.old }
     ensures numbers { AreNumbers states moved.new.items }
-    ensures each { (j : ℕ) → is_among moved.new.items j ≡ (is_among moved.old.items j || is_reinitialized log.now j) }
+    ensures each { (j : ℕ)
+        → is_among moved.new.items j ≡ (is_among moved.old.items j || is_reinitialized log.now j) }
     ensures without { IsWithout moved.new.items agenda.old agenda.new }
     ensures room { vec_capacity moved.new ≡ vec_capacity moved.old }
 {

@@ -19,7 +19,8 @@ fn comes_before(found: Option<u32>, row: u32) -> bool
 // The row, where its weight is past its limit and it comes before the one that was found; else the one that was found.
 fn lesser_row(weights: &[i128], row: u32, found: Option<u32>) -> Option<u32>
     requires row { row < length weights.now }
-    ensures { (rows : List ℕ) → IsLeastPast weights.now rows found → IsLeastPast weights.now (rows ++ row ∷ []) result }
+    ensures { (rows : List ℕ) → IsLeastPast weights.now rows found
+        → IsLeastPast weights.now (rows ++ row ∷ []) result }
 {
     if !comes_before(found, row) {
         return found;
@@ -34,7 +35,8 @@ fn lesser_row(weights: &[i128], row: u32, found: Option<u32>) -> Option<u32>
 // found.
 fn least_row(weights: &[i128], rows: &[u32], found: Option<u32>) -> Option<u32>
     requires rows { All (λ row. row < length weights.now) rows.now }
-    ensures { (before : List ℕ) → IsLeastPast weights.now before found → IsLeastPast weights.now (before ++ rows.now) result }
+    ensures { (before : List ℕ) → IsLeastPast weights.now before found
+        → IsLeastPast weights.now (before ++ rows.now) result }
 {
     let mut least = found;
     for row in rows {
@@ -52,8 +54,11 @@ pub(crate) fn least_reader(
     found: Option<u32>,
 ) -> Option<u32>
     requires variables { All (λ var. var < length uses.now.0) variables.now }
-    requires rows { (var : ℕ) → var < length uses.now.0 → All (λ row. row < length weights.now) (slice_index_or uses.now.0 var []) }
-    ensures { (before : List ℕ) → IsLeastPast weights.now before found → IsLeastPast weights.now (before ++ flat_map (λ var. slice_index_or uses.now.0 var []) variables.now) result }
+    requires rows { (var : ℕ) → var < length uses.now.0
+        → All (λ row. row < length weights.now) (slice_index_or uses.now.0 var []) }
+    ensures { (before : List ℕ) → IsLeastPast weights.now before found
+        → IsLeastPast weights.now
+        (before ++ flat_map (λ var. slice_index_or uses.now.0 var []) variables.now) result }
 {
     let mut least = found;
     for var in variables {

@@ -40,10 +40,13 @@ pub(crate) fn read_changed(
     requires arrived { length arrived.old ≡ length settled.now }
     requires below { All (λ place. place < length settled.now) apart.now }
     requires alike { AreAlikeBut apart.now arrived.old settled.now }
-    requires later { (place : ℕ) → place < length settled.now → (watch_at watches.now place).tick ≤ tick }
+    requires later { (place : ℕ) → place < length settled.now
+        → (watch_at watches.now place).tick ≤ tick }
     requires in_time { tick ≤ tick_limit }
-    requires small { (place : ℕ) → place < length settled.now → IsSmall (value_at (watch_at watches.now place) tick) }
-    ensures { IsWritten false (λ place flag. flag ≡ holds_at (watch_at watches.now place) tick) changed.now settled.now arrived.new }
+    requires small { (place : ℕ) → place < length settled.now
+        → IsSmall (value_at (watch_at watches.now place) tick) }
+    ensures { IsWritten false (λ place flag. flag ≡ holds_at (watch_at watches.now place) tick)
+        changed.now settled.now arrived.new }
 {
     agree(apart, settled, arrived);
     for condition in changed {
@@ -66,10 +69,16 @@ pub(crate) fn list_fired(
     requires changed { AreNumbers (length settled.now) changed.now }
     requires arrived { length arrived.now ≡ length settled.now }
     requires room { length settled.now ≤ vec_capacity fired.old }
-    requires later { (place : ℕ) → place < length settled.now → (watch_at watches.now place).tick ≤ tick }
+    requires later { (place : ℕ) → place < length settled.now
+        → (watch_at watches.now place).tick ≤ tick }
     requires in_time { tick ≤ tick_limit }
-    requires small { (place : ℕ) → place < length settled.now → IsSmall (value_at (watch_at watches.now place) tick) }
-    ensures fired { fired.new.items ≡ filter (λ place. holds_at (watch_at watches.now place) tick && not (flag_at arrived.now place && flag_at settled.now place)) changed.now }
+    requires small { (place : ℕ) → place < length settled.now
+        → IsSmall (value_at (watch_at watches.now place) tick) }
+    ensures fired { fired.new.items
+        ≡ filter
+        (λ place. holds_at (watch_at watches.now place) tick
+        && not (flag_at arrived.now place && flag_at settled.now place))
+        changed.now }
     ensures room { vec_capacity fired.new ≡ vec_capacity fired.old }
 {
     fired.clear();

@@ -33,7 +33,8 @@ fn arrive_due(lines: &[Integrator], tick: u64, moved: &[u32], x: &mut [i128])
     requires moved { AreNumbers (length lines.now) moved.now }
     requires later { (j : ℕ) → j < length lines.now → (line_at lines.now j).tick ≤ tick }
     requires in_time { tick ≤ tick_limit }
-    ensures { IsWritten (pos 0) (λ j z. z ≡ state_at (line_at lines.now j) tick) moved.now x.old x.new }
+    ensures { IsWritten (pos 0) (λ j z. z ≡ state_at (line_at lines.now j) tick) moved.now x.old
+        x.new }
 {
     for state in moved {
         let j = *state as usize;
@@ -70,7 +71,10 @@ pub(crate) fn relevel_due(
     requires moved { AreNumbers (state_count m.now) moved.now }
     requires small_states { (j : ℕ) → is_among moved.now j ≡ true → IsWithin 88 (int_at x.now j) }
     requires small_levels { All (IsWithin 43) levels.now }
-    ensures { IsWritten (pos 0) (λ j level. IsNextLevel (IsRuled q.now.name) m.now j (int_at x.now j) (int_at levels.now j) level) moved.now fresh.old fresh.new }
+    ensures { IsWritten (pos 0)
+        (λ j level. IsNextLevel (IsRuled q.now.name) m.now j (int_at x.now j) (int_at levels.now j)
+        level)
+        moved.now fresh.old fresh.new }
 {
     let unit = m.level_unit();
     for state in moved {
@@ -93,8 +97,23 @@ pub(crate) fn take_levels_due(
     requires moved { AreNumbers (length x.now) moved.now }
     requires small { (j : ℕ) → is_among moved.now j ≡ true → IsWithin 43 (int_at fresh.now j) }
     requires room { vec_len rows.old + length moved.now ≤ vec_capacity rows.old }
-    ensures levels { IsWritten (pos 0) (λ j level. level ≡ int_at fresh.now j) moved.now levels.old levels.new }
-    ensures rows { rows.new.items ≡ rows.old.items ++ flat_map (λ j. if int_eq (int_at levels.old j) (int_at fresh.now j) then [] else record { tick = tick; kind = kind.Level; var = j; level = int_at fresh.now j; state = int_at x.now j } ∷ []) moved.now }
+    ensures levels { IsWritten (pos 0) (λ j level. level ≡ int_at fresh.now j) moved.now levels.old
+        levels.new }
+    ensures rows { rows.new.items
+        ≡ rows.old.items
+        ++ flat_map
+        (λ j. if int_eq (int_at levels.old j) (int_at fresh.now j)
+        then []
+        else
+        record {
+          tick = tick;
+          kind = kind.Level;
+          var = j;
+          level = int_at fresh.now j;
+          state = int_at x.now j;
+        }
+        ∷ [])
+        moved.now }
     ensures room { vec_capacity rows.new ≡ vec_capacity rows.old }
 {
     for state in moved {
@@ -153,10 +172,13 @@ pub(crate) fn arrive_within(
     requires moved { AreNumbers (length lines.now) moved.now }
     requires later { (j : ℕ) → j < length lines.now → (line_at lines.now j).tick ≤ tick }
     requires in_time { tick < 2 ^ 32 }
-    requires others_small { (j : ℕ) → j < length lines.now → is_among moved.now j ≡ false → IsWithin 88 (state_at (line_at lines.now j) tick) }
+    requires others_small { (j : ℕ) → j < length lines.now
+        → is_among moved.now j ≡ false
+        → IsWithin 88 (state_at (line_at lines.now j) tick) }
     requires small_x { All (IsWithin 88) x.old }
     ensures over { result ≡ first_past 88 (states_at lines.now tick) }
-    ensures arrived { IsWritten (pos 0) (λ j z. z ≡ state_at (line_at lines.now j) tick) moved.now x.old x.new }
+    ensures arrived { IsWritten (pos 0) (λ j z. z ≡ state_at (line_at lines.now j) tick) moved.now
+        x.old x.new }
     ensures small_x { result ≡ None → All (IsWithin 88) x.new }
 {
     arrive_due(lines, tick, moved, x);

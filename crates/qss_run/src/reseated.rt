@@ -34,7 +34,8 @@ fn slope_rows(m: &Machine, rows: &[u32], levels: &[i64], d: &[i64], slopes: &mut
     requires small_levels { All (IsWithin 43) levels.now }
     requires small_discretes { All (IsWithin 43) d.now }
     requires light { position (is_overweight m.now levels.now d.now) m.now.rows ≡ None }
-    ensures { IsWritten (pos 0) (λ j slope. slope ≡ slope_at m.now j levels.now d.now) rows.now slopes.old slopes.new }
+    ensures { IsWritten (pos 0) (λ j slope. slope ≡ slope_at m.now j levels.now d.now) rows.now
+        slopes.old slopes.new }
 {
     for row in rows {
         slopes[*row as usize] = m.slope(*row, levels, d);
@@ -58,7 +59,8 @@ fn slope_readers(
     requires small_levels { All (IsWithin 43) levels.now }
     requires small_discretes { All (IsWithin 43) d.now }
     requires light { position (is_overweight m.now levels.now d.now) m.now.rows ≡ None }
-    ensures { IsWritten (pos 0) (λ j slope. slope ≡ slope_at m.now j levels.now d.now) (flat_map (reading_rows m.now) variables.now) slopes.old slopes.new }
+    ensures { IsWritten (pos 0) (λ j slope. slope ≡ slope_at m.now j levels.now d.now)
+        (flat_map (reading_rows m.now) variables.now) slopes.old slopes.new }
 {
     for var in variables {
         slope_rows(m, uses.rows_of(*var), levels, d, slopes);
@@ -104,7 +106,8 @@ fn reseat<L: Ledger>(
     ensures turned { IsTurned m.now here.now.tick here.now.x here.now.level here.now.slope j
         line.new (due_at agenda.new j) }
     ensures as_many { length agenda.new ≡ length agenda.old }
-    ensures others { (place : ℕ) → (place ≡ j → ⊥) → due_at agenda.new place ≡ due_at agenda.old place }
+    ensures others { (place : ℕ) → (place ≡ j → ⊥)
+        → due_at agenda.new place ≡ due_at agenda.old place }
     ensures kept { goes_from here.now.tick here.now.x here.now.level here.now.slope line.old ≡ true
         → line.new ≡ line.old }
     ensures counted { steps.new ≡ steps.old
@@ -144,7 +147,8 @@ fn seat<L: Ledger>(
         (line_at lines.old j) ≡ true
         → line_at lines.new j ≡ line_at lines.old j }
     ensures places { length agenda.new ≡ length agenda.old }
-    ensures dues { (place : ℕ) → (place ≡ j → ⊥) → due_at agenda.new place ≡ due_at agenda.old place }
+    ensures dues { (place : ℕ) → (place ≡ j → ⊥)
+        → due_at agenda.new place ≡ due_at agenda.old place }
     ensures counted { (states : List ℤ) → int_at states j ≡ int_at x.now j
         → steps.new + renewals_from
         (state_count at.now.machine.now) at.now.tick states at.now.levels.now slopes.now

@@ -34,7 +34,8 @@ impl Conditions {
     )
         requires ready { CanSettle at.now d.now self.old agenda.old x.old }
         requires place { place < length (conditions at.now.machine.now) }
-        ensures { AreSettledAlong at.now d.now (place ∷ []) self.old self.new agenda.old agenda.new x.old x.new }
+        ensures { AreSettledAlong at.now d.now (place ∷ []) self.old self.new agenda.old agenda.new
+            x.old x.new }
     {
         let condition = self.condition(at.machine, place);
         arrive_read(&condition.form, at.tick, at.lines, x);
@@ -58,7 +59,8 @@ impl Conditions {
     )
         requires ready { CanSettle at.now d.now self.old agenda.old x.old }
         requires known { All (λ place. place < length (conditions at.now.machine.now)) places.now }
-        ensures { AreSettledAlong at.now d.now places.now self.old self.new agenda.old agenda.new x.old x.new }
+        ensures { AreSettledAlong at.now d.now places.now self.old self.new agenda.old agenda.new
+            x.old x.new }
     {
         for place in places {
             self.settle_along(at, *place, d, x, agenda);
@@ -76,7 +78,8 @@ impl Conditions {
     )
         requires ready { CanSettle at.now d.now self.old agenda.old x.old }
         requires known { AreVariablesOf at.now.machine.now vars.now }
-        ensures { AreSettledAlong at.now d.now (readers_of at.now.machine.now vars.now) self.old self.new agenda.old agenda.new x.old x.new }
+        ensures { AreSettledAlong at.now d.now (readers_of at.now.machine.now vars.now) self.old
+            self.new agenda.old agenda.new x.old x.new }
     {
         for var in vars {
             let places = at.uses.conditions_of(*var);
@@ -95,7 +98,8 @@ impl Conditions {
     )
         requires ready { CanSettle at.now d.now self.old agenda.old x.old }
         requires known { var < state_count at.now.machine.now + discrete_count at.now.machine.now }
-        ensures { AreSettledAlong at.now d.now (touched_of at.now.machine.now var) self.old self.new agenda.old agenda.new x.old x.new }
+        ensures { AreSettledAlong at.now d.now (touched_of at.now.machine.now var) self.old self.new
+            agenda.old agenda.new x.old x.new }
     {
         let rows = at.uses.rows_of(var);
         self.settle_readers(at, rows, d, x, agenda);
@@ -114,7 +118,8 @@ impl Conditions {
     )
         requires ready { CanSettle at.now d.now self.old agenda.old x.old }
         requires known { AreVariablesOf at.now.machine.now vars.now }
-        ensures { AreSettledAlong at.now d.now (touched_by at.now.machine.now vars.now) self.old self.new agenda.old agenda.new x.old x.new }
+        ensures { AreSettledAlong at.now d.now (touched_by at.now.machine.now vars.now) self.old
+            self.new agenda.old agenda.new x.old x.new }
     {
         for var in vars {
             self.settle_touched_of(at, *var, d, x, agenda);
@@ -131,8 +136,11 @@ impl Conditions {
         agenda: &mut Agenda,
     )
         requires ready { CanSettle at.now d.now self.old agenda.old x.old }
-        requires known { (j : ℕ) → is_reinitialized log.now j ≡ true → j < state_count at.now.machine.now }
-        ensures { AreSettledAlong at.now d.now (touched_by at.now.machine.now (reinitialized_of log.now)) self.old self.new agenda.old agenda.new x.old x.new }
+        requires known { (j : ℕ) → is_reinitialized log.now j ≡ true
+            → j < state_count at.now.machine.now }
+        ensures { AreSettledAlong at.now d.now
+            (touched_by at.now.machine.now (reinitialized_of log.now)) self.old self.new agenda.old
+            agenda.new x.old x.new }
     {
         for row in log {
             if reinitializes(row) {
@@ -152,7 +160,8 @@ impl Conditions {
     )
         requires ready { CanSettle at.now d.now self.old agenda.old x.old }
         requires assigned { AreDiscretes at.now.machine.now assigned.now }
-        ensures { AreSettledAlong at.now d.now (readers_before at.now.machine.now assigned.now) self.old self.new agenda.old agenda.new x.old x.new }
+        ensures { AreSettledAlong at.now d.now (readers_before at.now.machine.now assigned.now)
+            self.old self.new agenda.old agenda.new x.old x.new }
     {
         for var in assigned {
             let places = at.uses.conditions_of(*var + d.len() as u32);
@@ -171,10 +180,14 @@ impl Conditions {
         agenda: &mut Agenda,
     )
         requires ready { CanSettle at.now work.old.d self.old agenda.old work.old.x }
-        requires reinitialized { (j : ℕ) → is_reinitialized work.old.log j ≡ true → j < state_count at.now.machine.now }
+        requires reinitialized { (j : ℕ) → is_reinitialized work.old.log j ≡ true
+            → j < state_count at.now.machine.now }
         requires assigned { AreDiscretes at.now.machine.now assigned.now }
         requires changed { AreNumbers (length (conditions at.now.machine.now)) changed.now }
-        ensures settled { AreSettledAlong at.now work.old.d (touched_after at.now.machine.now (reinitialized_of work.old.log) assigned.now changed.now) self.old self.new agenda.old agenda.new work.old.x work.new.x }
+        ensures settled { AreSettledAlong at.now work.old.d
+            (touched_after at.now.machine.now (reinitialized_of work.old.log) assigned.now
+            changed.now)
+            self.old self.new agenda.old agenda.new work.old.x work.new.x }
         ensures work { work.new ≡ record work.old { x = work.new.x } }
     {
         let x = work.x.as_mut_slice();
@@ -193,23 +206,31 @@ impl Conditions {
 pub(crate) fn rewatch_handled(m: &Machine, tick: u64, s: &mut Store)
     requires fits { FitsMachine m.now s.old }
     requires moved { AreNumbers (state_count m.now) s.old.moved.items }
-    requires reinitialized { (j : ℕ) → is_reinitialized s.old.work.log j ≡ true → j < state_count m.now }
+    requires reinitialized { (j : ℕ) → is_reinitialized s.old.work.log j ≡ true
+        → j < state_count m.now }
     requires assigned { AreDiscretes m.now s.old.assigned.items }
     requires changed { AreNumbers (length (conditions m.now)) s.old.changed.items }
     requires lines { AreLinesAt m.now tick s.old.lines.items }
     requires slopes { AreSlopesOf m.now s.old.slopes.items }
     requires before { WereWatched m.now tick s.old }
-    ensures settled { s.new.conditions.settled.items ≡ truths m.now (states_at s.old.lines.items tick) s.old.work.d tick }
-    ensures watches { AreWatched m.now tick (states_at s.old.lines.items tick) s.old.work.d s.old.slopes.items s.new.conditions.watches.items s.new.agenda }
-    ensures kept { OthersAreKept m.now (reinitialized_of s.old.work.log) s.old.assigned.items s.old.changed.items s.old.slopes.items (watchings_of s.old.conditions s.old.agenda) (watchings_of s.new.conditions s.new.agenda) }
-    ensures unread { OthersAreUnread m.now (reinitialized_of s.old.work.log) s.old.assigned.items s.old.changed.items s.old.work.x s.new.work.x }
+    ensures settled { s.new.conditions.settled.items
+        ≡ truths m.now (states_at s.old.lines.items tick) s.old.work.d tick }
+    ensures watches { AreWatched m.now tick (states_at s.old.lines.items tick) s.old.work.d
+        s.old.slopes.items s.new.conditions.watches.items s.new.agenda }
+    ensures kept { OthersAreKept m.now (reinitialized_of s.old.work.log) s.old.assigned.items
+        s.old.changed.items s.old.slopes.items (watchings_of s.old.conditions s.old.agenda)
+        (watchings_of s.new.conditions s.new.agenda) }
+    ensures unread { OthersAreUnread m.now (reinitialized_of s.old.work.log) s.old.assigned.items
+        s.old.changed.items s.old.work.x s.new.work.x }
     ensures alike { AreAlikeBut s.old.changed.items
         s.old.conditions.arrived.items s.old.conditions.settled.items
         → KnowsApart s.new.conditions }
     ensures rest { IsRewatchedFrom s.old s.new }
     ensures fits { FitsMachine m.now s.new }
-    ensures others { (place : ℕ) → place < state_count m.now → due_at s.new.agenda place ≡ due_at s.old.agenda place }
-    ensures beyond { (place : ℕ) → state_count m.now + length (conditions m.now) ≤ place → due_at s.new.agenda place ≡ due_at s.old.agenda place }
+    ensures others { (place : ℕ) → place < state_count m.now
+        → due_at s.new.agenda place ≡ due_at s.old.agenda place }
+    ensures beyond { (place : ℕ) → state_count m.now + length (conditions m.now) ≤ place
+        → due_at s.new.agenda place ≡ due_at s.old.agenda place }
 {
     let at = Moment {
         machine: m,

@@ -39,10 +39,12 @@ pub(crate) fn rise(
     requires alike { AreAlikeBut apart.now arrived.now settled.now }
     requires place { place < length agenda.old }
     requires in_time { tick < 2 ^ 32 }
-    ensures rises { result ≡ list_any (λ flag. flag) (due_flags settled.now arrived.now settled.now) }
+    ensures rises { result
+        ≡ list_any (λ flag. flag) (due_flags settled.now arrived.now settled.now) }
     ensures own { due_at agenda.new place ≡ (if result then Some (tick + 1) else None) }
     ensures as_many { length agenda.new ≡ length agenda.old }
-    ensures others { (other : ℕ) → (other ≡ place → ⊥) → due_at agenda.new other ≡ due_at agenda.old other }
+    ensures others { (other : ℕ) → (other ≡ place → ⊥)
+        → due_at agenda.new other ≡ due_at agenda.old other }
 {
     let risen = rises(apart, arrived, settled);
     agenda.set(place, if risen { Some(tick + 1) } else { None });
@@ -91,7 +93,9 @@ pub(crate) fn call_risen(
     requires alike { AreAlikeBut apart.now arrived.now settled.now }
     requires places { states + length settled.now < length agenda.old }
     requires few { states + length settled.now < 2 ^ 32 }
-    requires none_risen { rising ≡ false → (place : ℕ) → place < length settled.now → became_true arrived.now settled.now place ≡ false }
+    requires none_risen { rising ≡ false
+        → (place : ℕ) → place < length settled.now
+        → became_true arrived.now settled.now place ≡ false }
     requires none_behind { rising ≡ false → due_at agenda.old (states + length settled.now) ≡ None }
     ensures { IsCalled states tick arrived.now settled.now agenda.old agenda.new }
 {

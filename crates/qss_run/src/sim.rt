@@ -30,7 +30,15 @@ impl Sim {
 
     /// A simulator at tick 0, with the start rows. It takes all the memory that it ever needs.
     pub fn new(alloc: Global, m: Machine, q: Quantizer) -> Result<Sim, AllocError>
-        ensures start { IfOk result (λ sim. sim.course ≡ record { machine = m; tick = 0; world = start_world m; rows = world_rows kind.Start 0 (start_world m); end = None }) }
+        ensures start { IfOk result
+            (λ sim. sim.course
+            ≡ record {
+              machine = m;
+              tick = 0;
+              world = start_world m;
+              rows = world_rows kind.Start 0 (start_world m);
+              end = None;
+            }) }
         ensures rule { IfOk result (λ sim. sim.quantizer ≡ q) }
     {
         let course = Course::new(alloc, m)?;
@@ -43,12 +51,23 @@ impl Sim {
     /// Goes on to the next tick that has rows, to an overflow, or to the last tick. After the end of the run it gives the
     /// same answer again and changes nothing. It takes no memory.
     pub fn next_event<L: Ledger>(&mut self, steps: &mut Steps<L>) -> Outcome
-        ensures same { (self.new.course.machine ≡ self.old.course.machine) × (self.new.quantizer ≡ self.old.quantizer) }
-        ensures again { (end : Outcome) → self.old.course.end ≡ Some end → (result ≡ end) × (self.new.course ≡ self.old.course) × (steps.new ≡ steps.old) }
-        ensures next { self.old.course.end ≡ None → IsNext (IsRuled self.old.quantizer.name) self.old.course self.new.course result }
-        ensures rows { (rule : Rule) → self.old.quantizer.name ≡ Some rule → self.old.course.end ≡ None → rows_left (level_by rule) self.old.course ≡ self.new.course.rows ++ rows_left (level_by rule) self.new.course }
-        ensures counted { self.old.course.end ≡ None → MovesTouched (IsRuled self.old.quantizer.name) self.old.course self.new.course result (steps.new - steps.old) }
-        ensures touched { (rule : Rule) → self.old.quantizer.name ≡ Some rule → self.old.course.end ≡ None → (steps.new - steps.old) + touches_left (level_by rule) self.new.course ≤ touches_left (level_by rule) self.old.course }
+        ensures same { (self.new.course.machine ≡ self.old.course.machine)
+            × (self.new.quantizer ≡ self.old.quantizer) }
+        ensures again { (end : Outcome) → self.old.course.end ≡ Some end
+            → (result ≡ end) × (self.new.course ≡ self.old.course) × (steps.new ≡ steps.old) }
+        ensures next { self.old.course.end ≡ None
+            → IsNext (IsRuled self.old.quantizer.name) self.old.course self.new.course result }
+        ensures rows { (rule : Rule) → self.old.quantizer.name ≡ Some rule
+            → self.old.course.end ≡ None
+            → rows_left (level_by rule) self.old.course
+            ≡ self.new.course.rows ++ rows_left (level_by rule) self.new.course }
+        ensures counted { self.old.course.end ≡ None
+            → MovesTouched (IsRuled self.old.quantizer.name) self.old.course self.new.course result
+            (steps.new - steps.old) }
+        ensures touched { (rule : Rule) → self.old.quantizer.name ≡ Some rule
+            → self.old.course.end ≡ None
+            → (steps.new - steps.old) + touches_left (level_by rule) self.new.course
+            ≤ touches_left (level_by rule) self.old.course }
     {
         self.course.next_event(&self.quantizer, steps)
     }

@@ -61,7 +61,8 @@ pub(crate) fn reslope<L: Ledger>(
     ensures own_slope { line.new.slope ≡ here.now.slope }
     ensures own_level { line.new.level ≡ here.now.level }
     ensures as_many { length agenda.new ≡ length agenda.old }
-    ensures others { (place : ℕ) → (place ≡ j → ⊥) → due_at agenda.new place ≡ due_at agenda.old place }
+    ensures others { (place : ℕ) → (place ≡ j → ⊥)
+        → due_at agenda.new place ≡ due_at agenda.old place }
     ensures due { IsDue m.now here.now.tick j line.new (due_at agenda.new j) }
     ensures kept { goes_from here.now.tick here.now.x here.now.level here.now.slope line.old ≡ true
         → line.new ≡ line.old }

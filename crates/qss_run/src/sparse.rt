@@ -180,11 +180,17 @@ pub(crate) fn visit_due<L: Ledger>(
     requires taken { (agenda : List (Option ℕ)) × IsTaken m.now tick agenda s.old }
     requires none_changes { s.old.changed.items ≡ [] }
     requires in_time { tick < m.now.last }
-    ensures stepped { Step (IsRuled q.now.name) m.now (tick + 1) (world_of tick s.old) (world_unless result (world_of (tick + 1) s.new)) }
-    ensures rows { result ≡ None → s.new.rows.items ≡ tick_rows m.now (tick + 1) (world_of tick s.old) (world_of (tick + 1) s.new) }
+    ensures stepped { Step (IsRuled q.now.name) m.now (tick + 1) (world_of tick s.old)
+        (world_unless result (world_of (tick + 1) s.new)) }
+    ensures rows { result ≡ None
+        → s.new.rows.items
+        ≡ tick_rows m.now (tick + 1) (world_of tick s.old) (world_of (tick + 1) s.new) }
     ensures stands { result ≡ None → Stands m.now (tick + 1) s.new }
     ensures room { vec_capacity s.new.rows ≡ vec_capacity s.old.rows }
-    ensures counted { steps.new ≤ steps.old + touches_at m.now (tick + 1) (world_of tick s.old) (world_unless result (world_of (tick + 1) s.new)) }
+    ensures counted { steps.new
+        ≤ steps.old
+        + touches_at m.now (tick + 1) (world_of tick s.old)
+        (world_unless result (world_of (tick + 1) s.new)) }
 {
     let next = tick + 1;
     let arrival = Arrival {

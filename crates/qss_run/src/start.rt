@@ -35,7 +35,10 @@ use std::alloc::{AllocError, Global};
 // The branches of a clause, after those before it.
 fn add_branches(found: &mut Vec<BranchPlace>, clause: u32, count: usize) -> Result<(), AllocError>
     requires { count ≤ 16384 }
-    ensures { IfOk result (λ done. found.new.items ≡ found.old.items ++ tabulate count (λ branch. record { clause = clause; branch = branch })) }
+    ensures { IfOk result
+        (λ done. found.new.items
+        ≡ found.old.items
+        ++ tabulate count (λ branch. record { clause = clause; branch = branch })) }
 {
     for branch in 0..count {
         found.push(BranchPlace {
@@ -96,7 +99,9 @@ fn resting_watch() -> Detector
 
 // Two lists of flags, one for each condition.
 fn flag_lists(alloc: Global, count: usize) -> Result<(Vec<bool>, Vec<bool>), AllocError>
-    ensures { IfOk result (λ lists. let flags = replicate count false in (lists.0.items ≡ flags) × (lists.1.items ≡ flags)) }
+    ensures { IfOk result
+        (λ lists. let flags = replicate count false in (lists.0.items ≡ flags)
+        × (lists.1.items ≡ flags)) }
 {
     let first = copies(alloc, false, count)?;
     let second = copies(alloc, false, count)?;
@@ -125,7 +130,10 @@ fn number_lists(
     states: usize,
     conditions: usize,
 ) -> Result<(Vec<u32>, Vec<u32>, Vec<u32>), AllocError>
-    ensures { IfOk result (λ lists. (states ≤ vec_capacity lists.0) × (conditions ≤ vec_capacity lists.1) × (conditions ≤ vec_capacity lists.2)) }
+    ensures { IfOk result
+        (λ lists. (states ≤ vec_capacity lists.0)
+        × (conditions ≤ vec_capacity lists.1)
+        × (conditions ≤ vec_capacity lists.2)) }
 {
     let moved = Vec::with_capacity(alloc, states)?;
     let changed = Vec::with_capacity(alloc, conditions)?;
@@ -184,7 +192,8 @@ fn start_line(
     requires near { IsNear (level_unit m.now) x level (quantum_of m.now j level) }
     ensures line { line.new ≡ record { tick = 0; x = x; slope = slope; level = level } }
     ensures as_many { length agenda.new ≡ length agenda.old }
-    ensures others { (place : ℕ) → (place ≡ j → ⊥) → due_at agenda.new place ≡ due_at agenda.old place }
+    ensures others { (place : ℕ) → (place ≡ j → ⊥)
+        → due_at agenda.new place ≡ due_at agenda.old place }
     ensures due { IsDue m.now 0 j line.new (due_at agenda.new j) }
 {
     *line = Integrator {
@@ -214,11 +223,17 @@ fn start_lines(
     requires places { state_count m.now ≤ length agenda.old }
     requires small_levels { All (IsWithin 43) levels.now }
     requires light { position (is_overweight m.now levels.now d.now) m.now.rows ≡ None }
-    requires near { (j : ℕ) → j < state_count m.now → IsNear (level_unit m.now) (int_at x.now j) (int_at levels.now j) (quantum_of m.now j (int_at levels.now j)) }
-    ensures slopes { slopes.new ≡ tabulate (state_count m.now) (λ j. slope_at m.now j levels.now d.now) }
-    ensures lines { (j : ℕ) → j < state_count m.now → IsTurned m.now 0 (int_at x.now j) (int_at levels.now j) (slope_at m.now j levels.now d.now) j (line_at lines.new j) (due_at agenda.new j) }
+    requires near { (j : ℕ) → j < state_count m.now
+        → IsNear (level_unit m.now) (int_at x.now j) (int_at levels.now j)
+        (quantum_of m.now j (int_at levels.now j)) }
+    ensures slopes { slopes.new
+        ≡ tabulate (state_count m.now) (λ j. slope_at m.now j levels.now d.now) }
+    ensures lines { (j : ℕ) → j < state_count m.now
+        → IsTurned m.now 0 (int_at x.now j) (int_at levels.now j)
+        (slope_at m.now j levels.now d.now) j (line_at lines.new j) (due_at agenda.new j) }
     ensures places { length agenda.new ≡ length agenda.old }
-    ensures others { (place : ℕ) → state_count m.now ≤ place → due_at agenda.new place ≡ due_at agenda.old place }
+    ensures others { (place : ℕ) → state_count m.now ≤ place
+        → due_at agenda.new place ≡ due_at agenda.old place }
 {
     for j in 0..lines.len() {
         let slope = m.slope(j as u32, levels, d);
@@ -245,11 +260,15 @@ fn set_out(
     requires lines { length lines.old ≡ state_count m.now }
     requires places { length agenda.old ≡ state_count m.now + length (conditions m.now) + 1 }
     requires no_dues { HasNone agenda.old }
-    ensures slopes { slopes.new ≡ tabulate (state_count m.now) (λ j. slope_at m.now j levels.now work.now.d) }
-    ensures lines { (j : ℕ) → j < state_count m.now → IsTurned m.now 0 (int_at work.now.x j) (int_at levels.now j) (slope_at m.now j levels.now work.now.d) j (line_at lines.new j) (due_at agenda.new j) }
+    ensures slopes { slopes.new
+        ≡ tabulate (state_count m.now) (λ j. slope_at m.now j levels.now work.now.d) }
+    ensures lines { (j : ℕ) → j < state_count m.now
+        → IsTurned m.now 0 (int_at work.now.x j) (int_at levels.now j)
+        (slope_at m.now j levels.now work.now.d) j (line_at lines.new j) (due_at agenda.new j) }
     ensures arrived { watched.new.arrived.items ≡ watched.new.settled.items }
     ensures settled { watched.new.settled.items ≡ truths m.now work.now.x work.now.d 0 }
-    ensures watches { AreWatched m.now 0 work.now.x work.now.d slopes.new watched.new.watches.items agenda.new }
+    ensures watches { AreWatched m.now 0 work.now.x work.now.d slopes.new watched.new.watches.items
+        agenda.new }
     ensures rising { due_at agenda.new (state_count m.now + length (conditions m.now)) ≡ None }
     ensures fits { AreConditionsOf m.now watched.new }
     ensures places { length agenda.new ≡ length agenda.old }
@@ -273,7 +292,9 @@ fn start_rows(work: &Work, levels: &[i64], rows: &mut Vec<Row>)
     requires few { length work.now.x + length work.now.d ≤ 4096 }
     requires as_many { length levels.now ≡ length work.now.x }
     requires room { length work.now.x + length work.now.d ≤ vec_capacity rows.old }
-    ensures rows { rows.new.items ≡ state_rows kind.Start 0 levels.now work.now.x ++ discrete_rows kind.Start 0 (length work.now.x) work.now.d }
+    ensures rows { rows.new.items
+        ≡ state_rows kind.Start 0 levels.now work.now.x
+        ++ discrete_rows kind.Start 0 (length work.now.x) work.now.d }
     ensures room { vec_capacity rows.new ≡ vec_capacity rows.old }
 {
     set_world_rows(

@@ -43,7 +43,8 @@ fn turn<L: Ledger>(
         ≡ true
         → line_at lines.new j ≡ line_at lines.old j }
     ensures places { length agenda.new ≡ length agenda.old }
-    ensures dues { (place : ℕ) → (place ≡ j → ⊥) → due_at agenda.new place ≡ due_at agenda.old place }
+    ensures dues { (place : ℕ) → (place ≡ j → ⊥)
+        → due_at agenda.new place ≡ due_at agenda.old place }
     ensures counted { steps.new
         + renewals (state_count at.now.machine.now) at.now.levels.now slopes.now lines.new
         ≡ steps.old + renewals

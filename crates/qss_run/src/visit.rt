@@ -27,11 +27,17 @@ pub(crate) fn visit<L: Ledger>(
 ) -> Option<u32>
     requires stands { Stands m.now tick s.old }
     requires in_time { tick < m.now.last }
-    ensures stepped { Step (IsRuled q.now.name) m.now (tick + 1) (world_of tick s.old) (world_unless result (world_of (tick + 1) s.new)) }
-    ensures rows { result ≡ None → s.new.rows.items ≡ tick_rows m.now (tick + 1) (world_of tick s.old) (world_of (tick + 1) s.new) }
+    ensures stepped { Step (IsRuled q.now.name) m.now (tick + 1) (world_of tick s.old)
+        (world_unless result (world_of (tick + 1) s.new)) }
+    ensures rows { result ≡ None
+        → s.new.rows.items
+        ≡ tick_rows m.now (tick + 1) (world_of tick s.old) (world_of (tick + 1) s.new) }
     ensures stands { result ≡ None → Stands m.now (tick + 1) s.new }
     ensures room { vec_capacity s.new.rows ≡ vec_capacity s.old.rows }
-    ensures counted { steps.new ≤ steps.old + touches_at m.now (tick + 1) (world_of tick s.old) (world_unless result (world_of (tick + 1) s.new)) }
+    ensures counted { steps.new
+        ≤ steps.old
+        + touches_at m.now (tick + 1) (world_of tick s.old)
+        (world_unless result (world_of (tick + 1) s.new)) }
 {
     let states = s.lines.len() as u32;
     let conditions = s.conditions.branches.len() as u32;

@@ -44,7 +44,14 @@ fn note(arrived: &[bool], place: u32, holds: bool, apart: &mut PlaceSet)
 fn watch_of(m: &Machine, condition: &Condition, at: &Point) -> Detector
     requires form { IsBounded condition.now.form }
     requires point { IsPoint m.now at.now }
-    ensures { result ≡ record { rel = condition.now.rel; tick = at.now.tick; value = value_of m.now condition.now.form at.now.states.now at.now.discretes.now at.now.discretes.now at.now.tick; speed = speed_of m.now condition.now.form at.now.slopes.now } }
+    ensures { result
+        ≡ record {
+          rel = condition.now.rel;
+          tick = at.now.tick;
+          value = value_of m.now condition.now.form at.now.states.now at.now.discretes.now
+              at.now.discretes.now at.now.tick;
+          speed = speed_of m.now condition.now.form at.now.slopes.now;
+        } }
 {
     let value = m.form_value(
         &condition.form,
@@ -69,7 +76,9 @@ impl Conditions {
         requires point { IsPoint m.now at.now }
         requires place { place < length (conditions m.now) }
         requires places { HasPlaces m.now agenda.old }
-        ensures settled { AreSettled m.now at.now.tick at.now.states.now at.now.discretes.now at.now.slopes.now (place ∷ []) (watchings_of self.old agenda.old) (watchings_of self.new agenda.new) }
+        ensures settled { AreSettled m.now at.now.tick at.now.states.now at.now.discretes.now
+            at.now.slopes.now (place ∷ []) (watchings_of self.old agenda.old)
+            (watchings_of self.new agenda.new) }
         ensures noted { AreNoted (place ∷ []) self.old self.new }
         ensures rest { self.new
             ≡ record self.old {
@@ -95,8 +104,10 @@ impl Conditions {
         requires fits { AreConditionsOf m.now self.old }
         requires point { IsPoint m.now at.now }
         requires places { HasPlaces m.now agenda.old }
-        ensures settled { self.new.settled.items ≡ truths m.now at.now.states.now at.now.discretes.now at.now.tick }
-        ensures watches { AreWatched m.now at.now.tick at.now.states.now at.now.discretes.now at.now.slopes.now self.new.watches.items agenda.new }
+        ensures settled { self.new.settled.items
+            ≡ truths m.now at.now.states.now at.now.discretes.now at.now.tick }
+        ensures watches { AreWatched m.now at.now.tick at.now.states.now at.now.discretes.now
+            at.now.slopes.now self.new.watches.items agenda.new }
         ensures rest { self.new
             ≡ record self.old {
               watches = self.new.watches;
@@ -105,8 +116,10 @@ impl Conditions {
             } }
         ensures fits { AreConditionsOf m.now self.new }
         ensures places { length agenda.new ≡ length agenda.old }
-        ensures others { (place : ℕ) → place < state_count m.now → due_at agenda.new place ≡ due_at agenda.old place }
-        ensures beyond { (place : ℕ) → state_count m.now + length (conditions m.now) ≤ place → due_at agenda.new place ≡ due_at agenda.old place }
+        ensures others { (place : ℕ) → place < state_count m.now
+            → due_at agenda.new place ≡ due_at agenda.old place }
+        ensures beyond { (place : ℕ) → state_count m.now + length (conditions m.now) ≤ place
+            → due_at agenda.new place ≡ due_at agenda.old place }
     {
         for place in 0..self.branches.len() {
             self.settle(m, at, place as u32, agenda);

@@ -24,10 +24,12 @@ fn respeed(watch: &mut Detector, tick: u64, speed: i128, place: u32, agenda: &mu
     requires small { IsSmall (value_at watch.old tick) }
     requires speed { IsSmall speed }
     requires place { place < length agenda.old }
-    ensures goes_on { GoesOn tick speed watch.old watch.new (due_at agenda.old place) (due_at agenda.new place) }
+    ensures goes_on { GoesOn tick speed watch.old watch.new (due_at agenda.old place)
+        (due_at agenda.new place) }
     ensures speed { watch.new.speed ≡ speed }
     ensures places { length agenda.new ≡ length agenda.old }
-    ensures others { (other : ℕ) → (other ≡ place → ⊥) → due_at agenda.new other ≡ due_at agenda.old other }
+    ensures others { (other : ℕ) → (other ≡ place → ⊥)
+        → due_at agenda.new other ≡ due_at agenda.old other }
 {
     if watch.speed == speed {
         return;
@@ -43,7 +45,8 @@ impl Conditions {
     fn rewatch(&mut self, m: &Machine, tick: u64, place: u32, slopes: &[i128], agenda: &mut Agenda)
         requires place { place < length (conditions m.now) }
         requires ready { CanRewatch m.now tick slopes.now self.old agenda.old }
-        ensures goes_on { AreGoingOn m.now tick slopes.now self.old.watches.items self.new.watches.items agenda.old agenda.new }
+        ensures goes_on { AreGoingOn m.now tick slopes.now self.old.watches.items
+            self.new.watches.items agenda.old agenda.new }
         ensures speed { HasSpeed m.now slopes.now self.new.watches.items place }
         ensures same { self.new ≡ record self.old { watches = self.new.watches } }
     {
@@ -65,7 +68,8 @@ impl Conditions {
     )
         requires known { All (λ place. place < length (conditions m.now)) places.now }
         requires ready { CanRewatch m.now tick slopes.now self.old agenda.old }
-        ensures goes_on { AreGoingOn m.now tick slopes.now self.old.watches.items self.new.watches.items agenda.old agenda.new }
+        ensures goes_on { AreGoingOn m.now tick slopes.now self.old.watches.items
+            self.new.watches.items agenda.old agenda.new }
         ensures speeds { All (HasSpeed m.now slopes.now self.new.watches.items) places.now }
         ensures same { self.new ≡ record self.old { watches = self.new.watches } }
     {
@@ -87,8 +91,12 @@ impl Conditions {
         requires uses { uses.now ≡ uses_of m.now }
         requires known { All (λ state. state < state_count m.now) states.now }
         requires ready { CanRewatch m.now tick slopes.now self.old agenda.old }
-        ensures goes_on { AreGoingOn m.now tick slopes.now self.old.watches.items self.new.watches.items agenda.old agenda.new }
-        ensures speeds { All (λ state. All (HasSpeed m.now slopes.now self.new.watches.items) (slice_index_or uses.now.1 state [])) states.now }
+        ensures goes_on { AreGoingOn m.now tick slopes.now self.old.watches.items
+            self.new.watches.items agenda.old agenda.new }
+        ensures speeds { All
+            (λ state. All (HasSpeed m.now slopes.now self.new.watches.items)
+            (slice_index_or uses.now.1 state []))
+            states.now }
         ensures same { self.new ≡ record self.old { watches = self.new.watches } }
     {
         for state in states {
@@ -111,8 +119,10 @@ impl Conditions {
         requires uses { uses.now ≡ uses_of m.now }
         requires moved { AreNumbers (state_count m.now) moved.now }
         requires ready { CanRewatch m.now tick slopes.now self.old agenda.old }
-        ensures watches { AreWatchedOn m.now tick moved.now slopes.now self.old.watches.items self.new.watches.items agenda.old agenda.new }
-        ensures goes_on { AreGoingOn m.now tick slopes.now self.old.watches.items self.new.watches.items agenda.old agenda.new }
+        ensures watches { AreWatchedOn m.now tick moved.now slopes.now self.old.watches.items
+            self.new.watches.items agenda.old agenda.new }
+        ensures goes_on { AreGoingOn m.now tick slopes.now self.old.watches.items
+            self.new.watches.items agenda.old agenda.new }
         ensures same { self.new ≡ record self.old { watches = self.new.watches } }
     {
         for state in moved {

@@ -63,7 +63,8 @@ fn weigh_rows(m: &Machine, rows: &[u32], levels: &[i64], d: &[i64], weights: &mu
     requires weights { length weights.old ≡ state_count m.now }
     requires small_levels { All (IsWithin 43) levels.now }
     requires small_discretes { All (IsWithin 43) d.now }
-    ensures { IsWritten (pos 0) (IsWeighed m.now levels.now d.now) rows.now weights.old weights.new }
+    ensures { IsWritten (pos 0) (IsWeighed m.now levels.now d.now) rows.now weights.old
+        weights.new }
 {
     for row in rows {
         weights[*row as usize] = weigh_row(m, *row, levels, d);
@@ -86,7 +87,8 @@ fn weigh_readers(
     requires weights { length weights.old ≡ state_count m.now }
     requires small_levels { All (IsWithin 43) levels.now }
     requires small_discretes { All (IsWithin 43) d.now }
-    ensures { IsWritten (pos 0) (IsWeighed m.now levels.now d.now) (flat_map (reading_rows m.now) assigned.now) weights.old weights.new }
+    ensures { IsWritten (pos 0) (IsWeighed m.now levels.now d.now)
+        (flat_map (reading_rows m.now) assigned.now) weights.old weights.new }
 {
     for var in assigned {
         weigh_rows(m, uses.rows_of(*var), levels, d, weights);

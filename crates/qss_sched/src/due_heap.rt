@@ -66,7 +66,8 @@ impl DueHeap {
 
     /// The least due tick and the least place that has it.
     pub(crate) fn next(&self) -> Option<(u64, u32)>
-        ensures { MatchOption result (HasNone self.now) (λ first. IsLeast self.now first.0 first.1) }
+        ensures { MatchOption result (HasNone self.now)
+            (λ first. IsLeast self.now first.0 first.1) }
     {
         if self.ranks.is_empty() {
             return None;

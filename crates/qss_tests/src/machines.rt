@@ -15,7 +15,8 @@ use std::test::Fail;
 
 // A state that starts at 1 and has the quantum 1.
 fn states(alloc: Global) -> Result<Items<StateInfo>, AllocError>
-    ensures { IfOk result (λ states. states ≡ record { name = 120 ∷ []; x0 = pos 1; quantum = pos 1 } ∷ []) }
+    ensures { IfOk result
+        (λ states. states ≡ record { name = 120 ∷ []; x0 = pos 1; quantum = pos 1 } ∷ []) }
 {
     let name = Name::new(alloc, b"x")?;
     one(
@@ -30,7 +31,14 @@ fn states(alloc: Global) -> Result<Items<StateInfo>, AllocError>
 
 // A right side of minus two times the state.
 fn rows(alloc: Global) -> Result<Items<SlopeRow>, AllocError>
-    ensures { IfOk result (λ rows. rows ≡ record { entries = record { var = 0; coef = negsuc 1 } ∷ []; products = []; beta = pos 0 } ∷ []) }
+    ensures { IfOk result
+        (λ rows. rows
+        ≡ record {
+          entries = record { var = 0; coef = negsuc 1 } ∷ [];
+          products = [];
+          beta = pos 0;
+        }
+        ∷ []) }
 {
     let entries = one(alloc, Entry { var: 0, coef: -2 })?;
     one(

@@ -13,7 +13,8 @@ use std::test::Fail;
 
 // A state that starts at 262144 and has the quantum 4.
 fn decay_states(alloc: Global) -> Result<Items<StateInfo>, AllocError>
-    ensures { IfOk result (λ states. states ≡ record { name = 120 ∷ []; x0 = pos 262144; quantum = pos 4 } ∷ []) }
+    ensures { IfOk result
+        (λ states. states ≡ record { name = 120 ∷ []; x0 = pos 262144; quantum = pos 4 } ∷ []) }
 {
     let name = Name::new(alloc, b"x")?;
     let state = StateInfo {
@@ -26,7 +27,14 @@ fn decay_states(alloc: Global) -> Result<Items<StateInfo>, AllocError>
 
 // A right side of minus 256 times the state.
 fn decay_rows(alloc: Global) -> Result<Items<SlopeRow>, AllocError>
-    ensures { IfOk result (λ rows. rows ≡ record { entries = record { var = 0; coef = negsuc 255 } ∷ []; products = []; beta = pos 0 } ∷ []) }
+    ensures { IfOk result
+        (λ rows. rows
+        ≡ record {
+          entries = record { var = 0; coef = negsuc 255 } ∷ [];
+          products = [];
+          beta = pos 0;
+        }
+        ∷ []) }
 {
     let entries = one(alloc, Entry { var: 0, coef: -256 })?;
     let row = SlopeRow {
@@ -112,7 +120,8 @@ fn runs_are_traced(rt: HostRuntime) -> Result<(), Fail> {
 
 // A state that starts at 0 and has the quantum 4.
 fn resting(alloc: Global) -> Result<Items<StateInfo>, AllocError>
-    ensures { IfOk result (λ states. states ≡ record { name = 120 ∷ []; x0 = pos 0; quantum = pos 4 } ∷ []) }
+    ensures { IfOk result
+        (λ states. states ≡ record { name = 120 ∷ []; x0 = pos 0; quantum = pos 4 } ∷ []) }
 {
     let state = StateInfo {
         name: Name::new(alloc, b"x")?,
@@ -124,7 +133,8 @@ fn resting(alloc: Global) -> Result<Items<StateInfo>, AllocError>
 
 // A right side of 2^78 alone.
 fn steep(alloc: Global) -> Result<Items<SlopeRow>, AllocError>
-    ensures { IfOk result (λ rows. rows ≡ record { entries = []; products = []; beta = pos (2 ^ 78) } ∷ []) }
+    ensures { IfOk result
+        (λ rows. rows ≡ record { entries = []; products = []; beta = pos (2 ^ 78) } ∷ []) }
 {
     let row = SlopeRow {
         entries: none(alloc),
@@ -153,7 +163,14 @@ fn rising(alloc: Global) -> Result<Machine, AllocError> {
 
 // A right side of 256 times the state.
 fn growth(alloc: Global) -> Result<Items<SlopeRow>, AllocError>
-    ensures { IfOk result (λ rows. rows ≡ record { entries = record { var = 0; coef = pos 256 } ∷ []; products = []; beta = pos 0 } ∷ []) }
+    ensures { IfOk result
+        (λ rows. rows
+        ≡ record {
+          entries = record { var = 0; coef = pos 256 } ∷ [];
+          products = [];
+          beta = pos 0;
+        }
+        ∷ []) }
 {
     let row = SlopeRow {
         entries: one(alloc, Entry { var: 0, coef: 256 })?,

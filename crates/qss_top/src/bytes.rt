@@ -27,10 +27,13 @@ use trace_answer::{Ending as TraceEnding, check_trace_text};
 
 /// Does this with a source. What becomes of it, and what is written, is the answer to these bytes.
 pub fn answer_source<O: Sink>(alloc: Global, task: Task, source: &[u8], out: &mut O) -> Outcome
-    ensures outcome { (answer : Answer) → IsTaskAnswer task.entry source.now answer → IsOutcome answer result (O.written out.old) (O.written out.new) (O.faults out.old) (O.faults out.new) }
+    ensures outcome { (answer : Answer) → IsTaskAnswer task.entry source.now answer
+        → IsOutcome answer result (O.written out.old) (O.written out.new) (O.faults out.old)
+        (O.faults out.new) }
     ensures not_usage { result ≢ Outcome.Usage }
     ensures not_read { result ≢ Outcome.ReadFault }
-    ensures untouched { leaves_out (task_goes task.entry) (status_of result) ≡ true → out.new ≡ out.old }
+    ensures untouched { leaves_out (task_goes task.entry) (status_of result) ≡ true
+        → out.new ≡ out.old }
     ensures calm { result ≢ Outcome.WriteFault → O.faults out.new ≡ O.faults out.old }
     ensures last { result ≡ Outcome.WriteFault → EndsByFault O.faults O.failed out.old out.new }
 {
@@ -49,11 +52,17 @@ pub fn answer_certificate<O: Sink>(
     text: &[u8],
     out: &mut O,
 ) -> Outcome
-    ensures outcome { (answer : Answer) → IsMachineAnswer share.share (λ m. IsCertifyAnswer m text.now) source.now answer → IsOutcome answer result (O.written out.old) (O.written out.new) (O.faults out.old) (O.faults out.new) }
+    ensures outcome { (answer : Answer)
+        → IsMachineAnswer share.share (λ m. IsCertifyAnswer m text.now) source.now answer
+        → IsOutcome answer result (O.written out.old) (O.written out.new) (O.faults out.old)
+        (O.faults out.new) }
 
     // Where the certificate is accepted, any two legitimate runs of the machine that the source means,
     // from the certificate's starts, lie within the bounds that out gains.
-    ensures certified { result ≡ Outcome.Done → (bounds : List ℕ) × (Appends (O.written out.old) (O.written out.new) bounds × AreCertifiedBy share.share source.now text.now bounds) }
+    ensures certified { result ≡ Outcome.Done
+        → (bounds : List ℕ)
+        × (Appends (O.written out.old) (O.written out.new) bounds
+        × AreCertifiedBy share.share source.now text.now bounds) }
     ensures not_usage { result ≢ Outcome.Usage }
     ensures not_read { result ≢ Outcome.ReadFault }
     ensures untouched { leaves_out false (status_of result) ≡ true → out.new ≡ out.old }
@@ -72,7 +81,10 @@ pub fn answer_certificate<O: Sink>(
 /// Writes the certificate of a source that these bytes spell in its newest form.
 /// What becomes of it, and what is written, is the answer to these bytes.
 pub fn answer_upgrade<O: Sink>(alloc: Global, source: &[u8], text: &[u8], out: &mut O) -> Outcome
-    ensures outcome { (answer : Answer) → IsMachineAnswer 0 (λ m. IsUpgradeAnswer m text.now) source.now answer → IsOutcome answer result (O.written out.old) (O.written out.new) (O.faults out.old) (O.faults out.new) }
+    ensures outcome { (answer : Answer)
+        → IsMachineAnswer 0 (λ m. IsUpgradeAnswer m text.now) source.now answer
+        → IsOutcome answer result (O.written out.old) (O.written out.new) (O.faults out.old)
+        (O.faults out.new) }
     ensures not_usage { result ≢ Outcome.Usage }
     ensures not_read { result ≢ Outcome.ReadFault }
     ensures untouched { leaves_out false (status_of result) ≡ true → out.new ≡ out.old }
@@ -91,10 +103,16 @@ pub fn answer_upgrade<O: Sink>(alloc: Global, source: &[u8], text: &[u8], out: &
 /// Says whether the trace that these bytes spell is a legitimate run of the machine that a source means.
 /// What becomes of it, and what is written, is the answer to these bytes.
 pub fn answer_trace<O: Sink>(alloc: Global, source: &[u8], text: &[u8], out: &mut O) -> Outcome
-    ensures outcome { (answer : Answer) → IsMachineAnswer 0 (λ m. IsCheckAnswer m text.now) source.now answer → IsOutcome answer result (O.written out.old) (O.written out.new) (O.faults out.old) (O.faults out.new) }
+    ensures outcome { (answer : Answer)
+        → IsMachineAnswer 0 (λ m. IsCheckAnswer m text.now) source.now answer
+        → IsOutcome answer result (O.written out.old) (O.written out.new) (O.faults out.old)
+        (O.faults out.new) }
 
     // Where that is said, they spell a trace that is a legitimate run of the machine from its start.
-    ensures legitimate { result ≡ Outcome.Done → (m : Machine) × IsSourceMachine 0 source.now m × ((t : Trace) × IsTextOf (state_count m) text.now t × IsRunOf m t) }
+    ensures legitimate { result ≡ Outcome.Done
+        → (m : Machine)
+        × IsSourceMachine 0 source.now m
+        × ((t : Trace) × IsTextOf (state_count m) text.now t × IsRunOf m t) }
     ensures not_usage { result ≢ Outcome.Usage }
     ensures not_read { result ≢ Outcome.ReadFault }
     ensures untouched { leaves_out false (status_of result) ≡ true → out.new ≡ out.old }
@@ -119,7 +137,12 @@ pub fn answer_comparison<O: Sink>(
     runs: GivenRuns,
     out: &mut O,
 ) -> Outcome
-    ensures outcome { (answer : Answer) → IsMachineAnswer 0 (λ m. IsCompareAnswer (given_in runs.entry.one) (given_in runs.entry.two) m text.now) source.now answer → IsOutcome answer result (O.written out.old) (O.written out.new) (O.faults out.old) (O.faults out.new) }
+    ensures outcome { (answer : Answer)
+        → IsMachineAnswer 0
+        (λ m. IsCompareAnswer (given_in runs.entry.one) (given_in runs.entry.two) m text.now)
+        source.now answer
+        → IsOutcome answer result (O.written out.old) (O.written out.new) (O.faults out.old)
+        (O.faults out.new) }
     ensures not_usage { result ≢ Outcome.Usage }
     ensures not_read { result ≢ Outcome.ReadFault }
     ensures untouched { leaves_out false (status_of result) ≡ true → out.new ≡ out.old }
@@ -142,7 +165,9 @@ pub(crate) fn certify_machine<O: Sink>(
     text: &[u8],
     out: &mut O,
 ) -> Outcome
-    ensures outcome { (answer : Answer) → IsCertifyAnswer m.now text.now answer → IsOutcome answer result (O.written out.old) (O.written out.new) (O.faults out.old) (O.faults out.new) }
+    ensures outcome { (answer : Answer) → IsCertifyAnswer m.now text.now answer
+        → IsOutcome answer result (O.written out.old) (O.written out.new) (O.faults out.old)
+        (O.faults out.new) }
     ensures not_usage { result ≢ Outcome.Usage }
     ensures not_read { result ≢ Outcome.ReadFault }
     ensures untouched { leaves_out false (status_of result) ≡ true → out.new ≡ out.old }
@@ -159,7 +184,9 @@ pub(crate) fn upgrade_machine<O: Sink>(
     text: &[u8],
     out: &mut O,
 ) -> Outcome
-    ensures outcome { (answer : Answer) → IsUpgradeAnswer m.now text.now answer → IsOutcome answer result (O.written out.old) (O.written out.new) (O.faults out.old) (O.faults out.new) }
+    ensures outcome { (answer : Answer) → IsUpgradeAnswer m.now text.now answer
+        → IsOutcome answer result (O.written out.old) (O.written out.new) (O.faults out.old)
+        (O.faults out.new) }
     ensures not_usage { result ≢ Outcome.Usage }
     ensures not_read { result ≢ Outcome.ReadFault }
     ensures untouched { leaves_out false (status_of result) ≡ true → out.new ≡ out.old }
@@ -176,8 +203,11 @@ pub(crate) fn check_machine<O: Sink>(
     text: &[u8],
     out: &mut O,
 ) -> Outcome
-    ensures outcome { (answer : Answer) → IsCheckAnswer m.now text.now answer → IsOutcome answer result (O.written out.old) (O.written out.new) (O.faults out.old) (O.faults out.new) }
-    ensures legitimate { result ≡ Outcome.Done → (t : Trace) × IsTextOf (state_count m.now) text.now t × IsRunOf m.now t }
+    ensures outcome { (answer : Answer) → IsCheckAnswer m.now text.now answer
+        → IsOutcome answer result (O.written out.old) (O.written out.new) (O.faults out.old)
+        (O.faults out.new) }
+    ensures legitimate { result ≡ Outcome.Done
+        → (t : Trace) × IsTextOf (state_count m.now) text.now t × IsRunOf m.now t }
     ensures not_usage { result ≢ Outcome.Usage }
     ensures not_read { result ≢ Outcome.ReadFault }
     ensures untouched { leaves_out false (status_of result) ≡ true → out.new ≡ out.old }

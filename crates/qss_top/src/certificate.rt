@@ -37,14 +37,19 @@ pub(crate) fn on_certificate<S: Shelf, O: Sink>(
     shelf: &mut S,
     out: &mut O,
 ) -> Outcome
-    ensures serves { Serves (S.files shelf.old) (files_of (command_on deed.entry model.now certificate.now)) (CommandLeadsTo (command_on deed.entry model.now certificate.now)) result (O.written out.old) (O.written out.new) (O.faults out.old) (O.faults out.new) (S.faults shelf.old) (S.faults shelf.new) }
+    ensures serves { Serves (S.files shelf.old)
+        (files_of (command_on deed.entry model.now certificate.now))
+        (CommandLeadsTo (command_on deed.entry model.now certificate.now)) result
+        (O.written out.old) (O.written out.new) (O.faults out.old) (O.faults out.new)
+        (S.faults shelf.old) (S.faults shelf.new) }
     ensures not_usage { result ≢ Outcome.Usage }
     ensures untouched { leaves_out false (status_of result) ≡ true → out.new ≡ out.old }
     ensures calm { result ≢ Outcome.WriteFault → O.faults out.new ≡ O.faults out.old }
     ensures last { result ≡ Outcome.WriteFault → EndsByFault O.faults O.failed out.old out.new }
     ensures files { S.files shelf.new ≡ S.files shelf.old }
     ensures later { (name : List ℕ) → S.faults shelf.old name ≤ S.faults shelf.new name }
-    ensures unharmed { result ≢ Outcome.ReadFault → (name : List ℕ) → S.faults shelf.new name ≡ S.faults shelf.old name }
+    ensures unharmed { result ≢ Outcome.ReadFault
+        → (name : List ℕ) → S.faults shelf.new name ≡ S.faults shelf.old name }
 {
     match read_all(alloc, shelf, model, MODEL_LIMIT) {
         Ok(bytes) => on_model(alloc, deed, &bytes, certificate, shelf, out),
@@ -64,14 +69,19 @@ fn on_model<S: Shelf, O: Sink>(
     out: &mut O,
 ) -> Outcome
     requires { length bytes.now ≤ 2 ^ 20 }
-    ensures serves { Serves (S.files shelf.old) (certificate.now ∷ files_behind deed.entry) (λ files. ByMachine (share_in deed.entry) bytes.now (λ m. ReadsText certificate.now (IsDone deed.entry) m files)) result (O.written out.old) (O.written out.new) (O.faults out.old) (O.faults out.new) (S.faults shelf.old) (S.faults shelf.new) }
+    ensures serves { Serves (S.files shelf.old) (certificate.now ∷ files_behind deed.entry)
+        (λ files. ByMachine (share_in deed.entry) bytes.now
+        (λ m. ReadsText certificate.now (IsDone deed.entry) m files))
+        result (O.written out.old) (O.written out.new) (O.faults out.old) (O.faults out.new)
+        (S.faults shelf.old) (S.faults shelf.new) }
     ensures not_usage { result ≢ Outcome.Usage }
     ensures untouched { leaves_out false (status_of result) ≡ true → out.new ≡ out.old }
     ensures calm { result ≢ Outcome.WriteFault → O.faults out.new ≡ O.faults out.old }
     ensures last { result ≡ Outcome.WriteFault → EndsByFault O.faults O.failed out.old out.new }
     ensures files { S.files shelf.new ≡ S.files shelf.old }
     ensures later { (name : List ℕ) → S.faults shelf.old name ≤ S.faults shelf.new name }
-    ensures unharmed { result ≢ Outcome.ReadFault → (name : List ℕ) → S.faults shelf.new name ≡ S.faults shelf.old name }
+    ensures unharmed { result ≢ Outcome.ReadFault
+        → (name : List ℕ) → S.faults shelf.new name ≡ S.faults shelf.old name }
 {
     let share = share_of(deed);
     match machine_of(alloc, share.share, bytes) {
@@ -99,14 +109,18 @@ fn in_scope<S: Shelf, O: Sink>(
     shelf: &mut S,
     out: &mut O,
 ) -> Outcome
-    ensures serves { Serves (S.files shelf.old) (certificate.now ∷ files_behind deed.entry) (ReadsText certificate.now (IsDone deed.entry) m.now) result (O.written out.old) (O.written out.new) (O.faults out.old) (O.faults out.new) (S.faults shelf.old) (S.faults shelf.new) }
+    ensures serves { Serves (S.files shelf.old) (certificate.now ∷ files_behind deed.entry)
+        (ReadsText certificate.now (IsDone deed.entry) m.now) result (O.written out.old)
+        (O.written out.new) (O.faults out.old) (O.faults out.new) (S.faults shelf.old)
+        (S.faults shelf.new) }
     ensures not_usage { result ≢ Outcome.Usage }
     ensures untouched { leaves_out false (status_of result) ≡ true → out.new ≡ out.old }
     ensures calm { result ≢ Outcome.WriteFault → O.faults out.new ≡ O.faults out.old }
     ensures last { result ≡ Outcome.WriteFault → EndsByFault O.faults O.failed out.old out.new }
     ensures files { S.files shelf.new ≡ S.files shelf.old }
     ensures later { (name : List ℕ) → S.faults shelf.old name ≤ S.faults shelf.new name }
-    ensures unharmed { result ≢ Outcome.ReadFault → (name : List ℕ) → S.faults shelf.new name ≡ S.faults shelf.old name }
+    ensures unharmed { result ≢ Outcome.ReadFault
+        → (name : List ℕ) → S.faults shelf.new name ≡ S.faults shelf.old name }
 {
     match scope(m) {
         Ok(_states) => on_text_file(alloc, deed, m, certificate, shelf, out),
@@ -124,14 +138,18 @@ fn on_text_file<S: Shelf, O: Sink>(
     out: &mut O,
 ) -> Outcome
     requires { IsInScope m.now }
-    ensures serves { Serves (S.files shelf.old) (certificate.now ∷ files_behind deed.entry) (λ files. Reads files certificate.now (λ text. IsDone deed.entry m.now text files)) result (O.written out.old) (O.written out.new) (O.faults out.old) (O.faults out.new) (S.faults shelf.old) (S.faults shelf.new) }
+    ensures serves { Serves (S.files shelf.old) (certificate.now ∷ files_behind deed.entry)
+        (λ files. Reads files certificate.now (λ text. IsDone deed.entry m.now text files)) result
+        (O.written out.old) (O.written out.new) (O.faults out.old) (O.faults out.new)
+        (S.faults shelf.old) (S.faults shelf.new) }
     ensures not_usage { result ≢ Outcome.Usage }
     ensures untouched { leaves_out false (status_of result) ≡ true → out.new ≡ out.old }
     ensures calm { result ≢ Outcome.WriteFault → O.faults out.new ≡ O.faults out.old }
     ensures last { result ≡ Outcome.WriteFault → EndsByFault O.faults O.failed out.old out.new }
     ensures files { S.files shelf.new ≡ S.files shelf.old }
     ensures later { (name : List ℕ) → S.faults shelf.old name ≤ S.faults shelf.new name }
-    ensures unharmed { result ≢ Outcome.ReadFault → (name : List ℕ) → S.faults shelf.new name ≡ S.faults shelf.old name }
+    ensures unharmed { result ≢ Outcome.ReadFault
+        → (name : List ℕ) → S.faults shelf.new name ≡ S.faults shelf.old name }
 {
     match read_all(alloc, shelf, certificate, limit_of(deed)) {
         Ok(text) => on_text(alloc, deed, m, &text, shelf, out),
@@ -177,14 +195,17 @@ fn on_text<S: Shelf, O: Sink>(
     out: &mut O,
 ) -> Outcome
     requires { IsInScope m.now }
-    ensures serves { Serves (S.files shelf.old) (files_behind deed.entry) (IsDone deed.entry m.now text.now) result (O.written out.old) (O.written out.new) (O.faults out.old) (O.faults out.new) (S.faults shelf.old) (S.faults shelf.new) }
+    ensures serves { Serves (S.files shelf.old) (files_behind deed.entry)
+        (IsDone deed.entry m.now text.now) result (O.written out.old) (O.written out.new)
+        (O.faults out.old) (O.faults out.new) (S.faults shelf.old) (S.faults shelf.new) }
     ensures not_usage { result ≢ Outcome.Usage }
     ensures untouched { leaves_out false (status_of result) ≡ true → out.new ≡ out.old }
     ensures calm { result ≢ Outcome.WriteFault → O.faults out.new ≡ O.faults out.old }
     ensures last { result ≡ Outcome.WriteFault → EndsByFault O.faults O.failed out.old out.new }
     ensures files { S.files shelf.new ≡ S.files shelf.old }
     ensures later { (name : List ℕ) → S.faults shelf.old name ≤ S.faults shelf.new name }
-    ensures unharmed { result ≢ Outcome.ReadFault → (name : List ℕ) → S.faults shelf.new name ≡ S.faults shelf.old name }
+    ensures unharmed { result ≢ Outcome.ReadFault
+        → (name : List ℕ) → S.faults shelf.new name ≡ S.faults shelf.old name }
 {
     match deed {
         Deed::Certify(_) => certify_machine(alloc, m, text, out),

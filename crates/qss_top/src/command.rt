@@ -32,15 +32,24 @@ pub(crate) fn answer<S: Shelf, O: Sink>(
     shelf: &mut S,
     out: &mut O,
 ) -> Outcome
-    ensures meets { (told : Told) → IsTold (map (λ word. word.now) words.now) (S.files shelf.old) told → Meets told result (O.written out.old) (O.written out.new) (O.faults out.old) (O.faults out.new) (S.faults shelf.old) (S.faults shelf.new) }
+    ensures meets { (told : Told)
+        → IsTold (map (λ word. word.now) words.now) (S.files shelf.old) told
+        → Meets told result (O.written out.old) (O.written out.new) (O.faults out.old)
+        (O.faults out.new) (S.faults shelf.old) (S.faults shelf.new) }
     ensures usage { result ≡ Outcome.Usage → command_of (map (λ word. word.now) words.now) ≡ None }
-    ensures no_command { command_of (map (λ word. word.now) words.now) ≡ None → (result ≡ Outcome.Usage) ⊎ (result ≡ Outcome.Memory) }
-    ensures untouched { leaves_out (writes_as_it_goes (command_of (map (λ word. word.now) words.now))) (status_of result) ≡ true → out.new ≡ out.old }
+    ensures no_command { command_of (map (λ word. word.now) words.now) ≡ None
+        → (result ≡ Outcome.Usage) ⊎ (result ≡ Outcome.Memory) }
+    ensures untouched { leaves_out
+        (writes_as_it_goes (command_of (map (λ word. word.now) words.now)))
+        (status_of result)
+        ≡ true
+        → out.new ≡ out.old }
     ensures calm { result ≢ Outcome.WriteFault → O.faults out.new ≡ O.faults out.old }
     ensures last { result ≡ Outcome.WriteFault → EndsByFault O.faults O.failed out.old out.new }
     ensures files { S.files shelf.new ≡ S.files shelf.old }
     ensures later { (name : List ℕ) → S.faults shelf.old name ≤ S.faults shelf.new name }
-    ensures unharmed { result ≢ Outcome.ReadFault → (name : List ℕ) → S.faults shelf.new name ≡ S.faults shelf.old name }
+    ensures unharmed { result ≢ Outcome.ReadFault
+        → (name : List ℕ) → S.faults shelf.new name ≡ S.faults shelf.old name }
 {
     match read_words(alloc, words) {
         Ok(Some(request)) => on_request(alloc, request, shelf, out),
@@ -56,14 +65,21 @@ fn on_request<S: Shelf, O: Sink>(
     shelf: &mut S,
     out: &mut O,
 ) -> Outcome
-    ensures meets { (told : Told) → Defines (Some (command_in request.entry)) (S.files shelf.old) told → Meets told result (O.written out.old) (O.written out.new) (O.faults out.old) (O.faults out.new) (S.faults shelf.old) (S.faults shelf.new) }
+    ensures meets { (told : Told)
+        → Defines (Some (command_in request.entry)) (S.files shelf.old) told
+        → Meets told result (O.written out.old) (O.written out.new) (O.faults out.old)
+        (O.faults out.new) (S.faults shelf.old) (S.faults shelf.new) }
     ensures not_usage { result ≢ Outcome.Usage }
-    ensures untouched { leaves_out (writes_as_it_goes (Some (command_in request.entry))) (status_of result) ≡ true → out.new ≡ out.old }
+    ensures untouched { leaves_out (writes_as_it_goes (Some (command_in request.entry)))
+        (status_of result)
+        ≡ true
+        → out.new ≡ out.old }
     ensures calm { result ≢ Outcome.WriteFault → O.faults out.new ≡ O.faults out.old }
     ensures last { result ≡ Outcome.WriteFault → EndsByFault O.faults O.failed out.old out.new }
     ensures files { S.files shelf.new ≡ S.files shelf.old }
     ensures later { (name : List ℕ) → S.faults shelf.old name ≤ S.faults shelf.new name }
-    ensures unharmed { result ≢ Outcome.ReadFault → (name : List ℕ) → S.faults shelf.new name ≡ S.faults shelf.old name }
+    ensures unharmed { result ≢ Outcome.ReadFault
+        → (name : List ℕ) → S.faults shelf.new name ≡ S.faults shelf.old name }
 {
     match request {
         Request::Source { task, model } => on_file(alloc, task, model, shelf, out),
@@ -84,14 +100,19 @@ fn on_file<S: Shelf, O: Sink>(
     shelf: &mut S,
     out: &mut O,
 ) -> Outcome
-    ensures serves { Serves (S.files shelf.old) (files_of (command_with task.entry model.now)) (CommandLeadsTo (command_with task.entry model.now)) result (O.written out.old) (O.written out.new) (O.faults out.old) (O.faults out.new) (S.faults shelf.old) (S.faults shelf.new) }
+    ensures serves { Serves (S.files shelf.old) (files_of (command_with task.entry model.now))
+        (CommandLeadsTo (command_with task.entry model.now)) result (O.written out.old)
+        (O.written out.new) (O.faults out.old) (O.faults out.new) (S.faults shelf.old)
+        (S.faults shelf.new) }
     ensures not_usage { result ≢ Outcome.Usage }
-    ensures untouched { leaves_out (task_goes task.entry) (status_of result) ≡ true → out.new ≡ out.old }
+    ensures untouched { leaves_out (task_goes task.entry) (status_of result) ≡ true
+        → out.new ≡ out.old }
     ensures calm { result ≢ Outcome.WriteFault → O.faults out.new ≡ O.faults out.old }
     ensures last { result ≡ Outcome.WriteFault → EndsByFault O.faults O.failed out.old out.new }
     ensures files { S.files shelf.new ≡ S.files shelf.old }
     ensures counts { OnlyCounts model.now (S.faults shelf.old) (S.faults shelf.new) }
-    ensures unharmed { result ≢ Outcome.ReadFault → (name : List ℕ) → S.faults shelf.new name ≡ S.faults shelf.old name }
+    ensures unharmed { result ≢ Outcome.ReadFault
+        → (name : List ℕ) → S.faults shelf.new name ≡ S.faults shelf.old name }
 {
     match read_all(alloc, shelf, model, MODEL_LIMIT) {
         Ok(bytes) => answer_source(alloc, task, &bytes, out),
@@ -104,10 +125,13 @@ fn on_file<S: Shelf, O: Sink>(
 /// Does this with the model that a source spells, or with the machine that it means.
 pub(crate) fn on_source<O: Sink>(alloc: Global, task: Task, bytes: &[u8], out: &mut O) -> Outcome
     requires { length bytes.now ≤ 2 ^ 20 }
-    ensures outcome { (answer : Answer) → IsTaskAnswer task.entry bytes.now answer → IsOutcome answer result (O.written out.old) (O.written out.new) (O.faults out.old) (O.faults out.new) }
+    ensures outcome { (answer : Answer) → IsTaskAnswer task.entry bytes.now answer
+        → IsOutcome answer result (O.written out.old) (O.written out.new) (O.faults out.old)
+        (O.faults out.new) }
     ensures not_usage { result ≢ Outcome.Usage }
     ensures not_read { result ≢ Outcome.ReadFault }
-    ensures untouched { leaves_out (task_goes task.entry) (status_of result) ≡ true → out.new ≡ out.old }
+    ensures untouched { leaves_out (task_goes task.entry) (status_of result) ≡ true
+        → out.new ≡ out.old }
     ensures calm { result ≢ Outcome.WriteFault → O.faults out.new ≡ O.faults out.old }
     ensures last { result ≡ Outcome.WriteFault → EndsByFault O.faults O.failed out.old out.new }
 {
@@ -123,7 +147,9 @@ pub(crate) fn on_source<O: Sink>(alloc: Global, task: Task, bytes: &[u8], out: &
 // Writes the canonical text of the model that a source spells.
 fn print_source<O: Sink>(alloc: Global, bytes: &[u8], out: &mut O) -> Outcome
     requires { length bytes.now ≤ 2 ^ 20 }
-    ensures outcome { (answer : Answer) → IsPrintAnswer bytes.now answer → IsOutcome answer result (O.written out.old) (O.written out.new) (O.faults out.old) (O.faults out.new) }
+    ensures outcome { (answer : Answer) → IsPrintAnswer bytes.now answer
+        → IsOutcome answer result (O.written out.old) (O.written out.new) (O.faults out.old)
+        (O.faults out.new) }
     ensures not_usage { result ≢ Outcome.Usage }
     ensures not_read { result ≢ Outcome.ReadFault }
     ensures untouched { leaves_out false (status_of result) ≡ true → out.new ≡ out.old }
@@ -138,7 +164,8 @@ fn print_source<O: Sink>(alloc: Global, bytes: &[u8], out: &mut O) -> Outcome
 
 // Writes the canonical text of a model.
 fn print_model<O: Sink>(alloc: Global, tree: &Model, out: &mut O) -> Outcome
-    ensures outcome { IsOutcome (printed_text (model tree.now)) result (O.written out.old) (O.written out.new) (O.faults out.old) (O.faults out.new) }
+    ensures outcome { IsOutcome (printed_text (model tree.now)) result (O.written out.old)
+        (O.written out.new) (O.faults out.old) (O.faults out.new) }
     ensures prints { leaves_out true (status_of result) ≡ false }
     ensures untouched { leaves_out false (status_of result) ≡ true → out.new ≡ out.old }
     ensures calm { result ≢ Outcome.WriteFault → O.faults out.new ≡ O.faults out.old }

@@ -38,14 +38,19 @@ pub(crate) fn compare_runs<S: Shelf, O: Sink>(
     out: &mut O,
 ) -> Outcome
     requires { IsInScope m.now }
-    ensures serves { Serves (S.files shelf.old) (files_of_side (side_in sides.entry.one) ++ files_of_side (side_in sides.entry.two)) (Compares (side_in sides.entry.one) (side_in sides.entry.two) m.now text.now) result (O.written out.old) (O.written out.new) (O.faults out.old) (O.faults out.new) (S.faults shelf.old) (S.faults shelf.new) }
+    ensures serves { Serves (S.files shelf.old)
+        (files_of_side (side_in sides.entry.one) ++ files_of_side (side_in sides.entry.two))
+        (Compares (side_in sides.entry.one) (side_in sides.entry.two) m.now text.now) result
+        (O.written out.old) (O.written out.new) (O.faults out.old) (O.faults out.new)
+        (S.faults shelf.old) (S.faults shelf.new) }
     ensures not_usage { result ≢ Outcome.Usage }
     ensures untouched { leaves_out false (status_of result) ≡ true → out.new ≡ out.old }
     ensures calm { result ≢ Outcome.WriteFault → O.faults out.new ≡ O.faults out.old }
     ensures last { result ≡ Outcome.WriteFault → EndsByFault O.faults O.failed out.old out.new }
     ensures files { S.files shelf.new ≡ S.files shelf.old }
     ensures later { (name : List ℕ) → S.faults shelf.old name ≤ S.faults shelf.new name }
-    ensures unharmed { result ≢ Outcome.ReadFault → (name : List ℕ) → S.faults shelf.new name ≡ S.faults shelf.old name }
+    ensures unharmed { result ≢ Outcome.ReadFault
+        → (name : List ℕ) → S.faults shelf.new name ≡ S.faults shelf.old name }
 {
     match basis_of(alloc, m, text) {
         Ok(c) => with_first(alloc, sides, m, &c, shelf, out),
@@ -64,14 +69,19 @@ fn with_first<S: Shelf, O: Sink>(
 ) -> Outcome
     requires scope { IsInScope m.now }
     requires size { c.now.n ≡ state_count m.now }
-    ensures serves { Serves (S.files shelf.old) (files_of_side (side_in sides.entry.one) ++ files_of_side (side_in sides.entry.two)) (OnSides (side_in sides.entry.one) (side_in sides.entry.two) m.now c.now) result (O.written out.old) (O.written out.new) (O.faults out.old) (O.faults out.new) (S.faults shelf.old) (S.faults shelf.new) }
+    ensures serves { Serves (S.files shelf.old)
+        (files_of_side (side_in sides.entry.one) ++ files_of_side (side_in sides.entry.two))
+        (OnSides (side_in sides.entry.one) (side_in sides.entry.two) m.now c.now) result
+        (O.written out.old) (O.written out.new) (O.faults out.old) (O.faults out.new)
+        (S.faults shelf.old) (S.faults shelf.new) }
     ensures not_usage { result ≢ Outcome.Usage }
     ensures untouched { leaves_out false (status_of result) ≡ true → out.new ≡ out.old }
     ensures calm { result ≢ Outcome.WriteFault → O.faults out.new ≡ O.faults out.old }
     ensures last { result ≡ Outcome.WriteFault → EndsByFault O.faults O.failed out.old out.new }
     ensures files { S.files shelf.new ≡ S.files shelf.old }
     ensures later { (name : List ℕ) → S.faults shelf.old name ≤ S.faults shelf.new name }
-    ensures unharmed { result ≢ Outcome.ReadFault → (name : List ℕ) → S.faults shelf.new name ≡ S.faults shelf.old name }
+    ensures unharmed { result ≢ Outcome.ReadFault
+        → (name : List ℕ) → S.faults shelf.new name ≡ S.faults shelf.old name }
 {
     match side_of(alloc, m, c, 1, sides.one, shelf) {
         Ok(t1) => with_second(alloc, sides.two, m, c, &t1, shelf, out),
@@ -92,14 +102,18 @@ fn with_second<S: Shelf, O: Sink>(
     requires scope { IsInScope m.now }
     requires size { c.now.n ≡ state_count m.now }
     requires first { t1.now.n ≡ state_count m.now }
-    ensures serves { Serves (S.files shelf.old) (files_of_side (side_in side.entry)) (λ files. OnSide files m.now c.now 2 (side_in side.entry) (OnBoth m.now c.now t1.now)) result (O.written out.old) (O.written out.new) (O.faults out.old) (O.faults out.new) (S.faults shelf.old) (S.faults shelf.new) }
+    ensures serves { Serves (S.files shelf.old) (files_of_side (side_in side.entry))
+        (λ files. OnSide files m.now c.now 2 (side_in side.entry) (OnBoth m.now c.now t1.now))
+        result (O.written out.old) (O.written out.new) (O.faults out.old) (O.faults out.new)
+        (S.faults shelf.old) (S.faults shelf.new) }
     ensures not_usage { result ≢ Outcome.Usage }
     ensures untouched { leaves_out false (status_of result) ≡ true → out.new ≡ out.old }
     ensures calm { result ≢ Outcome.WriteFault → O.faults out.new ≡ O.faults out.old }
     ensures last { result ≡ Outcome.WriteFault → EndsByFault O.faults O.failed out.old out.new }
     ensures files { S.files shelf.new ≡ S.files shelf.old }
     ensures later { (name : List ℕ) → S.faults shelf.old name ≤ S.faults shelf.new name }
-    ensures unharmed { result ≢ Outcome.ReadFault → (name : List ℕ) → S.faults shelf.new name ≡ S.faults shelf.old name }
+    ensures unharmed { result ≢ Outcome.ReadFault
+        → (name : List ℕ) → S.faults shelf.new name ≡ S.faults shelf.old name }
 {
     match side_of(alloc, m, c, 2, side, shelf) {
         Ok(t2) => with_both(alloc, m, c, t1, &t2, out),
@@ -120,7 +134,9 @@ pub(crate) fn with_both<O: Sink>(
     requires size { c.now.n ≡ state_count m.now }
     requires first { t1.now.n ≡ state_count m.now }
     requires second { t2.now.n ≡ state_count m.now }
-    ensures serves { (files : Option Files) (before : List ℕ → ℕ) → Serves files [] (λ fs. OnBoth m.now c.now t1.now t2.now) result (O.written out.old) (O.written out.new) (O.faults out.old) (O.faults out.new) before before }
+    ensures serves { (files : Option Files) (before : List ℕ → ℕ)
+        → Serves files [] (λ fs. OnBoth m.now c.now t1.now t2.now) result (O.written out.old)
+        (O.written out.new) (O.faults out.old) (O.faults out.new) before before }
     ensures not_usage { result ≢ Outcome.Usage }
     ensures not_read { result ≢ Outcome.ReadFault }
     ensures untouched { leaves_out false (status_of result) ≡ true → out.new ≡ out.old }
@@ -136,7 +152,8 @@ pub(crate) fn with_both<O: Sink>(
 // Writes a text that is not empty.
 fn write_text<O: Sink>(text: &[u8], out: &mut O) -> Outcome
     requires { text.now ≢ [] }
-    ensures outcome { IsOutcome (text_answer text.now) result (O.written out.old) (O.written out.new) (O.faults out.old) (O.faults out.new) }
+    ensures outcome { IsOutcome (text_answer text.now) result (O.written out.old)
+        (O.written out.new) (O.faults out.old) (O.faults out.new) }
     ensures not_usage { result ≢ Outcome.Usage }
     ensures not_read { result ≢ Outcome.ReadFault }
     ensures untouched { leaves_out false (status_of result) ≡ true → out.new ≡ out.old }
@@ -160,8 +177,12 @@ fn side_of<S: Shelf>(
 ) -> Result<Trace, Outcome>
     requires scope { IsInScope m.now }
     requires size { c.now.n ≡ state_count m.now }
-    ensures had { IfOk result (IsHad m.now c.now (side_in side.entry) (S.files shelf.old) (S.faults shelf.old) (S.faults shelf.new)) }
-    ensures not_had { IfErr result (IsNotHad m.now c.now run (side_in side.entry) (S.files shelf.old) (S.faults shelf.old) (S.faults shelf.new)) }
+    ensures had { IfOk result
+        (IsHad m.now c.now (side_in side.entry) (S.files shelf.old) (S.faults shelf.old)
+        (S.faults shelf.new)) }
+    ensures not_had { IfErr result
+        (IsNotHad m.now c.now run (side_in side.entry) (S.files shelf.old) (S.faults shelf.old)
+        (S.faults shelf.new)) }
     ensures files { S.files shelf.new ≡ S.files shelf.old }
 {
     match side {
@@ -181,8 +202,12 @@ fn side_in_file<S: Shelf>(
     shelf: &mut S,
 ) -> Result<Trace, Outcome>
     requires { c.now.n ≡ state_count m.now }
-    ensures had { IfOk result (IsHad m.now c.now (traced name.now) (S.files shelf.old) (S.faults shelf.old) (S.faults shelf.new)) }
-    ensures not_had { IfErr result (IsNotHad m.now c.now run (traced name.now) (S.files shelf.old) (S.faults shelf.old) (S.faults shelf.new)) }
+    ensures had { IfOk result
+        (IsHad m.now c.now (traced name.now) (S.files shelf.old) (S.faults shelf.old)
+        (S.faults shelf.new)) }
+    ensures not_had { IfErr result
+        (IsNotHad m.now c.now run (traced name.now) (S.files shelf.old) (S.faults shelf.old)
+        (S.faults shelf.new)) }
     ensures files { S.files shelf.new ≡ S.files shelf.old }
 {
     match read_all(alloc, shelf, name, TRACE_LIMIT) {
@@ -198,7 +223,8 @@ fn side_in_file<S: Shelf>(
 // The trace of a run, or what becomes of a comparison that was stopped.
 fn or_stopped(alloc: Global, m: &Machine, side: Result<Trace, Stop>) -> Result<Trace, Outcome>
     ensures had { (t : Trace) → result ≡ Ok t → side ≡ Ok t }
-    ensures stopped { IfErr result (λ what. (stop : Stop) × (side ≡ Err stop) × IsStopOutcome m.now stop what) }
+    ensures stopped { IfErr result
+        (λ what. (stop : Stop) × (side ≡ Err stop) × IsStopOutcome m.now stop what) }
 {
     match side {
         Ok(t) => Ok(t),
@@ -222,7 +248,8 @@ pub(crate) fn stopped(alloc: Global, m: &Machine, stop: Stop) -> Outcome
 
 // The overflow of a variable at a tick.
 fn overflow_of(alloc: Global, m: &Machine, var: u32, tick: u64) -> Outcome
-    ensures { (result ≡ Outcome.Memory) ⊎ (result ≡ Outcome.Overflow (Rows.name_of m.now var) tick) }
+    ensures { (result ≡ Outcome.Memory)
+        ⊎ (result ≡ Outcome.Overflow (Rows.name_of m.now var) tick) }
 {
     match Name::new(alloc, name_of(m, var)) {
         Ok(name) => Outcome::Overflow { name, tick },

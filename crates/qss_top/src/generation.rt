@@ -16,7 +16,10 @@ use std::alloc::{AllocError, Global};
 
 /// Sums up the run of a generated model.
 pub(crate) fn on_generation<O: Sink>(alloc: Global, generation: Generation, out: &mut O) -> Outcome
-    ensures outcome { (answer : Answer) → IsGenerationAnswer generation.seed generation.cells answer → IsOutcome answer result (O.written out.old) (O.written out.new) (O.faults out.old) (O.faults out.new) }
+    ensures outcome { (answer : Answer)
+        → IsGenerationAnswer generation.seed generation.cells answer
+        → IsOutcome answer result (O.written out.old) (O.written out.new) (O.faults out.old)
+        (O.faults out.new) }
     ensures not_usage { result ≢ Outcome.Usage }
     ensures not_read { result ≢ Outcome.ReadFault }
     ensures untouched { leaves_out false (status_of result) ≡ true → out.new ≡ out.old }
@@ -31,7 +34,8 @@ pub(crate) fn on_generation<O: Sink>(alloc: Global, generation: Generation, out:
 
 /// Sums up the run of a machine.
 pub(crate) fn sum_machine<O: Sink>(alloc: Global, cells: u32, m: Machine, out: &mut O) -> Outcome
-    ensures outcome { IsOutcome (summed cells m) result (O.written out.old) (O.written out.new) (O.faults out.old) (O.faults out.new) }
+    ensures outcome { IsOutcome (summed cells m) result (O.written out.old) (O.written out.new)
+        (O.faults out.old) (O.faults out.new) }
     ensures not_usage { result ≢ Outcome.Usage }
     ensures not_read { result ≢ Outcome.ReadFault }
     ensures untouched { leaves_out false (status_of result) ≡ true → out.new ≡ out.old }

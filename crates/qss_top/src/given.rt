@@ -43,7 +43,10 @@ pub(crate) fn compare_machine<O: Sink>(
     runs: GivenRuns,
     out: &mut O,
 ) -> Outcome
-    ensures outcome { (answer : Answer) → IsCompareAnswer (given_in runs.entry.one) (given_in runs.entry.two) m.now text.now answer → IsOutcome answer result (O.written out.old) (O.written out.new) (O.faults out.old) (O.faults out.new) }
+    ensures outcome { (answer : Answer)
+        → IsCompareAnswer (given_in runs.entry.one) (given_in runs.entry.two) m.now text.now answer
+        → IsOutcome answer result (O.written out.old) (O.written out.new) (O.faults out.old)
+        (O.faults out.new) }
     ensures not_usage { result ≢ Outcome.Usage }
     ensures not_read { result ≢ Outcome.ReadFault }
     ensures untouched { leaves_out false (status_of result) ≡ true → out.new ≡ out.old }
@@ -65,7 +68,11 @@ fn compare_by<O: Sink>(
     out: &mut O,
 ) -> Outcome
     requires { IsInScope m.now }
-    ensures serves { (files : Option Files) (before : List ℕ → ℕ) → Serves files [] (λ fs. ComparesGiven (given_in runs.entry.one) (given_in runs.entry.two) m.now text.now) result (O.written out.old) (O.written out.new) (O.faults out.old) (O.faults out.new) before before }
+    ensures serves { (files : Option Files) (before : List ℕ → ℕ)
+        → Serves files []
+        (λ fs. ComparesGiven (given_in runs.entry.one) (given_in runs.entry.two) m.now text.now)
+        result (O.written out.old) (O.written out.new) (O.faults out.old) (O.faults out.new)
+        before before }
     ensures not_usage { result ≢ Outcome.Usage }
     ensures not_read { result ≢ Outcome.ReadFault }
     ensures untouched { leaves_out false (status_of result) ≡ true → out.new ≡ out.old }
@@ -88,7 +95,11 @@ fn with_one<O: Sink>(
 ) -> Outcome
     requires scope { IsInScope m.now }
     requires size { c.now.n ≡ state_count m.now }
-    ensures serves { (files : Option Files) (before : List ℕ → ℕ) → Serves files [] (λ fs. OnGiven (given_in runs.entry.one) (given_in runs.entry.two) m.now c.now) result (O.written out.old) (O.written out.new) (O.faults out.old) (O.faults out.new) before before }
+    ensures serves { (files : Option Files) (before : List ℕ → ℕ)
+        → Serves files []
+        (λ fs. OnGiven (given_in runs.entry.one) (given_in runs.entry.two) m.now c.now) result
+        (O.written out.old) (O.written out.new) (O.faults out.old) (O.faults out.new) before
+        before }
     ensures not_usage { result ≢ Outcome.Usage }
     ensures not_read { result ≢ Outcome.ReadFault }
     ensures untouched { leaves_out false (status_of result) ≡ true → out.new ≡ out.old }
@@ -113,7 +124,11 @@ fn with_two<O: Sink>(
     requires scope { IsInScope m.now }
     requires size { c.now.n ≡ state_count m.now }
     requires first { t1.now.n ≡ state_count m.now }
-    ensures serves { (files : Option Files) (before : List ℕ → ℕ) → Serves files [] (λ fs. OnRun m.now c.now 2 (given_in given.entry) (OnBoth m.now c.now t1.now)) result (O.written out.old) (O.written out.new) (O.faults out.old) (O.faults out.new) before before }
+    ensures serves { (files : Option Files) (before : List ℕ → ℕ)
+        → Serves files []
+        (λ fs. OnRun m.now c.now 2 (given_in given.entry) (OnBoth m.now c.now t1.now)) result
+        (O.written out.old) (O.written out.new) (O.faults out.old) (O.faults out.new) before
+        before }
     ensures not_usage { result ≢ Outcome.Usage }
     ensures not_read { result ≢ Outcome.ReadFault }
     ensures untouched { leaves_out false (status_of result) ≡ true → out.new ≡ out.old }

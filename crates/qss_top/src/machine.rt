@@ -34,10 +34,14 @@ pub enum Job<'a> {
 /// Does this with the machine that a source means.
 pub(crate) fn by_machine<O: Sink>(alloc: Global, job: Job, bytes: &[u8], out: &mut O) -> Outcome
     requires { length bytes.now ≤ 2 ^ 20 }
-    ensures outcome { (answer : Answer) → IsMachineAnswer (job_share job.entry) (IsJobAnswer job.entry) bytes.now answer → IsOutcome answer result (O.written out.old) (O.written out.new) (O.faults out.old) (O.faults out.new) }
+    ensures outcome { (answer : Answer)
+        → IsMachineAnswer (job_share job.entry) (IsJobAnswer job.entry) bytes.now answer
+        → IsOutcome answer result (O.written out.old) (O.written out.new) (O.faults out.old)
+        (O.faults out.new) }
     ensures not_usage { result ≢ Outcome.Usage }
     ensures not_read { result ≢ Outcome.ReadFault }
-    ensures untouched { leaves_out (job_goes job.entry) (status_of result) ≡ true → out.new ≡ out.old }
+    ensures untouched { leaves_out (job_goes job.entry) (status_of result) ≡ true
+        → out.new ≡ out.old }
     ensures calm { result ≢ Outcome.WriteFault → O.faults out.new ≡ O.faults out.old }
     ensures last { result ≡ Outcome.WriteFault → EndsByFault O.faults O.failed out.old out.new }
 {
@@ -62,10 +66,13 @@ fn share_of(job: Job) -> Share
 
 // Does this with a machine.
 fn on_machine<O: Sink>(alloc: Global, job: Job, m: Machine, out: &mut O) -> Outcome
-    ensures outcome { (answer : Answer) → IsJobAnswer job.entry m answer → IsOutcome answer result (O.written out.old) (O.written out.new) (O.faults out.old) (O.faults out.new) }
+    ensures outcome { (answer : Answer) → IsJobAnswer job.entry m answer
+        → IsOutcome answer result (O.written out.old) (O.written out.new) (O.faults out.old)
+        (O.faults out.new) }
     ensures not_usage { result ≢ Outcome.Usage }
     ensures not_read { result ≢ Outcome.ReadFault }
-    ensures untouched { leaves_out (job_goes job.entry) (status_of result) ≡ true → out.new ≡ out.old }
+    ensures untouched { leaves_out (job_goes job.entry) (status_of result) ≡ true
+        → out.new ≡ out.old }
     ensures calm { result ≢ Outcome.WriteFault → O.faults out.new ≡ O.faults out.old }
     ensures last { result ≡ Outcome.WriteFault → EndsByFault O.faults O.failed out.old out.new }
 {
@@ -93,7 +100,8 @@ fn name_of(alloc: Global, name: Option<&str>) -> Result<Option<Name>, AllocError
 
 // Runs a machine. The header and each row are written as they come, each by a write of its own.
 fn run_machine<O: Sink>(alloc: Global, options: Options, m: Machine, out: &mut O) -> Outcome
-    ensures outcome { IsOutcome (printed (options_in options.entry) m) result (O.written out.old) (O.written out.new) (O.faults out.old) (O.faults out.new) }
+    ensures outcome { IsOutcome (printed (options_in options.entry) m) result (O.written out.old)
+        (O.written out.new) (O.faults out.old) (O.faults out.new) }
     ensures runs { leaves_out true (status_of result) ≡ false }
     ensures calm { result ≢ Outcome.WriteFault → O.faults out.new ≡ O.faults out.old }
     ensures last { result ≡ Outcome.WriteFault → EndsByFault O.faults O.failed out.old out.new }
@@ -111,7 +119,9 @@ fn run_machine<O: Sink>(alloc: Global, options: Options, m: Machine, out: &mut O
 
 // Proposes a certificate of a machine.
 fn propose_machine<O: Sink>(alloc: Global, m: &Machine, out: &mut O) -> Outcome
-    ensures outcome { (answer : Answer) → IsProposeAnswer m.now answer → IsOutcome answer result (O.written out.old) (O.written out.new) (O.faults out.old) (O.faults out.new) }
+    ensures outcome { (answer : Answer) → IsProposeAnswer m.now answer
+        → IsOutcome answer result (O.written out.old) (O.written out.new) (O.faults out.old)
+        (O.faults out.new) }
     ensures not_usage { result ≢ Outcome.Usage }
     ensures not_read { result ≢ Outcome.ReadFault }
     ensures untouched { leaves_out false (status_of result) ≡ true → out.new ≡ out.old }

@@ -45,9 +45,13 @@ impl From<Refused> for Outcome {
 
 /// Writes the line of an outcome. Where the memory for it is not found, that is told in its place.
 pub fn report<E: Sink>(alloc: Global, outcome: &Outcome, err: &mut E) -> Status
-    ensures status { (result ≡ Spec.status_of outcome.now) ⊎ ((result ≡ Status.Memory) × (Spec.takes_memory outcome.now ≡ true)) }
+    ensures status { (result ≡ Spec.status_of outcome.now)
+        ⊎ ((result ≡ Status.Memory) × (Spec.takes_memory outcome.now ≡ true)) }
     ensures silent { outcome.now ≡ Outcome.Done → err.new ≡ err.old }
-    ensures line { (line : List ℕ) × Spec.IsReported result outcome.now line × WritesLine line (E.written err.old) (E.written err.new) (E.faults err.old) (E.faults err.new) }
+    ensures line { (line : List ℕ)
+        × Spec.IsReported result outcome.now line
+        × WritesLine line (E.written err.old) (E.written err.new) (E.faults err.old)
+        (E.faults err.new) }
     ensures later { E.faults err.old ≤ E.faults err.new }
 {
     match outcome {
@@ -122,7 +126,8 @@ fn comparison_status(why: ComparisonRefusal) -> Status
 // Writes a line, as far as the sink takes it, and gives the status.
 fn tell<E: Sink>(status: Status, line: &[u8], err: &mut E) -> Status
     ensures status { result ≡ status }
-    ensures line { WritesLine line.now (E.written err.old) (E.written err.new) (E.faults err.old) (E.faults err.new) }
+    ensures line { WritesLine line.now (E.written err.old) (E.written err.new) (E.faults err.old)
+        (E.faults err.new) }
     ensures later { E.faults err.old ≤ E.faults err.new }
 {
     let _ = write_all(err, line);

@@ -15,7 +15,8 @@ use std::alloc::Global;
 
 /// Writes the second-order run of a machine, and refuses a machine with clauses.
 pub(crate) fn second_machine<O: Sink>(alloc: Global, m: Machine, out: &mut O) -> Outcome
-    ensures outcome { IsOutcome (second_for m (length m.clauses)) result (O.written out.old) (O.written out.new) (O.faults out.old) (O.faults out.new) }
+    ensures outcome { IsOutcome (second_for m (length m.clauses)) result (O.written out.old)
+        (O.written out.new) (O.faults out.old) (O.faults out.new) }
     ensures not_usage { result ≢ Outcome.Usage }
     ensures not_read { result ≢ Outcome.ReadFault }
     ensures untouched { leaves_out true (status_of result) ≡ true → out.new ≡ out.old }
@@ -35,7 +36,8 @@ pub(crate) fn second_machine<O: Sink>(alloc: Global, m: Machine, out: &mut O) ->
 // Runs a machine without clauses. The header and each row are written as they come, each by a write of its own.
 fn run_second<O: Sink>(alloc: Global, m: Machine, out: &mut O) -> Outcome
     requires { m.clauses ≡ [] }
-    ensures outcome { IsOutcome (printed2 m) result (O.written out.old) (O.written out.new) (O.faults out.old) (O.faults out.new) }
+    ensures outcome { IsOutcome (printed2 m) result (O.written out.old) (O.written out.new)
+        (O.faults out.old) (O.faults out.new) }
     ensures runs { leaves_out true (status_of result) ≡ false }
     ensures calm { result ≢ Outcome.WriteFault → O.faults out.new ≡ O.faults out.old }
     ensures last { result ≡ Outcome.WriteFault → EndsByFault O.faults O.failed out.old out.new }

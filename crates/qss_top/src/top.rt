@@ -29,48 +29,90 @@ pub fn qss_main<S: Shelf, O: Sink, E: Sink>(
     // files define, and out gains exactly the answer's text; where the shelf tells no files, both are
     // those of the answer for some bytes. Where a file is absent, the status is a read fault or want of
     // memory. Out never gains more than a prefix of the text.
-    ensures replied { (told : Told) → IsTold (map (λ word. word.now) words.now) (S.files shelf.old) told → IsReplied told.reply result (O.written out.old) (O.written out.new) }
-    ensures prefix { (told : Told) → IsTold (map (λ word. word.now) words.now) (S.files shelf.old) told → Replies (λ answer. AppendsPrefix (O.written out.old) (O.written out.new) answer.out) told.reply }
-    ensures quiet { (told : Told) → IsTold (map (λ word. word.now) words.now) (S.files shelf.old) told → text_of told.reply ≡ Some [] → O.faults out.new ≡ O.faults out.old }
+    ensures replied { (told : Told)
+        → IsTold (map (λ word. word.now) words.now) (S.files shelf.old) told
+        → IsReplied told.reply result (O.written out.old) (O.written out.new) }
+    ensures prefix { (told : Told)
+        → IsTold (map (λ word. word.now) words.now) (S.files shelf.old) told
+        → Replies (λ answer. AppendsPrefix (O.written out.old) (O.written out.new) answer.out)
+        told.reply }
+    ensures quiet { (told : Told)
+        → IsTold (map (λ word. word.now) words.now) (S.files shelf.old) told
+        → text_of told.reply ≡ Some []
+        → O.faults out.new ≡ O.faults out.old }
 
     // Where memory is wanting, out gains nothing; or whole lines of the answer's text, with more to
     // come; or all of the text of a run that overflows.
-    ensures short { (told : Told) → IsTold (map (λ word. word.now) words.now) (S.files shelf.old) told → result ≡ Status.Memory → Replies (IsCutShort (O.written out.old) (O.written out.new)) told.reply }
+    ensures short { (told : Told)
+        → IsTold (map (λ word. word.now) words.now) (S.files shelf.old) told
+        → result ≡ Status.Memory
+        → Replies (IsCutShort (O.written out.old) (O.written out.new)) told.reply }
 
     // Where no count of faults rises by one fault (or stands at its last value, 2^64 - 1), be it of a file
     // at which the answer arrives or of out, and no memory is wanting, the status is the answer's, and
     // out gains its whole text.
-    ensures complete { (told : Told) (answer : Answer) → IsTold (map (λ word. word.now) words.now) (S.files shelf.old) told → told.reply ≡ answered answer → ¬ SomeRose told.arrivals (S.faults shelf.old) (S.faults shelf.new) → ¬ Rose (O.faults out.old) (O.faults out.new) → result ≢ Status.Memory → (result ≡ answer.status) × Appends (O.written out.old) (O.written out.new) answer.out }
+    ensures complete { (told : Told) (answer : Answer)
+        → IsTold (map (λ word. word.now) words.now) (S.files shelf.old) told
+        → told.reply ≡ answered answer
+        → ¬ SomeRose told.arrivals (S.faults shelf.old) (S.faults shelf.new)
+        → ¬ Rose (O.faults out.old) (O.faults out.new)
+        → result ≢ Status.Memory
+        → (result ≡ answer.status) × Appends (O.written out.old) (O.written out.new) answer.out }
 
     // Where a certificate is accepted, any two legitimate runs of the machine that the model means, from the
     // certificate's starts, lie within the bounds that out gains.
-    ensures certified { (model certificate : List ℕ) (share : ℕ) → command_of (map (λ word. word.now) words.now) ≡ Some (certify_model model certificate share) → result ≡ Status.Ok → (text : List ℕ) × (Appends (O.written out.old) (O.written out.new) text × AreCertified model certificate share (S.files shelf.old) text) }
+    ensures certified { (model certificate : List ℕ) (share : ℕ)
+        → command_of (map (λ word. word.now) words.now)
+        ≡ Some (certify_model model certificate share)
+        → result ≡ Status.Ok
+        → (text : List ℕ)
+        × (Appends (O.written out.old) (O.written out.new) text
+        × AreCertified model certificate share (S.files shelf.old) text) }
 
     // Where a certificate is proposed, out gains its text, which reads back, and any two legitimate runs from
     // the machine's start lie within its bounds.
-    ensures proposed { (model : List ℕ) → command_of (map (λ word. word.now) words.now) ≡ Some (propose_model model) → result ≡ Status.Ok → (text : List ℕ) × (Appends (O.written out.old) (O.written out.new) text × AreProposed model (S.files shelf.old) text) }
+    ensures proposed { (model : List ℕ)
+        → command_of (map (λ word. word.now) words.now) ≡ Some (propose_model model)
+        → result ≡ Status.Ok
+        → (text : List ℕ)
+        × (Appends (O.written out.old) (O.written out.new) text
+        × AreProposed model (S.files shelf.old) text) }
 
     // Words that are no command are told as such, where memory for them is found, and nothing else is.
     ensures usage { result ≡ Status.Usage → command_of (map (λ word. word.now) words.now) ≡ None }
-    ensures no_command { command_of (map (λ word. word.now) words.now) ≡ None → (result ≡ Status.Usage) ⊎ (result ≡ Status.Memory) }
+    ensures no_command { command_of (map (λ word. word.now) words.now) ≡ None
+        → (result ≡ Status.Usage) ⊎ (result ≡ Status.Memory) }
 
     // A read fault comes only of a file at which the answer arrives: its count rises by one, or stands at
     // its last value. No count of another file changes.
-    ensures read_fault { (told : Told) → IsTold (map (λ word. word.now) words.now) (S.files shelf.old) told → result ≡ Status.ReadFault → SomeRose told.arrivals (S.faults shelf.old) (S.faults shelf.new) }
-    ensures others { (told : Told) → IsTold (map (λ word. word.now) words.now) (S.files shelf.old) told → (name : List ℕ) → ¬ Contains told.arrivals name → S.faults shelf.new name ≡ S.faults shelf.old name }
+    ensures read_fault { (told : Told)
+        → IsTold (map (λ word. word.now) words.now) (S.files shelf.old) told
+        → result ≡ Status.ReadFault
+        → SomeRose told.arrivals (S.faults shelf.old) (S.faults shelf.new) }
+    ensures others { (told : Told)
+        → IsTold (map (λ word. word.now) words.now) (S.files shelf.old) told
+        → (name : List ℕ) → ¬ Contains told.arrivals name
+        → S.faults shelf.new name ≡ S.faults shelf.old name }
     ensures files { S.files shelf.new ≡ S.files shelf.old }
     ensures later { (name : List ℕ) → S.faults shelf.old name ≤ S.faults shelf.new name }
-    ensures unharmed { result ≢ Status.ReadFault → (name : List ℕ) → S.faults shelf.new name ≡ S.faults shelf.old name }
+    ensures unharmed { result ≢ Status.ReadFault
+        → (name : List ℕ) → S.faults shelf.new name ≡ S.faults shelf.old name }
 
     // A write fault comes only of out, whose last write failed, so that out gains nothing afterwards; no
     // other status comes of one. A refusal leaves out as it is, and so does want of memory, but in a run.
     ensures last { result ≡ Status.WriteFault → EndsByFault O.faults O.failed out.old out.new }
     ensures calm { result ≢ Status.WriteFault → O.faults out.new ≡ O.faults out.old }
-    ensures untouched { leaves_out (writes_as_it_goes (command_of (map (λ word. word.now) words.now))) result ≡ true → out.new ≡ out.old }
+    ensures untouched { leaves_out
+        (writes_as_it_goes (command_of (map (λ word. word.now) words.now))) result
+        ≡ true
+        → out.new ≡ out.old }
 
     // The line of the status goes to err, or a prefix of it where err fails; nothing goes there
     // where all was read and written.
-    ensures line { (told : Told) → IsTold (map (λ word. word.now) words.now) (S.files shelf.old) told → ReportsStatus result told.reply (O.written out.old) (O.written out.new) (E.written err.old) (E.written err.new) (E.faults err.old) (E.faults err.new) }
+    ensures line { (told : Told)
+        → IsTold (map (λ word. word.now) words.now) (S.files shelf.old) told
+        → ReportsStatus result told.reply (O.written out.old) (O.written out.new)
+        (E.written err.old) (E.written err.new) (E.faults err.old) (E.faults err.new) }
     ensures silent { result ≡ Status.Ok → err.new ≡ err.old }
     ensures later_err { E.faults err.old ≤ E.faults err.new }
 {

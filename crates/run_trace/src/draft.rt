@@ -64,7 +64,9 @@ pub(crate) fn finish(
     requires size { IsSize (state_count m.now) }
     requires scale { IsFactor scale }
     requires places { ArePlaces (state_count m.now) draft.states.items draft.levels.items }
-    ensures { IfOk result (λ t. IsTraceOf m.now scale (places (state_count m.now) draft.states.items) (places (state_count m.now) draft.levels.items) t) }
+    ensures { IfOk result
+        (λ t. IsTraceOf m.now scale (places (state_count m.now) draft.states.items)
+        (places (state_count m.now) draft.levels.items) t) }
 {
     let q = own_quanta(alloc, m)?;
     Ok(Trace {

@@ -78,7 +78,8 @@ fn next_level(m: &Machine, unit: i128, state: u32, x: i128, level: i128) -> i128
     requires state { state < state_count m.now }
     requires small_state { IsWithin 88 x }
     requires small_level { IsWithin 43 level }
-    ensures { result ≡ (if is_near m.now state x level then level else floor_level (level_unit m.now) x level) }
+    ensures { result
+        ≡ (if is_near m.now state x level then level else floor_level (level_unit m.now) x level) }
 {
     if is_close(unit, x, level, m.quantum_at(state, level as i64)) {
         level
@@ -128,7 +129,8 @@ fn first_heavy(m: &Machine, levels: &[i64], discretes: &[i64]) -> Option<u32>
     requires discretes { discretes.now ≡ start_discretes m.now }
     requires levels { length levels.now ≡ state_count m.now }
     requires small { All (IsWithin 43) levels.now }
-    ensures { result ≡ position (is_overweight m.now levels.now (start_discretes m.now)) m.now.rows }
+    ensures { result
+        ≡ position (is_overweight m.now levels.now (start_discretes m.now)) m.now.rows }
 {
     for row in 0..levels.len() {
         if is_heavy(m, row as u32, levels, discretes) {
@@ -171,7 +173,8 @@ impl FirstPlace {
         requires discretes { discretes.now ≡ start_discretes m.now }
         ensures over { result ≡ first_past 88 self.new.states.items }
         ensures moved { self.new.states.items ≡ moved_states m.now (world_of m.now self.old) }
-        ensures levels { (self.new.levels ≡ self.old.levels) × (self.new.short_levels ≡ self.old.short_levels) }
+        ensures levels { (self.new.levels ≡ self.old.levels)
+            × (self.new.short_levels ≡ self.old.short_levels) }
         ensures states { result ≡ None → HasStates m.now self.new }
     {
         move_states(
@@ -189,7 +192,8 @@ impl FirstPlace {
         requires unit { unit ≡ level_unit m.now }
         ensures over { result ≡ first_past 43 self.new.levels.items }
         ensures states { self.new.states ≡ self.old.states }
-        ensures releveled { self.new.levels.items ≡ next_levels floor_level m.now self.old.states.items self.old.levels.items }
+        ensures releveled { self.new.levels.items
+            ≡ next_levels floor_level m.now self.old.states.items self.old.levels.items }
         ensures levels { result ≡ None → HasLevels m.now self.new }
     {
         set_levels(m, unit, self.states.as_slice(), self.levels.as_mut_slice());
@@ -205,9 +209,13 @@ impl FirstPlace {
         requires stands { Stands m.now self.old }
         requires unit { unit ≡ level_unit m.now }
         requires discretes { discretes.now ≡ start_discretes m.now }
-        ensures over { result ≡ option_or (first_past 43 self.new.levels.items) (position (is_overweight m.now self.new.levels.items (start_discretes m.now)) m.now.rows) }
+        ensures over { result
+            ≡ option_or (first_past 43 self.new.levels.items)
+            (position (is_overweight m.now self.new.levels.items (start_discretes m.now))
+            m.now.rows) }
         ensures states { self.new.states ≡ self.old.states }
-        ensures releveled { self.new.levels.items ≡ next_levels floor_level m.now self.old.states.items self.old.levels.items }
+        ensures releveled { self.new.levels.items
+            ≡ next_levels floor_level m.now self.old.states.items self.old.levels.items }
         ensures levels { result ≡ None → HasLevels m.now self.new }
     {
         if let Some(var) = self.relevel(m, unit) {
@@ -222,7 +230,9 @@ impl FirstPlace {
         requires plain { m.now.clauses ≡ [] }
         requires unit { unit ≡ level_unit m.now }
         requires discretes { discretes.now ≡ start_discretes m.now }
-        ensures step { (tick : ℕ) → step floor_level m.now tick (world_of m.now self.old) ≡ world_unless result (world_of m.now self.new) }
+        ensures step { (tick : ℕ)
+            → step floor_level m.now tick (world_of m.now self.old)
+            ≡ world_unless result (world_of m.now self.new) }
         ensures stands { result ≡ None → Stands m.now self.new }
     {
         if let Some(var) = self.move_on(m, discretes) {

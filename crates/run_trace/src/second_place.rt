@@ -61,7 +61,8 @@ fn move_states(m: &Machine, a: &AffineSystem, levels: &[i128], states: &mut [i12
     requires states { length states.old ≡ state_count m.now }
     requires small_levels { All (IsWithin 64) levels.now }
     requires small_states { All (IsWithin 108) states.old }
-    ensures moved { states.new ≡ tabulate (state_count m.now) (λ j. int_at states.old j +ℤ rise_at m.now j levels.now) }
+    ensures moved { states.new
+        ≡ tabulate (state_count m.now) (λ j. int_at states.old j +ℤ rise_at m.now j levels.now) }
     ensures bound { All (IsWithin 119) states.new }
 {
     for j in 0..a.n {
@@ -98,7 +99,8 @@ fn mark_left(
     requires small_levels { All (IsWithin 64) levels.now }
     requires held { AreHeld m.now changes.now }
     requires left { length left.old ≡ state_count m.now }
-    ensures { (j : ℕ) → j < state_count m.now → flag_at left.new j ≡ has_left m.now states.now levels.now changes.now j }
+    ensures { (j : ℕ) → j < state_count m.now
+        → flag_at left.new j ≡ has_left m.now states.now levels.now changes.now j }
 {
     for j in 0..a.n {
         let place = j as usize;
@@ -135,7 +137,11 @@ fn move_levels(
     requires left { length left.now ≡ length levels.old }
     requires small_levels { All (IsWithin 64) levels.old }
     requires small_changes { All (IsWithin 95) changes.now }
-    ensures { levels.new ≡ tabulate (length levels.old) (λ j. if flag_at left.now j then floor_of (int_at states.now j) (level_unit m.now) else int_at levels.old j +ℤ int_at changes.now j) }
+    ensures { levels.new
+        ≡ tabulate (length levels.old)
+        (λ j. if flag_at left.now j
+        then floor_of (int_at states.now j) (level_unit m.now)
+        else int_at levels.old j +ℤ int_at changes.now j) }
 {
     for j in 0..levels.len() {
         levels[j] = level_after(left[j], unit, states[j], levels[j], changes[j]);
@@ -167,7 +173,8 @@ fn change_of(
     requires state { state < state_count m.now }
     requires levels { length levels.now ≡ state_count m.now }
     requires small { All (IsWithin 64) levels.now }
-    ensures { result ≡ (if left then near_change (level_unit m.now) (rise_at m.now state levels.now) else old) }
+    ensures { result
+        ≡ (if left then near_change (level_unit m.now) (rise_at m.now state levels.now) else old) }
 {
     if left {
         near_div(rise_of(m, a, levels, state), a.unit)
@@ -202,7 +209,8 @@ fn is_wide(x: i128, level: i128) -> bool
 fn first_wide(states: &[i128], levels: &[i128]) -> Option<u32>
     requires few { length states.now ≤ 4096 }
     requires levels { length levels.now ≡ length states.now }
-    ensures { result ≡ position (is_wide_at states.now levels.now) (range_with_len 0 (length states.now)) }
+    ensures { result
+        ≡ position (is_wide_at states.now levels.now) (range_with_len 0 (length states.now)) }
 {
     for j in 0..states.len() {
         if is_wide(states[j], levels[j]) {
@@ -216,7 +224,9 @@ fn first_wide(states: &[i128], levels: &[i128]) -> Option<u32>
 fn past_levels(m: &Machine, a: &AffineSystem, levels: &[i128]) -> Option<u32>
     requires fits { Fits m.now a.now }
     requires levels { length levels.now ≡ state_count m.now }
-    ensures { result ≡ option_or (first_past 49 levels.now) (first_past 94 (tabulate (state_count m.now) (rise_weight m.now levels.now))) }
+    ensures { result
+        ≡ option_or (first_past 49 levels.now)
+        (first_past 94 (tabulate (state_count m.now) (rise_weight m.now levels.now))) }
 {
     if let Some(var) = first_past(levels, LEVEL_BITS) {
         return Some(var);
@@ -228,7 +238,8 @@ fn past_levels(m: &Machine, a: &AffineSystem, levels: &[i128]) -> Option<u32>
 fn past_changes(m: &Machine, a: &AffineSystem, changes: &[i128]) -> Option<u32>
     requires fits { Fits m.now a.now }
     requires changes { length changes.now ≡ state_count m.now }
-    ensures { result ≡ first_past 94 (tabulate (state_count m.now) (bend_weight m.now changes.now)) }
+    ensures { result
+        ≡ first_past 94 (tabulate (state_count m.now) (bend_weight m.now changes.now)) }
 {
     first_heavy(m, a, UNDRIVEN, changes)
 }
@@ -259,8 +270,10 @@ impl SecondPlace {
         ensures sized { IfOk result (λ place. IsSized m.now place) }
         ensures states { IfOk result (λ place. place.states.items ≡ fine_states m.now) }
         ensures levels { IfOk result (λ place. place.levels.items ≡ fine_levels m.now) }
-        ensures changes { IfOk result (λ place. place.changes.items ≡ replicate (state_count m.now) (pos 0)) }
-        ensures left { IfOk result (λ place. place.left.items ≡ replicate (state_count m.now) true) }
+        ensures changes { IfOk result
+            (λ place. place.changes.items ≡ replicate (state_count m.now) (pos 0)) }
+        ensures left { IfOk result
+            (λ place. place.left.items ≡ replicate (state_count m.now) true) }
     {
         let states = states_at_start(alloc, m, FINENESS)?;
         let levels = levels_below(alloc, m, a.unit, states.as_slice())?;
@@ -279,8 +292,12 @@ impl SecondPlace {
         requires sized { IsSized m.now self.old }
         requires held { AreHeld m.now self.old.changes.items }
         ensures kept { (self.new.states ≡ self.old.states) × (self.new.levels ≡ self.old.levels) }
-        ensures over { result ≡ past_limit m.now self.old.levels.items (changed m.now self.old.left.items self.old.levels.items self.old.changes.items) }
-        ensures changes { result ≡ None → self.new.changes.items ≡ changed m.now self.old.left.items self.old.levels.items self.old.changes.items }
+        ensures over { result
+            ≡ past_limit m.now self.old.levels.items
+            (changed m.now self.old.left.items self.old.levels.items self.old.changes.items) }
+        ensures changes { result ≡ None
+            → self.new.changes.items
+            ≡ changed m.now self.old.left.items self.old.levels.items self.old.changes.items }
         ensures sized { IsSized m.now self.new }
         ensures held { result ≡ None → AreHeld m.now self.new.changes.items }
     {
@@ -304,7 +321,8 @@ impl SecondPlace {
         ensures states { self.new.states.items ≡ next_states m.now (world_of self.old) }
         ensures levels { self.new.levels.items ≡ next_levels m.now (world_of self.old) }
         ensures changes { self.new.changes ≡ self.old.changes }
-        ensures left { (j : ℕ) → j < state_count m.now → flag_at self.new.left.items j ≡ leaves m.now (world_of self.old) j }
+        ensures left { (j : ℕ) → j < state_count m.now
+            → flag_at self.new.left.items j ≡ leaves m.now (world_of self.old) j }
         ensures sized { IsSized m.now self.new }
     {
         move_states(m, a, self.levels.as_slice(), self.states.as_mut_slice());
@@ -330,7 +348,8 @@ impl SecondPlace {
     pub(crate) fn go_on(&mut self, m: &Machine, a: &AffineSystem, tick: u64) -> Option<u32>
         requires fits { Fits m.now a.now }
         requires stands { Stands m.now self.old }
-        ensures step { step2 near_change m.now tick (world_of self.old) ≡ world2_unless result (world_of self.new) }
+        ensures step { step2 near_change m.now tick (world_of self.old)
+            ≡ world2_unless result (world_of self.new) }
         ensures sized { IsSized m.now self.new }
         ensures held { result ≡ None → AreHeld m.now self.new.changes.items }
     {

@@ -85,7 +85,8 @@ fn weigh(a: &AffineSystem, share: u32, numbers: &[i128], row: u8) -> Option<i128
     requires small { IsSmall a.now }
     requires row { row < a.now.n }
     requires numbers { length numbers.now ≡ a.now.n }
-    ensures { MatchOption result (2 ^ 126 < system_weight a.now share numbers.now row) (λ sum. sum ≡ pos (system_weight a.now share numbers.now row)) }
+    ensures { MatchOption result (2 ^ 126 < system_weight a.now share numbers.now row)
+        (λ sum. sum ≡ pos (system_weight a.now share numbers.now row)) }
 {
     let mut sum = RangedSum::new().plus_size(a.constant.at(row), i128::from(share))?;
     for k in 0..a.n {
@@ -116,7 +117,8 @@ pub(crate) fn first_heavy(
 ) -> Option<u32>
     requires fits { Fits m.now a.now }
     requires numbers { length numbers.now ≡ state_count m.now }
-    ensures { result ≡ first_past 94 (tabulate (state_count m.now) (row_weight m.now share numbers.now)) }
+    ensures { result
+        ≡ first_past 94 (tabulate (state_count m.now) (row_weight m.now share numbers.now)) }
 {
     for row in 0..a.n {
         if is_heavy(m, a, share, numbers, row) {

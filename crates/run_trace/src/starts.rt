@@ -42,7 +42,8 @@ pub(crate) fn levels_below(
     states: &[i128],
 ) -> Result<Vec<i128>, AllocError>
     requires { unit ≡ level_unit m.now }
-    ensures { IfOk result (λ list. list.items ≡ map (λ x. floor_of x (level_unit m.now)) states.now) }
+    ensures { IfOk result
+        (λ list. list.items ≡ map (λ x. floor_of x (level_unit m.now)) states.now) }
 {
     let mut list: Vec<i128> = Vec::with_capacity(alloc, states.len())?;
     for j in 0..states.len() {

@@ -30,7 +30,8 @@ pub fn basis_of(alloc: Global, m: &Machine, bytes: &[u8]) -> Result<Certificate,
 fn started(m: &Machine, c: Certificate) -> Result<Certificate, Stop>
     requires { c.n ≡ state_count m.now }
     ensures start { IfOk result (λ same. (same ≡ c) × HasStart m.now c) }
-    ensures other { IfErr result (λ stop. (stop ≡ Stop.Refused ComparisonRefusal.Start) × (HasStart m.now c → ⊥)) }
+    ensures other { IfErr result
+        (λ stop. (stop ≡ Stop.Refused ComparisonRefusal.Start) × (HasStart m.now c → ⊥)) }
 {
     if is_start(m, c.start1.as_slice()) || is_start(m, c.start2.as_slice()) {
         Ok(c)

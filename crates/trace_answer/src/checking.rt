@@ -21,13 +21,21 @@ use std::alloc::{AllocError, Global};
 /// Checks a trace of a machine from its bytes, and writes its summary where it is a legitimate run: a header, and the number of places, the
 /// scale and the refinement.
 pub fn check_trace_text<O: Sink>(alloc: Global, m: &Machine, bytes: &[u8], out: &mut O) -> Ending
-    ensures answered { Ends O.written O.faults O.failed (IsChecked m.now bytes.now) result out.old out.new }
+    ensures answered { Ends O.written O.faults O.failed (IsChecked m.now bytes.now) result out.old
+        out.new }
 
     // Where a summary is written, the bytes spell a trace that is a legitimate run of the machine from its start.
-    ensures accepted { result ≡ Ending.Written → (t : Trace) × IsTextOf (state_count m.now) bytes.now t × IsRunOf m.now t × Appends (O.written out.old) (O.written out.new) (Answers.summary t) }
+    ensures accepted { result ≡ Ending.Written
+        → (t : Trace)
+        × IsTextOf (state_count m.now) bytes.now t
+        × IsRunOf m.now t
+        × Appends (O.written out.old) (O.written out.new) (Answers.summary t) }
 
     // Where the trace is refused, they spell none.
-    ensures rejected { (why : TraceRefusal) → result ≡ Ending.Refused why → (t : Trace) → IsRead m.now bytes.now t → IsRunOf m.now t → ⊥ }
+    ensures rejected { (why : TraceRefusal) → result ≡ Ending.Refused why
+        → (t : Trace) → IsRead m.now bytes.now t
+        → IsRunOf m.now t
+        → ⊥ }
 {
     match read_run(alloc, m, bytes) {
         Ok(t) => write_summary(alloc, &t, out),
@@ -37,7 +45,8 @@ pub fn check_trace_text<O: Sink>(alloc: Global, m: &Machine, bytes: &[u8], out: 
 
 // Writes the summary of a trace.
 fn write_summary<O: Sink>(alloc: Global, t: &Trace, out: &mut O) -> Ending
-    ensures { Ends O.written O.faults O.failed (λ answer. answer ≡ written (Answers.summary t.now)) result out.old out.new }
+    ensures { Ends O.written O.faults O.failed (λ answer. answer ≡ written (Answers.summary t.now))
+        result out.old out.new }
 {
     match summary(alloc, t) {
         Ok(text) => write_text(&text, out),

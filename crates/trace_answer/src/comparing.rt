@@ -29,7 +29,8 @@ pub fn comparison_text(
     ensures stopped { IfErr result (MayStop (IsUncompared m.now c.now t1.now t2.now)) }
 
     // Memory is wanted for a text alone.
-    ensures memory { IfErr result (IfMemory ((text : List ℕ) × IsCompared m.now c.now t1.now t2.now text)) }
+    ensures memory { IfErr result
+        (IfMemory ((text : List ℕ) × IsCompared m.now c.now t1.now t2.now text)) }
 {
     let unit = affine_system(m).unit;
     match compare(&c.pm, c.cc, unit, t1, t2) {
@@ -55,7 +56,8 @@ fn found_text(
     value: i128,
     bound: i128,
 ) -> Result<Vec<u8>, AllocError>
-    ensures { IfOk result (λ text. text.items ≡ Spec.comparison_text common place1 place2 value bound) }
+    ensures { IfOk result
+        (λ text. text.items ≡ Spec.comparison_text common place1 place2 value bound) }
 {
     let text = format!(in alloc;
         "common,place1,place2,greatest,bound\n{common},{place1},{place2},{value},{bound}\n"

@@ -70,7 +70,10 @@ fn read_short(alloc: Global, m: &Machine, bytes: &[u8], states: u8) -> Result<Tr
 
 // How a call ends that cannot read a trace for this.
 fn unread(why: TraceErr) -> Ending
-    ensures refused { (m : Machine) (bytes : List ℕ) → IsInScope m → length bytes ≤ limit → IsRefusedFor (state_count m) bytes why → RefusesBy m bytes result }
+    ensures refused { (m : Machine) (bytes : List ℕ) → IsInScope m
+        → length bytes ≤ limit
+        → IsRefusedFor (state_count m) bytes why
+        → RefusesBy m bytes result }
     ensures told { why ≢ TraceErr.Memory → result ≡ Ending.Refused (TraceRefusal.Unread why) }
 {
     match why {

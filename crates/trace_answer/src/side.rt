@@ -87,7 +87,10 @@ fn stop_of(over: TraceOver) -> Stop
 fn allowed(c: &Certificate, t: Trace, run: u32) -> Result<Trace, Stop>
     requires { t.n ≡ c.now.n }
     ensures quanta { IfOk result (λ same. (same ≡ t) × HasQuanta c.now t) }
-    ensures above { IfErr result (λ stop. (state : ℕ) × IsFirstAbove c.now t state × (stop ≡ Stop.Refused (ComparisonRefusal.Quantum run state))) }
+    ensures above { IfErr result
+        (λ stop. (state : ℕ)
+        × IsFirstAbove c.now t state
+        × (stop ≡ Stop.Refused (ComparisonRefusal.Quantum run state))) }
 {
     for j in 0..t.n {
         if t.q.as_slice()[j as usize] > c.q.as_slice()[j as usize] {

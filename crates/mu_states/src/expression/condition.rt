@@ -101,7 +101,8 @@ fn compares(alloc: Global, relation: Option<Rel>, left: Expr, places: &[u32], at
 
 // The left sum is complete, or a sum in brackets at its front, and this token follows.
 fn after_left(alloc: Global, left: Expr, places: Vec<u32>, symbol: Symbol) -> Turn
-    ensures { turn_of result ≡ after_left (expression left) (reverse places.items) (symbol_view symbol.entry) }
+    ensures { turn_of result
+        ≡ after_left (expression left) (reverse places.items) (symbol_view symbol.entry) }
 {
     let mut places = places;
     match symbol {
@@ -126,7 +127,8 @@ fn left_move(
     frames: Vec<Frame>,
     symbol: Symbol,
 ) -> Turn
-    ensures { turn_of result ≡ left_move (reverse places.items) (move_of next frames.items) (symbol_view symbol.entry) }
+    ensures { turn_of result
+        ≡ left_move (reverse places.items) (move_of next frames.items) (symbol_view symbol.entry) }
 {
     match next {
         Move::Moves(position) => Turn::Goes(Stage::Left(places, position, frames)),
@@ -146,7 +148,9 @@ fn right_move(
     frames: Vec<Frame>,
     symbol: Symbol,
 ) -> Turn
-    ensures { turn_of result ≡ right_move (expression left) rel place brackets (move_of next frames.items) (symbol_view symbol.entry) }
+    ensures { turn_of result
+        ≡ right_move (expression left) rel place brackets (move_of next frames.items)
+        (symbol_view symbol.entry) }
 {
     match next {
         Move::Moves(position) => {
@@ -170,7 +174,9 @@ fn right_move(
 
 // A condition without brackets at its front begins with this token.
 fn begin_left(alloc: Global, places: Vec<u32>, symbol: Symbol) -> Result<Turn, AllocError>
-    ensures { IfOk result (λ t. let x = symbol_view symbol.entry in turn_of t ≡ left_move (reverse places.items) (begin_sum [] x) x) }
+    ensures { IfOk result
+        (λ t. let x = symbol_view symbol.entry in turn_of t
+        ≡ left_move (reverse places.items) (begin_sum [] x) x) }
 {
     let mut frames = Vec::new(alloc);
     let next = begin_sum(alloc, &mut frames, symbol)?;
@@ -179,7 +185,8 @@ fn begin_left(alloc: Global, places: Vec<u32>, symbol: Symbol) -> Result<Turn, A
 
 // A condition begins with this token.
 fn begin_condition(alloc: Global, places: Vec<u32>, symbol: Symbol) -> Result<Turn, AllocError>
-    ensures { IfOk result (λ t. turn_of t ≡ begin_condition (reverse places.items) (symbol_view symbol.entry)) }
+    ensures { IfOk result
+        (λ t. turn_of t ≡ begin_condition (reverse places.items) (symbol_view symbol.entry)) }
 {
     match symbol {
         Symbol::Mark(Mark::OpenRound, at) => {

@@ -126,7 +126,8 @@ fn product_of(factors: Vec<Factor>) -> Expr
 
 // The terms with the last one.
 fn with_term(part: Part, factor: Expr) -> Result<Vec<Term>, AllocError>
-    ensures { IfOk result (λ terms. map signed terms.items ≡ with_term (part_of part) (expression factor)) }
+    ensures { IfOk result
+        (λ terms. map signed terms.items ≡ with_term (part_of part) (expression factor)) }
 {
     let mut factors = part.factors;
     factors.push(Factor {
@@ -151,7 +152,9 @@ fn after_sum(
     frames: &mut Vec<Frame>,
     symbol: Symbol,
 ) -> Result<Move, AllocError>
-    ensures { IfOk result (λ m. move_of m frames.new.items ≡ after_sum (expression sum) (frames_of frames.old.items) (symbol_view symbol.entry)) }
+    ensures { IfOk result
+        (λ m. move_of m frames.new.items
+        ≡ after_sum (expression sum) (frames_of frames.old.items) (symbol_view symbol.entry)) }
 {
     match frames.pop() {
         None => Ok(Move::Ends(sum)),
@@ -181,7 +184,10 @@ fn follow_term(
     frames: &mut Vec<Frame>,
     symbol: Symbol,
 ) -> Result<Move, AllocError>
-    ensures { IfOk result (λ m. move_of m frames.new.items ≡ follow_term (map signed terms.items) (frames_of frames.old.items) (symbol_view symbol.entry)) }
+    ensures { IfOk result
+        (λ m. move_of m frames.new.items
+        ≡ follow_term (map signed terms.items) (frames_of frames.old.items)
+        (symbol_view symbol.entry)) }
 {
     match symbol {
         Symbol::Mark(Mark::Plus, at) => Ok(Move::Moves(Position::Term(terms, false, at))),
@@ -192,7 +198,8 @@ fn follow_term(
 
 // The part after an operand and * or /.
 fn next_factor(part: Part, factor: Expr, divide: bool, at: u32) -> Result<Part, AllocError>
-    ensures { IfOk result (λ next. part_of next ≡ next_factor (part_of part) (expression factor) divide at) }
+    ensures { IfOk result
+        (λ next. part_of next ≡ next_factor (part_of part) (expression factor) divide at) }
 {
     let mut factors = part.factors;
     factors.push(Factor {
@@ -218,7 +225,10 @@ fn follow_factor(
     frames: &mut Vec<Frame>,
     symbol: Symbol,
 ) -> Result<Move, AllocError>
-    ensures { IfOk result (λ m. move_of m frames.new.items ≡ follow_factor (expression factor) (part_of part) (frames_of frames.old.items) (symbol_view symbol.entry)) }
+    ensures { IfOk result
+        (λ m. move_of m frames.new.items
+        ≡ follow_factor (expression factor) (part_of part) (frames_of frames.old.items)
+        (symbol_view symbol.entry)) }
 {
     match symbol {
         Symbol::Mark(Mark::Times, at) => {
@@ -244,7 +254,10 @@ fn follow_primary(
     frames: &mut Vec<Frame>,
     symbol: Symbol,
 ) -> Result<Move, AllocError>
-    ensures { IfOk result (λ m. move_of m frames.new.items ≡ follow_primary (expression primary) (part_of part) (frames_of frames.old.items) (symbol_view symbol.entry)) }
+    ensures { IfOk result
+        (λ m. move_of m frames.new.items
+        ≡ follow_primary (expression primary) (part_of part) (frames_of frames.old.items)
+        (symbol_view symbol.entry)) }
 {
     match symbol {
         Symbol::Mark(Mark::Caret, at) => Ok(Move::Moves(Position::Exponent(primary, at, part))),
@@ -260,7 +273,10 @@ fn follow_reference(
     frames: &mut Vec<Frame>,
     symbol: Symbol,
 ) -> Result<Move, AllocError>
-    ensures { IfOk result (λ m. move_of m frames.new.items ≡ follow_reference (reference target) (use_of purpose) (frames_of frames.old.items) (symbol_view symbol.entry)) }
+    ensures { IfOk result
+        (λ m. move_of m frames.new.items
+        ≡ follow_reference (reference target) (use_of purpose) (frames_of frames.old.items)
+        (symbol_view symbol.entry)) }
 {
     match purpose {
         Use::Variable(part) => follow_primary(alloc, Expr::Var(target), part, frames, symbol),
@@ -294,7 +310,10 @@ fn follow_name(
     frames: &mut Vec<Frame>,
     symbol: Symbol,
 ) -> Result<Move, AllocError>
-    ensures { IfOk result (λ m. move_of m frames.new.items ≡ follow_name name place (use_of purpose) (frames_of frames.old.items) (symbol_view symbol.entry)) }
+    ensures { IfOk result
+        (λ m. move_of m frames.new.items
+        ≡ follow_name name place (use_of purpose) (frames_of frames.old.items)
+        (symbol_view symbol.entry)) }
 {
     match symbol {
         Symbol::Mark(Mark::OpenSquare, _) => {
@@ -315,7 +334,9 @@ fn operand(
     frames: &mut Vec<Frame>,
     symbol: Symbol,
 ) -> Result<Move, AllocError>
-    ensures { IfOk result (λ m. move_of m frames.new.items ≡ operand (part_of part) (frames_of frames.old.items) (symbol_view symbol.entry)) }
+    ensures { IfOk result
+        (λ m. move_of m frames.new.items
+        ≡ operand (part_of part) (frames_of frames.old.items) (symbol_view symbol.entry)) }
 {
     match symbol {
         Symbol::Number(text, at) => {
@@ -355,7 +376,9 @@ pub fn first_part(alloc: Global, terms: Vec<Term>, minus: bool, at: u32, place: 
 
 /// A sum begins with this token. `Err` is want of memory.
 pub fn begin_sum(alloc: Global, frames: &mut Vec<Frame>, symbol: Symbol) -> Result<Move, AllocError>
-    ensures { IfOk result (λ m. move_of m frames.new.items ≡ begin_sum (frames_of frames.old.items) (symbol_view symbol.entry)) }
+    ensures { IfOk result
+        (λ m. move_of m frames.new.items
+        ≡ begin_sum (frames_of frames.old.items) (symbol_view symbol.entry)) }
 {
     match symbol {
         Symbol::Mark(Mark::Plus, at) => Ok(Move::Moves(Position::Term(Vec::new(alloc), false, at))),
@@ -386,7 +409,9 @@ fn exponent_of(digits: &[u8]) -> Option<u8>
 
 // The bracket of `pre` must come.
 fn begin_bracket(part: Part, symbol: Symbol) -> Move
-    ensures { (fs : List Frame) → move_of result fs ≡ begin_bracket (part_of part) (frames_of fs) (symbol_view symbol.entry) }
+    ensures { (fs : List Frame)
+        → move_of result fs
+        ≡ begin_bracket (part_of part) (frames_of fs) (symbol_view symbol.entry) }
 {
     match symbol {
         Symbol::Mark(Mark::OpenRound, _) => Move::Moves(Position::Name(Use::Previous(part))),
@@ -396,7 +421,10 @@ fn begin_bracket(part: Part, symbol: Symbol) -> Move
 
 // A reference begins.
 fn begin_name(alloc: Global, purpose: Use, symbol: Symbol) -> Result<Move, AllocError>
-    ensures { IfOk result (λ m. (fs : List Frame) → move_of m fs ≡ begin_name (use_of purpose) (frames_of fs) (symbol_view symbol.entry)) }
+    ensures { IfOk result
+        (λ m. (fs : List Frame)
+        → move_of m fs
+        ≡ begin_name (use_of purpose) (frames_of fs) (symbol_view symbol.entry)) }
 {
     match symbol {
         Symbol::Name(text, at) => {
@@ -415,7 +443,9 @@ fn power(
     place: u32,
     part: Part,
 ) -> Result<Move, AllocError>
-    ensures { IfOk result (λ m. (fs : List Frame) → move_of m fs ≡ power exponent (expression base) place (part_of part) (frames_of fs)) }
+    ensures { IfOk result
+        (λ m. (fs : List Frame)
+        → move_of m fs ≡ power exponent (expression base) place (part_of part) (frames_of fs)) }
 {
     match exponent {
         None => Ok(Move::Wrong),
@@ -439,7 +469,11 @@ fn follow_caret(
     part: Part,
     symbol: Symbol,
 ) -> Result<Move, AllocError>
-    ensures { IfOk result (λ m. (fs : List Frame) → move_of m fs ≡ follow_caret (expression base) place (part_of part) (frames_of fs) (symbol_view symbol.entry)) }
+    ensures { IfOk result
+        (λ m. (fs : List Frame)
+        → move_of m fs
+        ≡ follow_caret (expression base) place (part_of part) (frames_of fs)
+        (symbol_view symbol.entry)) }
 {
     match symbol {
         Symbol::Number(text, _) => power(alloc, exponent_of(text), base, place, part),
@@ -455,7 +489,9 @@ pub fn step(
     frames: &mut Vec<Frame>,
     symbol: Symbol,
 ) -> Result<Move, AllocError>
-    ensures { IfOk result (λ m. move_of m frames.new.items ≡ step (position_of position) (frames_of frames.old.items) (symbol_view symbol.entry)) }
+    ensures { IfOk result
+        (λ m. move_of m frames.new.items
+        ≡ step (position_of position) (frames_of frames.old.items) (symbol_view symbol.entry)) }
 {
     match position {
         Position::Sum => begin_sum(alloc, frames, symbol),

@@ -30,7 +30,8 @@ use std::alloc::{AllocError, Global};
 
 // An item without a loop begins with this token, or none.
 fn begin_bare(alloc: Global, body: Body, symbol: Symbol) -> Result<Effect, AllocError>
-    ensures { IfOk result (λ e. effect_of e ≡ begin_bare (body_of body) (symbol_view symbol.entry)) }
+    ensures { IfOk result
+        (λ e. effect_of e ≡ begin_bare (body_of body) (symbol_view symbol.entry)) }
 {
     match body {
         Body::Equations(draft, loops) => begin_equation(alloc, draft, loops, symbol),
@@ -42,7 +43,8 @@ fn begin_bare(alloc: Global, body: Body, symbol: Symbol) -> Result<Effect, Alloc
 
 /// An item begins with this token, or none. `Err` is want of memory.
 pub fn body_token(alloc: Global, body: Body, symbol: Symbol) -> Result<Effect, AllocError>
-    ensures { IfOk result (λ e. effect_of e ≡ body_token (body_of body) (symbol_view symbol.entry)) }
+    ensures { IfOk result
+        (λ e. effect_of e ≡ body_token (body_of body) (symbol_view symbol.entry)) }
 {
     match symbol {
         Symbol::Word(Word::For, _) => {
@@ -68,7 +70,8 @@ pub fn body_level(body: &Body) -> u128
 
 /// Where the variable of a loop must come. `Err` is want of memory.
 pub fn variable_token(alloc: Global, body: Body, symbol: Symbol) -> Result<Effect, AllocError>
-    ensures { IfOk result (λ e. effect_of e ≡ variable_token (body_of body) (symbol_view symbol.entry)) }
+    ensures { IfOk result
+        (λ e. effect_of e ≡ variable_token (body_of body) (symbol_view symbol.entry)) }
 {
     match symbol {
         Symbol::Name(text, at) => {
@@ -89,7 +92,8 @@ pub fn close_first(
     from: Expr,
     symbol: Symbol,
 ) -> Effect
-    ensures { effect_of result ≡ close_first (body_of body) name place (expression from) (symbol_view symbol.entry) }
+    ensures { effect_of result
+        ≡ close_first (body_of body) name place (expression from) (symbol_view symbol.entry) }
 {
     match symbol {
         Symbol::Mark(Mark::Colon, _) => {
@@ -139,7 +143,8 @@ pub fn close_last(
     range: LoopRange,
     symbol: Symbol,
 ) -> Result<Effect, AllocError>
-    ensures { IfOk result (λ e. effect_of e ≡ close_last (body_of body) (range_of range) (symbol_view symbol.entry)) }
+    ensures { IfOk result
+        (λ e. effect_of e ≡ close_last (body_of body) (range_of range) (symbol_view symbol.entry)) }
 {
     match symbol {
         Symbol::Word(Word::Loop, _) => {

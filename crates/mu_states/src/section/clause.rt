@@ -32,7 +32,9 @@ use std::alloc::{AllocError, Global};
 
 // One more clause, in the inner loop or outside all of them.
 fn put_clause(draft: Box<Draft>, loops: Vec<ClauseLoop>, item: Clause) -> Result<Body, AllocError>
-    ensures { IfOk result (λ b. body_of b ≡ put_clause (draft_of draft.value) (clause_loops loops.items) (clause item)) }
+    ensures { IfOk result
+        (λ b. body_of b
+        ≡ put_clause (draft_of draft.value) (clause_loops loops.items) (clause item)) }
 {
     let mut draft = draft;
     let mut loops = loops;
@@ -72,7 +74,10 @@ fn leave_clauses(
     loops: Vec<ClauseLoop>,
     symbol: Symbol,
 ) -> Result<Effect, AllocError>
-    ensures { IfOk result (λ e. effect_of e ≡ leave (in_clauses (draft_of draft.value) (clause_loops loops.items)) (symbol_view symbol.entry)) }
+    ensures { IfOk result
+        (λ e. effect_of e
+        ≡ leave (in_clauses (draft_of draft.value) (clause_loops loops.items))
+        (symbol_view symbol.entry)) }
 {
     let mut loops = loops;
     match loops.pop() {
@@ -91,7 +96,10 @@ pub fn begin_clause(
     loops: Vec<ClauseLoop>,
     symbol: Symbol,
 ) -> Result<Effect, AllocError>
-    ensures { IfOk result (λ e. effect_of e ≡ begin_clause (draft_of draft.value) (clause_loops loops.items) (symbol_view symbol.entry)) }
+    ensures { IfOk result
+        (λ e. effect_of e
+        ≡ begin_clause (draft_of draft.value) (clause_loops loops.items)
+        (symbol_view symbol.entry)) }
 {
     match symbol {
         Symbol::Word(Word::When, _) => {
@@ -130,7 +138,9 @@ fn next_branch(branch: OpenBranch) -> Result<OpenWhen, AllocError>
 
 // Behind the clause, of which this branch is the last one.
 fn close_when(branch: OpenBranch) -> Result<Body, AllocError>
-    ensures { IfOk result (λ b. let o = branch_of branch in body_of b ≡ put_clause o.clause.draft o.clause.loops (Branches (branches_of o))) }
+    ensures { IfOk result
+        (λ b. let o = branch_of branch in body_of b
+        ≡ put_clause o.clause.draft o.clause.loops (Branches (branches_of o))) }
 {
     let whole = next_branch(branch)?;
     let OpenWhen {
@@ -143,7 +153,8 @@ fn close_when(branch: OpenBranch) -> Result<Body, AllocError>
 
 /// Behind the last statement of a branch. `Err` is want of memory.
 pub fn end_branch(alloc: Global, branch: OpenBranch, symbol: Symbol) -> Result<Effect, AllocError>
-    ensures { IfOk result (λ e. effect_of e ≡ end_branch (branch_of branch) (symbol_view symbol.entry)) }
+    ensures { IfOk result
+        (λ e. effect_of e ≡ end_branch (branch_of branch) (symbol_view symbol.entry)) }
 {
     match symbol {
         Symbol::Word(Word::Elsewhen, _) => {
@@ -160,7 +171,8 @@ pub fn end_branch(alloc: Global, branch: OpenBranch, symbol: Symbol) -> Result<E
 
 // A branch with this condition begins.
 fn new_branch(alloc: Global, clause: OpenWhen, cond: Cond) -> Result<Body, AllocError>
-    ensures { IfOk result (λ b. body_of b ≡ in_branch (new_branch (when_of clause) (condition cond)) []) }
+    ensures { IfOk result
+        (λ b. body_of b ≡ in_branch (new_branch (when_of clause) (condition cond)) []) }
 {
     let branch = Branch {
         cond,
@@ -177,7 +189,8 @@ fn condition_turn(
     level: u128,
     turn: Turn,
 ) -> Result<Effect, AllocError>
-    ensures { IfOk result (λ e. effect_of e ≡ condition_turn (when_of clause) level (turn_of turn)) }
+    ensures { IfOk result
+        (λ e. effect_of e ≡ condition_turn (when_of clause) level (turn_of turn)) }
 {
     match turn {
         Turn::Goes(stage) => Ok(Effect::Advances(State::Condition(clause, stage))),
@@ -192,7 +205,8 @@ fn condition_turn(
 
 // The levels that are open in the condition of a clause.
 fn condition_level(clause: &OpenWhen, stage: &Stage) -> u128
-    ensures { let w = when_of clause.now in result ≡ depth_of (suc (level 0 w.loops)) (stage_of stage.now) }
+    ensures { let w = when_of clause.now in
+        result ≡ depth_of (suc (level 0 w.loops)) (stage_of stage.now) }
 {
     depth_of(clause.loops.len() + 1, stage)
 }
@@ -204,7 +218,10 @@ pub fn condition_token(
     stage: Stage,
     symbol: Symbol,
 ) -> Result<Effect, AllocError>
-    ensures { IfOk result (λ e. let w = when_of clause in let s = stage_of stage in effect_of e ≡ condition_turn w (depth_of (suc (level 0 w.loops)) s) (turn s (symbol_view symbol.entry))) }
+    ensures { IfOk result
+        (λ e. let w = when_of clause in let s = stage_of stage in effect_of e
+        ≡ condition_turn w (depth_of (suc (level 0 w.loops)) s)
+        (turn s (symbol_view symbol.entry))) }
 {
     let level = condition_level(&clause, &stage);
     let turn = read_token(alloc, stage, symbol)?;

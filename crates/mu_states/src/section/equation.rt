@@ -22,7 +22,9 @@ pub fn put_equation(
     loops: Vec<EquationLoop>,
     item: Equation,
 ) -> Result<Body, AllocError>
-    ensures { IfOk result (λ b. body_of b ≡ put_equation (draft_of draft.value) (equation_loops loops.items) (equation item)) }
+    ensures { IfOk result
+        (λ b. body_of b
+        ≡ put_equation (draft_of draft.value) (equation_loops loops.items) (equation item)) }
 {
     let mut draft = draft;
     let mut loops = loops;
@@ -42,7 +44,8 @@ pub fn put_equation(
 
 // The loop, as an equation.
 fn each_equation(whole: EquationLoop) -> Equation
-    ensures { let l = equation_loop whole in equation result ≡ EachEquation l.range (equations_of l.items) }
+    ensures { let l = equation_loop whole in
+        equation result ≡ EachEquation l.range (equations_of l.items) }
 {
     let EquationLoop { range, items } = whole;
     let LoopRange { var, at, from, to } = range;
@@ -62,7 +65,10 @@ fn leave_equations(
     loops: Vec<EquationLoop>,
     symbol: Symbol,
 ) -> Result<Effect, AllocError>
-    ensures { IfOk result (λ e. effect_of e ≡ leave (in_equations (draft_of draft.value) (equation_loops loops.items)) (symbol_view symbol.entry)) }
+    ensures { IfOk result
+        (λ e. effect_of e
+        ≡ leave (in_equations (draft_of draft.value) (equation_loops loops.items))
+        (symbol_view symbol.entry)) }
 {
     let mut loops = loops;
     match loops.pop() {
@@ -81,7 +87,10 @@ pub fn begin_equation(
     loops: Vec<EquationLoop>,
     symbol: Symbol,
 ) -> Result<Effect, AllocError>
-    ensures { IfOk result (λ e. effect_of e ≡ begin_equation (draft_of draft.value) (equation_loops loops.items) (symbol_view symbol.entry)) }
+    ensures { IfOk result
+        (λ e. effect_of e
+        ≡ begin_equation (draft_of draft.value) (equation_loops loops.items)
+        (symbol_view symbol.entry)) }
 {
     match symbol {
         Symbol::Word(Word::Der, _) => {

@@ -31,7 +31,9 @@ pub fn put_start(
     loops: Vec<StatementLoop>,
     item: Statement,
 ) -> Result<Body, AllocError>
-    ensures { IfOk result (λ b. body_of b ≡ put_start (draft_of draft.value) (statement_loops loops.items) (statement item)) }
+    ensures { IfOk result
+        (λ b. body_of b
+        ≡ put_start (draft_of draft.value) (statement_loops loops.items) (statement item)) }
 {
     let mut draft = draft;
     let mut loops = loops;
@@ -55,7 +57,9 @@ pub fn put_statement(
     loops: Vec<StatementLoop>,
     item: Statement,
 ) -> Result<Body, AllocError>
-    ensures { IfOk result (λ b. body_of b ≡ put_statement (branch_of branch) (statement_loops loops.items) (statement item)) }
+    ensures { IfOk result
+        (λ b. body_of b
+        ≡ put_statement (branch_of branch) (statement_loops loops.items) (statement item)) }
 {
     let mut branch = branch;
     let mut loops = loops;
@@ -75,7 +79,8 @@ pub fn put_statement(
 
 // The loop, as a statement.
 fn each_statement(whole: StatementLoop) -> Statement
-    ensures { let l = statement_loop whole in statement result ≡ EachStatement l.range (statements_of l.items) }
+    ensures { let l = statement_loop whole in
+        statement result ≡ EachStatement l.range (statements_of l.items) }
 {
     let StatementLoop { range, items } = whole;
     let LoopRange { var, at, from, to } = range;
@@ -95,7 +100,10 @@ fn leave_starts(
     loops: Vec<StatementLoop>,
     symbol: Symbol,
 ) -> Result<Effect, AllocError>
-    ensures { IfOk result (λ e. effect_of e ≡ leave (in_starts (draft_of draft.value) (statement_loops loops.items)) (symbol_view symbol.entry)) }
+    ensures { IfOk result
+        (λ e. effect_of e
+        ≡ leave (in_starts (draft_of draft.value) (statement_loops loops.items))
+        (symbol_view symbol.entry)) }
 {
     let mut loops = loops;
     match loops.pop() {
@@ -114,7 +122,10 @@ fn leave_statements(
     loops: Vec<StatementLoop>,
     symbol: Symbol,
 ) -> Result<Effect, AllocError>
-    ensures { IfOk result (λ e. effect_of e ≡ leave (in_branch (branch_of branch) (statement_loops loops.items)) (symbol_view symbol.entry)) }
+    ensures { IfOk result
+        (λ e. effect_of e
+        ≡ leave (in_branch (branch_of branch) (statement_loops loops.items))
+        (symbol_view symbol.entry)) }
 {
     let mut loops = loops;
     match loops.pop() {
@@ -133,7 +144,10 @@ pub fn begin_start(
     loops: Vec<StatementLoop>,
     symbol: Symbol,
 ) -> Result<Effect, AllocError>
-    ensures { IfOk result (λ e. effect_of e ≡ begin_start (draft_of draft.value) (statement_loops loops.items) (symbol_view symbol.entry)) }
+    ensures { IfOk result
+        (λ e. effect_of e
+        ≡ begin_start (draft_of draft.value) (statement_loops loops.items)
+        (symbol_view symbol.entry)) }
 {
     match symbol {
         Symbol::Name(text, at) => {
@@ -151,7 +165,10 @@ pub fn begin_statement(
     loops: Vec<StatementLoop>,
     symbol: Symbol,
 ) -> Result<Effect, AllocError>
-    ensures { IfOk result (λ e. effect_of e ≡ begin_statement (branch_of branch) (statement_loops loops.items) (symbol_view symbol.entry)) }
+    ensures { IfOk result
+        (λ e. effect_of e
+        ≡ begin_statement (branch_of branch) (statement_loops loops.items)
+        (symbol_view symbol.entry)) }
 {
     match symbol {
         Symbol::Name(text, at) => {
@@ -185,7 +202,8 @@ fn branch_level(branch: &OpenBranch) -> u128
 
 /// The levels that are open in these loops of a branch.
 pub fn statement_level(branch: &OpenBranch, loops: &Vec<StatementLoop>) -> u128
-    ensures value { result ≡ level (branch_level (branch_of branch.now)) (statement_loops loops.now.items) }
+    ensures value { result
+        ≡ level (branch_level (branch_of branch.now)) (statement_loops loops.now.items) }
     ensures few { result < 2 ^ 65 }
 {
     branch_level(branch) + loops.len() as u128

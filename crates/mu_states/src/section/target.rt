@@ -37,7 +37,8 @@ use std::alloc::{AllocError, Global};
 
 /// Where a reference outside sums must come. `Err` is want of memory.
 pub fn target_token(alloc: Global, aim: Aim, symbol: Symbol) -> Result<Effect, AllocError>
-    ensures { IfOk result (λ e. effect_of e ≡ target_token (aim_of aim) (symbol_view symbol.entry)) }
+    ensures { IfOk result
+        (λ e. effect_of e ≡ target_token (aim_of aim) (symbol_view symbol.entry)) }
 {
     match symbol {
         Symbol::Name(text, at) => {
@@ -58,7 +59,8 @@ fn begin_side(alloc: Global, aim: Aim, target: Ref) -> Effect
 
 /// Behind a reference outside sums.
 pub fn follow_target(alloc: Global, target: Ref, aim: Aim, symbol: Symbol) -> Effect
-    ensures { effect_of result ≡ follow_target (reference target) (aim_of aim) (symbol_view symbol.entry) }
+    ensures { effect_of result
+        ≡ follow_target (reference target) (aim_of aim) (symbol_view symbol.entry) }
 {
     match (&aim, symbol) {
         (Aim::Plain(_, _), Symbol::Mark(Mark::Equal, _)) => begin_side(alloc, aim, target),
@@ -75,7 +77,8 @@ pub fn follow_target(alloc: Global, target: Ref, aim: Aim, symbol: Symbol) -> Ef
 
 /// Behind the name of a reference outside sums.
 pub fn follow_target_name(alloc: Global, name: Name, place: u32, aim: Aim, symbol: Symbol) -> Effect
-    ensures { effect_of result ≡ follow_target_name name place (aim_of aim) (symbol_view symbol.entry) }
+    ensures { effect_of result
+        ≡ follow_target_name name place (aim_of aim) (symbol_view symbol.entry) }
 {
     match symbol {
         Symbol::Mark(Mark::OpenSquare, _) => {
@@ -106,7 +109,8 @@ pub fn aim_level(aim: &Aim) -> u128
 
 /// Behind the index of a reference outside sums.
 pub fn close_index(target: Ref, aim: Aim, symbol: Symbol) -> Effect
-    ensures { effect_of result ≡ close_index (reference target) (aim_of aim) (symbol_view symbol.entry) }
+    ensures { effect_of result
+        ≡ close_index (reference target) (aim_of aim) (symbol_view symbol.entry) }
 {
     match symbol {
         Symbol::Mark(Mark::CloseSquare, _) => Effect::Advances(State::BehindTarget(target, aim)),
@@ -182,7 +186,11 @@ fn add_equation(
     item: Equation,
     symbol: Symbol,
 ) -> Result<Effect, AllocError>
-    ensures { IfOk result (λ e. effect_of e ≡ close_equation (put_equation (draft_of draft.value) (equation_loops loops.items) (equation item)) (symbol_view symbol.entry)) }
+    ensures { IfOk result
+        (λ e. effect_of e
+        ≡ close_equation
+        (put_equation (draft_of draft.value) (equation_loops loops.items) (equation item))
+        (symbol_view symbol.entry)) }
 {
     let body = put_equation(draft, loops, item)?;
     Ok(close_equation(body, symbol))
@@ -195,7 +203,11 @@ fn add_start(
     item: Statement,
     symbol: Symbol,
 ) -> Result<Effect, AllocError>
-    ensures { IfOk result (λ e. effect_of e ≡ close_assignment (put_start (draft_of draft.value) (statement_loops loops.items) (statement item)) (symbol_view symbol.entry)) }
+    ensures { IfOk result
+        (λ e. effect_of e
+        ≡ close_assignment
+        (put_start (draft_of draft.value) (statement_loops loops.items) (statement item))
+        (symbol_view symbol.entry)) }
 {
     let body = put_start(draft, loops, item)?;
     Ok(close_assignment(body, symbol))
@@ -208,7 +220,11 @@ fn add_assignment(
     item: Statement,
     symbol: Symbol,
 ) -> Result<Effect, AllocError>
-    ensures { IfOk result (λ e. effect_of e ≡ close_assignment (put_statement (branch_of branch) (statement_loops loops.items) (statement item)) (symbol_view symbol.entry)) }
+    ensures { IfOk result
+        (λ e. effect_of e
+        ≡ close_assignment
+        (put_statement (branch_of branch) (statement_loops loops.items) (statement item))
+        (symbol_view symbol.entry)) }
 {
     let body = put_statement(branch, loops, item)?;
     Ok(close_assignment(body, symbol))
@@ -221,7 +237,11 @@ fn add_restart(
     item: Statement,
     symbol: Symbol,
 ) -> Result<Effect, AllocError>
-    ensures { IfOk result (λ e. effect_of e ≡ close_restart (put_statement (branch_of branch) (statement_loops loops.items) (statement item)) (symbol_view symbol.entry)) }
+    ensures { IfOk result
+        (λ e. effect_of e
+        ≡ close_restart
+        (put_statement (branch_of branch) (statement_loops loops.items) (statement item))
+        (symbol_view symbol.entry)) }
 {
     let body = put_statement(branch, loops, item)?;
     Ok(close_restart(body, symbol))
@@ -229,7 +249,10 @@ fn add_restart(
 
 /// Behind what a reference is set to. `Err` is want of memory.
 pub fn close_side(aim: Aim, target: Ref, value: Expr, symbol: Symbol) -> Result<Effect, AllocError>
-    ensures { IfOk result (λ e. effect_of e ≡ close_side (aim_of aim) (reference target) (expression value) (symbol_view symbol.entry)) }
+    ensures { IfOk result
+        (λ e. effect_of e
+        ≡ close_side (aim_of aim) (reference target) (expression value)
+        (symbol_view symbol.entry)) }
 {
     match aim {
         Aim::Plain(draft, loops) => {

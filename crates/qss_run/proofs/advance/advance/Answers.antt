@@ -1,5 +1,5 @@
 -- Visits without rows are silent; the first with rows is the next event.
-use Rattle.std.proofs.Common.{◌≡◌, ◌+◌, ◌≤◌, ◌++◌, ◌∷◌, [], true, false, refl, sym, ◌∙◌, subst, arith}
+use Rattle.std.proofs.Common.{◌≡◌, ◌+◌, ◌≤◌, ◌++◌, ◌∷◌, [], refl, sym, ◌∙◌, subst, arith}
 use Rattle.qss_machine.specs.Ticks.{Step, world_unless}
 use Rattle.qss_machine.specs.Runs.{last_world}
 use Rattle.qss_quiet.specs.Rules.{IsRuled}
