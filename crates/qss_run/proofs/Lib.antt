@@ -5,6 +5,8 @@ pub mod Jumps
 pub mod Branches
 pub mod Dues
 pub mod Called
+pub mod PlaceSets
+pub mod Apart
 pub mod Takes
 pub mod DueLevels
 pub mod Speeds

@@ -17,3 +17,4 @@ pub mod Reads
 pub mod Visitings
 pub mod Levels
 pub mod Gatherings
+pub mod PlaceSets

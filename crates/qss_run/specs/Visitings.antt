@@ -32,8 +32,8 @@ use Rattle.qss_run.specs.declared.weights.Weights.{Weights}
 use Rattle.qss_run.specs.Handlings.{AreDiscretes, AreAssigned, is_reinitialized, states_with}
 use Rattle.qss_run.specs.Kept.{AreWeights, AreWeightsBefore}
 use Rattle.qss_run.specs.Moments.{AreSlopesOf, AreWithin}
-use Rattle.qss_run.specs.Moves.{IsTakenFrom}
-use Rattle.qss_run.specs.Places.{AreConditionsOf, line_at, watch_at, IsWatched}
+use Rattle.qss_run.specs.Moves.{AreAlikeBut, IsTakenFrom}
+use Rattle.qss_run.specs.Places.{AreConditionsOf, KnowsApart, line_at, watch_at, IsWatched}
 use Rattle.qss_run.specs.RowSums.{sum_at, AreSumsBefore}
 use Rattle.qss_run.specs.Stores.{states_at, FitsMachine}
 
@@ -221,6 +221,7 @@ pub record CanGoOnHandled (m : Machine) (tick : ℕ) (s : Store) : Type 0 where
       IsDue m tick j (line_at s.lines.items j) (due_at s.agenda j)
   pub watched : (place : ℕ) → place < length (conditions m) → is_among s.changed.items place ≡ false →
       IsWatched m tick (states_at s.lines.items tick) s.work.pre s.slopes.items place (watch_at s.conditions.watches.items place) (due_at s.agenda (state_count m + place))
+  pub alike : AreAlikeBut s.changed.items s.conditions.arrived.items s.conditions.settled.items
   pub settled : (place : ℕ) → place < length (conditions m) → is_among s.changed.items place ≡ false →
       flag_at s.conditions.settled.items place ≡ truth m (condition_at m place) (states_at s.lines.items tick) s.work.pre tick
 
@@ -240,6 +241,7 @@ pub record CanHandle (at : Changing) (all : Conditions) (due : List ℕ) (work :
       ((watch_at all.watches.items place).tick ≤ at.tick)
       × (All (IsWithin 88) (states_at at.lines.now at.tick) → IsSmall (value_at (watch_at all.watches.items place) at.tick))
       × (holds_at (watch_at all.watches.items place) at.tick ≡ truth at.machine.now (condition_at at.machine.now place) (states_at at.lines.now at.tick) work.d at.tick)
+  pub alike : KnowsApart all
   pub others : (place : ℕ) → place < length (conditions at.machine.now) → is_among at.changed.now place ≡ false →
       (truth at.machine.now (condition_at at.machine.now place) (states_at at.lines.now at.tick) work.d at.tick ≡ flag_at all.settled.items place)
       × (became_true all.arrived.items all.settled.items place ≡ false)

@@ -184,6 +184,6 @@ pub(crate) fn visit_due<L: Ledger>(
     );
     let settled = s.conditions.settled.as_slice();
     let arrived = s.conditions.arrived.as_mut_slice();
-    catch_up(true, settled, arrived, &mut s.calm);
+    catch_up(true, settled, arrived, &mut s.conditions.apart);
     None
 }

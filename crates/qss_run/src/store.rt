@@ -8,10 +8,10 @@ use qss_quant::Integrator;
 use qss_sched::Agenda;
 
 /// By state: its line, its level and its slope. `weights` says when a row is past its limits. `uses` says which rows and
-/// conditions read a variable. The agenda has a place for each state, then one for each condition, and one for a condition that became true through the handlers; `rising` says whether one did. While `calm` is set, each
-/// condition is on arrival as after the last handlers. `moved`, `touched`, `changed`, `fired` and `assigned` are room for a tick's
-/// work: the numbers of due and reinitialized states, of touched ones, of conditions to be looked at, of due branches and of
-/// assigned discrete variables.
+/// conditions read a variable. The agenda has a place for each state, then one for each condition, and one for a condition
+/// that became true through the handlers; `rising` says whether one did. `moved`, `touched`, `changed`, `fired` and `assigned`
+/// are room for a tick's work: the numbers of due and reinitialized states, of touched ones, of conditions to be looked at, of
+/// due branches and of assigned discrete variables.
 #[derive(Drop)]
 pub(crate) struct Store {
     pub conditions: Conditions,
@@ -26,7 +26,6 @@ pub(crate) struct Store {
     pub fired: Vec<u32>,
     pub assigned: Vec<u32>,
     pub rising: bool,
-    pub calm: bool,
     pub agenda: Agenda,
     pub work: Work,
     pub rows: Vec<Row>,

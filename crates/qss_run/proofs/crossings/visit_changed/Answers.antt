@@ -21,6 +21,7 @@ use Rattle.qss_run.specs.declared.conditions.Conditions.{Conditions}
 use Rattle.qss_run.specs.declared.store.Store.{Store}
 use Rattle.qss_run.specs.Handlings.{states_with, is_reinitialized, AreAssigned, AreDiscretes, IsHandled, AreMovedTo}
 use Rattle.qss_quiet.specs.Among.{is_among, AreNumbers, IsOff}
+use Rattle.qss_run.specs.Moves.{AreAlikeBut}
 use Rattle.qss_run.specs.Places.{line_at, watch_at, IsWatched}
 use Rattle.qss_run.specs.Renewals.{renewals_from}
 use Rattle.qss_quiet.specs.Rules.{IsRuled}
@@ -65,6 +66,7 @@ handle-over-requires-clause-ready g c =
           let watch : Watch = watch_at s.conditions.watches.items place in
           subst (λ ls. (watch.tick ≤ t) × (All (IsWithin 88) (states_at ls t) → IsSmall (value_at watch t)) × (holds_at watch t ≡ truth m (condition_at m place) (states_at ls t) s.work.d t))
           (sym c.as_slice.ensures.value) (watched_then m c.args.tick agenda s taken c.requires.in_time place h);
+      alike = taken.stands.alike;
       others = λ place h none.
           let both = rest_as_before m c.args.tick agenda s taken c.requires.in_time place h (ap (λ cs. is_among cs place) (sym c.as_slice-2.ensures.value) ∙ none) in
           (ap (λ ls. truth m (condition_at m place) (states_at ls t) s.work.d t) c.as_slice.ensures.value ∙ both.0, both.1);
@@ -304,6 +306,7 @@ go_on_handled-requires g c =
           (subst (λ found. IsWatched m t (states_at s.lines.items t) s.work.d s.slopes.items place (watch_at s.conditions.watches.items place) found)
           (sym (conditions_stay m c.args.tick agenda s taken c.requires.in_time moved assigned new h handled after without place))
           (watched_still m c.args.tick agenda s taken c.requires.in_time place inside none)));
+      alike = subst (λ (cs : List ℕ). AreAlikeBut cs c.handle-over.new.self.arrived.items c.handle-over.new.self.settled.items) c.as_slice-2.ensures.value (c.handle-over.ensures.alike calm);
       settled = λ place inside none.
           ap (λ (all : Conditions). flag_at all.settled.items place) c.handle-over.ensures.rest
           ∙ sym (flag_same m c.args.tick agenda s taken c.requires.in_time place inside none)

@@ -19,6 +19,7 @@ use Rattle.qss_run.specs.RowSums.{AreSumsBefore}
 use Rattle.qss_run.specs.declared.shifts.RowSum.TheVariants.{Slope}
 use Rattle.qss_run.specs.declared.conditions.Conditions.{Conditions}
 use Rattle.qss_run.specs.declared.store.Store.{Store}
+use Rattle.qss_machine.specs.Firing.{flag_at}
 use Rattle.qss_quiet.specs.Among.{is_among, AreNumbers, IsOff}
 use Rattle.qss_run.specs.Places.{line_at, watch_at, IsTurned, IsWatched}
 use Rattle.qss_quiet.specs.Rules.{IsRuled}
@@ -243,14 +244,16 @@ catch_up-requires-clause-as_many g c =
     let fits = c.go_on_moved.ensures.fits in
     ap length c.as_mut_slice-arrived.ensures.value ∙ fits.arrived ∙ sym fits.settled ∙ sym (ap length c.as_slice-settled.ensures.value)
 
-pub catch_up-requires-clause-calm : goal.catch_up-requires-clause-calm
-catch_up-requires-clause-calm g c calm =
+pub catch_up-requires-clause-count : goal.catch_up-requires-clause-count
+catch_up-requires-clause-count g c =
+    let fits = c.go_on_moved.ensures.fits in fits.apart ∙ sym (ap length c.as_slice-settled.ensures.value ∙ fits.settled)
+
+pub catch_up-requires-clause-alike : goal.catch_up-requires-clause-alike
+catch_up-requires-clause-alike g c = λ place none.
     let rest = c.go_on_moved.ensures.rest in
-    c.as_mut_slice-arrived.ensures.value
-    ∙ ap (λ (all : Conditions). all.arrived.items) rest
-    ∙ c.requires.taken.1.stands.calm calm
-    ∙ sym (ap (λ (all : Conditions). all.settled.items) rest)
-    ∙ sym c.as_slice-settled.ensures.value
+    ap (λ flags. flag_at flags place) (c.as_mut_slice-arrived.ensures.value ∙ ap (λ (all : Conditions). all.arrived.items) rest)
+    ∙ c.requires.taken.1.stands.alike place (ap (λ (all : Conditions). is_among all.apart.places place) (sym rest) ∙ none)
+    ∙ sym (ap (λ flags. flag_at flags place) (c.as_slice-settled.ensures.value ∙ ap (λ (all : Conditions). all.settled.items) rest))
 
 pub returns : goal.returns
 returns g c =
@@ -280,18 +283,18 @@ returns g c =
     let own : Conditions = c.go_on_moved.new.watched in
     let own_settled : own.settled.items ≡ s.conditions.settled.items = ap (λ (all : Conditions). all.settled.items) c.go_on_moved.ensures.rest in
     let next : Store = record s {
-      conditions = record own { arrived = with_items own.arrived c.catch_up.new.arrived };
+      conditions = record own { arrived = with_items own.arrived c.catch_up.new.arrived; apart = c.catch_up.new.apart };
       levels = with_items s.levels c.requantize_moved-over.new.levels;
       slopes = with_items s.slopes c.go_on_moved.new.slopes;
       lines = with_items s.lines c.go_on_moved.new.lines;
       weights = c.requantize_moved-over.new.weights;
-      calm = c.catch_up.new.calm;
       agenda = c.go_on_moved.new.agenda;
       touched = c.go_on_moved.new.touched;
       rows = c.requantize_moved-over.new.rows;
     } in
     let good : FitsMachine m next = record {
-      own_conditions = arrived_anew m own (with_items own.arrived c.catch_up.new.arrived) c.go_on_moved.ensures.fits (same_length own.arrived c.catch_up.new.arrived ∙ c.go_on_moved.ensures.fits.arrived);
+      own_conditions = arrived_anew m own (with_items own.arrived c.catch_up.new.arrived) c.catch_up.new.apart c.go_on_moved.ensures.fits
+          (same_length own.arrived c.catch_up.new.arrived ∙ c.go_on_moved.ensures.fits.arrived) c.catch_up.ensures.count;
       uses = fits.uses;
       lines = same_length s.lines c.go_on_moved.new.lines ∙ fits.lines;
       levels = same_length s.levels c.requantize_moved-over.new.levels ∙ fits.levels;
@@ -348,7 +351,7 @@ returns g c =
     (not_rising m c.args.tick agenda s taken c.requires.in_time c.requires.none_changes ∙ sym (none_rises_then (world_of c.args.tick s) (world_of t next) of_arrived own_settled))
     (rising m c.args.tick agenda s taken c.requires.in_time c.requires.none_changes next.agenda
     (c.go_on_moved.ensures.beyond (state_count m + length (conditions m)) (omega arith)))
-    (λ e. of_arrived ∙ sym own_settled) in
+    (λ place none. ap (λ flags. flag_at flags place) (of_arrived ∙ sym own_settled)) in
     let w : World = world_of c.args.tick s in
     let new_levels : next.levels.items ≡ fresh = own_levels ∙ levels in
     let still : s.conditions.settled.items ≡ truths m (moved_states m w) s.work.d t =

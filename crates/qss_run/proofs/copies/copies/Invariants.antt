@@ -1,6 +1,6 @@
 use Rattle.std.proofs.Common.{◌≡◌, ◌≤◌, replicate}
 use Rattle.std.specs.Prelude.{vec_len, vec_capacity}
-use Rattle.qss_run.proofs.start.copies.Given as goal
+use Rattle.qss_run.proofs.copies.copies.Given as goal
 
 -- the elements so far
 abbrev pub invariant-loop : goal.invariant-loop

@@ -1,0 +1,18 @@
+-- The conditions apart are those of the set.
+use Rattle.std.proofs.Common.{sym, ◌∙◌, ap, arith}
+use Rattle.qss_machine.specs.Firing.{flag_at}
+use Rattle.qss_quiet.specs.Among.{is_among}
+use Rattle.qss_run.specs.PlaceSets.{PlaceList}
+use Rattle.qss_run.proofs.calm.catch_up.Goals as goal
+
+pub agree-requires-clause-below : goal.agree-requires-clause-below
+agree-requires-clause-below c = λ k d h. omega (arith, c.places.ensures.below k d h, c.requires.count)
+
+pub agree-requires-clause-alike : goal.agree-requires-clause-alike
+agree-requires-clause-alike c = λ place none. c.requires.alike place (ap (λ these. is_among these place) (sym c.places.ensures.places) ∙ none)
+
+pub returns-clause-count : goal.returns-clause-count
+returns-clause-count c = ap (λ (s : PlaceList). s.count) c.clear.ensures
+
+pub returns-clause-alike : goal.returns-clause-alike
+returns-clause-alike c = λ place none. ap (λ flags. flag_at flags place) c.agree.ensures
