@@ -126,8 +126,8 @@ fn run(m: &Machine, action: &Action, w: &mut Work) -> Result<(), Over>
     match action {
         Action::Set { var, form } => {
             let value = assigned(m, form, 2 * m.p + m.k, w);
-            let place = *var - m.states.as_slice().len() as u32;
-            set_discrete(w, *var, place, value)
+            let states = m.states.as_slice().len() as u32;
+            set_discrete(w, *var, *var - states, value)
         }
         Action::Reinit { var, form } => {
             let value = assigned(m, form, m.p, w);

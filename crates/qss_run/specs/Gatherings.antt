@@ -1,11 +1,12 @@
 -- States that a tick touches, while they are gathered: they move to it along their lines, and are listed.
-use Rattle.std.specs.Prelude.{◌≡◌, ℕ, ◌+◌, ◌<◌, ◌≤◌, Bool, true, false, not, ◌&&◌, List, ◌∷◌, length, All, flat_map, ◌==◌, count_by}
+use Rattle.std.specs.Prelude.{◌≡◌, ℕ, ◌+◌, ◌<◌, ◌≤◌, Bool, true, false, not, ◌&&◌, List, ◌∷◌, length, All, ℤ, flat_map, ◌==◌, count_by}
 use Rattle.std.specs.List.{range_with_len}
 use Rattle.mu_num.specs.Sizes.{IsWithin}
 use Rattle.mu_num.specs.Ticks.{tick_limit}
 use Rattle.qss_machine.specs.declared.system.Machine.{Machine}
+use Rattle.qss_machine.specs.Machines.{level_unit, quantum_of}
 use Rattle.qss_machine.specs.Uses.{reading_rows}
-use Rattle.qss_quant.specs.Lines.{Line, state_at}
+use Rattle.qss_quant.specs.Lines.{Line, state_at, IsNear}
 use Rattle.qss_quiet.specs.Among.{is_among}
 use Rattle.qss_run.specs.Places.{line_at}
 
@@ -51,3 +52,9 @@ pub record AreGathered (tick : ℕ) (states : List ℕ) (old new : Gathering) : 
 -- the moved states, each with those whose rows read it
 abbrev pub reached : Machine → List ℕ → List ℕ
 reached m moved = flat_map (λ j. j ∷ reading_rows m j) moved
+
+-- a line may go on from a tick at a level: it is there or was before, and leads to a state within the limit and near the level
+pub record MayGoOn (m : Machine) (tick j : ℕ) (level : ℤ) (line : Line) : Type 0 where
+  pub not_later : line.tick ≤ tick
+  pub small : IsWithin 89 (state_at line tick)
+  pub near : IsNear (level_unit m) (state_at line tick) level (quantum_of m j level)

@@ -27,9 +27,8 @@ pub(crate) fn catch_up(still: bool, settled: &[bool], arrived: &mut [bool], apar
     ensures count { apart.new.count ≡ apart.old.count }
     ensures alike { AreAlikeBut apart.new.places arrived.new settled.now }
 {
-    if !still {
-        return;
+    if still {
+        agree(apart.places(), settled, arrived);
+        apart.clear();
     }
-    agree(apart.places(), settled, arrived);
-    apart.clear();
 }

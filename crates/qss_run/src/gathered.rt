@@ -12,7 +12,7 @@ ghost use Rattle.qss_quant.specs.Lines.{state_at, IsNear};
 ghost use Rattle.qss_sched.specs.Ranks.{due_at};
 ghost use Rattle.qss_quiet.specs.Among.{is_among};
 ghost use Rattle.qss_quiet.specs.Writes.{IsWritten};
-ghost use Rattle.qss_run.specs.Gatherings.{CanGather, AreGathered, reached};
+ghost use Rattle.qss_run.specs.Gatherings.{CanGather, AreGathered, MayGoOn, reached};
 ghost use Rattle.qss_run.specs.Moments.{AreSlopesOf};
 ghost use Rattle.qss_run.specs.Places.{line_at, IsTurned};
 ghost use Rattle.qss_run.specs.RowSums.{HasFollowed};
@@ -168,6 +168,13 @@ fn follow_levels<L: Ledger>(
     }
 }
 
+// A line is as this one from now on.
+fn set_line(line: &mut Integrator, here: &Integrator)
+    ensures { line.new ≡ here.now }
+{
+    *line = *here;
+}
+
 // State j goes on as this line, and the agenda has the tick at which it then leaves its quantum.
 fn go_on_as(m: &Machine, j: u32, here: &Integrator, line: &mut Integrator, agenda: &mut Agenda)
     requires state { j < state_count m.now }
@@ -180,7 +187,7 @@ fn go_on_as(m: &Machine, j: u32, here: &Integrator, line: &mut Integrator, agend
     ensures others { (place : ℕ) → (place ≡ j → ⊥)
         → due_at agenda.new place ≡ due_at agenda.old place }
 {
-    *line = *here;
+    set_line(line, here);
     agenda.set(j, leaving(m, j, here));
 }
 
@@ -192,11 +199,8 @@ fn go_on(at: &QuietLevels, slopes: &[i128], j: u32, lines: &mut [Integrator], ag
     requires lines { length lines.old ≡ state_count at.now.machine.now }
     requires places { state_count at.now.machine.now ≤ length agenda.old }
     requires in_time { at.now.tick ≤ tick_limit }
-    requires later { (line_at lines.old j).tick ≤ at.now.tick }
-    requires near { IsNear (level_unit at.now.machine.now)
-        (state_at (line_at lines.old j) at.now.tick)
-        (int_at at.now.levels.now j)
-        (quantum_of at.now.machine.now j (int_at at.now.levels.now j)) }
+    requires ready { MayGoOn at.now.machine.now at.now.tick j (int_at at.now.levels.now j)
+        (line_at lines.old j) }
     ensures turned { IsTurned at.now.machine.now at.now.tick
         (state_at (line_at lines.old j) at.now.tick)
         (int_at at.now.levels.now j) (int_at slopes.now j) j (line_at lines.new j)
@@ -233,13 +237,9 @@ fn go_on_each(
     requires lines { length lines.old ≡ state_count at.now.machine.now }
     requires places { state_count at.now.machine.now ≤ length agenda.old }
     requires in_time { at.now.tick ≤ tick_limit }
-    requires later { (j : ℕ) → j < state_count at.now.machine.now
-        → (line_at lines.old j).tick ≤ at.now.tick }
-    requires near { (j : ℕ) → j < state_count at.now.machine.now
-        → IsNear (level_unit at.now.machine.now)
-        (state_at (line_at lines.old j) at.now.tick)
-        (int_at at.now.levels.now j)
-        (quantum_of at.now.machine.now j (int_at at.now.levels.now j)) }
+    requires ready { (j : ℕ) → j < state_count at.now.machine.now
+        → MayGoOn at.now.machine.now at.now.tick j (int_at at.now.levels.now j)
+        (line_at lines.old j) }
     ensures turned { (j : ℕ) → is_among states.now j ≡ true
         → IsTurned at.now.machine.now at.now.tick
         (state_at (line_at lines.old j) at.now.tick)

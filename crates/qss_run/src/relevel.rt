@@ -27,10 +27,10 @@ use qss_quiet::next_level;
 fn found_or(first: Option<u32>, state: u32, past: bool) -> Option<u32>
     ensures { result ≡ option_or first (if past then Some state else None) }
 {
-    match first {
-        None if past => Some(state),
-        _ => first,
+    if past {
+        return first.or(Some(state));
     }
+    first
 }
 
 // The moved states at a tick, along their lines. It gives the least of them that is past the limit of states, if one is.

@@ -1,6 +1,6 @@
 //! Conditions that became true through the handlers of a tick.
 
-ghost use Rattle.std.specs.Prelude.{◌≡◌, ℕ, ◌+◌, ◌<◌, ◌^◌, All, length, None, Some, false, if◌then◌else◌};
+ghost use Rattle.std.specs.Prelude.{◌≡◌, ℕ, ◌+◌, ◌<◌, ◌^◌, All, length, None, Some, false, slice_set, if◌then◌else◌};
 ghost use Rattle.std.specs.List.{list_any};
 ghost use Rattle.qss_machine.specs.Handlers.{due_flags};
 ghost use Rattle.qss_sched.specs.Ranks.{due_at};
@@ -9,6 +9,16 @@ ghost use Rattle.qss_run.specs.Moves.{AreAlikeBut, IsCalled};
 
 use qss_sched::Agenda;
 
+// Whether the condition at a place became true through the handlers.
+fn became_true(arrived: &[bool], settled: &[bool], place: u32) -> bool
+    requires arrived { length arrived.now ≡ length settled.now }
+    requires place { place < length settled.now }
+    ensures { result ≡ became_true arrived.now settled.now place }
+{
+    let place = place as usize;
+    settled[place] & !arrived[place]
+}
+
 // Whether a condition became true through the handlers. Only those of these places are after them not as on arrival.
 fn rises(apart: &[u32], arrived: &[bool], settled: &[bool]) -> bool
     requires arrived { length arrived.now ≡ length settled.now }
@@ -16,12 +26,12 @@ fn rises(apart: &[u32], arrived: &[bool], settled: &[bool]) -> bool
     requires alike { AreAlikeBut apart.now arrived.now settled.now }
     ensures { result ≡ list_any (λ flag. flag) (due_flags settled.now arrived.now settled.now) }
 {
-    let mut risen = false;
     for condition in apart {
-        let place = *condition as usize;
-        risen |= settled[place] & !arrived[place];
+        if became_true(arrived, settled, *condition) {
+            return true;
+        }
     }
-    risen
+    false
 }
 
 /// Whether a condition became true through the handlers. Then this place of the agenda has the next tick, and else none. Only
@@ -51,6 +61,17 @@ pub(crate) fn rise(
     risen
 }
 
+// A place of the agenda is due at a tick, where a condition became true.
+fn call_at(agenda: &mut Agenda, tick: u64, place: u32, risen: bool)
+    requires { place < length agenda.old }
+    ensures { agenda.new
+        ≡ (if risen then slice_set agenda.old place (Some tick) else agenda.old) }
+{
+    if risen {
+        agenda.set(place, Some(tick));
+    }
+}
+
 // Conditions that became true through the handlers before a tick are due at it, and nothing is at the place behind the
 // conditions. Only those of the places apart are after the handlers not as on arrival.
 fn call(
@@ -69,10 +90,8 @@ fn call(
     ensures { IsCalled states tick arrived.now settled.now agenda.old agenda.new }
 {
     for condition in apart {
-        let place = *condition as usize;
-        if settled[place] && !arrived[place] {
-            agenda.set(states + *condition, Some(tick));
-        }
+        let risen = became_true(arrived, settled, *condition);
+        call_at(agenda, tick, states + *condition, risen);
     }
     agenda.set(states + settled.len() as u32, None);
 }

@@ -165,13 +165,14 @@ pub(crate) fn visit_due<L: Ledger>(
     if over.is_some() {
         return over;
     }
+    let work = &s.work;
     let new = QuietLevels {
         machine: m,
         uses: &s.uses,
         tick: tick + 1,
         moved: s.moved.as_slice(),
         levels: s.levels.as_slice(),
-        discretes: s.work.d.as_slice(),
+        discretes: work.d.as_slice(),
     };
     go_on_moved(
         &new,

@@ -51,7 +51,7 @@ follow_level-requires-clause-small_slopes g c j h =
     omega (arith, c.loop-state.invariant.near j h, few_numbers (state_count c.args.at.now.machine.now) c.args.at.now.moved.now c.requires.new.moved, c.args.at.now.machine.now.has_variables.few, c.loop-state-test.true)
 
 pub follow_level-requires-clause-lines : goal.follow_level-requires-clause-lines
-follow_level-requires-clause-lines g c = c.loop-state.auto.lines ∙ c.requires.lines
+follow_level-requires-clause-lines g c = c.loop-state.invariant.gathered.as_many ∙ c.requires.lines
 
 pub follow_level-requires-clause-can : goal.follow_level-requires-clause-can
 follow_level-requires-clause-can g c = c.loop-state.invariant.can

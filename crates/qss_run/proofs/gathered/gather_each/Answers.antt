@@ -18,7 +18,7 @@ pub gather-requires-clause-can : goal.gather-requires-clause-can
 gather-requires-clause-can g c = c.loop-j.invariant.can
 
 pub gather-requires-clause-known : goal.gather-requires-clause-known
-gather-requires-clause-known g c = omega (arith, c.requires.known c.loop-j.j-index 0 c.loop-j-test.true, c.loop-j.auto.lines)
+gather-requires-clause-known g c = omega (arith, c.requires.known c.loop-j.j-index 0 c.loop-j-test.true, c.loop-j.invariant.gathered.as_many)
 
 pub loop-j-preserved : goal.loop-j-preserved
 loop-j-preserved g c =

@@ -1,9 +1,11 @@
 -- One more state goes on.
-use Rattle.std.proofs.Common.{ℕ, ℤ, List, take, get_or, sym, ◌∙◌, subst, arith}
+use Rattle.std.proofs.Common.{◌≡◌, ℕ, ℤ, List, take, get_or, sym, subst, arith}
 use Rattle.std.proofs.lemmas.List.{take_all, take_more}
+use Rattle.mu_num.specs.Sizes.{IsWithin}
 use Rattle.qss_machine.specs.Machines.{level_unit, quantum_of}
 use Rattle.qss_machine.specs.Numbers.{int_at}
-use Rattle.qss_quant.specs.Lines.{IsNear}
+use Rattle.qss_quant.specs.Lines.{state_at, IsNear}
+use Rattle.qss_run.specs.Places.{line_at}
 use Rattle.qss_run.specs.Turnings.{Courses}
 use Rattle.qss_run.proofs.Gathering.{AreOn, none_on, still_there, still_not_later, on_more}
 use Rattle.qss_run.proofs.gathered.go_on_each.Goals as goal
@@ -15,31 +17,31 @@ pub go_on-requires-clause-state : goal.go_on-requires-clause-state
 go_on-requires-clause-state c = c.requires.states c.loop-j.j-index 0 c.loop-j-test.true
 
 pub go_on-requires-clause-lines : goal.go_on-requires-clause-lines
-go_on-requires-clause-lines c = c.loop-j.auto.lines ∙ c.requires.lines
+go_on-requires-clause-lines c = omega (arith, c.loop-j.auto.lines, c.requires.lines)
 
 pub go_on-requires-clause-places : goal.go_on-requires-clause-places
 go_on-requires-clause-places c = omega (arith, c.loop-j.invariant.on.places, c.requires.places)
 
-pub go_on-requires-clause-later : goal.go_on-requires-clause-later
-go_on-requires-clause-later c =
-    let i = c.loop-j.j-index in
-    let j : ℕ = get_or c.args.states.now i 0 in
-    let first : Courses = record { lines = c.args.lines.now; dues = c.args.agenda.now } in
-    let before : Courses = record { lines = c.loop-j.lines; dues = c.loop-j.agenda } in
-    still_not_later c.args.at.now.machine.now c.args.at.now.tick c.args.at.now.levels.now c.args.slopes.now (take i c.args.states.now) first before c.loop-j.invariant.on j
-    (c.requires.later j (c.requires.states i 0 c.loop-j-test.true))
-
-pub go_on-requires-clause-near : goal.go_on-requires-clause-near
-go_on-requires-clause-near c =
+pub go_on-requires-clause-ready : goal.go_on-requires-clause-ready
+go_on-requires-clause-ready c =
     let m = c.args.at.now.machine.now in
+    let tick = c.args.at.now.tick in
+    let levels : List ℤ = c.args.at.now.levels.now in
+    let slopes : List ℤ = c.args.slopes.now in
     let i = c.loop-j.j-index in
-    let j : ℕ = get_or c.args.states.now i 0 in
-    let level : ℤ = int_at c.args.at.now.levels.now j in
+    let states : List ℕ = c.args.states.now in
+    let j : ℕ = get_or states i 0 in
+    let level : ℤ = int_at levels j in
     let first : Courses = record { lines = c.args.lines.now; dues = c.args.agenda.now } in
     let before : Courses = record { lines = c.loop-j.lines; dues = c.loop-j.agenda } in
-    subst (λ (x : ℤ). IsNear (level_unit m) x level (quantum_of m j level))
-    (sym (still_there m c.args.at.now.tick c.args.at.now.levels.now c.args.slopes.now (take i c.args.states.now) first before c.loop-j.invariant.on j))
-    (c.requires.near j (c.requires.states i 0 c.loop-j-test.true))
+    let may = c.requires.ready j (c.requires.states i 0 c.loop-j-test.true) in
+    let there : state_at (line_at c.loop-j.lines j) tick ≡ state_at (line_at c.args.lines.now j) tick =
+    still_there m tick levels slopes (take i states) first before c.loop-j.invariant.on j in
+    record {
+      not_later = still_not_later m tick levels slopes (take i states) first before c.loop-j.invariant.on j may.not_later;
+      small = subst (IsWithin 89) (sym there) may.small;
+      near = subst (λ (x : ℤ). IsNear (level_unit m) x level (quantum_of m j level)) (sym there) may.near;
+    }
 
 pub loop-j-preserved : goal.loop-j-preserved
 loop-j-preserved c =

@@ -59,14 +59,17 @@ go_on_each-requires-clause-places g c = c.requires.ready.places
 pub go_on_each-requires-clause-in_time : goal.go_on_each-requires-clause-in_time
 go_on_each-requires-clause-in_time g c = c.requires.ready.in_time
 
-pub go_on_each-requires-clause-later : goal.go_on_each-requires-clause-later
-go_on_each-requires-clause-later g c j h = c.follow_levels.ensures.can.later j (omega (arith, h, c.follow_levels.auto.lines, c.requires.ready.lines))
-
-pub go_on_each-requires-clause-near : goal.go_on_each-requires-clause-near
-go_on_each-requires-clause-near g c j h =
+pub go_on_each-requires-clause-ready : goal.go_on_each-requires-clause-ready
+go_on_each-requires-clause-ready g c j h =
     let m = c.args.at.now.machine.now in
     let level : ℤ = int_at c.args.at.now.levels.now j in
-    subst (λ (x : ℤ). IsNear (level_unit m) x level (quantum_of m j level)) (sym (c.follow_levels.ensures.gathered.along j (omega (arith, h, c.requires.ready.lines))).here) (c.requires.ready.near j h)
+    let known : j < length c.follow_levels.new.lines = omega (arith, h, c.follow_levels.auto.lines, c.requires.ready.lines) in
+    record {
+      not_later = c.follow_levels.ensures.can.later j known;
+      small = c.follow_levels.ensures.can.small j known;
+      near = subst (λ (x : ℤ). IsNear (level_unit m) x level (quantum_of m j level)) (sym (c.follow_levels.ensures.gathered.along j (omega (arith, h, c.requires.ready.lines))).here)
+          (c.requires.ready.near j h);
+    }
 
 pub returns-clause-lines : goal.returns-clause-lines
 returns-clause-lines g c k h =

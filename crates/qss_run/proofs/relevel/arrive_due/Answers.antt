@@ -1,14 +1,23 @@
 -- One more state arrives.
-use Rattle.std.proofs.Common.{◌≡◌, ◌+◌, ◌<◌, ℕ, ℤ, length, get_or, pos, sym, ◌∙◌, ap, subst, arith}
+use Rattle.std.proofs.Common.{◌≡◌, ◌+◌, ◌<◌, ℕ, ℤ, false, length, get_or, pos, refl, sym, ◌∙◌, ap, subst, arith}
 use Rattle.std.proofs.lemmas.Int.{to_z-of_z}
+use Rattle.std.proofs.lemmas.Bool.{both_ways}
+use Rattle.std.proofs.lemmas.List.{get_or_default}
 use Rattle.std.specs.Int.RustNames.{FitsSigned}
 use Rattle.mu_num.specs.Sizes.{passes}
-use Rattle.qss_quant.specs.Lines.{state_at}
-use Rattle.qss_quiet.proofs.Writes.{written_more}
+use Rattle.qss_quant.specs.Lines.{Line, state_at}
+use Rattle.qss_quiet.specs.Sims.{no_line}
+use Rattle.qss_quiet.proofs.Writes.{written_more, written_all}
 use Rattle.qss_run.specs.Places.{line_at}
 use Rattle.qss_run.proofs.Found.{IsFoundIn, found_more, found_done}
 use Rattle.qss_run.proofs.relevel.arrive_due.Goals as goal
 use mir.Syntax.{w128}
+
+pub loop-state-init : goal.loop-state-init
+loop-state-init c = record {
+  written = record { as_many = refl; each = λ place e. absurd (both_ways false refl e); others = λ place e. refl };
+  found = λ k h. absurd (omega (arith, h));
+}
 
 pub loop-state-preserved : goal.loop-state-preserved
 loop-state-preserved c =
@@ -22,14 +31,20 @@ loop-state-preserved c =
     let within : j < length c.loop-state.x = omega (arith, inside, c.loop-state.invariant.written.as_many, c.requires.as_many) in
     let value : ℤ = c.value_at-value.result in
     let fits : FitsSigned w128 value = record { sfits = c.value_at-value.type_inv } in
-    let here : value ≡ state_at (line_at lines j) tick = c.value_at-value.ensures in
+    let read : c.index-lines-j.result ≡ line_at lines j = c.index-lines-j.is ∙ get_or_default lines j c.index-lines-j.result no_line inside in
+    let here : value ≡ state_at (line_at lines j) tick = c.value_at-value.ensures ∙ ap (λ (l : Line). state_at l tick) read in
     let test : passes 88 (state_at (line_at lines j) tick) ≡ c.passes.result =
     ap (passes 88) (sym here) ∙ sym (rw (to_z-of_z w128 value fits) at c.passes.ensures) in
     record {
       written = written_more (pos 0) (λ k z. z ≡ state_at (line_at lines k) tick) moved c.args.x.now c.loop-state.x i _ h within c.loop-state.invariant.written (to_z-of_z w128 value fits ∙ here);
-      found = subst (IsFoundIn (λ k. passes 88 (state_at (line_at lines k) tick)) moved (i + 1)) (sym c.found_or.ensures)
+      found = subst (IsFoundIn (λ k. passes 88 (state_at (line_at lines k) tick)) moved (i + 1)) (sym c.found_or-first.ensures)
           (found_more (λ k. passes 88 (state_at (line_at lines k) tick)) moved i c.loop-state.first c.passes.result c.requires.moved.rising h c.loop-state.invariant.found test);
     }
+
+pub returns-clause-arrived : goal.returns-clause-arrived
+returns-clause-arrived c =
+    written_all (pos 0) (λ k z. z ≡ state_at (line_at c.args.lines.now k) c.args.tick) c.args.moved.now c.args.x.now c.loop-state.x c.loop-state.state-index c.loop-state-test.false
+    c.loop-state.invariant.written
 
 pub returns-clause-first : goal.returns-clause-first
 returns-clause-first c =

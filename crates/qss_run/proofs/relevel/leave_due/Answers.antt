@@ -107,6 +107,12 @@ answer-fresh-requires g c =
       small_unit = rw (to_z-of_z w128 c.level_unit-unit.result unit) (subst (IsPositiveWithin 44) (sym c.level_unit-unit.ensures) (unit_fits m));
     }
 
+pub bounds-levels-j : goal.bounds-levels-j
+bounds-levels-j g c =
+    let i = c.loop-state.state-index in
+    let known : get_or c.args.at.now.moved.now i 0 < state_count c.args.at.now.machine.now = c.requires.ready.arrival.moved.below i 0 c.loop-state-test.true in
+    omega (arith, known, c.requires.levels, c.loop-state.invariant.taken.1.off.as_many)
+
 pub take_within-past-requires : goal.take_within-past-requires
 take_within-past-requires g c =
     let inv = c.loop-state.invariant in
@@ -161,7 +167,7 @@ loop-state-preserved g c =
       taken = (
         set inv.taken.0 j fresh,
         subst (λ (first : Option ℕ). AreRequantized m name tick states (take (i + 1) moved) olds (set c.loop-state.levels j c.take_within-past.new.level) (set inv.taken.0 j fresh) c.args.rows.now.items
-            c.take_within-past.new.rows.items first) (sym c.found_or.ensures)
+            c.take_within-past.new.rows.items first) (sym c.found_or-first.ensures)
             (taken_more m name tick states olds c.args.rows.now.items moved i c.loop-state.levels inv.taken.0 c.loop-state.rows.items c.take_within-past.new.rows.items c.loop-state.first fresh
             c.take_within-past.new.level c.take_within-past.result h rising (omega (arith, inside, c.requires.levels)) inv.taken.1 next past
             (λ e. c.take_within-past.ensures.level e ∙ to_z-of_z w128 fresh fresh_fits) row),

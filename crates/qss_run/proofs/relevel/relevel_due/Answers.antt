@@ -88,7 +88,7 @@ loop-state-preserved g c =
       taken = (
         set inv.taken.0 j fresh,
         subst (λ (first : Option ℕ). AreRequantized m name tick states (take (i + 1) moved) olds (set c.loop-state.levels j c.take_within-past.new.level) (set inv.taken.0 j fresh) c.args.rows.now.items
-            c.take_within-past.new.rows.items first) (sym c.found_or.ensures)
+            c.take_within-past.new.rows.items first) (sym c.found_or-first.ensures)
             (taken_more m name tick states olds c.args.rows.now.items moved i c.loop-state.levels inv.taken.0 c.loop-state.rows.items c.take_within-past.new.rows.items c.loop-state.first fresh
             c.take_within-past.new.level c.take_within-past.result h rising (omega (arith, inside, c.requires.levels)) inv.taken.1 next past
             (λ e. c.take_within-past.ensures.level e ∙ to_z-of_z w128 fresh fresh_fits) row),

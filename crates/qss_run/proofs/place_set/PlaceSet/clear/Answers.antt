@@ -24,7 +24,9 @@ invariant_of-self c =
     (subst (λ (l : List ℕ). IsWritten false (λ place flag. flag ≡ false) l c.as_mut_slice.result.now new) c.as_slice.ensures.value c.unmark.ensures) in
     let among : (with_items m.among new).items ≡ new = with_items_is m.among new (c.unmark.auto.among ∙ c.as_mut_slice.ensures.len) in
     subst (λ (a : List Bool). IsPlaceSet c.clear.new.self.items a (vec_capacity c.clear.new.self)) (sym among)
-    (rw (c.clear.ensures.items, c.clear.ensures.capacity) (emptied m.listed.items m.among.items (vec_capacity m.listed) c.self.invariant new written))
+    (subst (λ (room : ℕ). IsPlaceSet c.clear.new.self.items new room) (sym c.clear.ensures.capacity)
+    (subst (λ (listed : List ℕ). IsPlaceSet listed new (vec_capacity m.listed)) (sym c.clear.ensures.items)
+    (emptied m.listed.items m.among.items (vec_capacity m.listed) c.self.invariant new written)))
 
 pub returns : goal.returns
 returns c =

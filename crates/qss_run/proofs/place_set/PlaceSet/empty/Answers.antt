@@ -1,5 +1,5 @@
 -- No place is listed, and none is marked.
-use Rattle.std.proofs.Common.{ℕ, false, List, [], length, replicate, sym, ◌∙◌, ap, subst, arith}
+use Rattle.std.proofs.Common.{ℕ, false, List, length, replicate, sym, ◌∙◌, ap, subst, arith}
 use Rattle.std.proofs.lemmas.List.{length-replicate}
 use Rattle.std.specs.Prelude.{Bool, vec_capacity}
 use Rattle.qss_run.specs.PlaceSets.{IsPlaceSet}
@@ -14,4 +14,4 @@ invariant_of-result c =
     (empty_set c.args.count room (omega (arith, c.in_ok-listed.ensures.capacity))))
 
 pub returns : goal.returns
-returns c = same_set _ _ c.in_ok-listed.ensures.items (ap length c.in_ok-among.ensures ∙ length-replicate _ _)
+returns c = same_set _ _ c.in_ok-listed.ensures.items (ap length c.in_ok-among.ensures ∙ length-replicate c.args.count false)

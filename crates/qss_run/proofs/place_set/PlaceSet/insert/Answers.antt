@@ -13,3 +13,6 @@ add-requires-clause-absent c = sym c.contains.ensures ∙ c.if-contains.false
 
 pub returns-clause-places : goal.returns-clause-places
 returns-clause-places c = λ other. ap (λ (s : PlaceList). is_among s.places other) c.add.ensures ∙ came_last c.args.self.now.places c.args.place other
+
+pub returns-clause-count : goal.returns-clause-count
+returns-clause-count c = ap (λ (s : PlaceList). s.count) c.add.ensures
