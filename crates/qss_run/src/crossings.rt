@@ -53,7 +53,8 @@ fn note_rising(tick: u64, s: &mut Store)
     let arrived = s.conditions.arrived.as_slice();
     let settled = s.conditions.settled.as_slice();
     let apart = s.conditions.apart.places();
-    s.rising = rise(tick, apart, arrived, settled, place, &mut s.agenda);
+    let rising = rise(tick, apart, arrived, settled, place, &mut s.agenda);
+    s.rising = rising;
 }
 
 // After the handlers of a tick the states and conditions that changed there, or that read a change, go on from it.
