@@ -33,6 +33,17 @@ fn found_or(first: Option<u32>, state: u32, past: bool) -> Option<u32>
     first
 }
 
+// A moved state at a tick, along its line.
+fn arrival_of(lines: &[Integrator], tick: u64, state: u32) -> i128
+    requires known { state < length lines.now }
+    requires later { (line_at lines.now state).tick ≤ tick }
+    requires in_time { tick ≤ tick_limit }
+    ensures { result ≡ state_at (line_at lines.now state) tick }
+{
+    let j = state as usize;
+    lines[j].value_at(tick)
+}
+
 // The moved states at a tick, along their lines. It gives the least of them that is past the limit of states, if one is.
 fn arrive_due(lines: &[Integrator], tick: u64, moved: &[u32], x: &mut [i128]) -> Option<u32>
     requires as_many { length x.old ≡ length lines.now }
@@ -47,24 +58,11 @@ fn arrive_due(lines: &[Integrator], tick: u64, moved: &[u32], x: &mut [i128]) ->
     let mut first = None;
     for state in moved {
         let j = *state as usize;
-        let value = lines[j].value_at(tick);
+        let value = arrival_of(lines, tick, *state);
         first = found_or(first, *state, passes(value, 88));
         x[j] = value;
     }
     first
-}
-
-// A moved state at a tick, along its line.
-fn arrival_of(at: &Arrival, state: u32) -> i128
-    requires known { state < state_count at.now.machine.now }
-    requires lines { length at.now.lines.now ≡ state_count at.now.machine.now }
-    requires later { (line_at at.now.lines.now state).tick ≤ at.now.tick }
-    requires in_time { at.now.tick ≤ tick_limit }
-    ensures { result ≡ state_at (line_at at.now.lines.now state) at.now.tick }
-{
-    let lines = at.lines;
-    let j = state as usize;
-    lines[j].value_at(at.tick)
 }
 
 // The moved states arrive, each of which leaves the quantum of its level there, and take the rule's answers, with a row for
@@ -87,7 +85,7 @@ fn leave_due(at: &Arrival, q: &Quantizer, levels: &mut [i64], rows: &mut Vec<Row
     let mut first = None;
     for state in at.moved {
         let j = *state as usize;
-        let value = arrival_of(at, *state);
+        let value = arrival_of(at.lines, at.tick, *state);
         if passes(value, 88) {
             return Some(*state);
         }

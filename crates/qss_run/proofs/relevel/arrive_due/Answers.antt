@@ -2,11 +2,9 @@
 use Rattle.std.proofs.Common.{◌≡◌, ◌+◌, ◌<◌, ℕ, ℤ, false, length, get_or, pos, refl, sym, ◌∙◌, ap, subst, arith}
 use Rattle.std.proofs.lemmas.Int.{to_z-of_z}
 use Rattle.std.proofs.lemmas.Bool.{both_ways}
-use Rattle.std.proofs.lemmas.List.{get_or_default}
 use Rattle.std.specs.Int.RustNames.{FitsSigned}
 use Rattle.mu_num.specs.Sizes.{passes}
-use Rattle.qss_quant.specs.Lines.{Line, state_at}
-use Rattle.qss_quiet.specs.Sims.{no_line}
+use Rattle.qss_quant.specs.Lines.{state_at}
 use Rattle.qss_quiet.proofs.Writes.{written_more, written_all}
 use Rattle.qss_run.specs.Places.{line_at}
 use Rattle.qss_run.proofs.Found.{IsFoundIn, found_more, found_done}
@@ -19,6 +17,13 @@ loop-state-init c = record {
   found = λ k h. absurd (omega (arith, h));
 }
 
+pub arrival_of-value-requires-clause-known : goal.arrival_of-value-requires-clause-known
+arrival_of-value-requires-clause-known c = c.requires.moved.below c.loop-state.state-index 0 c.loop-state-test.true
+
+pub arrival_of-value-requires-clause-later : goal.arrival_of-value-requires-clause-later
+arrival_of-value-requires-clause-later c =
+    c.requires.later (get_or c.args.moved.now c.loop-state.state-index 0) (c.requires.moved.below c.loop-state.state-index 0 c.loop-state-test.true)
+
 pub loop-state-preserved : goal.loop-state-preserved
 loop-state-preserved c =
     let i = c.loop-state.state-index in
@@ -29,10 +34,9 @@ loop-state-preserved c =
     let h : i < length moved = c.loop-state-test.true in
     let inside : j < length lines = c.requires.moved.below i 0 h in
     let within : j < length c.loop-state.x = omega (arith, inside, c.loop-state.invariant.written.as_many, c.requires.as_many) in
-    let value : ℤ = c.value_at-value.result in
-    let fits : FitsSigned w128 value = record { sfits = c.value_at-value.type_inv } in
-    let read : c.index-lines-j.result ≡ line_at lines j = c.index-lines-j.is ∙ get_or_default lines j c.index-lines-j.result no_line inside in
-    let here : value ≡ state_at (line_at lines j) tick = c.value_at-value.ensures ∙ ap (λ (l : Line). state_at l tick) read in
+    let value : ℤ = c.arrival_of-value.result in
+    let fits : FitsSigned w128 value = record { sfits = c.arrival_of-value.type_inv } in
+    let here : value ≡ state_at (line_at lines j) tick = c.arrival_of-value.ensures in
     let test : passes 88 (state_at (line_at lines j) tick) ≡ c.passes.result =
     ap (passes 88) (sym here) ∙ sym (rw (to_z-of_z w128 value fits) at c.passes.ensures) in
     record {

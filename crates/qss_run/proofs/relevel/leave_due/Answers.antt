@@ -39,10 +39,10 @@ loop-state-init g c =
     }
 
 pub arrival_of-value-requires-clause-known : goal.arrival_of-value-requires-clause-known
-arrival_of-value-requires-clause-known g c = c.requires.ready.arrival.moved.below c.loop-state.state-index 0 c.loop-state-test.true
-
-pub arrival_of-value-requires-clause-lines : goal.arrival_of-value-requires-clause-lines
-arrival_of-value-requires-clause-lines g c = c.requires.ready.arrival.lines
+arrival_of-value-requires-clause-known g c =
+    let known : get_or c.args.at.now.moved.now c.loop-state.state-index 0 < state_count c.args.at.now.machine.now =
+    c.requires.ready.arrival.moved.below c.loop-state.state-index 0 c.loop-state-test.true in
+    omega (arith, known, c.requires.ready.arrival.lines)
 
 pub arrival_of-value-requires-clause-later : goal.arrival_of-value-requires-clause-later
 arrival_of-value-requires-clause-later g c =
