@@ -127,7 +127,8 @@ fn run(m: &Machine, action: &Action, w: &mut Work) -> Result<(), Over>
         Action::Set { var, form } => {
             let value = assigned(m, form, 2 * m.p + m.k, w);
             let states = m.states.as_slice().len() as u32;
-            set_discrete(w, *var, *var - states, value)
+            let place = *var - states;
+            set_discrete(w, *var, place, value)
         }
         Action::Reinit { var, form } => {
             let value = assigned(m, form, m.p, w);
