@@ -15,8 +15,8 @@ fn became_true(arrived: &[bool], settled: &[bool], place: u32) -> bool
     requires place { place < length settled.now }
     ensures { result ≡ became_true arrived.now settled.now place }
 {
-    let place = place as usize;
-    settled[place] & !arrived[place]
+    let at = place as usize;
+    settled[at] & !arrived[at]
 }
 
 // Whether a condition became true through the handlers. Only those of these places are after them not as on arrival.
