@@ -19,7 +19,7 @@ pub struct Work {
     pub pre: Vec<i64>,
     pub tick: u64,
     pub log: Vec<Row>,
-    assigned: Vec<u32>,
+    pub assigned: Vec<u32>,
 }
 
 impl Model for Work {
