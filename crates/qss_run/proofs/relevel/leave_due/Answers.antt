@@ -15,6 +15,7 @@ use Rattle.qss_quiet.specs.Rules.{IsRuled}
 use Rattle.qss_quiet.proofs.DueFirsts.{first_of, none_of, not_before}
 use Rattle.qss_quiet.proofs.LevelRows.{row_of}
 use Rattle.qss_quiet.proofs.NextLevels.{next_by}
+use Rattle.qss_quiet.proofs.Overs.{clash}
 use Rattle.qss_quiet.proofs.Ranges.{unit_fits}
 use Rattle.qss_quiet.proofs.Writes.{among_at}
 use Rattle.qss_run.specs.Levels.{AreRequantized}
@@ -83,8 +84,7 @@ returns-then-passes-clause-taken g c none =
     past_on_arrival tick lines moved (subst (λ n. AreNumbers n moved) (sym c.requires.ready.arrival.lines) c.requires.ready.arrival.moved) (Some (get_or moved i 0))
     (λ j h none. c.requires.ready.others_small j (omega (arith, h, c.requires.ready.arrival.lines)) none)
     (first_of (λ j. passes 88 (state_at (line_at lines j) tick)) moved i c.requires.ready.arrival.moved.rising c.loop-state-test.true c.loop-state.invariant.none_past past) in
-    let clash : Some (get_or moved i 0) ≡ None = over ∙ none in
-    absurd (cc)
+    clash (Some (get_or moved i 0)) refl (over ∙ none)
 
 pub answer-fresh-requires : goal.answer-fresh-requires
 answer-fresh-requires g c =
@@ -185,8 +185,7 @@ returns-clause-passed g c var e =
     past_on_arrival tick lines moved (subst (λ n. AreNumbers n moved) (sym c.requires.ready.arrival.lines) c.requires.ready.arrival.moved) None
     (λ j h among. c.requires.ready.others_small j (omega (arith, h, c.requires.ready.arrival.lines)) among)
     (none_of (λ j. passes 88 (state_at (line_at lines j) tick)) moved c.loop-state.state-index c.loop-state-test.false c.loop-state.invariant.none_past) in
-    let clash : None ≡ Some var = none ∙ e in
-    absurd (cc)
+    clash (Some var) refl (sym (none ∙ e))
 
 pub returns-clause-taken : goal.returns-clause-taken
 returns-clause-taken g c none =
