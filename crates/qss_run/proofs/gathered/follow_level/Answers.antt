@@ -29,6 +29,19 @@ shift_rows-requires-clause-mode g c = record { as_many = c.requires.new.discrete
 pub shift_rows-requires-clause-uses : goal.shift_rows-requires-clause-uses
 shift_rows-requires-clause-uses g c = c.requires.new.uses
 
+pub shift_rows-requires-clause-old : goal.shift_rows-requires-clause-old
+shift_rows-requires-clause-old g c =
+    let small : IsWithin 43 c.line.inside.level = c.line.invariant.small_level in
+    let fits : FitsSigned w64 c.line.inside.level = omega (arith, ints, small) in
+    rw (to_z-of_z w64 c.line.inside.level fits) small
+
+pub shift_rows-requires-clause-new : goal.shift_rows-requires-clause-new
+shift_rows-requires-clause-new g c =
+    let level : ℤ = int_at c.args.at.now.levels.now c.args.state in
+    let small : IsWithin 43 level = c.requires.new.small_levels c.args.state (pos 0) (omega (arith, c.requires.state, c.requires.new.levels)) in
+    let fits : FitsSigned w64 level = omega (arith, ints, small) in
+    rw (to_z-of_z w64 level fits) small
+
 pub gather-requires-clause-can : goal.gather-requires-clause-can
 gather-requires-clause-can g c = c.requires.can
 
