@@ -35,12 +35,12 @@ loop-condition-preserved c =
     let is : risen ≡ became_true arrived settled at = c.became_true-risen.ensures in
     subst (AreCalled n tick (take (i + 1) apart) arrived settled old) (sym c.call_at.ensures)
     (elim (cases_Bool risen) [
-      | inl yes ↦
-          subst (λ (b : Bool). AreCalled n tick (take (i + 1) apart) arrived settled old (if b then set now (n + at) (Some tick) else now)) (sym yes)
-          (called_more n tick apart i arrived settled old now h inv within (sym is ∙ yes))
-      | inr no ↦
-          subst (λ (b : Bool). AreCalled n tick (take (i + 1) apart) arrived settled old (if b then set now (n + at) (Some tick) else now)) (sym no)
-          (called_same n tick apart i arrived settled old now h inv (sym is ∙ no))
+      | inl rises ↦
+          subst (λ (b : Bool). AreCalled n tick (take (i + 1) apart) arrived settled old (if b then set now (n + at) (Some tick) else now)) (sym rises)
+          (called_more n tick apart i arrived settled old now h inv within (sym is ∙ rises))
+      | inr rests ↦
+          subst (λ (b : Bool). AreCalled n tick (take (i + 1) apart) arrived settled old (if b then set now (n + at) (Some tick) else now)) (sym rests)
+          (called_same n tick apart i arrived settled old now h inv (sym is ∙ rests))
     ])
 
 pub returns : goal.returns
