@@ -293,8 +293,8 @@ module _ (m : Machine) (tick : ℕ) (levels before discretes slopes_old slopes :
             (subst (λ z. IsTurned m tick z (int_at levels k) (int_at slopes k) k (line_at new.lines k) (due_at new.dues k)) (gathered.along k inside).here (on.own k among))
         | inr none ↦
             let unreached : is_among (reached m moved) k ≡ false = elim (cases_Bool (is_among (reached m moved) k)) [
-              | inl yes ↦ (let listed : is_among between.touched k ≡ true = gathered.own k yes in absurd (cc))
-              | inr no ↦ no
+              | inl own ↦ (let listed : is_among between.touched k ≡ true = gathered.own k own in absurd (cc))
+              | inr other ↦ other
             ] in
             let parts = or_parts (is_among moved k) (is_among (flat_map (reading_rows m) moved) k) (sym (among_reached m moved k) ∙ unreached) in
             let same : int_at slopes_old k ≡ slope_at m k levels discretes =

@@ -101,7 +101,7 @@ module _ (m : Machine) (t : ℕ) (w next : World) (moved : List ℕ) (numbers : 
             let change : reads_change m w next (row_at m j) ≡ true = reads_moved_change j mover.1 known among mover.4 in
             let same = still.reads in
             absurd (cc)
-        | inr no ↦ no
+        | inr other ↦ other
       ] in
       among_reached m moved j ∙ or_from (is_among moved j) (is_among (flat_map (reading_rows m) moved) j) own (among_readers m j h moved ∙ reads)
 

@@ -65,7 +65,7 @@ returns-clause-slopes g c =
     let level : ℤ = int_at c.args.at.now.levels.now state in
     let inside : state < length lines = omega (arith, c.requires.state, c.requires.lines) in
     let line : c.line.inside.level ≡ (line_at lines state).level =
-    ap (λ (l : Line). l.level) (c.line.view_is ∙ c.index-lines-j.is ∙ get_or_default lines state c.index-lines-j.result no_line inside) in
+    ap (λ (l : Line). l.level) (c.line.view_is ∙ get_or_default lines state c.index-lines-j.result no_line inside) in
     let small_old : IsWithin 43 c.line.inside.level = c.line.invariant.small_level in
     let small_new : IsWithin 43 level = c.requires.new.small_levels state (pos 0) (omega (arith, c.requires.state, c.requires.new.levels)) in
     let of_old : FitsSigned w64 c.line.inside.level = omega (arith, ints, small_old) in
