@@ -1,3 +1,4 @@
 pub mod Values
 pub mod Works
 pub mod Rooms
+pub mod Assigned

@@ -20,7 +20,7 @@ fn note(w: &mut Work, clause: u32, branch: u32)
         level: 0,
         state: 0,
     };
-    w.log.push_reserved(row);
+    w.note(row);
 }
 
 /// A branch of a clause fires: its row, and then its statements in order with a row each, up to the first whose value

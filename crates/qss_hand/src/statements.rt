@@ -39,7 +39,7 @@ fn assigned(m: &Machine, form: &Form, bits: u8, w: &Work) -> i128
 }
 
 // A discrete variable, of which this is the place among the discrete values, takes a value.
-fn set_discrete(w: &mut Work, var: u32, place: usize, value: i128) -> Result<(), Over>
+fn set_discrete(w: &mut Work, var: u32, place: u32, value: i128) -> Result<(), Over>
     requires place { place < length w.old.d }
     requires room { length w.old.log < w.old.room }
     ensures values { w.new
@@ -64,7 +64,6 @@ fn set_discrete(w: &mut Work, var: u32, place: usize, value: i128) -> Result<(),
         return Err(Over { var });
     }
     let level = value as i64;
-    w.d[place] = level;
     let row = Row {
         tick: w.tick,
         kind: RowKind::Set,
@@ -72,7 +71,7 @@ fn set_discrete(w: &mut Work, var: u32, place: usize, value: i128) -> Result<(),
         level,
         state: 0,
     };
-    w.log.push_reserved(row);
+    w.assign(place, level, row);
     Ok(())
 }
 
@@ -109,7 +108,7 @@ fn reinitialize(w: &mut Work, var: u32, value: i128) -> Result<(), Over>
         level: 0,
         state: value,
     };
-    w.log.push_reserved(row);
+    w.note(row);
     Ok(())
 }
 
@@ -127,7 +126,8 @@ fn run(m: &Machine, action: &Action, w: &mut Work) -> Result<(), Over>
     match action {
         Action::Set { var, form } => {
             let value = assigned(m, form, 2 * m.p + m.k, w);
-            let place = *var as usize - m.states.as_slice().len();
+            let states = m.states.as_slice().len() as u32;
+            let place = *var - states;
             set_discrete(w, *var, place, value)
         }
         Action::Reinit { var, form } => {

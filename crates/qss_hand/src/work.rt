@@ -1,7 +1,8 @@
 //! What handlers work on.
 
-ghost use Rattle.std.specs.Prelude.{◌≡◌, IfOk};
+ghost use Rattle.std.specs.Prelude.{◌≡◌, ◌<◌, All, IfOk, length};
 ghost use Rattle.qss_machine.specs.Machines.{start_states, start_discretes};
+ghost use Rattle.qss_hand.specs.Assigned.{AreSameBut};
 
 use crate::room::row_room;
 use qss_machine::{Machine, Row};
@@ -9,7 +10,8 @@ use std::alloc::{AllocError, Global};
 use std::marker::Model;
 
 /// The states in units of 2^-(f+p+k), the discrete values and those before the tick in units of 2^-f, the tick, and
-/// the rows of this tick. Contracts see these lists, and as `room` how many rows there is memory for.
+/// the rows of this tick. Contracts see these lists, and as `room` how many rows there is memory for. The discrete values that
+/// are not those before the tick are at the assigned places.
 #[derive(Drop)]
 pub struct Work {
     pub x: Vec<i128>,
@@ -17,17 +19,20 @@ pub struct Work {
     pub pre: Vec<i64>,
     pub tick: u64,
     pub log: Vec<Row>,
+    pub assigned: Vec<u32>,
 }
 
 impl Model for Work {
-    ghost use Rattle.std.specs.Prelude.{◌≡◌, length, vec_capacity};
+    ghost use Rattle.std.specs.Prelude.{vec_len, vec_capacity};
+    ghost use Rattle.qss_hand.specs.Assigned.{KnowsAssigned};
     ghost use Rattle.qss_hand.specs.Values.{Values};
 
     ghost Value = { Values };
 
     ghost view = { λ w. record { x = w.x.items; d = w.d.items; pre = w.pre.items; tick = w.tick; log = w.log.items; room = vec_capacity w.log } };
 
-    ghost invariant = { λ w. length w.pre.items ≡ length w.d.items };
+    ghost invariant = { λ w. KnowsAssigned w.d.items w.pre.items w.assigned.items
+        (vec_len w.assigned) (vec_len w.log) (vec_capacity w.assigned) (vec_capacity w.log) };
 }
 
 // The states at the start.
@@ -52,8 +57,21 @@ fn start_discretes(alloc: Global, m: &Machine) -> Result<Vec<i64>, AllocError>
         .collect(alloc)
 }
 
+// The values at these places are those of another list, where the others are.
+fn restore(places: &[u32], values: &[i64], before: &mut [i64])
+    requires as_many { length before.old ≡ length values.now }
+    requires below { All (λ place. place < length values.now) places.now }
+    requires same { AreSameBut places.now values.now before.old }
+    ensures { before.new ≡ values.now }
+{
+    for assigned in places {
+        let place = *assigned as usize;
+        before[place] = values[place];
+    }
+}
+
 impl Work {
-    ghost use Rattle.std.specs.Prelude.{◌≡◌, [], IfOk};
+    ghost use Rattle.std.specs.Prelude.{◌≡◌, ◌<◌, ◌++◌, ◌∷◌, [], IfOk, length, slice_set};
     ghost use Rattle.qss_machine.specs.Machines.{start_states, start_discretes};
     ghost use Rattle.qss_hand.specs.Works.{row_room};
 
@@ -74,21 +92,49 @@ impl Work {
         let d = start_discretes(alloc, m)?;
         let pre = start_discretes(alloc, m)?;
         let log = Vec::with_capacity(alloc, row_room(m.clauses.as_slice()))?;
+        let assigned = Vec::with_capacity(alloc, log.capacity())?;
         Ok(Work {
             x,
             d,
             pre,
             tick: 0,
             log,
+            assigned,
         })
     }
 
-    /// Begins a tick: the discrete values become those before it, and there are no rows yet. It takes no memory.
+    /// Begins a tick: the discrete values become those before it, and there are no rows yet. It takes no memory, and the time
+    /// of what the last tick assigned.
     pub fn begin(&mut self, tick: u64)
         ensures { self.new ≡ record self.old { tick = tick; pre = self.old.d; log = [] } }
     {
         self.tick = tick;
-        self.pre.copy_from_slice(self.d.as_slice());
+        let before = self.pre.as_mut_slice();
+        restore(self.assigned.as_slice(), self.d.as_slice(), before);
+        self.assigned.clear();
         self.log.clear();
+    }
+
+    // A discrete value that was assigned, with its row.
+    pub(crate) fn assign(&mut self, place: u32, level: i64, row: Row)
+        requires place { place < length self.old.d }
+        requires room { length self.old.log < self.old.room }
+        ensures { self.new ≡ record self.old {
+          d = slice_set self.old.d place level;
+          log = self.old.log ++ row ∷ [];
+        } }
+    {
+        let d = self.d.as_mut_slice();
+        d[place as usize] = level;
+        self.assigned.push_reserved(place);
+        self.log.push_reserved(row);
+    }
+
+    // A row of this tick.
+    pub(crate) fn note(&mut self, row: Row)
+        requires { length self.old.log < self.old.room }
+        ensures { self.new ≡ record self.old { log = self.old.log ++ row ∷ [] } }
+    {
+        self.log.push_reserved(row);
     }
 }

@@ -47,8 +47,8 @@ impl Quantizer {
         self.answer(x, old, unit)
     }
 
-    // The rule's answer.
-    fn answer(&self, x: i128, old: i64, unit: i128) -> i128
+    /// The rule's answer, which is the new level of a state that left the quantum of the old one.
+    pub fn answer(&self, x: i128, old: i64, unit: i128) -> i128
         requires { IsAsked x old unit }
         ensures answer { IsAnswer self.now.name x old unit result }
         ensures ruled { LevelRule.post self.now.rule x old unit result }

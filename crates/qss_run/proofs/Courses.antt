@@ -1,26 +1,19 @@
 -- States of which some go on at new slopes, step by step.
-use Rattle.std.proofs.Common.{◌≡◌, ℕ, ◌<◌, ◌≤◌, true, false, List, [], ◌∷◌, ◌++◌, length, ℤ, pos, refl, sym, ◌∙◌, ap, subst, arith, flat_map, inl, inr, ◌==◌}
-use Rattle.std.proofs.lemmas.Bool.{or_parts, or_cases, cases_Bool, cases_eq}
+use Rattle.std.proofs.Common.{◌≡◌, ℕ, ◌<◌, true, false, List, [], ◌∷◌, ◌++◌, length, ℤ, sym, ◌∙◌, ap, subst, arith, inl, inr, ◌==◌}
+use Rattle.std.proofs.lemmas.Bool.{or_cases, cases_eq}
 use Rattle.std.proofs.lemmas.List.Folds.{list_any-append}
-use Rattle.std.proofs.lemmas.List.FromFn.{get_or-map-range_with_len}
 use Rattle.std.specs.Prelude.{Option}
 use Rattle.mu_num.proofs.Tests.{eqb-true}
 use Rattle.mu_num.specs.Sizes.{IsWithin}
 use Rattle.qss_machine.specs.declared.system.Machine.{Machine}
-use Rattle.qss_machine.specs.Machines.{state_count, level_unit, row_at, slope_at, quantum_of}
-use Rattle.qss_machine.specs.Numbers.{int_at, tabulate}
-use Rattle.qss_machine.specs.Uses.{reading_rows}
+use Rattle.qss_machine.specs.Machines.{state_count, level_unit, quantum_of}
+use Rattle.qss_machine.specs.Numbers.{int_at}
 use Rattle.qss_quant.specs.Lines.{Line, state_at, IsNear}
 use Rattle.qss_sched.specs.Ranks.{due_at}
 use Rattle.qss_quiet.specs.Among.{is_among}
 use Rattle.qss_run.specs.Places.{line_at, IsTurned}
 use Rattle.qss_run.specs.Renewals.{goes_at}
-use Rattle.qss_run.specs.RowSums.{AreSumsBefore}
-use Rattle.qss_quiet.specs.Sims.{IsDue}
 use Rattle.qss_run.specs.Turnings.{MayTurn, GoesOn, Courses, AreTurned}
-use Rattle.qss_quiet.proofs.Among.{among_readers}
-use Rattle.qss_quiet.proofs.Unread.{unread_at, unread_slope}
-use Rattle.qss_run.specs.declared.shifts.RowSum.TheVariants.{Slope}
 
 -- ---- one state
 
@@ -103,36 +96,3 @@ module _ (m : Machine) (tick : ℕ) (levels slopes : List ℤ) where
     as_many = second.as_many ∙ first.as_many;
     others = λ place past. second.others place past ∙ first.others place past;
   }
-
--- ---- states that neither moved nor read one that did
-
-module _ (m : Machine) (k : ℕ) (h : k < state_count m) where
-  -- each state goes on at its new slope, since that of one that reads no moved state is its old one
-  pub turned_all : (tick : ℕ) (levels before discretes slopes_old slopes : List ℤ) (moved : List ℕ) (old new : Courses) →
-      AreTurned m tick levels slopes (moved ++ flat_map (reading_rows m) moved) old new → AreSumsBefore Slope m moved levels discretes slopes_old old.lines before →
-      slopes ≡ tabulate (state_count m) (λ j. slope_at m j levels discretes) → (line_at old.lines k).tick ≤ tick → (line_at old.lines k).slope ≡ int_at slopes_old k →
-      ((line_at old.lines k).level ≡ int_at levels k → IsDue m tick k (line_at old.lines k) (due_at old.dues k)) →
-      IsTurned m tick (state_at (line_at old.lines k) tick) (int_at levels k) (slope_at m k levels discretes) k (line_at new.lines k) (due_at new.dues k)
-  turned_all tick levels before discretes slopes_old slopes moved old new are were slopes_new not_later own_slope due =
-      let x : ℤ = state_at (line_at old.lines k) tick in
-      let own : int_at slopes k ≡ slope_at m k levels discretes =
-      ap (λ xs. int_at xs k) slopes_new ∙ get_or-map-range_with_len (λ j. slope_at m j levels discretes) 0 (state_count m) k k (pos 0) h (omega arith) in
-      subst (λ z. IsTurned m tick x (int_at levels k) z k (line_at new.lines k) (due_at new.dues k)) own
-      (elim (cases_Bool (is_among (moved ++ flat_map (reading_rows m) moved) k)) [
-        | inl among ↦ are.turned k h among
-        | inr none ↦
-            let parts = or_parts (is_among moved k) (is_among (flat_map (reading_rows m) moved) k) (sym (list_any-append (λ (i : ℕ). i == k) moved (flat_map (reading_rows m) moved)) ∙ none) in
-            let same : int_at slopes_old k ≡ slope_at m k levels discretes =
-            ap (λ xs. int_at xs k) were.own_sums ∙ get_or-map-range_with_len (λ j. slope_at m j before discretes) 0 (state_count m) k k (pos 0) h (omega arith)
-            ∙ sym (unread_slope m.f (row_at m k) moved before levels discretes (unread_at moved (row_at m k) (sym (among_readers m k h moved) ∙ parts.1)) were.off) in
-            let own_level : (line_at old.lines k).level ≡ int_at levels k = were.own_levels k h ∙ sym (were.off.others k parts.0) in
-            still_turned m tick (int_at levels k) (int_at slopes k) k x (line_at old.lines k) (line_at new.lines k) (due_at old.dues k) (due_at new.dues k) refl
-            (record { not_later = not_later; here = refl; own_slope = own_slope ∙ same ∙ sym own; own_level = own_level; is_due = due own_level })
-            (are.each k h)
-      ])
-
--- where the lines come from earlier ticks they may go on
-pub may_turn : (m : Machine) (tick : ℕ) (level slope : ℤ) (j : ℕ) (line : Line) (found : Option ℕ) → line.tick < tick → IsWithin 88 (state_at line tick) →
-    IsNear (level_unit m) (state_at line tick) level (quantum_of m j level) → (line.level ≡ level → IsDue m tick j line found) → MayTurn m tick level slope j line found
-may_turn m tick level slope j line found earlier small near due =
-    record { not_later = omega (arith, earlier); small = small; near = near; due = due }

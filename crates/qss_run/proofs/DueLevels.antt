@@ -1,14 +1,14 @@
 -- Where only moved states arrive and take new levels, all states have the levels of a tick.
-use Rattle.std.proofs.Common.{◌≡◌, ℕ, ◌<◌, true, false, List, [], ◌∷◌, ◌++◌, length, get_or, ℤ, pos, refl, sym, ap, ◌∙◌, subst, inl, inr, ◌⊎◌, arith}
+use Rattle.std.proofs.Common.{◌≡◌, ℕ, ◌<◌, true, false, List, [], ◌∷◌, ◌++◌, length, ℤ, pos, refl, sym, ap, ◌∙◌, subst, inl, inr, ◌⊎◌, arith}
 use Rattle.std.proofs.lemmas.Bool.{cases_Bool}
 use Rattle.std.proofs.lemmas.Bool.Decides.{Decides-int_eq}
-use Rattle.std.proofs.lemmas.List.{ext_get_or, get_or_default}
+use Rattle.std.proofs.lemmas.List.{get_or_default}
 use Rattle.std.proofs.lemmas.List.FromFn.{length-map-range_with_len}
 use Rattle.std.specs.List.{flat_map}
 use Rattle.std.specs.Ordering.{int_eq}
 use Rattle.std.specs.Prelude.{Option, None, All, if◌then◌else◌}
 use Rattle.mu_num.specs.Sizes.{IsWithin, passes}
-use Rattle.mu_num.proofs.SizeTests.{passes-within, within-passes}
+use Rattle.mu_num.proofs.SizeTests.{within-passes}
 use Rattle.qss_machine.specs.declared.rows.RowKind.TheVariants as kind
 use Rattle.qss_machine.specs.declared.system.Machine.{Machine}
 use Rattle.qss_machine.specs.Numbers.{int_at, first_past}
@@ -27,6 +27,7 @@ use Rattle.qss_quiet.proofs.DueFirsts.{first_of_all}
 use Rattle.qss_quiet.proofs.DueRows.{rows_among}
 use Rattle.qss_quiet.proofs.Writes.{index_of, among_head, among_rest}
 use Rattle.qss_quiet.proofs.Forced.{near_holds}
+use Rattle.qss_quiet.proofs.Overs.{all_within}
 
 -- the states at a tick by number
 pub length-states_at : (lines : List Line) (tick : ℕ) → length (states_at lines tick) ≡ length lines
@@ -36,7 +37,7 @@ pub int_at-states_at : (lines : List Line) (tick j : ℕ) → j < length lines �
 int_at-states_at lines tick j h = int_at-tabulate (length lines) (λ j. state_at (line_at lines j) tick) j h
 
 -- rows that are the same at each of some states
-same_rows : {R : Type 0} (f g : ℕ → List R) (moved : List ℕ) → ((j : ℕ) → is_among moved j ≡ true → f j ≡ g j) → flat_map f moved ≡ flat_map g moved
+pub same_rows : {R : Type 0} (f g : ℕ → List R) (moved : List ℕ) → ((j : ℕ) → is_among moved j ≡ true → f j ≡ g j) → flat_map f moved ≡ flat_map g moved
 same_rows f g [] same = refl
 same_rows f g (first ∷ moved) same =
     ap (λ rows. rows ++ flat_map f moved) (same first (among_head first moved)) ∙ ap (λ rows. g first ++ rows) (same_rows f g moved (λ j e. same j (among_rest first moved j e)))
@@ -47,42 +48,42 @@ no_row tick j old new state kept =
     let test : int_eq old new ≡ true = (Decides-int_eq old new).1 (sym kept) in
     ap (λ b. if b then [] else record { tick = tick; kind = kind.Level; var = j; level = new; state = state } ∷ []) test
 
-moved_inside : (n : ℕ) (moved : List ℕ) → AreNumbers n moved → (j : ℕ) → is_among moved j ≡ true → j < n
+pub moved_inside : (n : ℕ) (moved : List ℕ) → AreNumbers n moved → (j : ℕ) → is_among moved j ≡ true → j < n
 moved_inside n moved numbers j e = let at = index_of moved j e in omega (arith, at.2, numbers.below at.0 0 at.1)
 
-module _ (tick : ℕ) (lines : List Line) (moved : List ℕ) (before x : List ℤ) (numbers : AreNumbers (length lines) moved)
-    (arrived : IsWritten (pos 0) (λ j z. z ≡ state_at (line_at lines j) tick) moved before x) where
-  moved_state : (j : ℕ) → is_among moved j ≡ true → int_at (states_at lines tick) j ≡ int_at x j
-  moved_state j e = int_at-states_at lines tick j (moved_inside (length lines) moved numbers j e) ∙ sym (arrived.each j e)
-
-  -- the first moved state past a limit is the first of all
-  pub states_over : (first : Option ℕ) → ((j : ℕ) → j < length lines → is_among moved j ≡ false → IsWithin 88 (state_at (line_at lines j) tick)) →
-      IsFirstOf (λ j. passes 88 (int_at x j)) moved first → first ≡ first_past 88 (states_at lines tick)
-  states_over first small found =
-      first_of_all (pos 0) (passes 88) (λ j. passes 88 (int_at x j)) (states_at lines tick) moved first (subst (λ n. AreNumbers n moved) (sym (length-states_at lines tick)) numbers)
-      (λ j e. ap (passes 88) (moved_state j e))
+module _ (tick : ℕ) (lines : List Line) (moved : List ℕ) (numbers : AreNumbers (length lines) moved) where
+  -- the first moved state past a limit on arrival is the first of all
+  pub past_on_arrival : (first : Option ℕ) → ((j : ℕ) → j < length lines → is_among moved j ≡ false → IsWithin 88 (state_at (line_at lines j) tick)) →
+      IsFirstOf (λ j. passes 88 (state_at (line_at lines j) tick)) moved first → first ≡ first_past 88 (states_at lines tick)
+  past_on_arrival first small found =
+      first_of_all (pos 0) (passes 88) (λ j. passes 88 (state_at (line_at lines j) tick)) (states_at lines tick) moved first
+      (subst (λ n. AreNumbers n moved) (sym (length-states_at lines tick)) numbers)
+      (λ j e. ap (passes 88) (int_at-states_at lines tick j (moved_inside (length lines) moved numbers j e)))
       (λ j h e.
       let inside : j < length lines = omega (arith, h, length-states_at lines tick) in
       ap (passes 88) (int_at-states_at lines tick j inside) ∙ within-passes 88 (state_at (line_at lines j) tick) (small j inside e))
       found
 
-  -- the states at a tick, of which the moved ones have arrived
-  pub arrived_at : (m : Machine) (levels : List ℤ) → length lines ≡ state_count m →
-      ((j : ℕ) → j < state_count m → is_among moved j ≡ false → is_near m j (state_at (line_at lines j) tick) (int_at levels j) ≡ true) → AreMovedTo m moved x levels (states_at lines tick)
-  arrived_at m levels as_many near = record {
-    as_many = length-states_at lines tick ∙ as_many;
-    own = moved_state;
-    near = λ j h e. ap (λ z. is_near m j z (int_at levels j)) (int_at-states_at lines tick j (omega (arith, h, as_many))) ∙ near j h e;
-  }
-
-  -- where no moved state passed its limit, and no number before did, none does
-  pub arrived_small : All (IsWithin 88) before → IsFirstOf (λ j. passes 88 (int_at x j)) moved None → All (IsWithin 88) x
-  arrived_small small none = λ j z h. by_among j z h (cases_Bool (is_among moved j))
+  -- where no state passed its limit on arrival, and no number before did, none does
+  pub arrived_within : (before x : List ℤ) → IsWritten (pos 0) (λ j z. z ≡ state_at (line_at lines j) tick) moved before x → All (IsWithin 88) before → first_past 88 (states_at lines tick) ≡ None →
+      All (IsWithin 88) x
+  arrived_within before x arrived small none = λ j z h. subst (IsWithin 88) (get_or_default x j (pos 0) z h) (by_among j h (cases_Bool (is_among moved j)))
     where
-      by_among : (j : ℕ) (z : ℤ) → j < length x → (is_among moved j ≡ true) ⊎ (is_among moved j ≡ false) → IsWithin 88 (get_or x j z)
-      by_among j z h (inl e) = subst (IsWithin 88) (get_or_default x j (pos 0) z h) (passes-within 88 (int_at x j) (none j e))
-      by_among j z h (inr e) =
-          subst (IsWithin 88) (get_or_default x j (pos 0) z h) (subst (IsWithin 88) (sym (arrived.others j e)) (small j (pos 0) (omega (arith, h, arrived.as_many))))
+      by_among : (j : ℕ) → j < length x → (is_among moved j ≡ true) ⊎ (is_among moved j ≡ false) → IsWithin 88 (int_at x j)
+      by_among j h (inl e) =
+          let inside : j < length lines = moved_inside (length lines) moved numbers j e in
+          let known : j < length (states_at lines tick) = omega (arith, inside, length-states_at lines tick) in
+          subst (IsWithin 88) (int_at-states_at lines tick j inside ∙ sym (arrived.each j e)) (all_within 88 (states_at lines tick) none j (pos 0) known)
+      by_among j h (inr e) = subst (IsWithin 88) (sym (arrived.others j e)) (small j (pos 0) (omega (arith, h, arrived.as_many)))
+
+-- the states at a tick, where those that did not move are near their levels
+pub arrived_at : (m : Machine) (tick : ℕ) (lines : List Line) (moved : List ℕ) (levels : List ℤ) → length lines ≡ state_count m →
+    ((j : ℕ) → j < state_count m → is_among moved j ≡ false → is_near m j (state_at (line_at lines j) tick) (int_at levels j) ≡ true) → AreMovedTo m moved (states_at lines tick) levels (states_at lines tick)
+arrived_at m tick lines moved levels as_many near = record {
+  as_many = length-states_at lines tick ∙ as_many;
+  own = λ j e. refl;
+  near = λ j h e. ap (λ z. is_near m j z (int_at levels j)) (int_at-states_at lines tick j (omega (arith, h, as_many))) ∙ near j h e;
+}
 
 module _ (m : Machine) (moved : List ℕ) (x old fresh : List ℤ) (numbers : AreNumbers (state_count m) moved) (many : length old ≡ state_count m) (off : IsOff moved old fresh) where
   -- the first moved state whose level passes a limit is the first of all
@@ -110,14 +111,6 @@ module _ (m : Machine) (moved : List ℕ) (x old fresh : List ℤ) (numbers : Ar
         ∙ sym (rows_among row (length states) 0 moved numbers.rising
         (λ j e. (omega arith, omega (arith, moved_inside (state_count m) moved numbers j e, are.as_many)))
         (λ j h e. no_row tick j (int_at old j) (int_at fresh j) (int_at states j) (off.others j e)))
-
--- the levels that were taken are the new ones
-pub levels_taken : (moved : List ℕ) (old fresh levels : List ℤ) → IsWritten (pos 0) (λ j level. level ≡ int_at fresh j) moved old levels → IsOff moved old fresh → levels ≡ fresh
-levels_taken moved old fresh levels taken off = ext_get_or (pos 0) levels fresh (taken.as_many ∙ sym off.as_many) (λ j h. by_among j (cases_Bool (is_among moved j)))
-  where
-    by_among : (j : ℕ) → (is_among moved j ≡ true) ⊎ (is_among moved j ≡ false) → int_at levels j ≡ int_at fresh j
-    by_among j (inl e) = taken.each j e
-    by_among j (inr e) = taken.others j e ∙ sym (off.others j e)
 
 -- levels of which only those of moved states are written
 pub written_off : (moved : List ℕ) (Has : ℕ → ℤ → Type 0) (old before fresh : List ℤ) → before ≡ old → IsWritten (pos 0) Has moved before fresh → IsOff moved old fresh

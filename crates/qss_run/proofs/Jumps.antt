@@ -15,7 +15,9 @@ use Rattle.qss_quant.specs.declared.rule.Rule.{Rule}
 use Rattle.qss_quant.specs.Lines.{state_at}
 use Rattle.qss_sched.specs.Ranks.{due_at}
 use Rattle.qss_run.specs.declared.store.Store.{Store}
+use Rattle.qss_run.specs.Moves.{AreAlikeBut}
 use Rattle.qss_run.specs.Places.{line_at, watch_at}
+use Rattle.qss_run.specs.PlaceSets.{PlaceList}
 use Rattle.qss_quiet.specs.Sims.{StandsFor, rises}
 use Rattle.qss_quiet.specs.Skips.{states_after, world_after}
 use Rattle.qss_run.specs.Stores.{states_at, world_of, FitsMachine, Stands}
@@ -80,30 +82,30 @@ states_later m tick s stands k =
     ∙ int_at-tabulate (state_count m) (λ i. int_at (world_of tick s).states i +ℤ pos k *ℤ slope_at m i s.levels.items s.work.d) j h)
 
 -- a store with other truths on arrival
-abbrev pub with_arrived : Store → Vec Bool Global → Bool → Store
-with_arrived s arrived calm = record s { conditions = record s.conditions { arrived = arrived }; calm = calm }
+abbrev pub with_arrived : Store → Vec Bool Global → PlaceList → Store
+with_arrived s arrived apart = record s { conditions = record s.conditions { arrived = arrived; apart = apart } }
 
-pub world_then : (m : Machine) (tick ticks : ℕ) (s : Store) (arrived : Vec Bool Global) (calm : Bool) → Stands m tick s → arrived.items ≡ arrived_then ticks s.conditions.arrived.items s.conditions.settled.items →
-    world_of (tick + ticks) (with_arrived s arrived calm) ≡ world_after m (world_of tick s) ticks
-world_then m tick zero s arrived calm stands is =
+pub world_then : (m : Machine) (tick ticks : ℕ) (s : Store) (arrived : Vec Bool Global) (apart : PlaceList) → Stands m tick s → arrived.items ≡ arrived_then ticks s.conditions.arrived.items s.conditions.settled.items →
+    world_of (tick + ticks) (with_arrived s arrived apart) ≡ world_after m (world_of tick s) ticks
+world_then m tick zero s arrived apart stands is =
     let e : tick + 0 ≡ tick = omega arith in
-    ap (λ t. world_of t (with_arrived s arrived calm)) e
+    ap (λ t. world_of t (with_arrived s arrived apart)) e
     ∙ ap (λ (a : List Bool). record { states = states_at s.lines.items tick; levels = s.levels.items; discretes = s.work.d; arrived = a; settled = s.conditions.settled.items }) is
-world_then m tick (suc ticks) s arrived calm stands is =
+world_then m tick (suc ticks) s arrived apart stands is =
     ap (λ (x : List ℤ). record { states = x; levels = s.levels.items; discretes = s.work.d; arrived = arrived.items; settled = s.conditions.settled.items }) (states_later m tick s stands (suc ticks))
     ∙ ap (λ (a : List Bool). record { states = states_after m (world_of tick s) (suc ticks); levels = s.levels.items; discretes = s.work.d; arrived = a; settled = s.conditions.settled.items }) is
 
-pub fits_then : (m : Machine) (s : Store) (arrived : Vec Bool Global) (calm : Bool) → FitsMachine m s → length arrived.items ≡ length (conditions m) →
-    FitsMachine m (with_arrived s arrived calm)
-fits_then m s arrived calm fits many = record {
-  own_conditions = arrived_anew m s.conditions arrived fits.own_conditions many;
+pub fits_then : (m : Machine) (s : Store) (arrived : Vec Bool Global) (apart : PlaceList) → FitsMachine m s → length arrived.items ≡ length (conditions m) →
+    apart.count ≡ s.conditions.apart.count → FitsMachine m (with_arrived s arrived apart)
+fits_then m s arrived apart fits many count = record {
+  own_conditions = arrived_anew m s.conditions arrived apart fits.own_conditions many count;
   uses = fits.uses;
   lines = fits.lines;
   levels = fits.levels;
   slopes = fits.slopes;
-  fresh = fits.fresh;
   weights = fits.weights;
   moved_room = fits.moved_room;
+  touched_room = fits.touched_room;
   changed_room = fits.changed_room;
   fired_room = fits.fired_room;
   assigned_room = fits.assigned_room;
@@ -117,17 +119,16 @@ fits_then m s arrived calm fits many = record {
   row_room = fits.row_room;
 }
 
-pub stands_then : (m : Machine) (tick ticks : ℕ) (s : Store) (arrived : Vec Bool Global) (calm : Bool) → Stands m tick s → tick + ticks < m.last →
+pub stands_then : (m : Machine) (tick ticks : ℕ) (s : Store) (arrived : Vec Bool Global) (apart : PlaceList) → Stands m tick s → tick + ticks < m.last →
     ((place t : ℕ) → due_at s.agenda place ≡ Some t → tick + ticks + 1 ≤ t) → arrived.items ≡ arrived_then ticks s.conditions.arrived.items s.conditions.settled.items →
-    (calm ≡ true → arrived.items ≡ s.conditions.settled.items) → Stands m (tick + ticks) (with_arrived s arrived calm)
-stands_then m tick ticks s arrived calm stands before nothing is as_settled = record {
-  fits = fits_then m s arrived calm stands.fits (ap length is ∙ many ticks);
-  stands_for = subst (λ v. StandsFor m (tick + ticks) v (line_at s.lines.items) (watch_at s.conditions.watches.items) (due_at s.agenda)) (sym (world_then m tick ticks s arrived calm stands is)) (still ticks before nothing);
-  fresh_levels = stands.fresh_levels;
+    apart.count ≡ s.conditions.apart.count → AreAlikeBut apart.places arrived.items s.conditions.settled.items → Stands m (tick + ticks) (with_arrived s arrived apart)
+stands_then m tick ticks s arrived apart stands before nothing is count alike = record {
+  fits = fits_then m s arrived apart stands.fits (ap length is ∙ many ticks) count;
+  stands_for = subst (λ v. StandsFor m (tick + ticks) v (line_at s.lines.items) (watch_at s.conditions.watches.items) (due_at s.agenda)) (sym (world_then m tick ticks s arrived apart stands is)) (still ticks before nothing);
   own_slopes = stands.own_slopes;
   own_weights = stands.own_weights;
   rising = risen ticks before nothing is;
-  calm = as_settled;
+  alike = alike;
 }
   where
     many : (k : ℕ) → length (arrived_then k s.conditions.arrived.items s.conditions.settled.items) ≡ length (conditions m)
@@ -135,7 +136,7 @@ stands_then m tick ticks s arrived calm stands before nothing is as_settled = re
     many (suc k) = stands.fits.own_conditions.settled
 
     w : ℕ → World
-    w t = world_of t (with_arrived s arrived calm)
+    w t = world_of t (with_arrived s arrived apart)
 
     -- after a quiet tick no condition has become true through the handlers
     none_risen : (k : ℕ) → tick + suc k < m.last → ((place t : ℕ) → due_at s.agenda place ≡ Some t → tick + suc k + 1 ≤ t) → s.rising ≡ false

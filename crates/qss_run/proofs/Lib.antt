@@ -5,6 +5,8 @@ pub mod Jumps
 pub mod Branches
 pub mod Dues
 pub mod Called
+pub mod PlaceSets
+pub mod Apart
 pub mod Takes
 pub mod DueLevels
 pub mod Speeds
@@ -33,6 +35,9 @@ pub mod Reseating
 pub mod Weighed
 pub mod Terms
 pub mod Room
+pub mod Found
+pub mod Taken
+pub mod Gathering
 pub mod Kept
 pub mod Reinitialized
 pub mod Reinits

@@ -9,17 +9,19 @@ use Rattle.qss_run.specs.declared.conditions.Conditions.{Conditions}
 use Rattle.qss_run.specs.declared.moment.Moment.{Moment}
 use Rattle.qss_run.specs.Moments.{CanRewatch, CanSettle}
 use Rattle.qss_run.specs.Places.{AreBranches, AreConditionsOf}
+use Rattle.qss_run.specs.PlaceSets.{PlaceList}
 use Rattle.qss_run.specs.Rewatchings.{Watchings, AreSettled, AreSettledAlong, watchings_of, touched_after}
 use Rattle.qss_run.specs.Speeds.{AreGoingOn}
 use Rattle.qss_run.specs.Stores.{states_at}
+use Rattle.qss_run.proofs.Apart.{none_noted, noted_then}
 use Rattle.qss_run.proofs.Rewatching.{none_settled, settled_then}
 use Rattle.qss_run.proofs.Settling.{none_arrived, arrived_on}
 
 -- ---- whose truths on arrival are others
 
-pub arrived_anew : (m : Machine) (all : Conditions) (arrived : Vec Bool Global) → AreConditionsOf m all → length arrived.items ≡ length (conditions m) →
-    AreConditionsOf m (record all { arrived = arrived })
-arrived_anew m all arrived are many = record { branches = are.branches; watches = are.watches; arrived = many; settled = are.settled }
+pub arrived_anew : (m : Machine) (all : Conditions) (arrived : Vec Bool Global) (apart : PlaceList) → AreConditionsOf m all → length arrived.items ≡ length (conditions m) →
+    apart.count ≡ all.apart.count → AreConditionsOf m (record all { arrived = arrived; apart = apart })
+arrived_anew m all arrived apart are many count = record { branches = are.branches; watches = are.watches; arrived = many; settled = are.settled; apart = count ∙ are.apart }
 
 -- ---- that go on at speeds
 
@@ -32,6 +34,7 @@ still_fits m old new are rest many = record {
   watches = many ∙ are.watches;
   arrived = ap (λ (all : Conditions). length all.arrived.items) rest ∙ are.arrived;
   settled = ap (λ (all : Conditions). length all.settled.items) rest ∙ are.settled;
+  apart = ap (λ (all : Conditions). all.apart.count) rest ∙ are.apart;
 }
 
 pub still_goes : (m : Machine) (tick : ℕ) (slopes : List ℤ) (old new : Conditions) (due next : List (Option ℕ)) → CanRewatch m tick slopes old due → new ≡ record old { watches = new.watches } →
@@ -49,24 +52,26 @@ still_goes m tick slopes old new due next can rest going = record {
 
 -- ---- of which some settle
 
-pub settled_fits : (m : Machine) (old new : Conditions) → AreConditionsOf m old → new ≡ record old { watches = new.watches; settled = new.settled } →
-    length new.watches.items ≡ length old.watches.items → length new.settled.items ≡ length old.settled.items → AreConditionsOf m new
-settled_fits m old new are rest watches settled = record {
+pub settled_fits : (m : Machine) (old new : Conditions) → AreConditionsOf m old → new ≡ record old { watches = new.watches; settled = new.settled; apart = new.apart } →
+    length new.watches.items ≡ length old.watches.items → length new.settled.items ≡ length old.settled.items → new.apart.count ≡ old.apart.count → AreConditionsOf m new
+settled_fits m old new are rest watches settled count = record {
   branches = subst (AreBranches m) (sym (ap (λ (all : Conditions). all.branches.items) rest)) are.branches;
   watches = watches ∙ are.watches;
   arrived = ap (λ (all : Conditions). length all.arrived.items) rest ∙ are.arrived;
   settled = settled ∙ are.settled;
+  apart = count ∙ are.apart;
 }
 
-pub rest_then : (a b c : Conditions) → b ≡ record a { watches = b.watches; settled = b.settled } → c ≡ record b { watches = c.watches; settled = c.settled } →
-    c ≡ record a { watches = c.watches; settled = c.settled }
-rest_then a b c first second = second ∙ ap (λ (all : Conditions). record all { watches = c.watches; settled = c.settled }) first
+pub rest_then : (a b c : Conditions) → b ≡ record a { watches = b.watches; settled = b.settled; apart = b.apart } → c ≡ record b { watches = c.watches; settled = c.settled; apart = c.apart } →
+    c ≡ record a { watches = c.watches; settled = c.settled; apart = c.apart }
+rest_then a b c first second = second ∙ ap (λ (all : Conditions). record all { watches = c.watches; settled = c.settled; apart = c.apart }) first
 
 module _ (at : Moment) (d : List ℤ) where
   -- none has settled at first
   pub none_along : (all : Conditions) (due : List (Option ℕ)) (x : List ℤ) → CanSettle at d all due x → AreSettledAlong at d [] all all due due x x
   none_along all due x can = record {
     settled = none_settled at.machine.now at.tick (states_at at.lines.now at.tick) d at.slopes.now (watchings_of all due);
+    noted = none_noted all;
     rest = refl;
     arrived = none_arrived at.machine.now (states_at at.lines.now at.tick) x;
     small = can.values.small_states;
@@ -77,6 +82,7 @@ module _ (at : Moment) (d : List ℤ) where
       AreSettledAlong at d (xs ++ ys) a c p r x z
   along_then xs ys a b c p q r x y z first second = record {
     settled = settled_then at.machine.now at.tick (states_at at.lines.now at.tick) d at.slopes.now xs ys (watchings_of a p) (watchings_of b q) (watchings_of c r) first.settled second.settled;
+    noted = noted_then xs ys a b c first.noted second.noted (ap (λ (all : Conditions). all.arrived.items) second.rest) (λ place none. (second.settled.kept place none).truth);
     rest = rest_then a b c first.rest second.rest;
     arrived = arrived_on at.machine.now xs ys (states_at at.lines.now at.tick) x y z first.arrived second.arrived;
     small = second.small;
@@ -94,16 +100,18 @@ module _ (at : Moment) (d : List ℤ) where
       CanSettle at d new next y
   still_settles places old new due next x y can are = record {
     moment = can.moment;
-    fits = settled_fits at.machine.now old new can.fits are.rest are.settled.many_watches are.settled.many_truths;
+    fits = settled_fits at.machine.now old new can.fits are.rest are.settled.many_watches are.settled.many_truths are.noted.count;
     places = omega (arith, are.settled.many_dues, can.places);
     values = record { states = are.arrived.as_many ∙ can.values.states; discretes = can.values.discretes; small_states = are.small; small_discretes = can.values.small_discretes };
   }
 
 -- after that some go on
-pub rest_watched : (a b c : Conditions) → b ≡ record a { watches = b.watches; settled = b.settled } → c ≡ record b { watches = c.watches } → c ≡ record a { watches = c.watches; settled = c.settled }
+pub rest_watched : (a b c : Conditions) → b ≡ record a { watches = b.watches; settled = b.settled; apart = b.apart } → c ≡ record b { watches = c.watches } →
+    c ≡ record a { watches = c.watches; settled = c.settled; apart = c.apart }
 rest_watched a b c first second =
     second ∙ ap (λ (all : Conditions). record all { watches = c.watches }) first
-    ∙ ap (λ settled. record a { watches = c.watches; settled = settled }) (sym (ap (λ (all : Conditions). all.settled) second))
+    ∙ ap (λ settled. record a { watches = c.watches; settled = settled; apart = b.apart }) (sym (ap (λ (all : Conditions). all.settled) second))
+    ∙ ap (λ apart. record a { watches = c.watches; settled = c.settled; apart = apart }) (sym (ap (λ (all : Conditions). all.apart) second))
 
 -- settled at equal lines and slopes, in equal lists
 pub same_settled : (m : Machine) (tick : ℕ) (lines passed_lines : List Line) (d slopes passed_slopes : List ℤ) (listed assigned passed_assigned changed passed_changed : List ℕ) (old new : Watchings) →

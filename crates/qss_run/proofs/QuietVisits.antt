@@ -1,6 +1,7 @@
 -- A store after a tick at which nothing but states was due.
 use Rattle.std.proofs.Common.{◌≡◌, ◌≢◌, ℕ, ◌+◌, ◌≤◌, ◌<◌, true, false, List, [], ◌++◌, length, ℤ, pos, refl, sym, ◌∙◌, ap, subst, arith, inl, inr}
 use Rattle.std.proofs.lemmas.Bool.{cases_Bool}
+use Rattle.std.proofs.lemmas.Int.{ints}
 use Rattle.std.proofs.lemmas.List.{get_or_default}
 use Rattle.std.specs.Option.{option_or}
 use Rattle.std.specs.Prelude.{Option, Some, None, position, if◌then◌else◌}
@@ -25,11 +26,13 @@ use Rattle.qss_quiet.specs.Rules.{IsRuled}
 use Rattle.qss_quiet.specs.Sims.{IsDue, StandsFor, HasNothingBefore, became_true}
 use Rattle.qss_run.specs.Speeds.{reads_moved}
 use Rattle.qss_run.specs.Stores.{states_at, world_of, IsTaken}
+use Rattle.qss_run.specs.Visitings.{HasLeft}
 use Rattle.qss_quiet.proofs.Quiet.{int_at-tabulate}
 use Rattle.qss_quiet.proofs.Silence.{line_state_at, still_near}
 use Rattle.qss_quiet.proofs.NextVisit.{only_due_states_pass}
 use Rattle.qss_run.proofs.Jumps.{dues_later, later_of}
 use Rattle.qss_run.proofs.QuietTick.{NoneChanges, only_moves, quiet_truths, watched_then}
+use Rattle.qss_quiet.proofs.Writes.{index_of}
 use Rattle.qss_quiet.proofs.Unread.{unread_at, unread_slope}
 use Rattle.qss_quiet.proofs.NextLevels.{next_is_near}
 use Rattle.qss_quiet.proofs.Risen.{none_due}
@@ -88,6 +91,14 @@ module _ (m : Machine) (tick : ℕ) (agenda : List (Option ℕ)) (s : Store) (ta
       subst (λ x. is_near m j x (int_at s.levels.items j) ≡ true) (sym (line_state_at m tick (world_of tick s) (line_at s.lines.items) (watch_at s.conditions.watches.items) (due_at agenda) for j 1 h))
       (still_near m tick (world_of tick s) (line_at s.lines.items) (watch_at s.conditions.watches.items) (due_at agenda) (tick + 1) 1 j for (omega arith) (omega arith) in_limit h (later_due j h none))
 
+  -- a due state left the quantum of its level
+  pub due_left : (j : ℕ) → is_among s.moved.items j ≡ true → HasLeft m j (state_at (line_at s.lines.items j) (tick + 1)) (int_at s.levels.items j)
+  due_left j among =
+      let found = index_of s.moved.items j among in
+      let inside : j < state_count m = omega (arith, found.2, taken.due.numbers.below found.0 0 found.1) in
+      let first : IsDue m tick j (line_at s.lines.items j) (Some (tick + 1)) = subst (IsDue m tick j (line_at s.lines.items j)) (taken.due.own j among) (for.dues j inside) in
+      subst (HasLeft m j (state_at (line_at s.lines.items j) (tick + 1))) ((for.lines j inside).own_level) first.holds
+
   -- lines come from an earlier tick, at the slopes that are kept
   pub earlier : (j : ℕ) → j < state_count m → (line_at s.lines.items j).tick < tick + 1
   earlier j h = omega (arith, (for.lines j h).not_later)
@@ -107,6 +118,16 @@ module _ (m : Machine) (tick : ℕ) (agenda : List (Option ℕ)) (s : Store) (ta
     near j h =
         subst (λ x. IsNear (level_unit m) x (int_at levels j) (quantum_of m j (int_at levels j))) (leads j h)
         (next_is_near name m j (int_at (states_at s.lines.items (tick + 1)) j) (int_at s.levels.items j) (int_at levels j) h (allowed.each j h))
+
+    -- a moved state takes another level, since it left the quantum of the old one
+    pub moved_changes : (j : ℕ) → is_among s.moved.items j ≡ true → int_at levels j ≢ int_at s.levels.items j
+    moved_changes j among same =
+        let found = index_of s.moved.items j among in
+        let inside : j < state_count m = omega (arith, found.2, taken.due.numbers.below found.0 0 found.1) in
+        let left = due_left j among in
+        let still : IsNear (level_unit m) (state_at (line_at s.lines.items j) (tick + 1)) (int_at s.levels.items j) (quantum_of m j (int_at s.levels.items j)) =
+        subst (λ l. IsNear (level_unit m) (state_at (line_at s.lines.items j) (tick + 1)) l (quantum_of m j l)) same (near j inside) in
+        omega (arith, ints, left, still)
 
     -- a line at its level keeps its due tick, and then its state was not due
     pub kept_due : (j : ℕ) → j < state_count m → (line_at s.lines.items j).level ≡ int_at levels j → IsDue m (tick + 1) j (line_at s.lines.items j) (due_at s.agenda j)

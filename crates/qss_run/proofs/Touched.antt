@@ -1,22 +1,34 @@
 -- Lines go on otherwise only where a tick touches their states.
-use Rattle.std.proofs.Common.{◌≡◌, ℕ, ◌<◌, ◌≤◌, true, false, not, List, length, ℤ, sym, ◌∙◌, ap, ◌==◌}
-use Rattle.std.proofs.lemmas.Bool.{or_parts, and_from, not_from_true}
+use Rattle.std.proofs.Common.{◌≡◌, ◌≢◌, ℕ, ◌+◌, ◌-◌, ◌<◌, ◌≤◌, Bool, true, false, not, ◌&&◌, List, length, get_or, count_by, flat_map, ℤ, zero-add, sym, ◌∙◌, ap, subst, arith, inl, inr, ◌==◌}
+use Rattle.std.proofs.lemmas.Bool.{cases_Bool, false_from_ne_true, lt-ltb, or_from, or_parts, and_from, not_from_true}
 use Rattle.std.proofs.lemmas.Bool.Decides.{Decides-int_eq}
-use Rattle.std.specs.Prelude.{Ok, ◌||◌}
+use Rattle.std.proofs.lemmas.List.{get_or_default}
+use Rattle.std.proofs.lemmas.List.Folds.{Any-from_list_any, list_any_at}
+use Rattle.std.proofs.lemmas.List.FromFn.{length-range_with_len, get_or-range_with_len}
+use Rattle.std.specs.List.{list_any, range_with_len}
+use Rattle.std.specs.Ordering.{int_eq}
+use Rattle.std.specs.Prelude.{Ok, ◌||◌, nat_lt}
+use Rattle.mu_num.proofs.Tests.{if-true}
 use Rattle.qss_machine.specs.Counts.{has_changed, reads_change, is_touched}
 use Rattle.qss_machine.specs.declared.system.Machine.{Machine}
 use Rattle.qss_machine.specs.Machines.{state_count, discrete_count, row_at, slope_at}
 use Rattle.qss_machine.specs.Numbers.{int_at, tabulate}
 use Rattle.qss_machine.specs.Ticks.{World, handling_at}
+use Rattle.qss_machine.specs.Uses.{row_reads, reading_rows}
 use Rattle.qss_quant.specs.Lines.{Line, state_at}
+use Rattle.qss_quiet.specs.Among.{is_among, AreNumbers}
+use Rattle.qss_run.specs.Gatherings.{reached}
 use Rattle.qss_run.specs.Handlings.{is_reinitialized}
 use Rattle.qss_run.specs.Places.{line_at}
-use Rattle.qss_run.specs.Renewals.{goes_at, goes_from, renewals, renewals_from}
+use Rattle.qss_run.specs.Renewals.{goes_at, goes_from, renewals_from}
 use Rattle.qss_run.specs.Touches.{touches_at}
 use Rattle.qss_run.proofs.Counting.{count_less}
+use Rattle.qss_run.proofs.Gathering.{among_reached}
+use Rattle.qss_quiet.proofs.Among.{among_readers}
 use Rattle.qss_quiet.proofs.Quiet.{int_at-tabulate}
 use Rattle.qss_run.proofs.Renewed.{goes_so}
 use Rattle.qss_quiet.proofs.SameSlopes.{level_stays, same_slope}
+use Rattle.qss_quiet.proofs.Writes.{among_at}
 
 -- a state that a tick does not touch
 record IsUntouched (m : Machine) (t : ℕ) (w next : World) (j : ℕ) : Type 0 where
@@ -44,11 +56,6 @@ module _ (m : Machine) (t : ℕ) (w next : World) (old_levels : length w.levels 
       ∙ same_slope m w next j h old_levels new_levels old_discretes new_discretes still.reads in
       goes_so (int_at next.levels j) (int_at slopes j) (line_at lines j) (own_levels j h ∙ level_stays m w next j h still.level) (own_slopes j h ∙ sym slope)
 
-  pub renewals_touched : renewals (state_count m) next.levels slopes lines ≤ touches_at m t w (Ok next)
-  renewals_touched =
-      count_less (state_count m) (λ j. not (goes_at (int_at next.levels j) (int_at slopes j) (line_at lines j))) (is_touched m t w next)
-      (λ j h none. not_from_true _ (goes_on j h (untouched m t w next j none)))
-
   -- and one that is not reinitialized is at its state on arrival
   pub renewals_from_touched : (x : List ℤ) → ((j : ℕ) → j < state_count m → is_reinitialized (handling_at m t w).rows j ≡ false → state_at (line_at lines j) t ≡ int_at x j) →
       renewals_from (state_count m) t x next.levels slopes lines ≤ touches_at m t w (Ok next)
@@ -57,3 +64,47 @@ module _ (m : Machine) (t : ℕ) (w next : World) (old_levels : length w.levels 
       (λ j h none.
       let still = untouched m t w next j none in
       not_from_true _ (and_from _ _ ((Decides-int_eq (state_at (line_at lines j) t) (int_at x j)).1 (here j h still.own)) (goes_on j h still)))
+
+-- a state whose level is another one has changed
+pub changes : (m : Machine) (w next : World) (j : ℕ) → j < state_count m → int_at w.levels j ≢ int_at next.levels j → has_changed m w next j ≡ true
+changes m w next j h ne =
+    let a : ℤ = int_at w.levels j in
+    let b : ℤ = int_at next.levels j in
+    if-true (nat_lt j (state_count m)) (not (int_eq a b)) (not (int_eq (int_at w.discretes (j - state_count m)) (int_at next.discretes (j - state_count m)))) (lt-ltb j (state_count m) h)
+    ∙ ap not (false_from_ne_true (int_eq a b) (λ e. ne ((Decides-int_eq a b).0 e)))
+
+module _ (m : Machine) (t : ℕ) (w next : World) (moved : List ℕ) (numbers : AreNumbers (state_count m) moved) (changed : (i : ℕ) → is_among moved i ≡ true → has_changed m w next i ≡ true) where
+  -- a row that reads a state which has changed reads a change
+  reads_moved_change : (j i : ℕ) → i < state_count m → is_among moved i ≡ true → row_reads i (row_at m j) ≡ true → reads_change m w next (row_at m j) ≡ true
+  reads_moved_change j i h among reads =
+      let test : ℕ → Bool = λ var. has_changed m w next var && row_reads var (row_at m j) in
+      let range : List ℕ = range_with_len 0 (state_count m + discrete_count m) in
+      let known : i < state_count m + discrete_count m = omega (arith, h) in
+      let at : get_or range i 0 ≡ i = get_or-range_with_len 0 (state_count m + discrete_count m) i 0 known ∙ zero-add i in
+      let inside : i < length range = omega (arith, known, length-range_with_len 0 (state_count m + discrete_count m)) in
+      list_any_at test range i 0 inside (ap test at ∙ and_from _ _ (changed i among) reads)
+
+  -- a state that is not touched is not reached
+  unreached : (j : ℕ) → j < state_count m → is_touched m t w next j ≡ false → is_among (reached m moved) j ≡ false
+  unreached j h none =
+      let still = untouched m t w next j none in
+      let own : is_among moved j ≡ false = elim (cases_Bool (is_among moved j)) [
+        | inl among ↦ (let other : has_changed m w next j ≡ true = changed j among in let same = still.level in absurd (cc))
+        | inr not_moved ↦ not_moved
+      ] in
+      let reads : list_any (λ i. row_reads i (row_at m j)) moved ≡ false = elim (cases_Bool (list_any (λ i. row_reads i (row_at m j)) moved)) [
+        | inl some ↦
+            let mover = Any-from_list_any (λ i. row_reads i (row_at m j)) moved some in
+            let known : mover.1 < state_count m = subst (λ i. i < state_count m) mover.3 (numbers.below mover.0 mover.1 mover.2) in
+            let among : is_among moved mover.1 ≡ true =
+            subst (λ i. is_among moved i ≡ true) (get_or_default moved mover.0 0 mover.1 mover.2 ∙ mover.3) (among_at moved mover.0 mover.2) in
+            let change : reads_change m w next (row_at m j) ≡ true = reads_moved_change j mover.1 known among mover.4 in
+            let same = still.reads in
+            absurd (cc)
+        | inr other ↦ other
+      ] in
+      among_reached m moved j ∙ or_from (is_among moved j) (is_among (flat_map (reading_rows m) moved) j) own (among_readers m j h moved ∙ reads)
+
+  -- so no more states are reached than are touched
+  pub reached_touched : count_by (is_among (reached m moved)) (range_with_len 0 (state_count m)) ≤ touches_at m t w (Ok next)
+  reached_touched = count_less (state_count m) (is_among (reached m moved)) (is_touched m t w next) unreached

@@ -15,3 +15,6 @@ pub mod Handlings
 pub mod Rewatchings
 pub mod Reads
 pub mod Visitings
+pub mod Levels
+pub mod Gatherings
+pub mod PlaceSets

@@ -77,7 +77,7 @@ abbrev pub IsRewatchedFrom : Store → Store → Type 0
 IsRewatchedFrom old new =
     new
     ≡ record old {
-      conditions = record old.conditions { watches = new.conditions.watches; settled = new.conditions.settled };
+      conditions = record old.conditions { watches = new.conditions.watches; settled = new.conditions.settled; apart = new.conditions.apart };
       agenda = new.agenda;
       work = record old.work { x = new.work.x };
     }

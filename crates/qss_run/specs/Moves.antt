@@ -1,5 +1,6 @@
 -- States that are due at one tick, and what else has to be looked at then.
-use Rattle.std.specs.Prelude.{◌≡◌, ℕ, ◌+◌, ◌<◌, ◌⊎◌, Bool, true, false, List, length, Option, Some, None}
+use Rattle.std.specs.Prelude.{◌≡◌, ℕ, ◌+◌, ◌<◌, ◌⊎◌, Bool, true, false, not, List, length, Option, Some, None}
+use Rattle.qss_machine.specs.Firing.{flag_at}
 use Rattle.qss_machine.specs.Ticks.{World}
 use Rattle.qss_sched.specs.Ranks.{due_at}
 use Rattle.qss_quiet.specs.Among.{is_among, AreNumbers}
@@ -27,6 +28,15 @@ pub record AreChanging (n conditions tick : ℕ) (due : List (Option ℕ)) (chan
   pub numbers : AreNumbers conditions changed
   pub own : (place : ℕ) → is_among changed place ≡ true → due_at due (n + place) ≡ Some tick
   pub all : (place : ℕ) → place < conditions → due_at due (n + place) ≡ Some tick → is_among changed place ≡ true
+
+-- flags that are alike but for those of these places
+abbrev pub AreAlikeBut : List ℕ → List Bool → List Bool → Type 0
+AreAlikeBut places one other = (place : ℕ) → is_among places place ≡ false → flag_at one place ≡ flag_at other place
+
+-- whether two flags differ
+abbrev pub differ : Bool → Bool → Bool
+differ true other = not other
+differ false other = other
 
 -- the conditions, of `conditions`, to be looked at at a tick, rising: those that change there, and those that became true through the handlers before
 pub record AreLookedAt (n conditions tick : ℕ) (due : List (Option ℕ)) (w : World) (changed : List ℕ) : Type 0 where

@@ -11,6 +11,7 @@ use Rattle.qss_sched.specs.Ranks.{due_at}
 use Rattle.qss_run.specs.declared.conditions.BranchPlace.{BranchPlace}
 use Rattle.qss_run.specs.declared.conditions.Conditions.{Conditions}
 use Rattle.qss_quiet.specs.Sims.{condition_at, IsDue, IsChange, no_line, no_watch}
+use Rattle.qss_run.specs.Moves.{AreAlikeBut}
 
 -- the line of a state
 abbrev pub line_at : List Line → ℕ → Line
@@ -32,12 +33,17 @@ pub record AreBranches (m : Machine) (branches : List BranchPlace) : Type 0 wher
   pub as_many : length branches ≡ length (conditions m)
   pub each : (place : ℕ) → place < length branches → IsBranchOf m (slice_index_or branches place (record { clause = 0; branch = 0 })) place
 
--- the conditions of a machine in source order: of each its branch, its watch, and its truths on arrival and after the handlers
+-- the conditions of a machine in source order: of each its branch, its watch, and its truths on arrival and after the handlers; places of some of them
 pub record AreConditionsOf (m : Machine) (all : Conditions) : Type 0 where
   pub branches : AreBranches m all.branches.items
   pub watches : length all.watches.items ≡ length (conditions m)
   pub arrived : length all.arrived.items ≡ length (conditions m)
   pub settled : length all.settled.items ≡ length (conditions m)
+  pub apart : all.apart.count ≡ length (conditions m)
+
+-- only conditions of the places apart are after the handlers not as on arrival
+abbrev pub KnowsApart : Conditions → Type 0
+KnowsApart all = AreAlikeBut all.apart.places all.arrived.items all.settled.items
 
 -- an agenda has a place for each state, and then one for each condition
 abbrev pub HasPlaces : Machine → List (Option ℕ) → Type 0

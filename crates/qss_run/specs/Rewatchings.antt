@@ -50,6 +50,12 @@ pub record AreSettled (m : Machine) (tick : ℕ) (x d slopes : List ℤ) (places
   pub states : (place : ℕ) → place < state_count m → due_at new.dues place ≡ due_at old.dues place
   pub beyond : (place : ℕ) → state_count m + length old.watches ≤ place → due_at new.dues place ≡ due_at old.dues place
 
+-- of these conditions all are apart that are not after the handlers as on arrival, and so are those that were before
+pub record AreNoted (places : List ℕ) (old new : Conditions) : Type 0 where
+  pub count : new.apart.count ≡ old.apart.count
+  pub own : (place : ℕ) → is_among places place ≡ true → is_among new.apart.places place ≡ false → flag_at new.arrived.items place ≡ flag_at new.settled.items place
+  pub before : (place : ℕ) → is_among new.apart.places place ≡ false → is_among old.apart.places place ≡ false
+
 -- the conditions that read one of these variables
 abbrev pub readers_of : Machine → List ℕ → List ℕ
 readers_of m vars = flat_map (reading_conditions m) vars
@@ -87,7 +93,8 @@ one_reads m places j = list_any (λ place. condition_reads j (condition_at m pla
 -- these conditions settle at a moment under discrete values, and nothing else of them changes; of the values only the states that they read are written, and none passes its limit
 pub record AreSettledAlong (at : Moment) (d : List ℤ) (places : List ℕ) (old new : Conditions) (old_dues new_dues : List (Option ℕ)) (x y : List ℤ) : Type 0 where
   pub settled : AreSettled at.machine.now at.tick (states_at at.lines.now at.tick) d at.slopes.now places (watchings_of old old_dues) (watchings_of new new_dues)
-  pub rest : new ≡ record old { watches = new.watches; settled = new.settled }
+  pub noted : AreNoted places old new
+  pub rest : new ≡ record old { watches = new.watches; settled = new.settled; apart = new.apart }
   pub arrived : AreArrived (one_reads at.machine.now places) (states_at at.lines.now at.tick) x y
   pub small : All (IsWithin 88) y
 

@@ -1,5 +1,5 @@
 -- What a simulator keeps, and the world that it stands for.
-use Rattle.std.specs.Prelude.{◌≡◌, ℕ, ◌+◌, ◌≤◌, Bool, true, false, List, [], length, map, All, ℤ, Option, None, vec_capacity}
+use Rattle.std.specs.Prelude.{◌≡◌, ℕ, ◌+◌, ◌≤◌, Bool, false, List, [], length, map, All, ℤ, Option, None, vec_capacity}
 use Rattle.mu_num.specs.Sizes.{IsWithin}
 use Rattle.qss_machine.specs.declared.system.Machine.{Machine}
 use Rattle.qss_machine.specs.Numbers.{tabulate, first_past}
@@ -13,7 +13,7 @@ use Rattle.qss_hand.specs.Works.{row_room}
 use Rattle.qss_sched.specs.Ranks.{due_at, HasNone}
 use Rattle.qss_quiet.specs.declared.outcome.Outcome.{Outcome}
 use Rattle.qss_run.specs.declared.store.Store.{Store}
-use Rattle.qss_run.specs.Places.{line_at, watch_at, AreConditionsOf}
+use Rattle.qss_run.specs.Places.{line_at, watch_at, AreConditionsOf, KnowsApart}
 use Rattle.qss_run.specs.Kept.{AreWeights}
 use Rattle.qss_run.specs.Moves.{AreDue, AreLookedAt, IsTakenOut}
 use Rattle.qss_quiet.specs.Sims.{slopes_of, rises, StandsFor}
@@ -47,9 +47,9 @@ pub record FitsMachine (m : Machine) (s : Store) : Type 0 where
   pub lines : length s.lines.items ≡ state_count m
   pub levels : length s.levels.items ≡ state_count m
   pub slopes : length s.slopes.items ≡ state_count m
-  pub fresh : length s.fresh.items ≡ state_count m
   pub weights : length s.weights.of_rows.items ≡ state_count m
   pub moved_room : state_count m ≤ vec_capacity s.moved
+  pub touched_room : state_count m ≤ vec_capacity s.touched
   pub changed_room : length (conditions m) ≤ vec_capacity s.changed
   pub fired_room : length (conditions m) ≤ vec_capacity s.fired
   pub assigned_room : row_room m.clauses ≤ vec_capacity s.assigned
@@ -62,15 +62,14 @@ pub record FitsMachine (m : Machine) (s : Store) : Type 0 where
   pub work_room : row_room m.clauses ≤ s.work.room
   pub row_room : row_room m.clauses + state_count m + discrete_count m + 1 ≤ vec_capacity s.rows
 
--- a store stands for its world at a tick: it keeps the slopes there, each level twice, the weights where they are needed, and whether a condition became true through the handlers; while it is calm no condition is on arrival other than after the handlers
+-- a store stands for its world at a tick: it keeps the slopes there, the weights where they are needed, and whether a condition became true through the handlers; only conditions of the places apart are after the handlers not as on arrival
 pub record Stands (m : Machine) (tick : ℕ) (s : Store) : Type 0 where
   pub fits : FitsMachine m s
   pub stands_for : StandsFor m tick (world_of tick s) (line_at s.lines.items) (watch_at s.conditions.watches.items) (due_at s.agenda)
-  pub fresh_levels : s.fresh.items ≡ s.levels.items
   pub own_slopes : s.slopes.items ≡ slopes_of m (world_of tick s)
   pub own_weights : AreWeights m s.levels.items s.work.d s.weights
   pub rising : s.rising ≡ rises (world_of tick s)
-  pub calm : s.calm ≡ true → s.conditions.arrived.items ≡ s.conditions.settled.items
+  pub alike : KnowsApart s.conditions
 
 -- a store stood at a tick with this agenda; what is to be looked at at the next one, these states and conditions, was taken out
 pub record IsTaken (m : Machine) (tick : ℕ) (agenda : List (Option ℕ)) (s : Store) : Type 0 where
@@ -85,7 +84,6 @@ pub record IsBlank (m : Machine) (s : Store) : Type 0 where
   pub states : s.work.x ≡ start_states m
   pub discretes : s.work.d ≡ start_discretes m
   pub levels : s.levels.items ≡ map (level_below (level_unit m)) (start_states m)
-  pub fresh_levels : s.fresh.items ≡ s.levels.items
   pub no_dues : HasNone s.agenda
   pub not_rising : s.rising ≡ false
 

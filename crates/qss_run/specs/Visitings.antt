@@ -10,7 +10,7 @@ use Rattle.qss_machine.specs.Numbers.{int_at, tabulate}
 use Rattle.qss_machine.specs.Slopes.{mode_fits}
 use Rattle.qss_machine.specs.Ticks.{is_near, is_overweight}
 use Rattle.qss_machine.specs.Uses.{uses_of}
-use Rattle.qss_quant.specs.Lines.{Line, state_at, IsNear}
+use Rattle.qss_quant.specs.Lines.{Line, state_at, IsNear, IsAway}
 use Rattle.qss_cross.specs.Crossing.{IsSmall, value_at, holds_at}
 use Rattle.qss_sched.specs.Ranks.{due_at}
 use Rattle.qss_hand.specs.Values.{Values}
@@ -27,12 +27,13 @@ use Rattle.qss_run.specs.declared.visiting.Handled.{Handled}
 use Rattle.qss_run.specs.declared.visiting.HandledArrival.{HandledArrival}
 use Rattle.qss_run.specs.declared.visiting.Mode.{Mode}
 use Rattle.qss_run.specs.declared.visiting.NewLevels.{NewLevels}
+use Rattle.qss_run.specs.declared.visiting.QuietLevels.{QuietLevels}
 use Rattle.qss_run.specs.declared.weights.Weights.{Weights}
 use Rattle.qss_run.specs.Handlings.{AreDiscretes, AreAssigned, is_reinitialized, states_with}
 use Rattle.qss_run.specs.Kept.{AreWeights, AreWeightsBefore}
 use Rattle.qss_run.specs.Moments.{AreSlopesOf, AreWithin}
-use Rattle.qss_run.specs.Moves.{IsTakenFrom}
-use Rattle.qss_run.specs.Places.{AreConditionsOf, line_at, watch_at, IsWatched}
+use Rattle.qss_run.specs.Moves.{AreAlikeBut, IsTakenFrom}
+use Rattle.qss_run.specs.Places.{AreConditionsOf, KnowsApart, line_at, watch_at, IsWatched}
 use Rattle.qss_run.specs.RowSums.{sum_at, AreSumsBefore}
 use Rattle.qss_run.specs.Stores.{states_at, FitsMachine}
 
@@ -92,20 +93,25 @@ pub record IsArrival (at : Arrival) : Type 0 where
   pub lines : length at.lines.now ≡ state_count at.machine.now
   pub moved : AreNumbers (state_count at.machine.now) at.moved.now
 
--- the moved states may arrive at a tick of a run: along their lines the others pass no limit, and are near these levels
+-- a state is at least the quantum away from its level
+abbrev pub HasLeft : Machine → ℕ → ℤ → ℤ → Type 0
+HasLeft m j state level = IsAway (level_unit m) state level (quantum_of m j level)
+
+-- the moved states may arrive at a tick of a run: along their lines they leave the quanta of these levels, and the others pass no limit, and are near these levels
 pub record CanArrive (at : Arrival) (levels : List ℤ) : Type 0 where
   pub arrival : IsArrival at
   pub later : (j : ℕ) → j < length at.lines.now → (line_at at.lines.now j).tick ≤ at.tick
   pub in_time : at.tick < 2 ^ 32
+  pub moved_away : (j : ℕ) → is_among at.moved.now j ≡ true →
+      HasLeft at.machine.now j (state_at (line_at at.lines.now j) at.tick) (int_at levels j)
   pub others_small : (j : ℕ) → j < state_count at.machine.now → is_among at.moved.now j ≡ false →
       IsWithin 88 (state_at (line_at at.lines.now j) at.tick)
   pub others_near : (j : ℕ) → j < state_count at.machine.now → is_among at.moved.now j ≡ false →
       is_near at.machine.now j (state_at (line_at at.lines.now j) at.tick) (int_at levels j) ≡ true
 
--- levels of a machine's states that the lines have, within their limit, the same once more, and the weights of all rows there and at discrete values, none past its limit
-pub record HoldsLevels (m : Machine) (lines : List Line) (d levels_old fresh_old : List ℤ) (weights_old : Weights) : Type 0 where
+-- levels of a machine's states that the lines have, within their limit, and the weights of all rows there and at discrete values, none past its limit
+pub record HoldsLevels (m : Machine) (lines : List Line) (d levels_old : List ℤ) (weights_old : Weights) : Type 0 where
   pub levels : length levels_old ≡ state_count m
-  pub fresh : fresh_old ≡ levels_old
   pub small_levels : All (IsWithin 43) levels_old
   pub light : position (is_overweight m levels_old d) m.rows ≡ None
   pub weights : AreWeights m levels_old d weights_old
@@ -131,21 +137,37 @@ pub record AreStatesOf (m : Machine) (x : List ℤ) : Type 0 where
   pub as_many : length x ≡ state_count m
   pub small : All (IsWithin 88) x
 
+-- a machine's readers, numbers of its states, and a level of each state and discrete values, within the limit
+pub record AreQuietLevels (at : QuietLevels) : Type 0 where
+  pub uses : at.uses.now ≡ uses_of at.machine.now
+  pub moved : AreNumbers (state_count at.machine.now) at.moved.now
+  pub levels : length at.levels.now ≡ state_count at.machine.now
+  pub small_levels : All (IsWithin 43) at.levels.now
+  pub discretes : length at.discretes.now ≡ discrete_count at.machine.now
+  pub small_discretes : All (IsWithin 43) at.discretes.now
+
+-- the slopes of all rows there
+abbrev pub quiet_slopes : QuietLevels → List ℤ
+quiet_slopes at = tabulate (state_count at.machine.now) (λ j. slope_at at.machine.now j at.levels.now at.discretes.now)
+
+-- slopes and lines of the levels before, at the same discrete values
+abbrev pub WereSlopes : QuietLevels → List ℤ → List Line → Type 0
+WereSlopes at slopes lines =
+    (old : List ℤ) × AreSumsBefore Slope at.machine.now at.moved.now at.levels.now at.discretes.now slopes lines old
+
 -- the moved states may go on at their new levels, and all states at their new slopes, from the slopes, the lines and the due ticks before
-pub record CanReslope (at : NewLevels) (d slopes_old : List ℤ) (lines_old : List Line) (dues_old : List (Option ℕ)) : Type 0 where
-  pub new : AreNewLevels at
-  pub discretes : length d ≡ discrete_count at.machine.now
-  pub small_discretes : All (IsWithin 43) d
+pub record CanReslope (at : QuietLevels) (slopes_old : List ℤ) (lines_old : List Line) (dues_old : List (Option ℕ)) : Type 0 where
+  pub new : AreQuietLevels at
   pub slopes : length slopes_old ≡ state_count at.machine.now
   pub lines : length lines_old ≡ state_count at.machine.now
   pub places : state_count at.machine.now ≤ length dues_old
-  pub light : first_overweight at d ≡ None
+  pub light : position (is_overweight at.machine.now at.levels.now at.discretes.now) at.machine.now.rows ≡ None
   pub in_time : at.tick ≤ tick_limit
   pub earlier : (j : ℕ) → j < state_count at.machine.now → (line_at lines_old j).tick < at.tick
   pub small_states : (j : ℕ) → j < state_count at.machine.now → IsWithin 88 (state_at (line_at lines_old j) at.tick)
   pub near : (j : ℕ) → j < state_count at.machine.now →
       IsNear (level_unit at.machine.now) (state_at (line_at lines_old j) at.tick) (int_at at.levels.now j) (quantum_of at.machine.now j (int_at at.levels.now j))
-  pub before : WereSums Slope at d slopes_old lines_old
+  pub before : WereSlopes at slopes_old lines_old
   pub own_slope : (j : ℕ) → j < state_count at.machine.now → (line_at lines_old j).slope ≡ int_at slopes_old j
   pub due : (j : ℕ) → j < state_count at.machine.now → (line_at lines_old j).level ≡ int_at at.levels.now j →
       IsDue at.machine.now at.tick j (line_at lines_old j) (due_at dues_old j)
@@ -188,7 +210,6 @@ pub record CanGoOnHandled (m : Machine) (tick : ℕ) (s : Store) : Type 0 where
   pub small_levels : All (IsWithin 43) s.levels.items
   pub light : position (is_overweight m s.levels.items s.work.d) m.rows ≡ None
   pub weights : AreWeights m s.levels.items s.work.d s.weights
-  pub fresh_levels : s.fresh.items ≡ s.levels.items
   pub in_time : tick < 2 ^ 32
   pub later : (j : ℕ) → j < state_count m → (line_at s.lines.items j).tick ≤ tick
   pub small : All (IsWithin 88) (states_at s.lines.items tick)
@@ -200,6 +221,7 @@ pub record CanGoOnHandled (m : Machine) (tick : ℕ) (s : Store) : Type 0 where
       IsDue m tick j (line_at s.lines.items j) (due_at s.agenda j)
   pub watched : (place : ℕ) → place < length (conditions m) → is_among s.changed.items place ≡ false →
       IsWatched m tick (states_at s.lines.items tick) s.work.pre s.slopes.items place (watch_at s.conditions.watches.items place) (due_at s.agenda (state_count m + place))
+  pub alike : AreAlikeBut s.changed.items s.conditions.arrived.items s.conditions.settled.items
   pub settled : (place : ℕ) → place < length (conditions m) → is_among s.changed.items place ≡ false →
       flag_at s.conditions.settled.items place ≡ truth m (condition_at m place) (states_at s.lines.items tick) s.work.pre tick
 
@@ -219,6 +241,7 @@ pub record CanHandle (at : Changing) (all : Conditions) (due : List ℕ) (work :
       ((watch_at all.watches.items place).tick ≤ at.tick)
       × (All (IsWithin 88) (states_at at.lines.now at.tick) → IsSmall (value_at (watch_at all.watches.items place) at.tick))
       × (holds_at (watch_at all.watches.items place) at.tick ≡ truth at.machine.now (condition_at at.machine.now place) (states_at at.lines.now at.tick) work.d at.tick)
+  pub alike : KnowsApart all
   pub others : (place : ℕ) → place < length (conditions at.machine.now) → is_among at.changed.now place ≡ false →
       (truth at.machine.now (condition_at at.machine.now place) (states_at at.lines.now at.tick) work.d at.tick ≡ flag_at all.settled.items place)
       × (became_true all.arrived.items all.settled.items place ≡ false)

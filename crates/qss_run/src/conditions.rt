@@ -7,6 +7,7 @@ ghost use Rattle.qss_hand.specs.Works.{clause_at, branch_at};
 ghost use Rattle.qss_run.specs.Places.{AreConditionsOf};
 ghost use Rattle.qss_quiet.specs.Sims.{condition_at};
 
+use crate::place_set::PlaceSet;
 use qss_cross::Detector;
 use qss_machine::{Condition, Machine};
 
@@ -18,13 +19,14 @@ pub(crate) struct BranchPlace {
 }
 
 /// All conditions in source order: of each its branch, its watch, and whether it held on the last arrival and after the last
-/// handlers.
+/// handlers. `apart` has the places of those of which these two may differ.
 #[derive(Drop)]
 pub(crate) struct Conditions {
     pub branches: Vec<BranchPlace>,
     pub watches: Vec<Detector>,
     pub arrived: Vec<bool>,
     pub settled: Vec<bool>,
+    pub apart: PlaceSet,
 }
 
 /// The condition of a branch.

@@ -1,6 +1,6 @@
 //! A tick at which conditions are looked at.
 
-ghost use Rattle.std.specs.Prelude.{◌≡◌, ℕ, ◌+◌, ◌<◌, ◌≤◌, ◌^◌, List, Option, None, Some, length, vec_capacity, false, if◌then◌else◌};
+ghost use Rattle.std.specs.Prelude.{◌≡◌, ℕ, ◌+◌, ◌<◌, ◌≤◌, ◌^◌, List, Option, None, Some, length, vec_capacity, if◌then◌else◌};
 ghost use Rattle.std.specs.List.{list_any};
 ghost use Rattle.qss_machine.specs.Handlers.{truths, due_flags};
 ghost use Rattle.qss_machine.specs.Machines.{state_count, slope_at};
@@ -9,6 +9,7 @@ ghost use Rattle.qss_machine.specs.Ticks.{world_unless, Step};
 ghost use Rattle.qss_machine.specs.Runs.{tick_rows};
 ghost use Rattle.qss_sched.specs.Ranks.{due_at};
 ghost use Rattle.qss_run.specs.Handlings.{states_with};
+ghost use Rattle.qss_run.specs.Places.{KnowsApart};
 ghost use Rattle.qss_run.specs.Renewals.{renewals_from};
 ghost use Rattle.qss_quiet.specs.Rules.{IsRuled};
 ghost use Rattle.qss_run.specs.Stores.{world_of, Stands, IsTaken};
@@ -33,6 +34,8 @@ fn note_rising(tick: u64, s: &mut Store)
         ≡ length s.old.lines.items + length s.old.conditions.branches.items + 1 }
     requires few { length s.old.lines.items + length s.old.conditions.branches.items < 2 ^ 32 }
     requires in_time { tick < 2 ^ 32 }
+    requires count { s.old.conditions.apart.count ≡ length s.old.conditions.settled.items }
+    requires alike { KnowsApart s.old.conditions }
     ensures rising { s.new.rising
         ≡ list_any (λ flag. flag)
         (due_flags s.old.conditions.settled.items s.old.conditions.arrived.items
@@ -44,14 +47,14 @@ fn note_rising(tick: u64, s: &mut Store)
         → place < length s.old.lines.items + length s.old.conditions.branches.items
         → due_at s.new.agenda place ≡ due_at s.old.agenda place }
     ensures as_many { length s.new.agenda ≡ length s.old.agenda }
-    ensures same { s.new
-        ≡ record s.old { rising = s.new.rising; calm = false; agenda = s.new.agenda } }
+    ensures same { s.new ≡ record s.old { rising = s.new.rising; agenda = s.new.agenda } }
 {
     let place = (s.lines.len() + s.conditions.branches.len()) as u32;
     let arrived = s.conditions.arrived.as_slice();
     let settled = s.conditions.settled.as_slice();
-    s.rising = rise(tick, arrived, settled, place, &mut s.agenda);
-    s.calm = false;
+    let apart = s.conditions.apart.places();
+    let rising = rise(tick, apart, arrived, settled, place, &mut s.agenda);
+    s.rising = rising;
 }
 
 // After the handlers of a tick the states and conditions that changed there, or that read a change, go on from it.
@@ -158,7 +161,6 @@ pub(crate) fn visit_changed<L: Ledger>(
         &handled,
         q,
         s.levels.as_mut_slice(),
-        s.fresh.as_mut_slice(),
         &mut s.weights,
         &mut s.rows,
     );

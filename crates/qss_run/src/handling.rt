@@ -1,6 +1,6 @@
 //! The handlers of a tick at which conditions change.
 
-ghost use Rattle.std.specs.Prelude.{◌≡◌, ℕ, ◌<◌, ◌≤◌, ◌^◌, All, None, length, pos, false, vec_capacity};
+ghost use Rattle.std.specs.Prelude.{◌≡◌, ℕ, ◌<◌, ◌≤◌, ◌^◌, [], All, None, length, pos, false, vec_capacity};
 ghost use Rattle.mu_num.specs.Sizes.{IsWithin};
 ghost use Rattle.qss_machine.specs.Handlers.{conditions, truths};
 ghost use Rattle.qss_machine.specs.Numbers.{first_past};
@@ -9,7 +9,7 @@ ghost use Rattle.qss_quant.specs.Lines.{state_at};
 ghost use Rattle.qss_hand.specs.Works.{row_room};
 ghost use Rattle.qss_run.specs.Handlings.{IsHandled};
 ghost use Rattle.qss_quiet.specs.Among.{is_among, AreNumbers};
-ghost use Rattle.qss_run.specs.Moves.{IsWithout};
+ghost use Rattle.qss_run.specs.Moves.{AreAlikeBut, IsWithout};
 ghost use Rattle.qss_run.specs.Places.{AreConditionsOf, line_at};
 ghost use Rattle.qss_run.specs.Stores.{states_at, handling_from};
 ghost use Rattle.qss_run.specs.Visitings.{CanHandle};
@@ -76,7 +76,11 @@ impl Conditions {
             → self.new.arrived.items
             ≡ truths at.now.machine.now
             (states_at at.now.lines.now at.now.tick) work.old.d at.now.tick }
-        ensures rest { self.new ≡ record self.old { arrived = self.new.arrived } }
+        ensures alike { result ≡ None
+            → AreAlikeBut at.now.changed.now self.new.arrived.items self.new.settled.items }
+        ensures none_apart { result ≡ None → self.new.apart.places ≡ [] }
+        ensures rest { self.new
+            ≡ record self.old { arrived = self.new.arrived; apart = self.new.apart } }
         ensures fits { result ≡ None → AreConditionsOf at.now.machine.now self.new }
         ensures without { result ≡ None → IsWithout moved.new.items agenda.old agenda.new }
         ensures fired_room { vec_capacity fired.new ≡ vec_capacity fired.old }
@@ -91,7 +95,9 @@ impl Conditions {
         let settled = self.settled.as_slice();
         let arrived = self.arrived.as_mut_slice();
         list_fired(watches, at.tick, at.changed, settled, arrived, fired);
-        read_changed(watches, at.tick, at.changed, settled, arrived);
+        let apart = self.apart.places();
+        read_changed(watches, at.tick, at.changed, apart, settled, arrived);
+        self.apart.clear();
         let branches = self.branches.as_slice();
         let over = handle_fired(
             at.machine,

@@ -39,7 +39,7 @@ fn jump(m: &Machine, tick: u64, s: &mut Store) -> u64
         tick + 1 < next,
         s.conditions.settled.as_slice(),
         s.conditions.arrived.as_mut_slice(),
-        &mut s.calm,
+        &mut s.conditions.apart,
     );
     next - 1
 }

@@ -1,14 +1,16 @@
 //! Conditions on arrival at a tick, of which few are looked at.
 
-ghost use Rattle.std.specs.Prelude.{◌≡◌, ℕ, ◌<◌, ◌≤◌, not, ◌&&◌, length, false, vec_capacity};
+ghost use Rattle.std.specs.Prelude.{◌≡◌, ℕ, ◌<◌, ◌≤◌, not, ◌&&◌, All, length, false, vec_capacity};
 ghost use Rattle.std.specs.List.{filter};
 ghost use Rattle.mu_num.specs.Ticks.{tick_limit};
 ghost use Rattle.qss_machine.specs.Firing.{flag_at};
 ghost use Rattle.qss_cross.specs.Crossing.{IsSmall, value_at, holds_at};
 ghost use Rattle.qss_quiet.specs.Among.{AreNumbers};
+ghost use Rattle.qss_run.specs.Moves.{AreAlikeBut};
 ghost use Rattle.qss_run.specs.Places.{watch_at};
 ghost use Rattle.qss_quiet.specs.Writes.{IsWritten};
 
+use crate::calm::agree;
 use qss_cross::Detector;
 
 // Whether a watched condition holds at a tick, if the speed stays.
@@ -23,17 +25,21 @@ fn holds_at(watch: &Detector, tick: u64) -> bool
     moved.truth()
 }
 
-/// The conditions' truths on arrival: those of these are read from their watches, the others are as after the last handlers.
+/// The conditions' truths on arrival: those of the changed ones are read from their watches, the others are as after the last
+/// handlers. Before, only those of the places apart were not.
 pub(crate) fn read_changed(
     watches: &[Detector],
     tick: u64,
     changed: &[u32],
+    apart: &[u32],
     settled: &[bool],
     arrived: &mut [bool],
 )
     requires watches { length watches.now ≡ length settled.now }
     requires changed { AreNumbers (length settled.now) changed.now }
     requires arrived { length arrived.old ≡ length settled.now }
+    requires below { All (λ place. place < length settled.now) apart.now }
+    requires alike { AreAlikeBut apart.now arrived.old settled.now }
     requires later { (place : ℕ) → place < length settled.now
         → (watch_at watches.now place).tick ≤ tick }
     requires in_time { tick ≤ tick_limit }
@@ -42,7 +48,7 @@ pub(crate) fn read_changed(
     ensures { IsWritten false (λ place flag. flag ≡ holds_at (watch_at watches.now place) tick)
         changed.now settled.now arrived.new }
 {
-    arrived.copy_from_slice(settled);
+    agree(apart, settled, arrived);
     for condition in changed {
         let place = *condition as usize;
         arrived[place] = holds_at(&watches[place], tick);

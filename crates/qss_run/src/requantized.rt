@@ -6,11 +6,10 @@ ghost use Rattle.mu_num.specs.Sizes.{IsWithin};
 ghost use Rattle.qss_machine.specs.Machines.{state_count};
 ghost use Rattle.qss_machine.specs.Numbers.{first_past};
 ghost use Rattle.qss_machine.specs.Runs.{level_rows};
-ghost use Rattle.qss_machine.specs.Ticks.{AreNextLevels, is_overweight};
+ghost use Rattle.qss_machine.specs.Ticks.{is_overweight};
 ghost use Rattle.qss_run.specs.Handlings.{AreMovedTo};
-ghost use Rattle.qss_quiet.specs.Among.{IsOff};
-ghost use Rattle.qss_quiet.specs.Rules.{IsRuled};
 ghost use Rattle.qss_run.specs.Kept.{AreWeights};
+ghost use Rattle.qss_run.specs.Levels.{AreRequantizedAt};
 ghost use Rattle.qss_run.specs.Visitings.{HoldsLevels, IsHandledArrival};
 
 use crate::relevel::requantize_states;
@@ -37,23 +36,20 @@ pub(crate) fn requantize_handled(
     at: &HandledArrival,
     q: &Quantizer,
     levels: &mut [i64],
-    fresh: &mut [i128],
     weights: &mut Weights,
     rows: &mut Vec<Row>,
 ) -> Option<u32>
     requires ready { IsHandledArrival at.now }
     requires held { HoldsLevels at.now.machine.now at.now.lines.now at.now.work.now.pre
-        levels.old fresh.old weights.old }
+        levels.old weights.old }
     requires room { length at.now.work.now.log + state_count at.now.machine.now
         ≤ vec_capacity rows.old }
-    ensures allowed { (states : List ℤ)
-        → AreMovedTo at.now.machine.now at.now.moved.now at.now.work.now.x levels.old states
-        → AreNextLevels (IsRuled q.now.name) at.now.machine.now states levels.old fresh.new }
-    ensures over { result ≡ option_or (first_past 43 fresh.new)
-        (position (is_overweight at.now.machine.now fresh.new at.now.work.now.d)
-        at.now.machine.now.rows) }
-    ensures others { IsOff at.now.moved.now levels.old fresh.new }
-    ensures levels { result ≡ None → levels.new ≡ fresh.new }
+    ensures taken { (new : List ℤ) × AreRequantizedAt at.now.machine.now q.now.name
+        at.now.moved.now at.now.work.now.x levels.old levels.new new
+        (option_or (first_past 43 new)
+        (position (is_overweight at.now.machine.now new at.now.work.now.d)
+        at.now.machine.now.rows))
+        result }
     ensures small { result ≡ None → All (IsWithin 43) levels.new }
     ensures weights { result ≡ None
         → AreWeights at.now.machine.now levels.new at.now.work.now.d weights.new }
@@ -74,7 +70,7 @@ pub(crate) fn requantize_handled(
         lines: at.lines,
         moved: at.moved,
     };
-    let over = requantize_states(&arrival, q, x, levels, fresh, rows);
+    let over = requantize_states(&arrival, q, x, levels, rows);
     if over.is_some() {
         return over;
     }

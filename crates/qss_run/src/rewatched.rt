@@ -8,7 +8,8 @@ ghost use Rattle.qss_run.specs.Handlings.{AreDiscretes, AreVariablesOf, is_reini
 ghost use Rattle.qss_quiet.specs.Logs.{reinitialized_of};
 ghost use Rattle.qss_run.specs.Moments.{AreLinesAt, AreSlopesOf, CanSettle, WereWatched, IsRewatchedFrom};
 ghost use Rattle.qss_quiet.specs.Among.{AreNumbers};
-ghost use Rattle.qss_run.specs.Places.{AreWatched};
+ghost use Rattle.qss_run.specs.Moves.{AreAlikeBut};
+ghost use Rattle.qss_run.specs.Places.{AreWatched, KnowsApart};
 ghost use Rattle.qss_run.specs.Rewatchings.{AreSettledAlong, OthersAreKept, OthersAreUnread, watchings_of, readers_of, touched_of, touched_by, readers_before, touched_after};
 ghost use Rattle.qss_run.specs.Stores.{states_at, FitsMachine};
 
@@ -221,6 +222,9 @@ pub(crate) fn rewatch_handled(m: &Machine, tick: u64, s: &mut Store)
         (watchings_of s.new.conditions s.new.agenda) }
     ensures unread { OthersAreUnread m.now (reinitialized_of s.old.work.log) s.old.assigned.items
         s.old.changed.items s.old.work.x s.new.work.x }
+    ensures alike { AreAlikeBut s.old.changed.items
+        s.old.conditions.arrived.items s.old.conditions.settled.items
+        → KnowsApart s.new.conditions }
     ensures rest { IsRewatchedFrom s.old s.new }
     ensures fits { FitsMachine m.now s.new }
     ensures others { (place : ℕ) → place < state_count m.now

@@ -75,8 +75,8 @@ fn shift_of(kind: RowSum, at: &Mode, own: i64, row: u32, state: u32, old: i64, n
     shift(taken_mode(kind, mode), old, new)
 }
 
-// The sums of the rows that read a state follow where it takes another level.
-fn shift_rows(
+/// The sums of the rows that read a state follow where it takes another level.
+pub(crate) fn shift_rows(
     kind: RowSum,
     at: &Mode,
     uses: &Uses,

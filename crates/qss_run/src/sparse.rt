@@ -1,31 +1,32 @@
 //! A tick at which nothing but states is due.
 
-ghost use Rattle.std.specs.Prelude.{◌≡◌, ℕ, ◌+◌, ◌<◌, ◌≤◌, ◌^◌, [], All, length, position, List, Option, None, false, vec_capacity};
+ghost use Rattle.std.specs.Prelude.{◌≡◌, ℕ, ◌+◌, ◌<◌, ◌≤◌, ◌^◌, [], All, length, position, List, ℤ, Option, None, count_by, vec_capacity};
+ghost use Rattle.std.specs.List.{range_with_len};
 ghost use Rattle.std.specs.Option.{option_or};
 ghost use Rattle.mu_num.specs.Sizes.{IsWithin};
 ghost use Rattle.qss_machine.specs.Numbers.{int_at, first_past};
 ghost use Rattle.qss_machine.specs.Handlers.{conditions};
-ghost use Rattle.qss_machine.specs.Machines.{state_count, slope_at};
-ghost use Rattle.qss_machine.specs.Ticks.{AreNextLevels, is_overweight, world_unless, Step};
+ghost use Rattle.qss_machine.specs.Machines.{state_count, discrete_count, slope_at};
+ghost use Rattle.qss_machine.specs.Ticks.{is_overweight, world_unless, Step};
 ghost use Rattle.qss_machine.specs.Runs.{level_rows, tick_rows};
 ghost use Rattle.qss_quant.specs.Lines.{state_at};
 ghost use Rattle.qss_sched.specs.Ranks.{due_at};
-ghost use Rattle.qss_quiet.specs.Among.{is_among, IsOff};
+ghost use Rattle.qss_quiet.specs.Among.{is_among};
+ghost use Rattle.qss_run.specs.Gatherings.{reached};
 ghost use Rattle.qss_run.specs.Kept.{AreWeights};
-ghost use Rattle.qss_run.specs.Moments.{AreWithin};
+ghost use Rattle.qss_run.specs.Levels.{AreRequantizedOnArrival};
 ghost use Rattle.qss_run.specs.Places.{AreConditionsOf, AreWatched, HasPlaces, line_at, IsTurned};
-ghost use Rattle.qss_run.specs.Renewals.{renewals};
 ghost use Rattle.qss_quiet.specs.Rules.{IsRuled};
 ghost use Rattle.qss_run.specs.Stores.{states_at, world_of, Stands, IsTaken};
 ghost use Rattle.qss_run.specs.Touches.{touches_at};
-ghost use Rattle.qss_run.specs.Visitings.{CanArrive, CanReslope, HoldsLevels, new_slopes};
+ghost use Rattle.qss_run.specs.Visitings.{CanArrive, CanReslope, HoldsLevels, quiet_slopes};
 
 use crate::calm::catch_up;
 use crate::conditions::Conditions;
+use crate::gathered::reslope_of;
 use crate::relevel::requantize_due;
 use crate::store::Store;
-use crate::turned::reslope_of;
-use crate::visiting::{Arrival, NewLevels};
+use crate::visiting::{Arrival, NewLevels, QuietLevels};
 use crate::weights::Weights;
 use qss_hand::Work;
 use qss_machine::{Machine, Row};
@@ -33,83 +34,36 @@ use qss_quant::{Integrator, Quantizer, Steps};
 use qss_sched::Agenda;
 use std::sync::ledger::Ledger;
 
-// The due states arrive and take their new levels.
-fn requantize_in(
-    at: &Arrival,
-    q: &Quantizer,
-    work: &mut Work,
-    levels: &mut [i64],
-    fresh: &mut [i128],
-    rows: &mut Vec<Row>,
-) -> Option<u32>
-    requires ready { CanArrive at.now levels.old }
-    requires states { length work.old.x ≡ state_count at.now.machine.now }
-    requires levels { length levels.old ≡ state_count at.now.machine.now }
-    requires fresh { fresh.old ≡ levels.old }
-    requires small_levels { All (IsWithin 43) levels.old }
-    requires small_x { All (IsWithin 88) work.old.x }
-    requires room { state_count at.now.machine.now ≤ vec_capacity rows.old }
-    ensures over { result
-        ≡ option_or (first_past 88 (states_at at.now.lines.now at.now.tick))
-        (first_past 43 fresh.new) }
-    ensures allowed { first_past 88 (states_at at.now.lines.now at.now.tick) ≡ None
-        → AreNextLevels (IsRuled q.now.name) at.now.machine.now
-        (states_at at.now.lines.now at.now.tick)
-        levels.old fresh.new }
-    ensures levels { result ≡ None → levels.new ≡ fresh.new }
-    ensures small { result ≡ None → All (IsWithin 43) levels.new }
-    ensures rows { result ≡ None
-        → rows.new.items ≡ level_rows at.now.tick levels.old levels.new
-        (states_at at.now.lines.now at.now.tick) }
-    ensures others { (j : ℕ) → is_among at.now.moved.now j ≡ false
-        → int_at fresh.new j ≡ int_at levels.old j }
-    ensures work { work.new ≡ record work.old { x = work.new.x } }
-    ensures states { length work.new.x ≡ length work.old.x }
-    ensures small_x { result ≡ None → All (IsWithin 88) work.new.x }
-    ensures room { vec_capacity rows.new ≡ vec_capacity rows.old }
-{
-    let x = work.x.as_mut_slice();
-    requantize_due(at, q, x, levels, fresh, rows)
-}
-
 // The due states arrive and take their new levels. It gives the variable that overflows, on arrival, by its level or by
 // its row.
 fn requantize_moved(
     at: &Arrival,
     q: &Quantizer,
-    work: &mut Work,
+    work: &Work,
     levels: &mut [i64],
-    fresh: &mut [i128],
     weights: &mut Weights,
     rows: &mut Vec<Row>,
 ) -> Option<u32>
     requires ready { CanArrive at.now levels.old }
-    requires values { AreWithin at.now.machine.now work.old.x work.old.d }
-    requires held { HoldsLevels at.now.machine.now at.now.lines.now work.old.d
-        levels.old fresh.old weights.old }
+    requires discretes { length work.now.d ≡ discrete_count at.now.machine.now }
+    requires small_discretes { All (IsWithin 43) work.now.d }
+    requires held { HoldsLevels at.now.machine.now at.now.lines.now work.now.d
+        levels.old weights.old }
     requires room { state_count at.now.machine.now ≤ vec_capacity rows.old }
-    ensures over { result ≡ option_or (first_past 88 (states_at at.now.lines.now at.now.tick))
-        (option_or (first_past 43 fresh.new)
-        (position (is_overweight at.now.machine.now fresh.new work.old.d)
-        at.now.machine.now.rows)) }
-    ensures allowed { first_past 88 (states_at at.now.lines.now at.now.tick) ≡ None
-        → AreNextLevels (IsRuled q.now.name) at.now.machine.now
-        (states_at at.now.lines.now at.now.tick)
-        levels.old fresh.new }
-    ensures levels { result ≡ None → levels.new ≡ fresh.new }
+    ensures taken { (new : List ℤ) × AreRequantizedOnArrival at.now q.now.name
+        levels.old levels.new new
+        (option_or (first_past 43 new)
+        (position (is_overweight at.now.machine.now new work.now.d) at.now.machine.now.rows))
+        result }
     ensures small { result ≡ None → All (IsWithin 43) levels.new }
     ensures weights { result ≡ None
-        → AreWeights at.now.machine.now levels.new work.old.d weights.new }
+        → AreWeights at.now.machine.now levels.new work.now.d weights.new }
     ensures rows { result ≡ None
         → rows.new.items ≡ level_rows at.now.tick levels.old levels.new
         (states_at at.now.lines.now at.now.tick) }
-    ensures others { IsOff at.now.moved.now levels.old fresh.new }
-    ensures work { work.new ≡ record work.old { x = work.new.x } }
-    ensures states { length work.new.x ≡ length work.old.x }
-    ensures small_x { result ≡ None → All (IsWithin 88) work.new.x }
     ensures room { vec_capacity rows.new ≡ vec_capacity rows.old }
 {
-    let over = requantize_in(at, q, work, levels, fresh, rows);
+    let over = requantize_due(at, q, levels, rows);
     if over.is_some() {
         return over;
     }
@@ -127,30 +81,31 @@ fn requantize_moved(
 // The moved states and those whose rows read one of them go on from a tick at their new slopes, and the conditions that
 // read these at their new speeds.
 fn go_on_moved<L: Ledger>(
-    at: &NewLevels,
-    work: &Work,
+    at: &QuietLevels,
     slopes: &mut [i128],
     lines: &mut [Integrator],
+    touched: &mut Vec<u32>,
     watched: &mut Conditions,
     agenda: &mut Agenda,
     steps: &mut Steps<L>,
 )
-    requires ready { CanReslope at.now work.now.d slopes.old lines.old agenda.old }
+    requires ready { CanReslope at.now slopes.old lines.old agenda.old }
+    requires room { state_count at.now.machine.now ≤ vec_capacity touched.old }
     requires fits { AreConditionsOf at.now.machine.now watched.old }
     requires places { HasPlaces at.now.machine.now agenda.old }
     requires small_states { All (IsWithin 88) (states_at lines.old at.now.tick) }
     requires in_time { at.now.tick < 2 ^ 32 }
     requires watched { AreWatched at.now.machine.now at.now.tick
-        (states_at lines.old at.now.tick) work.now.d
+        (states_at lines.old at.now.tick) at.now.discretes.now
         slopes.old watched.old.watches.items agenda.old }
-    ensures slopes { slopes.new ≡ new_slopes at.now work.now.d }
+    ensures slopes { slopes.new ≡ quiet_slopes at.now }
     ensures lines { (j : ℕ) → j < state_count at.now.machine.now
         → IsTurned at.now.machine.now at.now.tick (state_at (line_at lines.old j) at.now.tick)
         (int_at at.now.levels.now j)
-        (slope_at at.now.machine.now j at.now.levels.now work.now.d)
+        (slope_at at.now.machine.now j at.now.levels.now at.now.discretes.now)
         j (line_at lines.new j) (due_at agenda.new j) }
     ensures watches { AreWatched at.now.machine.now at.now.tick
-        (states_at lines.old at.now.tick) work.now.d
+        (states_at lines.old at.now.tick) at.now.discretes.now
         slopes.new watched.new.watches.items agenda.new }
     ensures rest { watched.new ≡ record watched.old { watches = watched.new.watches } }
     ensures fits { AreConditionsOf at.now.machine.now watched.new }
@@ -159,11 +114,11 @@ fn go_on_moved<L: Ledger>(
         → state_count at.now.machine.now + length (conditions at.now.machine.now) ≤ place
         → due_at agenda.new place ≡ due_at agenda.old place }
     ensures counted { steps.new
-        ≡ steps.old + renewals
-        (state_count at.now.machine.now) at.now.levels.now slopes.new lines.old }
+        ≤ steps.old + count_by (is_among (reached at.now.machine.now at.now.moved.now))
+        (range_with_len 0 (state_count at.now.machine.now)) }
+    ensures room { vec_capacity touched.new ≡ vec_capacity touched.old }
 {
-    let d = work.d.as_slice();
-    reslope_of(at, d, slopes, lines, agenda, steps);
+    reslope_of(at, slopes, lines, touched, agenda, steps);
     watched.rewatch_of(at.machine, at.uses, at.tick, at.moved, slopes, agenda);
 }
 
@@ -192,44 +147,44 @@ pub(crate) fn visit_due<L: Ledger>(
         + touches_at m.now (tick + 1) (world_of tick s.old)
         (world_unless result (world_of (tick + 1) s.new)) }
 {
-    let next = tick + 1;
     let arrival = Arrival {
         machine: m,
         uses: &s.uses,
-        tick: next,
+        tick: tick + 1,
         lines: s.lines.as_slice(),
         moved: s.moved.as_slice(),
     };
     let over = requantize_moved(
         &arrival,
         q,
-        &mut s.work,
+        &s.work,
         s.levels.as_mut_slice(),
-        s.fresh.as_mut_slice(),
         &mut s.weights,
         &mut s.rows,
     );
     if over.is_some() {
         return over;
     }
-    let new = NewLevels {
+    let work = &s.work;
+    let new = QuietLevels {
         machine: m,
         uses: &s.uses,
-        tick: next,
+        tick: tick + 1,
         moved: s.moved.as_slice(),
         levels: s.levels.as_slice(),
+        discretes: work.d.as_slice(),
     };
     go_on_moved(
         &new,
-        &s.work,
         s.slopes.as_mut_slice(),
         s.lines.as_mut_slice(),
+        &mut s.touched,
         &mut s.conditions,
         &mut s.agenda,
         steps,
     );
     let settled = s.conditions.settled.as_slice();
     let arrived = s.conditions.arrived.as_mut_slice();
-    catch_up(true, settled, arrived, &mut s.calm);
+    catch_up(true, settled, arrived, &mut s.conditions.apart);
     None
 }

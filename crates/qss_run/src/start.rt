@@ -18,8 +18,10 @@ ghost use Rattle.qss_quiet.specs.Sims.{IsDue};
 ghost use Rattle.qss_run.specs.Stores.{world_of, FitsMachine, Stands, IsBlank};
 
 use crate::conditions::{BranchPlace, Conditions};
+use crate::copies::copies;
 use crate::ends::set_world_rows;
 use crate::moment::Point;
+use crate::place_set::PlaceSet;
 use crate::store::Store;
 use crate::weights::Weights;
 use qss_cross::Detector;
@@ -58,28 +60,6 @@ fn branch_places(alloc: Global, m: &Machine) -> Result<Vec<BranchPlace>, AllocEr
         add_branches(&mut found, clause as u32, count)?;
     }
     Ok(found)
-}
-
-// The levels once more.
-fn levels_again(alloc: Global, levels: &[i64]) -> Result<Vec<i128>, AllocError>
-    ensures { IfOk result (λ fresh. fresh.items ≡ levels.now) }
-{
-    let mut fresh: Vec<i128> = Vec::with_capacity(alloc, levels.len())?;
-    for j in 0..levels.len() {
-        fresh.push_reserved(levels[j] as i128);
-    }
-    Ok(fresh)
-}
-
-// So many equal elements.
-fn copies<T: Copy>(alloc: Global, value: T, count: usize) -> Result<Vec<T>, AllocError>
-    ensures { IfOk result (λ list. list.items ≡ replicate count value) }
-{
-    let mut list: Vec<T> = Vec::with_capacity(alloc, count)?;
-    for _ in 0..count {
-        list.push_reserved(value);
-    }
-    Ok(list)
 }
 
 // A line that rests at 0.
@@ -129,6 +109,7 @@ fn blank_conditions(alloc: Global, m: &Machine) -> Result<Conditions, AllocError
         watches: copies(alloc, resting_watch(), count)?,
         arrived,
         settled,
+        apart: PlaceSet::empty(alloc, count)?,
     })
 }
 
@@ -163,7 +144,6 @@ fn blank_store(alloc: Global, m: &Machine) -> Result<Store, AllocError>
         conditions: watched,
         uses: Uses::new(alloc, m)?,
         lines: copies(alloc, resting_line(), states)?,
-        fresh: levels_again(alloc, levels.as_slice())?,
         levels,
         slopes: copies(alloc, 0, states)?,
         weights: Weights {
@@ -176,9 +156,9 @@ fn blank_store(alloc: Global, m: &Machine) -> Result<Store, AllocError>
         fired,
         assigned: Vec::with_capacity(alloc, work.log.capacity())?,
         rising: false,
-        calm: true,
         agenda: Agenda::with_places(alloc, (states + conditions + 1) as u32)?,
         rows: Vec::with_capacity(alloc, work.log.capacity() + states + work.d.len() + 1)?,
+        touched: Vec::with_capacity(alloc, states)?,
         work,
     })
 }

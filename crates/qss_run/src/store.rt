@@ -7,12 +7,11 @@ use qss_machine::{Row, Uses};
 use qss_quant::Integrator;
 use qss_sched::Agenda;
 
-/// By state: its line, its level, its slope, and its level once more for the next tick's work. `weights` says when a row is
-/// past its limits. `uses` says which rows and conditions read a variable. The agenda has a place for each state, then one for each condition, and
-/// one for a condition that became true through the handlers; `rising` says whether one did. While `calm` is set, each
-/// condition is on arrival as after the last handlers. `moved`, `changed`, `fired` and `assigned` are room for a tick's work:
-/// the numbers of due and reinitialized states, of conditions to be looked at, of due branches and of assigned discrete
-/// variables.
+/// By state: its line, its level and its slope. `weights` says when a row is past its limits. `uses` says which rows and
+/// conditions read a variable. The agenda has a place for each state, then one for each condition, and one for a condition
+/// that became true through the handlers; `rising` says whether one did. `moved`, `touched`, `changed`, `fired` and `assigned`
+/// are room for a tick's work: the numbers of due and reinitialized states, of touched ones, of conditions to be looked at, of
+/// due branches and of assigned discrete variables.
 #[derive(Drop)]
 pub(crate) struct Store {
     pub conditions: Conditions,
@@ -21,13 +20,12 @@ pub(crate) struct Store {
     pub levels: Vec<i64>,
     pub slopes: Vec<i128>,
     pub weights: Weights,
-    pub fresh: Vec<i128>,
     pub moved: Vec<u32>,
+    pub touched: Vec<u32>,
     pub changed: Vec<u32>,
     pub fired: Vec<u32>,
     pub assigned: Vec<u32>,
     pub rising: bool,
-    pub calm: bool,
     pub agenda: Agenda,
     pub work: Work,
     pub rows: Vec<Row>,

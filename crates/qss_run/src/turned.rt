@@ -1,17 +1,16 @@
-//! Lines at new slopes, of the states that moved and of those whose rows read one of them.
+//! Lines at new slopes, of states whose rows read a variable that changed.
 
 ghost use Rattle.std.specs.Prelude.{◌≡◌, ℕ, ◌+◌, ◌<◌, ◌≤◌, All, length, true, flat_map};
 ghost use Rattle.qss_machine.specs.Numbers.{int_at};
-ghost use Rattle.qss_machine.specs.Machines.{state_count, discrete_count, slope_at};
+ghost use Rattle.qss_machine.specs.Machines.{state_count, discrete_count};
 ghost use Rattle.qss_machine.specs.Uses.{reading_rows};
 ghost use Rattle.qss_quant.specs.Lines.{state_at};
 ghost use Rattle.qss_sched.specs.Ranks.{due_at};
 ghost use Rattle.qss_run.specs.Places.{line_at, IsTurned};
 ghost use Rattle.qss_run.specs.Renewals.{goes_at, renewals};
 ghost use Rattle.qss_run.specs.Turnings.{MayTurn, AreTurned};
-ghost use Rattle.qss_run.specs.Visitings.{CanGoOn, CanReslope, new_slopes};
+ghost use Rattle.qss_run.specs.Visitings.{CanGoOn};
 
-use crate::shifts::shift_slopes;
 use crate::slopes::reslope;
 use crate::visiting::NewLevels;
 use qss_quant::{Integrator, Steps};
@@ -124,34 +123,4 @@ pub(crate) fn turn_readers<L: Ledger>(
         let readers = at.uses.rows_of(*var);
         turn_each(at, slopes, readers, lines, agenda, steps);
     }
-}
-
-/// The moved states, and those whose rows read one of them, go on from a tick at their new slopes.
-pub(crate) fn reslope_of<L: Ledger>(
-    at: &NewLevels,
-    d: &[i64],
-    slopes: &mut [i128],
-    lines: &mut [Integrator],
-    agenda: &mut Agenda,
-    steps: &mut Steps<L>,
-)
-    requires { CanReslope at.now d.now slopes.old lines.old agenda.old }
-    ensures slopes { slopes.new ≡ new_slopes at.now d.now }
-    ensures lines { (j : ℕ) → j < state_count at.now.machine.now
-        → IsTurned at.now.machine.now at.now.tick (state_at (line_at lines.old j) at.now.tick)
-        (int_at at.now.levels.now j) (slope_at at.now.machine.now j at.now.levels.now d.now)
-        j (line_at lines.new j) (due_at agenda.new j) }
-    ensures kept { (j : ℕ) → j < state_count at.now.machine.now
-        → goes_at (int_at at.now.levels.now j) (int_at slopes.new j) (line_at lines.old j) ≡ true
-        → line_at lines.new j ≡ line_at lines.old j }
-    ensures places { length agenda.new ≡ length agenda.old }
-    ensures others { (place : ℕ) → state_count at.now.machine.now ≤ place
-        → due_at agenda.new place ≡ due_at agenda.old place }
-    ensures counted { steps.new
-        ≡ steps.old + renewals
-        (state_count at.now.machine.now) at.now.levels.now slopes.new lines.old }
-{
-    shift_slopes(at, d, lines, slopes);
-    turn_each(at, slopes, at.moved, lines, agenda, steps);
-    turn_readers(at, slopes, at.moved, lines, agenda, steps);
 }

@@ -43,7 +43,16 @@ pub(crate) fn visit<L: Ledger>(
     let conditions = s.conditions.branches.len() as u32;
     let arrived = s.conditions.arrived.as_slice();
     let settled = s.conditions.settled.as_slice();
-    call_risen(s.rising, &mut s.agenda, tick + 1, states, arrived, settled);
+    let apart = s.conditions.apart.places();
+    call_risen(
+        s.rising,
+        &mut s.agenda,
+        tick + 1,
+        states,
+        apart,
+        arrived,
+        settled,
+    );
     take_due(&mut s.agenda, tick + 1, states, &mut s.moved);
     take_changed(&mut s.agenda, tick + 1, states, conditions, &mut s.changed);
     if s.changed.is_empty() {

@@ -22,6 +22,18 @@ pub(crate) struct NewLevels<'a> {
     pub levels: &'a [i64],
 }
 
+/// A machine at a tick at which nothing but states is due: which rows and conditions read a variable, the states that move
+/// there, the levels of all states then, and the discrete values, which stay.
+#[derive(Clone, Copy)]
+pub(crate) struct QuietLevels<'a> {
+    pub machine: &'a Machine,
+    pub uses: &'a Uses,
+    pub tick: u64,
+    pub moved: &'a [u32],
+    pub levels: &'a [i64],
+    pub discretes: &'a [i64],
+}
+
 /// What the handlers of a tick left: the discrete variables that they assigned, the states of which those are good that
 /// moved, and the discrete values before and after them.
 #[derive(Clone, Copy)]

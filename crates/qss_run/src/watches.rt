@@ -1,19 +1,44 @@
 //! Conditions at new values and speeds.
 
-ghost use Rattle.std.specs.Prelude.{◌≡◌, ℕ, ◌+◌, ◌<◌, ◌≤◌, ◌∷◌, [], length};
+ghost use Rattle.std.specs.Prelude.{◌≡◌, ℕ, ◌+◌, ◌<◌, ◌≤◌, ◌&&◌, ◌||◌, ◌==◌, ◌∷◌, [], length};
+ghost use Rattle.qss_machine.specs.Firing.{flag_at};
 ghost use Rattle.qss_machine.specs.Limits.{IsBounded};
 ghost use Rattle.qss_machine.specs.Machines.{state_count, value_of, speed_of};
 ghost use Rattle.qss_machine.specs.Handlers.{conditions, truths};
 ghost use Rattle.qss_sched.specs.Ranks.{due_at};
 ghost use Rattle.qss_run.specs.Places.{AreConditionsOf, AreWatched, HasPlaces};
 ghost use Rattle.qss_run.specs.Moments.{IsPoint};
-ghost use Rattle.qss_run.specs.Rewatchings.{AreSettled, watchings_of};
+ghost use Rattle.qss_quiet.specs.Among.{is_among};
+ghost use Rattle.qss_run.specs.Moves.{differ};
+ghost use Rattle.qss_run.specs.Rewatchings.{AreNoted, AreSettled, watchings_of};
 
 use crate::conditions::Conditions;
 use crate::moment::Point;
+use crate::place_set::PlaceSet;
 use qss_cross::Detector;
 use qss_machine::{Condition, Machine};
 use qss_sched::Agenda;
+
+// Whether two flags differ.
+fn differ(one: bool, other: bool) -> bool
+    ensures { result ≡ differ one other }
+{
+    one != other
+}
+
+// A condition whose truth after the handlers is this joins those apart, where it is not that on arrival.
+fn note(arrived: &[bool], place: u32, holds: bool, apart: &mut PlaceSet)
+    requires place { place < length arrived.now }
+    requires count { apart.old.count ≡ length arrived.now }
+    ensures count { apart.new.count ≡ apart.old.count }
+    ensures places { (other : ℕ) → is_among apart.new.places other
+        ≡ (is_among apart.old.places other
+        || (place == other && differ holds (flag_at arrived.now place))) }
+{
+    if differ(holds, arrived[place as usize]) {
+        apart.insert(place);
+    }
+}
 
 // A condition at a tick, with its value and its speed.
 fn watch_of(m: &Machine, condition: &Condition, at: &Point) -> Detector
@@ -54,13 +79,21 @@ impl Conditions {
         ensures settled { AreSettled m.now at.now.tick at.now.states.now at.now.discretes.now
             at.now.slopes.now (place ∷ []) (watchings_of self.old agenda.old)
             (watchings_of self.new agenda.new) }
+        ensures noted { AreNoted (place ∷ []) self.old self.new }
         ensures rest { self.new
-            ≡ record self.old { watches = self.new.watches; settled = self.new.settled } }
+            ≡ record self.old {
+              watches = self.new.watches;
+              settled = self.new.settled;
+              apart = self.new.apart;
+            } }
     {
         let condition = self.condition(m, place);
         let watch = watch_of(m, condition, at);
+        let holds = watch.truth();
+        let arrived = self.arrived.as_slice();
+        note(arrived, place, holds, &mut self.apart);
         let settled = self.settled.as_mut_slice();
-        settled[place as usize] = watch.truth();
+        settled[place as usize] = holds;
         agenda.set(at.slopes.len() as u32 + place, watch.next_change());
         let watches = self.watches.as_mut_slice();
         watches[place as usize] = watch;
@@ -76,7 +109,11 @@ impl Conditions {
         ensures watches { AreWatched m.now at.now.tick at.now.states.now at.now.discretes.now
             at.now.slopes.now self.new.watches.items agenda.new }
         ensures rest { self.new
-            ≡ record self.old { watches = self.new.watches; settled = self.new.settled } }
+            ≡ record self.old {
+              watches = self.new.watches;
+              settled = self.new.settled;
+              apart = self.new.apart;
+            } }
         ensures fits { AreConditionsOf m.now self.new }
         ensures places { length agenda.new ≡ length agenda.old }
         ensures others { (place : ℕ) → place < state_count m.now

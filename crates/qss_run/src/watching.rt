@@ -125,6 +125,9 @@ impl Conditions {
             self.new.watches.items agenda.old agenda.new }
         ensures same { self.new ≡ record self.old { watches = self.new.watches } }
     {
+        if self.watches.is_empty() {
+            return;
+        }
         for state in moved {
             let states = uses.rows_of(*state);
             self.rewatch_states(m, uses, tick, states, slopes, agenda);

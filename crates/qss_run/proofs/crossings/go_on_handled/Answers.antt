@@ -1,10 +1,11 @@
 -- What goes on after the handlers of a tick.
-use Rattle.std.proofs.Common.{◌≡◌, ℕ, ◌+◌, ◌<◌, ◌≤◌, List, false, length, ℤ, pos, refl, sym, ◌∙◌, ap, subst, arith}
+use Rattle.std.proofs.Common.{◌≡◌, ℕ, ◌+◌, ◌<◌, ◌≤◌, List, length, ℤ, pos, refl, sym, ◌∙◌, ap, subst, arith}
 use Rattle.std.proofs.lemmas.List.{with_items_is}
 use Rattle.std.specs.Prelude.{All, position}
 use Rattle.std.specs.Vec.{with_items}
 use Rattle.mu_num.specs.Sizes.{IsWithin}
 use Rattle.std.specs.List.{list_any}
+use Rattle.qss_machine.specs.Firing.{flag_at}
 use Rattle.qss_machine.specs.Handlers.{conditions, truths, due_flags}
 use Rattle.qss_machine.specs.Machines.{state_count, level_unit, slope_at, quantum_of}
 use Rattle.qss_machine.specs.Numbers.{int_at, tabulate}
@@ -105,9 +106,9 @@ rewatch_handled-requires-clause-fits g c =
       lines = same_length s.lines c.reslope_handled.new.lines ∙ fits.lines;
       levels = fits.levels;
       slopes = same_length s.slopes c.reslope_handled.new.slopes ∙ fits.slopes;
-      fresh = fits.fresh;
       weights = fits.weights;
       moved_room = fits.moved_room;
+      touched_room = fits.touched_room;
       changed_room = fits.changed_room;
       fired_room = fits.fired_room;
       assigned_room = fits.assigned_room;
@@ -206,6 +207,12 @@ note_rising-requires-clause-few g c =
     let fits = c.rewatch_handled.ensures.fits in
     omega (arith, fits.lines, fits.own_conditions.branches.as_many, conditions_few m, m.has_variables.few)
 
+pub note_rising-requires-clause-count : goal.note_rising-requires-clause-count
+note_rising-requires-clause-count g c = let own = c.rewatch_handled.ensures.fits.own_conditions in own.apart ∙ sym own.settled
+
+pub note_rising-requires-clause-alike : goal.note_rising-requires-clause-alike
+note_rising-requires-clause-alike g c = c.rewatch_handled.ensures.alike c.requires.alike
+
 pub returns : goal.returns
 returns g c =
     let m = c.args.m.now in
@@ -225,29 +232,28 @@ returns g c =
     let slopes_are : slopes ≡ tabulate (state_count m) (λ j. slope_at m j s.levels.items s.work.d) =
     c.reslope_handled.ensures.slopes ∙ same_slopes m s.levels.items c.as_slice-2.result.now s.work.d c.as_slice-6.result.now c.as_slice-2.ensures.value d_now in
     let left : Store = c.rewatch_handled.new.s in
-    let own : Conditions = record s.conditions { watches = left.conditions.watches; settled = left.conditions.settled } in
+    let own : Conditions = record s.conditions { watches = left.conditions.watches; settled = left.conditions.settled; apart = left.conditions.apart } in
     let next : Store = record s {
       conditions = own;
       slopes = with_items s.slopes slopes;
       lines = with_items s.lines after;
       rising = c.note_rising.new.s.rising;
-      calm = false;
       agenda = c.note_rising.new.s.agenda;
       work = record s.work { x = left.work.x };
     } in
     let rest = c.rewatch_handled.ensures.rest in
     let same : c.note_rising.new.s ≡ next =
-    c.note_rising.ensures.same ∙ ap (λ (v : Store). record v { rising = next.rising; calm = false; agenda = next.agenda }) rest in
-    let base : FitsMachine m (record next { rising = s.rising; calm = s.calm; agenda = left.agenda }) = subst (FitsMachine m) rest c.rewatch_handled.ensures.fits in
+    c.note_rising.ensures.same ∙ ap (λ (v : Store). record v { rising = next.rising; agenda = next.agenda }) rest in
+    let base : FitsMachine m (record next { rising = s.rising; agenda = left.agenda }) = subst (FitsMachine m) rest c.rewatch_handled.ensures.fits in
     let good : FitsMachine m next = record {
       own_conditions = base.own_conditions;
       uses = base.uses;
       lines = base.lines;
       levels = base.levels;
       slopes = base.slopes;
-      fresh = base.fresh;
       weights = base.weights;
       moved_room = base.moved_room;
+      touched_room = base.touched_room;
       changed_room = base.changed_room;
       fired_room = base.fired_room;
       assigned_room = base.assigned_room;
@@ -288,8 +294,7 @@ returns g c =
     (c.rewatch_handled.ensures.watches place h)))
     (c.note_rising.ensures.rising ∙ ap (λ a. list_any (λ flag. flag) (due_flags left.conditions.settled.items a left.conditions.settled.items)) arrived)
     (ap (due_at next.agenda) (omega (arith, left_fits.lines, left_fits.own_conditions.branches.as_many)) ∙ c.note_rising.ensures.own)
-    c.requires.fresh_levels
-    (λ e. absurd (cc)) in
+    (λ place out. ap (λ flags. flag_at flags place) (sym arrived) ∙ c.rewatch_handled.ensures.alike c.requires.alike place out) in
     let world : world_of t next ≡ record { states = y; levels = s.levels.items; discretes = s.work.d; arrived = s.conditions.arrived.items; settled = truths m y s.work.d t } =
     same_worlds (world_of t next) (record { states = y; levels = s.levels.items; discretes = s.work.d; arrived = s.conditions.arrived.items; settled = truths m y s.work.d t })
     again.0 refl refl refl settled in

@@ -21,6 +21,7 @@ use Rattle.qss_run.specs.declared.conditions.Conditions.{Conditions}
 use Rattle.qss_run.specs.declared.store.Store.{Store}
 use Rattle.qss_run.specs.Handlings.{states_with, is_reinitialized, AreAssigned, AreDiscretes, IsHandled, AreMovedTo}
 use Rattle.qss_quiet.specs.Among.{is_among, AreNumbers, IsOff}
+use Rattle.qss_run.specs.Moves.{AreAlikeBut}
 use Rattle.qss_run.specs.Places.{line_at, watch_at, IsWatched}
 use Rattle.qss_run.specs.Renewals.{renewals_from}
 use Rattle.qss_quiet.specs.Rules.{IsRuled}
@@ -65,6 +66,7 @@ handle-over-requires-clause-ready g c =
           let watch : Watch = watch_at s.conditions.watches.items place in
           subst (λ ls. (watch.tick ≤ t) × (All (IsWithin 88) (states_at ls t) → IsSmall (value_at watch t)) × (holds_at watch t ≡ truth m (condition_at m place) (states_at ls t) s.work.d t))
           (sym c.as_slice.ensures.value) (watched_then m c.args.tick agenda s taken c.requires.in_time place h);
+      alike = taken.stands.alike;
       others = λ place h none.
           let both = rest_as_before m c.args.tick agenda s taken c.requires.in_time place h (ap (λ cs. is_among cs place) (sym c.as_slice-2.ensures.value) ∙ none) in
           (ap (λ ls. truth m (condition_at m place) (states_at ls t) s.work.d t) c.as_slice.ensures.value ∙ both.0, both.1);
@@ -138,7 +140,6 @@ requantize_handled-over-requires-clause-held g c =
     let stands = taken.stands in
     record {
       levels = ap length c.as_mut_slice.ensures.value ∙ stands.fits.levels;
-      fresh = c.as_mut_slice-2.ensures.value ∙ stands.fresh_levels ∙ sym c.as_mut_slice.ensures.value;
       small_levels = subst (All (IsWithin 43)) (sym c.as_mut_slice.ensures.value) (levels_small m c.args.tick (record s { agenda = agenda }) stands);
       light = ap (λ l. position (is_overweight m l new.pre) m.rows) c.as_mut_slice.ensures.value
           ∙ ap (λ p. position (is_overweight m s.levels.items p) m.rows) of_pre ∙ stands.stands_for.left.light;
@@ -195,14 +196,14 @@ returns-then-is_some-2-clause-stepped g c =
     let calm_h : h.overflow ≡ None = sym c.handle-over.ensures.over ∙ calm in
     let of_d : new.d ≡ h.discretes = ap (λ (v : Values). v.d) handled.values in
     let of_pre : new.pre ≡ s.work.d = ap (λ (v : Values). v.pre) handled.values in
-    let fresh : List ℤ = c.requantize_handled-over.new.fresh in
+    let fresh : List ℤ = c.requantize_handled-over.ensures.taken.0 in
     let to : AreMovedTo m c.as_slice-4.result.now new.x c.as_mut_slice.result.now h.states =
     subst (λ js. AreMovedTo m js new.x c.as_mut_slice.result.now h.states) (sym c.as_slice-4.ensures.value)
     (subst (λ l. AreMovedTo m moved new.x l h.states) (sym c.as_mut_slice.ensures.value) (moved_to m c.args.tick agenda s taken c.requires.in_time moved assigned new h handled)) in
     let allowed : AreNextLevels (IsRuled c.args.q.now.name) m h.states s.levels.items fresh =
-    subst (λ l. AreNextLevels (IsRuled c.args.q.now.name) m h.states l fresh) c.as_mut_slice.ensures.value (c.requantize_handled-over.ensures.allowed h.states to) in
+    subst (λ l. AreNextLevels (IsRuled c.args.q.now.name) m h.states l fresh) c.as_mut_slice.ensures.value (c.requantize_handled-over.ensures.taken.1.allowed h.states to) in
     let over : c.requantize_handled-over.result ≡ option_or (first_past 43 fresh) (position (is_overweight m fresh h.discretes) m.rows) =
-    c.requantize_handled-over.ensures.over ∙ ap (λ d. option_or (first_past 43 fresh) (position (is_overweight m fresh d) m.rows)) of_d in
+    c.requantize_handled-over.ensures.taken.1.over_is ∙ ap (λ d. option_or (first_past 43 fresh) (position (is_overweight m fresh d) m.rows)) of_d in
     late (IsRuled c.args.q.now.name) m t (world_of c.args.tick s) _ h fresh c.requantize_handled-over.result (sym c.is_some-2.ensures ∙ c.if-is_some-2.true) is_h calm_h allowed over
 
 pub go_on_handled-requires : goal.go_on_handled-requires
@@ -225,23 +226,23 @@ go_on_handled-requires g c =
     let calm_h : h.overflow ≡ None = sym c.handle-over.ensures.over ∙ calm in
     let of_d : new.d ≡ h.discretes = ap (λ (v : Values). v.d) handled.values in
     let of_pre : new.pre ≡ s.work.d = ap (λ (v : Values). v.pre) handled.values in
-    let fresh : List ℤ = c.requantize_handled-over.new.fresh in
+    let fresh : List ℤ = c.requantize_handled-over.ensures.taken.0 in
     let to : AreMovedTo m c.as_slice-4.result.now new.x c.as_mut_slice.result.now h.states =
     subst (λ js. AreMovedTo m js new.x c.as_mut_slice.result.now h.states) (sym c.as_slice-4.ensures.value)
     (subst (λ l. AreMovedTo m moved new.x l h.states) (sym c.as_mut_slice.ensures.value) (moved_to m c.args.tick agenda s taken c.requires.in_time moved assigned new h handled)) in
     let allowed : AreNextLevels (IsRuled c.args.q.now.name) m h.states s.levels.items fresh =
-    subst (λ l. AreNextLevels (IsRuled c.args.q.now.name) m h.states l fresh) c.as_mut_slice.ensures.value (c.requantize_handled-over.ensures.allowed h.states to) in
+    subst (λ l. AreNextLevels (IsRuled c.args.q.now.name) m h.states l fresh) c.as_mut_slice.ensures.value (c.requantize_handled-over.ensures.taken.1.allowed h.states to) in
     let over : c.requantize_handled-over.result ≡ option_or (first_past 43 fresh) (position (is_overweight m fresh h.discretes) m.rows) =
-    c.requantize_handled-over.ensures.over ∙ ap (λ d. option_or (first_past 43 fresh) (position (is_overweight m fresh d) m.rows)) of_d in
+    c.requantize_handled-over.ensures.taken.1.over_is ∙ ap (λ d. option_or (first_past 43 fresh) (position (is_overweight m fresh d) m.rows)) of_d in
     let fine : c.requantize_handled-over.result ≡ None = not_some c.requantize_handled-over.result (sym c.is_some-2.ensures ∙ c.if-is_some-2.false) in
     let none_both = both_none (first_past 43 fresh) (position (is_overweight m fresh h.discretes) m.rows) (sym fine ∙ over) in
     let levels : List ℤ = (with_items s.levels c.requantize_handled-over.new.levels).items in
     let of_levels : levels ≡ c.requantize_handled-over.new.levels = with_items_is s.levels c.requantize_handled-over.new.levels (c.requantize_handled-over.auto.levels ∙ c.as_mut_slice.ensures.len) in
-    let are_fresh : levels ≡ fresh = of_levels ∙ c.requantize_handled-over.ensures.levels fine in
+    let are_fresh : levels ≡ fresh = of_levels ∙ c.requantize_handled-over.ensures.taken.1.levels fine in
     let fits = taken.stands.fits in
     let off : IsOff moved s.levels.items levels =
     subst (λ l. IsOff moved s.levels.items l) (sym are_fresh)
-    (subst (λ l. IsOff moved l fresh) c.as_mut_slice.ensures.value (subst (λ js. IsOff js c.as_mut_slice.result.now fresh) c.as_slice-4.ensures.value c.requantize_handled-over.ensures.others)) in
+    (subst (λ l. IsOff moved l fresh) c.as_mut_slice.ensures.value (subst (λ js. IsOff js c.as_mut_slice.result.now fresh) c.as_slice-4.ensures.value c.requantize_handled-over.ensures.taken.1.others)) in
     let allowed_now : AreNextLevels (IsRuled c.args.q.now.name) m h.states s.levels.items levels =
     subst (λ l. AreNextLevels (IsRuled c.args.q.now.name) m h.states s.levels.items l) (sym are_fresh) allowed in
     let after = c.handle-over.new.agenda in
@@ -255,9 +256,9 @@ go_on_handled-requires g c =
         lines = fits.lines;
         levels = same_length s.levels c.requantize_handled-over.new.levels ∙ fits.levels;
         slopes = fits.slopes;
-        fresh = same_length s.fresh c.requantize_handled-over.new.fresh ∙ fits.fresh;
         weights = (c.requantize_handled-over.ensures.weights fine).as_many;
         moved_room = omega (arith, c.handle-over.ensures.moved_room, fits.moved_room);
+        touched_room = fits.touched_room;
         changed_room = fits.changed_room;
         fired_room = omega (arith, c.handle-over.ensures.fired_room, fits.fired_room);
         assigned_room = omega (arith, c.handle-over.ensures.assigned_room, fits.assigned_room);
@@ -286,7 +287,6 @@ go_on_handled-requires g c =
       small_levels = subst (All (IsWithin 43)) (sym of_levels) (c.requantize_handled-over.ensures.small fine);
       light = ap (λ l. position (is_overweight m l new.d) m.rows) are_fresh ∙ ap (λ d. position (is_overweight m fresh d) m.rows) of_d ∙ none_both.1;
       weights = subst (λ l. AreWeights m l new.d c.requantize_handled-over.new.weights) (sym of_levels) (c.requantize_handled-over.ensures.weights fine);
-      fresh_levels = with_items_is s.fresh fresh (c.requantize_handled-over.auto.fresh ∙ c.as_mut_slice-2.ensures.len) ∙ sym are_fresh;
       in_time = omega (arith, c.requires.in_time, m.has_units.last_tick);
       later = λ j inside. omega (arith, earlier m c.args.tick agenda s taken c.requires.in_time j inside);
       small = subst (λ ls. All (IsWithin 88) (states_at ls t)) c.as_slice.ensures.value
@@ -306,6 +306,7 @@ go_on_handled-requires g c =
           (subst (λ found. IsWatched m t (states_at s.lines.items t) s.work.d s.slopes.items place (watch_at s.conditions.watches.items place) found)
           (sym (conditions_stay m c.args.tick agenda s taken c.requires.in_time moved assigned new h handled after without place))
           (watched_still m c.args.tick agenda s taken c.requires.in_time place inside none)));
+      alike = subst (λ (cs : List ℕ). AreAlikeBut cs c.handle-over.new.self.arrived.items c.handle-over.new.self.settled.items) c.as_slice-2.ensures.value (c.handle-over.ensures.alike calm);
       settled = λ place inside none.
           ap (λ (all : Conditions). flag_at all.settled.items place) c.handle-over.ensures.rest
           ∙ sym (flag_same m c.args.tick agenda s taken c.requires.in_time place inside none)
@@ -332,19 +333,19 @@ returns g c =
     let calm_h : h.overflow ≡ None = sym c.handle-over.ensures.over ∙ calm in
     let of_d : new.d ≡ h.discretes = ap (λ (v : Values). v.d) handled.values in
     let of_pre : new.pre ≡ s.work.d = ap (λ (v : Values). v.pre) handled.values in
-    let fresh : List ℤ = c.requantize_handled-over.new.fresh in
+    let fresh : List ℤ = c.requantize_handled-over.ensures.taken.0 in
     let to : AreMovedTo m c.as_slice-4.result.now new.x c.as_mut_slice.result.now h.states =
     subst (λ js. AreMovedTo m js new.x c.as_mut_slice.result.now h.states) (sym c.as_slice-4.ensures.value)
     (subst (λ l. AreMovedTo m moved new.x l h.states) (sym c.as_mut_slice.ensures.value) (moved_to m c.args.tick agenda s taken c.requires.in_time moved assigned new h handled)) in
     let allowed : AreNextLevels (IsRuled c.args.q.now.name) m h.states s.levels.items fresh =
-    subst (λ l. AreNextLevels (IsRuled c.args.q.now.name) m h.states l fresh) c.as_mut_slice.ensures.value (c.requantize_handled-over.ensures.allowed h.states to) in
+    subst (λ l. AreNextLevels (IsRuled c.args.q.now.name) m h.states l fresh) c.as_mut_slice.ensures.value (c.requantize_handled-over.ensures.taken.1.allowed h.states to) in
     let over : c.requantize_handled-over.result ≡ option_or (first_past 43 fresh) (position (is_overweight m fresh h.discretes) m.rows) =
-    c.requantize_handled-over.ensures.over ∙ ap (λ d. option_or (first_past 43 fresh) (position (is_overweight m fresh d) m.rows)) of_d in
+    c.requantize_handled-over.ensures.taken.1.over_is ∙ ap (λ d. option_or (first_past 43 fresh) (position (is_overweight m fresh d) m.rows)) of_d in
     let fine : c.requantize_handled-over.result ≡ None = not_some c.requantize_handled-over.result (sym c.is_some-2.ensures ∙ c.if-is_some-2.false) in
     let none_both = both_none (first_past 43 fresh) (position (is_overweight m fresh h.discretes) m.rows) (sym fine ∙ over) in
     let levels : List ℤ = (with_items s.levels c.requantize_handled-over.new.levels).items in
     let of_levels : levels ≡ c.requantize_handled-over.new.levels = with_items_is s.levels c.requantize_handled-over.new.levels (c.requantize_handled-over.auto.levels ∙ c.as_mut_slice.ensures.len) in
-    let are_fresh : levels ≡ fresh = of_levels ∙ c.requantize_handled-over.ensures.levels fine in
+    let are_fresh : levels ≡ fresh = of_levels ∙ c.requantize_handled-over.ensures.taken.1.levels fine in
     let fits = taken.stands.fits in
     let w : World = world_of c.args.tick s in
     let next : World = world_of t c.go_on_handled.new.s in

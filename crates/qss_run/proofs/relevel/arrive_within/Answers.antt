@@ -1,16 +1,15 @@
 -- The first moved state past its limit is the first of all.
-use Rattle.std.proofs.Common.{subst}
-use Rattle.mu_num.specs.Sizes.{passes}
-use Rattle.qss_machine.specs.Numbers.{int_at}
-use Rattle.qss_quiet.specs.Writes.{IsFirstOf}
-use Rattle.qss_run.proofs.DueLevels.{states_over, arrived_small}
+use Rattle.std.proofs.Common.{◌≡◌, sym, ◌∙◌}
+use Rattle.qss_machine.specs.Numbers.{first_past}
+use Rattle.qss_run.specs.Stores.{states_at}
+use Rattle.qss_run.proofs.DueLevels.{past_on_arrival, arrived_within}
 use Rattle.qss_run.proofs.relevel.arrive_within.Goals as goal
 
 pub returns-clause-over : goal.returns-clause-over
-returns-clause-over c =
-    states_over c.args.tick c.args.lines.now c.args.moved.now c.args.x.now c.arrive_due.new.x c.requires.moved c.arrive_due.ensures c.first_past_of.result c.requires.others_small c.first_past_of.ensures
+returns-clause-over c = past_on_arrival c.args.tick c.args.lines.now c.args.moved.now c.requires.moved c.arrive_due.result c.requires.others_small c.arrive_due.ensures.first
 
 pub returns-clause-small_x : goal.returns-clause-small_x
 returns-clause-small_x c none =
-    arrived_small c.args.tick c.args.lines.now c.args.moved.now c.args.x.now c.arrive_due.new.x c.requires.moved c.arrive_due.ensures c.requires.small_x
-    (subst (IsFirstOf (λ j. passes 88 (int_at c.arrive_due.new.x j)) c.args.moved.now) none c.first_past_of.ensures)
+    let over : c.arrive_due.result ≡ first_past 88 (states_at c.args.lines.now c.args.tick) =
+    past_on_arrival c.args.tick c.args.lines.now c.args.moved.now c.requires.moved c.arrive_due.result c.requires.others_small c.arrive_due.ensures.first in
+    arrived_within c.args.tick c.args.lines.now c.args.moved.now c.requires.moved c.args.x.now c.arrive_due.new.x c.arrive_due.ensures.arrived c.requires.small_x (sym over ∙ none)

@@ -1,40 +1,24 @@
 -- A state that passed its limit on arrival, or one whose level does.
-use Rattle.std.proofs.Common.{◌++◌, sym, ◌∙◌, ap, subst}
-use Rattle.qss_machine.specs.Numbers.{first_past}
+use Rattle.std.proofs.Common.{◌++◌, List, ◌∙◌, ap}
+use Rattle.qss_machine.specs.declared.rows.Row.{Row}
 use Rattle.qss_machine.specs.Runs.{level_rows}
-use Rattle.qss_quiet.specs.Among.{AreNumbers}
-use Rattle.qss_quiet.proofs.Overs.{not_some, clash}
 use Rattle.qss_run.specs.Stores.{states_at}
-use Rattle.qss_run.proofs.DueLevels.{arrived_at}
-use Rattle.qss_run.proofs.Handled.{over_first, over_second}
+use Rattle.qss_run.proofs.Taken.{on_arrival, small_then, rows_then}
 use Rattle.qss_run.proofs.relevel.requantize_due.Goals as goal
 
-pub returns-then-is_some-clause-over : goal.returns-then-is_some-clause-over
-returns-then-is_some-clause-over g c =
-    over_first c.arrive_within-passed.result _ (first_past 43 c.args.fresh.now) (sym c.is_some.ensures ∙ c.if-is_some.true) c.arrive_within-passed.ensures.over
+pub returns-clause-taken : goal.returns-clause-taken
+returns-clause-taken g c =
+    on_arrival c.args.at.now c.args.q.now.name c.args.levels.now c.leave_due.new.levels _ c.leave_due.new.rows.items c.leave_due.result c.requires.ready c.requires.levels c.requires.small_levels
+    c.leave_due.ensures.passed c.leave_due.ensures.taken
 
-pub returns-then-is_some-clause-allowed : goal.returns-then-is_some-clause-allowed
-returns-then-is_some-clause-allowed g c calm = clash c.arrive_within-passed.result (sym c.is_some.ensures ∙ c.if-is_some.true) (c.arrive_within-passed.ensures.over ∙ calm)
-
-pub returns-clause-over : goal.returns-clause-over
-returns-clause-over g c =
-    over_second c.requantize_states.result _ _ (sym c.arrive_within-passed.ensures.over ∙ not_some c.arrive_within-passed.result (sym c.is_some.ensures ∙ c.if-is_some.false))
-    c.requantize_states.ensures.over
-
-pub returns-clause-allowed : goal.returns-clause-allowed
-returns-clause-allowed g c calm =
-    let lines = c.args.at.now.lines.now in
-    let moved = c.args.at.now.moved.now in
-    c.requantize_states.ensures.allowed (states_at lines c.args.at.now.tick)
-    (arrived_at c.args.at.now.tick lines moved c.args.x.now c.arrive_within-passed.new.x (subst (λ n. AreNumbers n moved) (sym c.requires.ready.arrival.lines) c.requires.ready.arrival.moved) c.arrive_within-passed.ensures.arrived
-    c.args.at.now.machine.now c.args.levels.now c.requires.ready.arrival.lines c.requires.ready.others_near)
+pub returns-clause-small : goal.returns-clause-small
+returns-clause-small g c none =
+    small_then c.args.at.now c.args.q.now.name c.args.levels.now c.leave_due.new.levels _ c.leave_due.new.rows.items c.leave_due.result c.requires.ready c.requires.levels c.requires.small_levels
+    c.leave_due.ensures.passed c.leave_due.ensures.taken none
 
 pub returns-clause-rows : goal.returns-clause-rows
 returns-clause-rows g c none =
-    let lines = c.args.at.now.lines.now in
-    let moved = c.args.at.now.moved.now in
-    let states = states_at lines c.args.at.now.tick in
-    c.requantize_states.ensures.rows none states
-    (arrived_at c.args.at.now.tick lines moved c.args.x.now c.arrive_within-passed.new.x (subst (λ n. AreNumbers n moved) (sym c.requires.ready.arrival.lines) c.requires.ready.arrival.moved) c.arrive_within-passed.ensures.arrived
-    c.args.at.now.machine.now c.args.levels.now c.requires.ready.arrival.lines c.requires.ready.others_near)
-    ∙ ap (λ items. items ++ level_rows c.args.at.now.tick c.args.levels.now c.requantize_states.new.levels states) c.clear.ensures.items
+    let at = c.args.at.now in
+    rows_then at c.args.q.now.name c.args.levels.now c.leave_due.new.levels _ c.leave_due.new.rows.items c.leave_due.result c.requires.ready c.requires.levels c.requires.small_levels
+    c.leave_due.ensures.passed c.leave_due.ensures.taken none
+    ∙ ap (λ (items : List Row). items ++ level_rows at.tick c.args.levels.now c.leave_due.new.levels (states_at at.lines.now at.tick)) c.clear.ensures.items

@@ -1,53 +1,41 @@
 -- What the moved states do is what all states do.
-use Rattle.std.proofs.Common.{◌≡◌, ◌++◌, refl, sym, ◌∙◌, ap, subst, arith}
-use Rattle.std.specs.Prelude.{None, All}
+use Rattle.std.proofs.Common.{◌≡◌, ◌++◌, List, ℤ, refl, sym, ◌∙◌, ap, subst}
+use Rattle.std.specs.Prelude.{All}
 use Rattle.mu_num.specs.Sizes.{IsWithin}
+use Rattle.qss_machine.specs.declared.rows.Row.{Row}
 use Rattle.qss_machine.specs.Numbers.{first_past}
 use Rattle.qss_machine.specs.Runs.{level_rows}
 use Rattle.qss_quiet.specs.Among.{IsOff}
 use Rattle.qss_quiet.specs.Rules.{IsRuled}
-use Rattle.qss_quiet.proofs.Overs.{all_within, not_some, clash}
-use Rattle.qss_run.proofs.Dues.{few_numbers}
-use Rattle.qss_run.proofs.DueLevels.{levels_over, levels_allowed, rows_of_moved, levels_taken, written_off}
+use Rattle.qss_run.proofs.DueLevels.{levels_over, levels_allowed, rows_of_moved, written_off}
+use Rattle.qss_quiet.proofs.Overs.{all_within}
 use Rattle.qss_run.proofs.relevel.requantize_states.Goals as goal
-
-pub returns-then-is_some : goal.returns-then-is_some
-returns-then-is_some g c =
-    let m = c.args.at.now.machine.now in
-    let moved = c.args.at.now.moved.now in
-    let some = sym c.is_some.ensures ∙ c.if-is_some.true in
-    let off : IsOff moved c.args.levels.now c.relevel_due.new.fresh = written_off moved _ c.args.levels.now c.args.fresh.now c.relevel_due.new.fresh c.requires.fresh c.relevel_due.ensures in
-    record {
-      over = levels_over m moved c.args.x.now c.args.levels.now c.relevel_due.new.fresh c.requires.moved c.requires.levels off c.first_past_of-passed.result c.requires.small_levels c.first_past_of-passed.ensures;
-      allowed = λ states are. levels_allowed m moved c.args.x.now c.args.levels.now c.relevel_due.new.fresh c.requires.moved c.requires.levels off states are (IsRuled c.args.q.now.name) c.relevel_due.ensures.each;
-      others = off;
-      levels = λ none. clash c.first_past_of-passed.result some none;
-      small = λ none. clash c.first_past_of-passed.result some none;
-      rows = λ none. clash c.first_past_of-passed.result some none;
-      room = refl;
-    }
-
-pub take_levels_due-requires-clause-room : goal.take_levels_due-requires-clause-room
-take_levels_due-requires-clause-room g c = omega (arith, few_numbers _ c.args.at.now.moved.now c.requires.moved, c.requires.room)
 
 pub returns : goal.returns
 returns g c =
     let m = c.args.at.now.machine.now in
+    let tick = c.args.at.now.tick in
     let moved = c.args.at.now.moved.now in
-    let none : c.first_past_of-passed.result ≡ None = not_some c.first_past_of-passed.result (sym c.is_some.ensures ∙ c.if-is_some.false) in
-    let off : IsOff moved c.args.levels.now c.relevel_due.new.fresh = written_off moved _ c.args.levels.now c.args.fresh.now c.relevel_due.new.fresh c.requires.fresh c.relevel_due.ensures in
-    let over : c.first_past_of-passed.result ≡ first_past 43 c.relevel_due.new.fresh =
-    levels_over m moved c.args.x.now c.args.levels.now c.relevel_due.new.fresh c.requires.moved c.requires.levels off c.first_past_of-passed.result c.requires.small_levels c.first_past_of-passed.ensures in
-    let taken : c.take_levels_due.new.levels ≡ c.relevel_due.new.fresh = levels_taken moved c.args.levels.now c.relevel_due.new.fresh c.take_levels_due.new.levels c.take_levels_due.ensures.levels off in
+    let x : List ℤ = c.args.x.now in
+    let old : List ℤ = c.args.levels.now in
+    let new : List ℤ = c.relevel_due.ensures.taken.0 in
+    let done = c.relevel_due.ensures.taken.1 in
+    let off : IsOff moved old new = written_off moved _ old old new refl done.allowed in
+    let over : c.relevel_due.result ≡ first_past 43 new = levels_over m moved x old new c.requires.moved c.requires.levels off c.relevel_due.result c.requires.small_levels done.found in
     record {
-      over = sym none ∙ over;
-      allowed = λ states are. levels_allowed m moved c.args.x.now c.args.levels.now c.relevel_due.new.fresh c.requires.moved c.requires.levels off states are (IsRuled c.args.q.now.name) c.relevel_due.ensures.each;
-      others = off;
-      levels = λ e. taken;
-      small = λ e. subst (All (IsWithin 43)) (sym taken) (all_within 43 c.relevel_due.new.fresh (sym over ∙ none));
-      rows = λ e states are. c.take_levels_due.ensures.rows
-          ∙ ap (λ more. c.args.rows.now.items ++ more)
-          (rows_of_moved m moved c.args.x.now c.args.levels.now c.relevel_due.new.fresh c.requires.moved c.requires.levels off states are c.args.at.now.tick
-          ∙ ap (λ l. level_rows c.args.at.now.tick c.args.levels.now l states) (sym taken));
-      room = c.take_levels_due.ensures.room;
+      taken = (
+        new,
+        record {
+          over_is = over;
+          allowed = λ states are. levels_allowed m moved x old new c.requires.moved c.requires.levels off states are (IsRuled c.args.q.now.name) done.allowed.each;
+          others = off;
+          levels = done.levels;
+        },
+      );
+      small = λ none. subst (All (IsWithin 43)) (sym (done.levels none)) (all_within 43 new (sym over ∙ none));
+      rows = λ none states are.
+          done.own_rows none
+          ∙ ap (λ (more : List Row). c.args.rows.now.items ++ more)
+          (rows_of_moved m moved x old new c.requires.moved c.requires.levels off states are tick ∙ ap (λ (l : List ℤ). level_rows tick old l states) (sym (done.levels none)));
+      room = c.relevel_due.ensures.room;
     }

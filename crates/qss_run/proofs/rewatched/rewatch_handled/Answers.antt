@@ -1,5 +1,5 @@
 -- All conditions are settled, or go on at their speeds.
-use Rattle.std.proofs.Common.{◌≡◌, ◌+◌, List, length, ℤ, sym, ◌∙◌, ap, subst, arith}
+use Rattle.std.proofs.Common.{◌≡◌, ℕ, ◌+◌, List, length, ℤ, sym, ◌∙◌, ap, subst, arith}
 use Rattle.std.specs.Prelude.{Bool, All}
 use Rattle.mu_num.specs.Sizes.{IsWithin}
 use Rattle.qss_machine.specs.Firing.{flag_at}
@@ -11,13 +11,16 @@ use Rattle.qss_hand.specs.Values.{Values}
 use Rattle.qss_run.specs.declared.conditions.Conditions.{Conditions}
 use Rattle.qss_run.specs.declared.store.Store.{Store}
 use Rattle.qss_quiet.specs.Logs.{reinitialized_of}
+use Rattle.qss_quiet.specs.Among.{is_among}
 use Rattle.qss_run.specs.Moments.{AreLinesAt, AreSlopesOf}
+use Rattle.qss_run.specs.Moves.{AreAlikeBut}
 use Rattle.qss_run.specs.Places.{watch_at, IsWatched}
 use Rattle.qss_run.specs.Rewatchings.{watchings_of, touched_after, one_reads}
 use Rattle.qss_quiet.specs.Sims.{condition_at}
 use Rattle.qss_run.specs.Speeds.{AreSlopesBefore}
 use Rattle.qss_run.specs.Stores.{states_at}
 use Rattle.qss_quiet.proofs.Flags.{truths_are}
+use Rattle.qss_run.proofs.Apart.{alike_then}
 use Rattle.qss_run.proofs.OwnConditions.{settled_fits, still_fits, rest_watched, same_settled}
 use Rattle.qss_run.proofs.QuietTick.{value_small, condition_bounded}
 use Rattle.qss_run.proofs.Settling.{among_settling, unread_by}
@@ -55,7 +58,7 @@ rewatch_of-requires-clause-ready c =
     (watchings_of c.settle_handled.new.self c.settle_handled.new.agenda) was.3 are in
     let many : length c.settle_handled.new.self.watches.items ≡ length (conditions m) = along.settled.many_watches ∙ fits.own_conditions.watches in
     record {
-      fits = settled_fits m s.conditions c.settle_handled.new.self fits.own_conditions along.rest along.settled.many_watches along.settled.many_truths;
+      fits = settled_fits m s.conditions c.settle_handled.new.self fits.own_conditions along.rest along.settled.many_watches along.settled.many_truths along.noted.count;
       places = omega (arith, along.settled.many_dues, fits.places);
       small = record {
         later = λ place h. (there place (omega (arith, h, many))).watched.not_later;
@@ -113,17 +116,24 @@ returns c =
           ap (λ vs. one_reads m (touched_after m (reinitialized_of s.work.log) vs c.as_slice-4.result.now) j) c.as_slice-3.ensures.value
           ∙ ap (λ cs. one_reads m (touched_after m (reinitialized_of s.work.log) s.assigned.items cs) j) c.as_slice-4.ensures.value
           ∙ unread_by m (reinitialized_of s.work.log) s.assigned.items s.changed.items j none);
+      alike = λ were.
+          let first_alike = alike_then m (reinitialized_of s.work.log) c.as_slice-3.result.now c.as_slice-4.result.now s.conditions first along.noted (λ place none. (along.settled.kept place none).truth)
+          (ap (λ (all : Conditions). all.arrived.items) along.rest) (subst (λ (cs : List ℕ). AreAlikeBut cs s.conditions.arrived.items s.conditions.settled.items) (sym c.as_slice-4.ensures.value) were) in
+          λ place out.
+          ap (λ (all : Conditions). flag_at all.arrived.items place) same
+          ∙ first_alike place (ap (λ (all : Conditions). is_among all.apart.places place) (sym same) ∙ out)
+          ∙ sym (ap (λ (all : Conditions). flag_at all.settled.items place) same);
       rest = ap (λ (all : Conditions). record new { conditions = all }) rest
-          ∙ ap (λ (v : Values). record new { conditions = record s.conditions { watches = last.watches; settled = last.settled }; work = v }) work;
+          ∙ ap (λ (v : Values). record new { conditions = record s.conditions { watches = last.watches; settled = last.settled; apart = last.apart }; work = v }) work;
       fits = record {
-        own_conditions = still_fits m first last (settled_fits m s.conditions first fits.own_conditions along.rest along.settled.many_watches along.settled.many_truths) same going.as_many;
+        own_conditions = still_fits m first last (settled_fits m s.conditions first fits.own_conditions along.rest along.settled.many_watches along.settled.many_truths along.noted.count) same going.as_many;
         uses = fits.uses;
         lines = fits.lines;
         levels = fits.levels;
         slopes = fits.slopes;
-        fresh = fits.fresh;
         weights = fits.weights;
         moved_room = fits.moved_room;
+        touched_room = fits.touched_room;
         changed_room = fits.changed_room;
         fired_room = fits.fired_room;
         assigned_room = fits.assigned_room;

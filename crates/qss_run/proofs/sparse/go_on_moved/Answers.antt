@@ -1,30 +1,26 @@
 -- Slopes and values are small, and conditions were watched before.
-use Rattle.std.proofs.Common.{◌≡◌, ◌+◌, List, ℤ, sym, ◌∙◌, ap, subst, arith}
-use Rattle.qss_machine.specs.Numbers.{tabulate}
-use Rattle.qss_machine.specs.Machines.{state_count, slope_at}
+use Rattle.std.proofs.Common.{◌+◌, List, ℤ, refl, sym, ◌∙◌, subst, arith}
+use Rattle.qss_machine.specs.Machines.{state_count}
 use Rattle.qss_cross.specs.Crossing.{IsSmall}
-use Rattle.qss_hand.specs.Values.{Values}
 use Rattle.qss_run.specs.declared.conditions.Conditions.{Conditions}
 use Rattle.qss_run.specs.Places.{watch_at, IsWatched}
 use Rattle.qss_quiet.specs.Sims.{condition_at}
 use Rattle.qss_run.specs.Speeds.{AreSlopesBefore}
 use Rattle.qss_run.specs.Stores.{states_at}
-use Rattle.qss_run.specs.Visitings.{CanReslope}
 use Rattle.qss_run.proofs.OwnConditions.{still_fits}
 use Rattle.qss_run.proofs.QuietTick.{value_small, condition_bounded}
 use Rattle.qss_run.proofs.QuietVisits.{slopes_stay}
 use Rattle.qss_run.proofs.Turning.{slopes_small}
 use Rattle.qss_run.proofs.sparse.go_on_moved.Goals as goal
 
-pub reslope_of-requires : goal.reslope_of-requires
-reslope_of-requires g c =
-    subst (λ (d : List ℤ). CanReslope c.args.at.now d c.args.slopes.now c.args.lines.now c.args.agenda.now)
-    (sym (c.as_slice-d.ensures.value ∙ ap (λ (v : Values). v.d) c.work.view_is)) c.requires.ready
+pub reslope_of-requires-clause-ready : goal.reslope_of-requires-clause-ready
+reslope_of-requires-clause-ready g c = c.requires.ready
 
 pub rewatch_of-requires-clause-ready : goal.rewatch_of-requires-clause-ready
 rewatch_of-requires-clause-ready g c =
     let m = c.args.at.now.machine.now in
     let all : Conditions = c.args.watched.now in
+    let d : List ℤ = c.args.at.now.discretes.now in
     let fits = c.requires.fits in
     record {
       fits = fits;
@@ -33,13 +29,13 @@ rewatch_of-requires-clause-ready g c =
         later = λ place h. (c.requires.watched place (omega (arith, h, fits.watches))).not_later;
         small = λ place h.
             subst IsSmall (sym (c.requires.watched place (omega (arith, h, fits.watches))).here)
-            (value_small m (condition_at m place).form (states_at c.args.lines.now c.args.at.now.tick) c.args.work.now.d c.args.at.now.tick
-            (condition_bounded m all.branches.items fits.branches place (omega (arith, h, fits.watches, fits.branches.as_many))) c.requires.small_states c.requires.ready.small_discretes c.requires.in_time);
+            (value_small m (condition_at m place).form (states_at c.args.lines.now c.args.at.now.tick) d c.args.at.now.tick
+            (condition_bounded m all.branches.items fits.branches place (omega (arith, h, fits.watches, fits.branches.as_many))) c.requires.small_states c.requires.ready.new.small_discretes
+            c.requires.in_time);
       };
       slopes_of = record {
         as_many = c.reslope_of.auto.slopes ∙ c.requires.ready.slopes;
-        small = slopes_small m c.args.at.now.levels.now c.args.work.now.d c.as_slice-d.result.now c.reslope_of.new.slopes c.requires.ready.light
-            (c.as_slice-d.ensures.value ∙ ap (λ (v : Values). v.d) c.work.view_is) c.reslope_of.ensures.slopes;
+        small = slopes_small m c.args.at.now.levels.now d d c.reslope_of.new.slopes c.requires.ready.light refl c.reslope_of.ensures.slopes;
       };
       in_time = c.requires.in_time;
     }
@@ -50,14 +46,12 @@ returns-clause-watches g c place h =
     let t = c.args.at.now.tick in
     let all : Conditions = c.args.watched.now in
     let x : List ℤ = states_at c.args.lines.now t in
-    let d : List ℤ = c.args.work.now.d in
-    let of_d : c.as_slice-d.result.now ≡ d = c.as_slice-d.ensures.value ∙ ap (λ (v : Values). v.d) c.work.view_is in
-    let slopes : c.reslope_of.new.slopes ≡ tabulate (state_count m) (λ j. slope_at m j c.args.at.now.levels.now d) =
-    c.reslope_of.ensures.slopes ∙ ap (λ e. tabulate (state_count m) (λ j. slope_at m j c.args.at.now.levels.now e)) of_d in
+    let d : List ℤ = c.args.at.now.discretes.now in
     let before : AreSlopesBefore m c.args.at.now.moved.now c.args.slopes.now c.reslope_of.new.slopes place = record {
       as_many = c.requires.ready.slopes;
       others = λ j inside reads none.
-          slopes_stay m c.args.at.now.moved.now c.requires.ready.before.0 c.args.at.now.levels.now d c.args.slopes.now c.reslope_of.new.slopes c.requires.ready.before.1.off c.requires.ready.before.1.own_sums slopes j inside none;
+          slopes_stay m c.args.at.now.moved.now c.requires.ready.before.0 c.args.at.now.levels.now d c.args.slopes.now c.reslope_of.new.slopes c.requires.ready.before.1.off c.requires.ready.before.1.own_sums
+          c.reslope_of.ensures.slopes j inside none;
     } in
     c.rewatch_of.ensures.watches x d c.args.slopes.now place h before
     (subst (IsWatched m t x d c.args.slopes.now place (watch_at all.watches.items place)) (sym (c.reslope_of.ensures.others (state_count m + place) (omega arith))) (c.requires.watched place h))

@@ -1,7 +1,8 @@
 -- A tick at which nothing but states is due.
-use Rattle.std.proofs.Common.{◌≡◌, ℕ, ◌+◌, ◌≤◌, List, Bool, [], length, ℤ, pos, sym, ◌∙◌, ap, subst, arith}
+use Rattle.std.proofs.Common.{◌≡◌, ℕ, ◌+◌, ◌<◌, ◌≤◌, List, Bool, [], length, count_by, ℤ, pos, sym, ◌∙◌, ap, subst, arith}
 use Rattle.std.proofs.lemmas.List.{with_items_is}
 use Rattle.std.proofs.lemmas.List.FromFn.{length-map-range_with_len}
+use Rattle.std.specs.List.{range_with_len}
 use Rattle.std.specs.Option.{option_or}
 use Rattle.std.specs.Prelude.{Option, None, Ok, All, position}
 use Rattle.std.specs.Vec.{with_items}
@@ -18,19 +19,22 @@ use Rattle.qss_run.specs.RowSums.{AreSumsBefore}
 use Rattle.qss_run.specs.declared.shifts.RowSum.TheVariants.{Slope}
 use Rattle.qss_run.specs.declared.conditions.Conditions.{Conditions}
 use Rattle.qss_run.specs.declared.store.Store.{Store}
+use Rattle.qss_machine.specs.Firing.{flag_at}
 use Rattle.qss_quiet.specs.Among.{is_among, AreNumbers, IsOff}
 use Rattle.qss_run.specs.Places.{line_at, watch_at, IsTurned, IsWatched}
-use Rattle.qss_run.specs.Renewals.{renewals}
 use Rattle.qss_quiet.specs.Rules.{IsRuled}
 use Rattle.qss_quiet.specs.Sims.{IsDue}
 use Rattle.qss_quiet.proofs.Overs.{not_some, clash, all_within}
+use Rattle.qss_run.specs.Gatherings.{reached}
 use Rattle.qss_run.specs.Kept.{AreWeights}
 use Rattle.qss_run.specs.Stores.{states_at, world_of, FitsMachine}
+use Rattle.qss_run.specs.Visitings.{HasLeft}
 use Rattle.qss_run.specs.Touches.{touches_at}
+use Rattle.qss_run.proofs.DueLevels.{moved_inside}
 use Rattle.qss_run.proofs.OwnConditions.{arrived_anew}
-use Rattle.qss_run.proofs.QuietVisits.{steps_or, leads, rest_small, rest_near, own_slope, levels_before, handled, arrived, near, kept_due, same_truths, watched, not_rising, rising, rows_then}
+use Rattle.qss_run.proofs.QuietVisits.{steps_or, leads, rest_small, rest_near, due_left, moved_changes, own_slope, levels_before, handled, arrived, near, kept_due, same_truths, watched, not_rising, rising, rows_then}
 use Rattle.qss_run.proofs.QuietTick.{none_rises_then}
-use Rattle.qss_run.proofs.Touched.{renewals_touched}
+use Rattle.qss_run.proofs.Touched.{changes, reached_touched}
 use Rattle.qss_run.proofs.Visits.{stands_again, end_of, both_none, same_length, levels_small, state_within}
 use Rattle.qss_run.proofs.sparse.visit_due.Goals as goal
 
@@ -52,6 +56,10 @@ requantize_moved-over-requires-clause-ready g c =
           let not_later = (taken.stands.stands_for.lines j (omega (arith, h, ap length c.as_slice.ensures.value, fits.lines))).not_later in
           omega (arith, ap (λ ls. (line_at ls j).tick) c.as_slice.ensures.value, not_later);
       in_time = omega (arith, c.requires.in_time, m.has_units.last_tick);
+      moved_away = λ j among.
+          subst (λ ls. HasLeft m j (state_at (line_at ls j) t) (int_at c.as_mut_slice.result.now j)) (sym c.as_slice.ensures.value)
+          (subst (λ l. HasLeft m j (state_at (line_at s.lines.items j) t) (int_at l j)) (sym c.as_mut_slice.ensures.value)
+          (due_left m c.args.tick agenda s taken c.requires.in_time j (ap (λ l. is_among l j) (sym c.as_slice-2.ensures.value) ∙ among)));
       others_small = λ j h none.
           subst (λ ls. IsWithin 88 (state_at (line_at ls j) t)) (sym c.as_slice.ensures.value)
           (rest_small m c.args.tick agenda s taken c.requires.in_time j h (ap (λ l. is_among l j) (sym c.as_slice-2.ensures.value) ∙ none));
@@ -61,10 +69,11 @@ requantize_moved-over-requires-clause-ready g c =
           ∙ rest_near m c.args.tick agenda s taken c.requires.in_time j h (ap (λ l. is_among l j) (sym c.as_slice-2.ensures.value) ∙ none);
     }
 
-pub requantize_moved-over-requires-clause-values : goal.requantize_moved-over-requires-clause-values
-requantize_moved-over-requires-clause-values g c =
-    let fits = c.requires.taken.1.stands.fits in
-    record { states = fits.states; discretes = fits.discretes; small_states = fits.small_states; small_discretes = fits.small_discretes }
+pub requantize_moved-over-requires-clause-discretes : goal.requantize_moved-over-requires-clause-discretes
+requantize_moved-over-requires-clause-discretes g c = c.requires.taken.1.stands.fits.discretes
+
+pub requantize_moved-over-requires-clause-small_discretes : goal.requantize_moved-over-requires-clause-small_discretes
+requantize_moved-over-requires-clause-small_discretes g c = c.requires.taken.1.stands.fits.small_discretes
 
 pub requantize_moved-over-requires-clause-held : goal.requantize_moved-over-requires-clause-held
 requantize_moved-over-requires-clause-held g c =
@@ -73,7 +82,6 @@ requantize_moved-over-requires-clause-held g c =
     let stands = c.requires.taken.1.stands in
     record {
       levels = ap length c.as_mut_slice.ensures.value ∙ stands.fits.levels;
-      fresh = c.as_mut_slice-2.ensures.value ∙ stands.fresh_levels ∙ sym c.as_mut_slice.ensures.value;
       small_levels = subst (All (IsWithin 43)) (sym c.as_mut_slice.ensures.value) (levels_small m c.args.tick (record s { agenda = c.requires.taken.0 }) stands);
       light = ap (λ l. position (is_overweight m l s.work.d) m.rows) c.as_mut_slice.ensures.value ∙ stands.stands_for.left.light;
       weights = subst (λ l. AreWeights m l s.work.d s.weights) (sym c.as_mut_slice.ensures.value) stands.own_weights;
@@ -89,15 +97,15 @@ returns-then-is_some-clause-stepped g c =
     let agenda : List (Option ℕ) = c.requires.taken.0 in
     let taken = c.requires.taken.1 in
     let x : List ℤ = states_at s.lines.items t in
-    let fresh : List ℤ = c.requantize_moved-over.new.fresh in
+    let fresh : List ℤ = c.requantize_moved-over.ensures.taken.0 in
     let h : Handling = record { states = x; discretes = s.work.d; rows = []; overflow = first_past 88 x } in
     let is_h : h ≡ handling_at m t (world_of c.args.tick s) = sym (handled m c.args.tick agenda s taken c.requires.in_time c.requires.none_changes) in
     let allowed : first_past 88 x ≡ None → AreNextLevels (IsRuled c.args.q.now.name) m x s.levels.items fresh = λ none.
     subst (λ ls. AreNextLevels (IsRuled c.args.q.now.name) m (states_at ls t) s.levels.items fresh) c.as_slice.ensures.value
     (subst (λ l. AreNextLevels (IsRuled c.args.q.now.name) m (states_at c.as_slice.result.now t) l fresh) c.as_mut_slice.ensures.value
-    (c.requantize_moved-over.ensures.allowed (ap (λ ls. first_past 88 (states_at ls t)) c.as_slice.ensures.value ∙ none))) in
+    (c.requantize_moved-over.ensures.taken.1.allowed (ap (λ ls. first_past 88 (states_at ls t)) c.as_slice.ensures.value ∙ none))) in
     let over : c.requantize_moved-over.result ≡ option_or (first_past 88 x) (option_or (first_past 43 fresh) (position (is_overweight m fresh s.work.d) m.rows)) =
-    c.requantize_moved-over.ensures.over
+    c.requantize_moved-over.ensures.taken.1.over_is
     ∙ ap (λ ls. option_or (first_past 88 (states_at ls t)) (option_or (first_past 43 fresh) (position (is_overweight m fresh s.work.d) m.rows))) c.as_slice.ensures.value in
     steps_or (IsRuled c.args.q.now.name) m t (world_of c.args.tick s) _ h fresh c.requantize_moved-over.result is_h allowed over
     (λ none. clash c.requantize_moved-over.result (sym c.is_some.ensures ∙ c.if-is_some.true) none)
@@ -111,22 +119,21 @@ go_on_moved-requires-clause-small_states g c =
     let taken = c.requires.taken.1 in
     let calm : c.requantize_moved-over.result ≡ None = not_some c.requantize_moved-over.result (sym c.is_some.ensures ∙ c.if-is_some.false) in
     let x : List ℤ = states_at s.lines.items t in
-    let fresh : List ℤ = c.requantize_moved-over.new.fresh in
+    let fresh : List ℤ = c.requantize_moved-over.ensures.taken.0 in
     let h : Handling = record { states = x; discretes = s.work.d; rows = []; overflow = first_past 88 x } in
     let is_h : h ≡ handling_at m t (world_of c.args.tick s) = sym (handled m c.args.tick agenda s taken c.requires.in_time c.requires.none_changes) in
     let allowed : first_past 88 x ≡ None → AreNextLevels (IsRuled c.args.q.now.name) m x s.levels.items fresh = λ none.
     subst (λ ls. AreNextLevels (IsRuled c.args.q.now.name) m (states_at ls t) s.levels.items fresh) c.as_slice.ensures.value
     (subst (λ l. AreNextLevels (IsRuled c.args.q.now.name) m (states_at c.as_slice.result.now t) l fresh) c.as_mut_slice.ensures.value
-    (c.requantize_moved-over.ensures.allowed (ap (λ ls. first_past 88 (states_at ls t)) c.as_slice.ensures.value ∙ none))) in
+    (c.requantize_moved-over.ensures.taken.1.allowed (ap (λ ls. first_past 88 (states_at ls t)) c.as_slice.ensures.value ∙ none))) in
     let over : c.requantize_moved-over.result ≡ option_or (first_past 88 x) (option_or (first_past 43 fresh) (position (is_overweight m fresh s.work.d) m.rows)) =
-    c.requantize_moved-over.ensures.over
+    c.requantize_moved-over.ensures.taken.1.over_is
     ∙ ap (λ ls. option_or (first_past 88 (states_at ls t)) (option_or (first_past 43 fresh) (position (is_overweight m fresh s.work.d) m.rows))) c.as_slice.ensures.value in
     let none_both = both_none (first_past 88 x) (option_or (first_past 43 fresh) (position (is_overweight m fresh s.work.d) m.rows)) (sym calm ∙ over) in
     let many : length c.requantize_moved-over.new.levels ≡ s.levels.len = c.requantize_moved-over.auto.levels ∙ c.as_mut_slice.ensures.len in
     let levels : c.as_slice-4.result.now ≡ fresh =
-    c.as_slice-4.ensures.value ∙ with_items_is s.levels c.requantize_moved-over.new.levels many ∙ c.requantize_moved-over.ensures.levels calm in
-    let of_d : c.requantize_moved-over.new.work.d ≡ s.work.d = ap (λ (v : Values). v.d) c.requantize_moved-over.ensures.work in
-    subst (λ ls. All (IsWithin 88) (states_at ls t)) (sym c.as_mut_slice-4.ensures.value) (all_within 88 x none_both.0)
+    c.as_slice-4.ensures.value ∙ with_items_is s.levels c.requantize_moved-over.new.levels many ∙ c.requantize_moved-over.ensures.taken.1.levels calm in
+    subst (λ ls. All (IsWithin 88) (states_at ls t)) (sym c.as_mut_slice-3.ensures.value) (all_within 88 x none_both.0)
 
 pub go_on_moved-requires-clause-ready : goal.go_on_moved-requires-clause-ready
 go_on_moved-requires-clause-ready g c =
@@ -137,67 +144,67 @@ go_on_moved-requires-clause-ready g c =
     let taken = c.requires.taken.1 in
     let calm : c.requantize_moved-over.result ≡ None = not_some c.requantize_moved-over.result (sym c.is_some.ensures ∙ c.if-is_some.false) in
     let x : List ℤ = states_at s.lines.items t in
-    let fresh : List ℤ = c.requantize_moved-over.new.fresh in
+    let fresh : List ℤ = c.requantize_moved-over.ensures.taken.0 in
     let h : Handling = record { states = x; discretes = s.work.d; rows = []; overflow = first_past 88 x } in
     let is_h : h ≡ handling_at m t (world_of c.args.tick s) = sym (handled m c.args.tick agenda s taken c.requires.in_time c.requires.none_changes) in
     let allowed : first_past 88 x ≡ None → AreNextLevels (IsRuled c.args.q.now.name) m x s.levels.items fresh = λ none.
     subst (λ ls. AreNextLevels (IsRuled c.args.q.now.name) m (states_at ls t) s.levels.items fresh) c.as_slice.ensures.value
     (subst (λ l. AreNextLevels (IsRuled c.args.q.now.name) m (states_at c.as_slice.result.now t) l fresh) c.as_mut_slice.ensures.value
-    (c.requantize_moved-over.ensures.allowed (ap (λ ls. first_past 88 (states_at ls t)) c.as_slice.ensures.value ∙ none))) in
+    (c.requantize_moved-over.ensures.taken.1.allowed (ap (λ ls. first_past 88 (states_at ls t)) c.as_slice.ensures.value ∙ none))) in
     let over : c.requantize_moved-over.result ≡ option_or (first_past 88 x) (option_or (first_past 43 fresh) (position (is_overweight m fresh s.work.d) m.rows)) =
-    c.requantize_moved-over.ensures.over
+    c.requantize_moved-over.ensures.taken.1.over_is
     ∙ ap (λ ls. option_or (first_past 88 (states_at ls t)) (option_or (first_past 43 fresh) (position (is_overweight m fresh s.work.d) m.rows))) c.as_slice.ensures.value in
     let none_both = both_none (first_past 88 x) (option_or (first_past 43 fresh) (position (is_overweight m fresh s.work.d) m.rows)) (sym calm ∙ over) in
     let many : length c.requantize_moved-over.new.levels ≡ s.levels.len = c.requantize_moved-over.auto.levels ∙ c.as_mut_slice.ensures.len in
     let levels : c.as_slice-4.result.now ≡ fresh =
-    c.as_slice-4.ensures.value ∙ with_items_is s.levels c.requantize_moved-over.new.levels many ∙ c.requantize_moved-over.ensures.levels calm in
-    let of_d : c.requantize_moved-over.new.work.d ≡ s.work.d = ap (λ (v : Values). v.d) c.requantize_moved-over.ensures.work in
+    c.as_slice-4.ensures.value ∙ with_items_is s.levels c.requantize_moved-over.new.levels many ∙ c.requantize_moved-over.ensures.taken.1.levels calm in
     let off : IsOff s.moved.items s.levels.items fresh =
-    subst (λ l. IsOff l s.levels.items fresh) c.as_slice-2.ensures.value (subst (λ l. IsOff c.as_slice-2.result.now l fresh) c.as_mut_slice.ensures.value c.requantize_moved-over.ensures.others) in
+    subst (λ l. IsOff l s.levels.items fresh) c.as_slice-2.ensures.value (subst (λ l. IsOff c.as_slice-2.result.now l fresh) c.as_mut_slice.ensures.value c.requantize_moved-over.ensures.taken.1.others) in
+    let of_d : c.as_slice-5.result.now ≡ s.work.d = c.as_slice-5.ensures.value ∙ ap (λ (v : Values). v.d) c.work.view_is in
     let fits = taken.stands.fits in
     record {
       new = record {
         uses = fits.uses;
         moved = subst (AreNumbers (state_count m)) (sym c.as_slice-3.ensures.value) taken.due.numbers;
         levels = ap length c.as_slice-4.ensures.value ∙ same_length s.levels c.requantize_moved-over.new.levels ∙ fits.levels;
-        small_levels = subst (All (IsWithin 43)) (sym (levels ∙ sym (c.requantize_moved-over.ensures.levels calm))) (c.requantize_moved-over.ensures.small calm);
+        small_levels = subst (All (IsWithin 43)) (sym (levels ∙ sym (c.requantize_moved-over.ensures.taken.1.levels calm))) (c.requantize_moved-over.ensures.small calm);
+        discretes = ap length of_d ∙ fits.discretes;
+        small_discretes = subst (All (IsWithin 43)) (sym of_d) fits.small_discretes;
       };
-      discretes = ap length of_d ∙ fits.discretes;
-      small_discretes = subst (All (IsWithin 43)) (sym of_d) fits.small_discretes;
-      slopes = ap length c.as_mut_slice-3.ensures.value ∙ fits.slopes;
-      lines = ap length c.as_mut_slice-4.ensures.value ∙ fits.lines;
+      slopes = ap length c.as_mut_slice-2.ensures.value ∙ fits.slopes;
+      lines = ap length c.as_mut_slice-3.ensures.value ∙ fits.lines;
       places = omega (arith, taken.without.as_many, fits.places);
-      light = ap (λ l. position (is_overweight m l c.requantize_moved-over.new.work.d) m.rows) levels
+      light = ap (λ l. position (is_overweight m l c.as_slice-5.result.now) m.rows) levels
           ∙ ap (λ d. position (is_overweight m fresh d) m.rows) of_d
           ∙ (both_none (first_past 43 fresh) (position (is_overweight m fresh s.work.d) m.rows) (sym none_both.1)).1;
       in_time = omega (arith, c.requires.in_time, m.has_units.last_tick);
       earlier = λ j inside.
           let not_later = (taken.stands.stands_for.lines j inside).not_later in
-          omega (arith, ap (λ ls. (line_at ls j).tick) c.as_mut_slice-4.ensures.value, not_later);
+          omega (arith, ap (λ ls. (line_at ls j).tick) c.as_mut_slice-3.ensures.value, not_later);
       small_states = λ j inside.
-          subst (λ ls. IsWithin 88 (state_at (line_at ls j) t)) (sym c.as_mut_slice-4.ensures.value)
+          subst (λ ls. IsWithin 88 (state_at (line_at ls j) t)) (sym c.as_mut_slice-3.ensures.value)
           (state_within s.lines.items t j (omega (arith, inside, fits.lines)) (all_within 88 x none_both.0));
       near = λ j inside.
-          subst (λ ls. IsNear (level_unit m) (state_at (line_at ls j) t) (int_at c.as_slice-4.result.now j) (quantum_of m j (int_at c.as_slice-4.result.now j))) (sym c.as_mut_slice-4.ensures.value)
+          subst (λ ls. IsNear (level_unit m) (state_at (line_at ls j) t) (int_at c.as_slice-4.result.now j) (quantum_of m j (int_at c.as_slice-4.result.now j))) (sym c.as_mut_slice-3.ensures.value)
           (subst (λ l. IsNear (level_unit m) (state_at (line_at s.lines.items j) t) (int_at l j) (quantum_of m j (int_at l j))) (sym levels)
           (near m c.args.tick agenda s taken c.requires.in_time c.args.q.now.name fresh (allowed none_both.0) j inside));
       before = (
         s.levels.items,
-        subst (λ js. AreSumsBefore Slope m js c.as_slice-4.result.now c.requantize_moved-over.new.work.d c.as_mut_slice-3.result.now c.as_mut_slice-4.result.now s.levels.items) (sym c.as_slice-3.ensures.value)
-            (subst (λ l. AreSumsBefore Slope m s.moved.items l c.requantize_moved-over.new.work.d c.as_mut_slice-3.result.now c.as_mut_slice-4.result.now s.levels.items) (sym levels)
-            (subst (λ d. AreSumsBefore Slope m s.moved.items fresh d c.as_mut_slice-3.result.now c.as_mut_slice-4.result.now s.levels.items) (sym of_d)
-            (subst (λ v. AreSumsBefore Slope m s.moved.items fresh s.work.d v c.as_mut_slice-4.result.now s.levels.items) (sym c.as_mut_slice-3.ensures.value)
-            (subst (λ ls. AreSumsBefore Slope m s.moved.items fresh s.work.d s.slopes.items ls s.levels.items) (sym c.as_mut_slice-4.ensures.value)
+        subst (λ js. AreSumsBefore Slope m js c.as_slice-4.result.now c.as_slice-5.result.now c.as_mut_slice-2.result.now c.as_mut_slice-3.result.now s.levels.items) (sym c.as_slice-3.ensures.value)
+            (subst (λ l. AreSumsBefore Slope m s.moved.items l c.as_slice-5.result.now c.as_mut_slice-2.result.now c.as_mut_slice-3.result.now s.levels.items) (sym levels)
+            (subst (λ d. AreSumsBefore Slope m s.moved.items fresh d c.as_mut_slice-2.result.now c.as_mut_slice-3.result.now s.levels.items) (sym of_d)
+            (subst (λ v. AreSumsBefore Slope m s.moved.items fresh s.work.d v c.as_mut_slice-3.result.now s.levels.items) (sym c.as_mut_slice-2.ensures.value)
+            (subst (λ ls. AreSumsBefore Slope m s.moved.items fresh s.work.d s.slopes.items ls s.levels.items) (sym c.as_mut_slice-3.ensures.value)
             (levels_before m c.args.tick agenda s taken c.requires.in_time fresh off))))),
       );
       own_slope = λ j inside.
-          ap (λ ls. (line_at ls j).slope) c.as_mut_slice-4.ensures.value
+          ap (λ ls. (line_at ls j).slope) c.as_mut_slice-3.ensures.value
           ∙ own_slope m c.args.tick agenda s taken c.requires.in_time j inside
-          ∙ ap (λ l. int_at l j) (sym c.as_mut_slice-3.ensures.value);
+          ∙ ap (λ l. int_at l j) (sym c.as_mut_slice-2.ensures.value);
       due = λ j inside own.
-          subst (λ ls. IsDue m t j (line_at ls j) (due_at s.agenda j)) (sym c.as_mut_slice-4.ensures.value)
+          subst (λ ls. IsDue m t j (line_at ls j) (due_at s.agenda j)) (sym c.as_mut_slice-3.ensures.value)
           (kept_due m c.args.tick agenda s taken c.requires.in_time c.args.q.now.name fresh (allowed none_both.0) j inside
-          (ap (λ ls. (line_at ls j).level) (sym c.as_mut_slice-4.ensures.value) ∙ own ∙ ap (λ l. int_at l j) levels));
+          (ap (λ ls. (line_at ls j).level) (sym c.as_mut_slice-3.ensures.value) ∙ own ∙ ap (λ l. int_at l j) levels));
     }
 
 pub go_on_moved-requires-clause-watched : goal.go_on_moved-requires-clause-watched
@@ -209,39 +216,44 @@ go_on_moved-requires-clause-watched g c place inside =
     let taken = c.requires.taken.1 in
     let calm : c.requantize_moved-over.result ≡ None = not_some c.requantize_moved-over.result (sym c.is_some.ensures ∙ c.if-is_some.false) in
     let x : List ℤ = states_at s.lines.items t in
-    let fresh : List ℤ = c.requantize_moved-over.new.fresh in
+    let fresh : List ℤ = c.requantize_moved-over.ensures.taken.0 in
     let h : Handling = record { states = x; discretes = s.work.d; rows = []; overflow = first_past 88 x } in
     let is_h : h ≡ handling_at m t (world_of c.args.tick s) = sym (handled m c.args.tick agenda s taken c.requires.in_time c.requires.none_changes) in
     let allowed : first_past 88 x ≡ None → AreNextLevels (IsRuled c.args.q.now.name) m x s.levels.items fresh = λ none.
     subst (λ ls. AreNextLevels (IsRuled c.args.q.now.name) m (states_at ls t) s.levels.items fresh) c.as_slice.ensures.value
     (subst (λ l. AreNextLevels (IsRuled c.args.q.now.name) m (states_at c.as_slice.result.now t) l fresh) c.as_mut_slice.ensures.value
-    (c.requantize_moved-over.ensures.allowed (ap (λ ls. first_past 88 (states_at ls t)) c.as_slice.ensures.value ∙ none))) in
+    (c.requantize_moved-over.ensures.taken.1.allowed (ap (λ ls. first_past 88 (states_at ls t)) c.as_slice.ensures.value ∙ none))) in
     let over : c.requantize_moved-over.result ≡ option_or (first_past 88 x) (option_or (first_past 43 fresh) (position (is_overweight m fresh s.work.d) m.rows)) =
-    c.requantize_moved-over.ensures.over
+    c.requantize_moved-over.ensures.taken.1.over_is
     ∙ ap (λ ls. option_or (first_past 88 (states_at ls t)) (option_or (first_past 43 fresh) (position (is_overweight m fresh s.work.d) m.rows))) c.as_slice.ensures.value in
     let none_both = both_none (first_past 88 x) (option_or (first_past 43 fresh) (position (is_overweight m fresh s.work.d) m.rows)) (sym calm ∙ over) in
     let many : length c.requantize_moved-over.new.levels ≡ s.levels.len = c.requantize_moved-over.auto.levels ∙ c.as_mut_slice.ensures.len in
     let levels : c.as_slice-4.result.now ≡ fresh =
-    c.as_slice-4.ensures.value ∙ with_items_is s.levels c.requantize_moved-over.new.levels many ∙ c.requantize_moved-over.ensures.levels calm in
-    let of_d : c.requantize_moved-over.new.work.d ≡ s.work.d = ap (λ (v : Values). v.d) c.requantize_moved-over.ensures.work in
-    subst (λ ls. IsWatched m t (states_at ls t) c.requantize_moved-over.new.work.d c.as_mut_slice-3.result.now place (watch_at s.conditions.watches.items place) (due_at s.agenda (state_count m + place))) (sym c.as_mut_slice-4.ensures.value)
-    (subst (λ v. IsWatched m t x c.requantize_moved-over.new.work.d v place (watch_at s.conditions.watches.items place) (due_at s.agenda (state_count m + place))) (sym c.as_mut_slice-3.ensures.value)
+    c.as_slice-4.ensures.value ∙ with_items_is s.levels c.requantize_moved-over.new.levels many ∙ c.requantize_moved-over.ensures.taken.1.levels calm in
+    let of_d : c.as_slice-5.result.now ≡ s.work.d = c.as_slice-5.ensures.value ∙ ap (λ (v : Values). v.d) c.work.view_is in
+    subst (λ ls. IsWatched m t (states_at ls t) c.as_slice-5.result.now c.as_mut_slice-2.result.now place (watch_at s.conditions.watches.items place) (due_at s.agenda (state_count m + place))) (sym c.as_mut_slice-3.ensures.value)
+    (subst (λ v. IsWatched m t x c.as_slice-5.result.now v place (watch_at s.conditions.watches.items place) (due_at s.agenda (state_count m + place))) (sym c.as_mut_slice-2.ensures.value)
     (subst (λ d. IsWatched m t x d s.slopes.items place (watch_at s.conditions.watches.items place) (due_at s.agenda (state_count m + place))) (sym of_d)
     (watched m c.args.tick agenda s taken c.requires.in_time c.requires.none_changes place inside)))
+
+pub go_on_moved-requires-clause-room : goal.go_on_moved-requires-clause-room
+go_on_moved-requires-clause-room g c = c.requires.taken.1.stands.fits.touched_room
 
 pub catch_up-requires-clause-as_many : goal.catch_up-requires-clause-as_many
 catch_up-requires-clause-as_many g c =
     let fits = c.go_on_moved.ensures.fits in
     ap length c.as_mut_slice-arrived.ensures.value ∙ fits.arrived ∙ sym fits.settled ∙ sym (ap length c.as_slice-settled.ensures.value)
 
-pub catch_up-requires-clause-calm : goal.catch_up-requires-clause-calm
-catch_up-requires-clause-calm g c calm =
+pub catch_up-requires-clause-count : goal.catch_up-requires-clause-count
+catch_up-requires-clause-count g c =
+    let fits = c.go_on_moved.ensures.fits in fits.apart ∙ sym (ap length c.as_slice-settled.ensures.value ∙ fits.settled)
+
+pub catch_up-requires-clause-alike : goal.catch_up-requires-clause-alike
+catch_up-requires-clause-alike g c = λ place none.
     let rest = c.go_on_moved.ensures.rest in
-    c.as_mut_slice-arrived.ensures.value
-    ∙ ap (λ (all : Conditions). all.arrived.items) rest
-    ∙ c.requires.taken.1.stands.calm calm
-    ∙ sym (ap (λ (all : Conditions). all.settled.items) rest)
-    ∙ sym c.as_slice-settled.ensures.value
+    ap (λ flags. flag_at flags place) (c.as_mut_slice-arrived.ensures.value ∙ ap (λ (all : Conditions). all.arrived.items) rest)
+    ∙ c.requires.taken.1.stands.alike place (ap (λ (all : Conditions). is_among all.apart.places place) (sym rest) ∙ none)
+    ∙ sym (ap (λ flags. flag_at flags place) (c.as_slice-settled.ensures.value ∙ ap (λ (all : Conditions). all.settled.items) rest))
 
 pub returns : goal.returns
 returns g c =
@@ -252,92 +264,94 @@ returns g c =
     let taken = c.requires.taken.1 in
     let calm : c.requantize_moved-over.result ≡ None = not_some c.requantize_moved-over.result (sym c.is_some.ensures ∙ c.if-is_some.false) in
     let x : List ℤ = states_at s.lines.items t in
-    let fresh : List ℤ = c.requantize_moved-over.new.fresh in
+    let fresh : List ℤ = c.requantize_moved-over.ensures.taken.0 in
     let h : Handling = record { states = x; discretes = s.work.d; rows = []; overflow = first_past 88 x } in
     let is_h : h ≡ handling_at m t (world_of c.args.tick s) = sym (handled m c.args.tick agenda s taken c.requires.in_time c.requires.none_changes) in
     let allowed : first_past 88 x ≡ None → AreNextLevels (IsRuled c.args.q.now.name) m x s.levels.items fresh = λ none.
     subst (λ ls. AreNextLevels (IsRuled c.args.q.now.name) m (states_at ls t) s.levels.items fresh) c.as_slice.ensures.value
     (subst (λ l. AreNextLevels (IsRuled c.args.q.now.name) m (states_at c.as_slice.result.now t) l fresh) c.as_mut_slice.ensures.value
-    (c.requantize_moved-over.ensures.allowed (ap (λ ls. first_past 88 (states_at ls t)) c.as_slice.ensures.value ∙ none))) in
+    (c.requantize_moved-over.ensures.taken.1.allowed (ap (λ ls. first_past 88 (states_at ls t)) c.as_slice.ensures.value ∙ none))) in
     let over : c.requantize_moved-over.result ≡ option_or (first_past 88 x) (option_or (first_past 43 fresh) (position (is_overweight m fresh s.work.d) m.rows)) =
-    c.requantize_moved-over.ensures.over
+    c.requantize_moved-over.ensures.taken.1.over_is
     ∙ ap (λ ls. option_or (first_past 88 (states_at ls t)) (option_or (first_past 43 fresh) (position (is_overweight m fresh s.work.d) m.rows))) c.as_slice.ensures.value in
     let none_both = both_none (first_past 88 x) (option_or (first_past 43 fresh) (position (is_overweight m fresh s.work.d) m.rows)) (sym calm ∙ over) in
     let many : length c.requantize_moved-over.new.levels ≡ s.levels.len = c.requantize_moved-over.auto.levels ∙ c.as_mut_slice.ensures.len in
     let levels : c.as_slice-4.result.now ≡ fresh =
-    c.as_slice-4.ensures.value ∙ with_items_is s.levels c.requantize_moved-over.new.levels many ∙ c.requantize_moved-over.ensures.levels calm in
-    let of_d : c.requantize_moved-over.new.work.d ≡ s.work.d = ap (λ (v : Values). v.d) c.requantize_moved-over.ensures.work in
+    c.as_slice-4.ensures.value ∙ with_items_is s.levels c.requantize_moved-over.new.levels many ∙ c.requantize_moved-over.ensures.taken.1.levels calm in
+    let of_d : c.as_slice-5.result.now ≡ s.work.d = c.as_slice-5.ensures.value ∙ ap (λ (v : Values). v.d) c.work.view_is in
     let fits = taken.stands.fits in
-    let work : c.requantize_moved-over.new.work ≡ record s.work { x = c.requantize_moved-over.new.work.x } = c.requantize_moved-over.ensures.work in
     let own : Conditions = c.go_on_moved.new.watched in
     let own_settled : own.settled.items ≡ s.conditions.settled.items = ap (λ (all : Conditions). all.settled.items) c.go_on_moved.ensures.rest in
     let next : Store = record s {
-      conditions = record own { arrived = with_items own.arrived c.catch_up.new.arrived };
+      conditions = record own { arrived = with_items own.arrived c.catch_up.new.arrived; apart = c.catch_up.new.apart };
       levels = with_items s.levels c.requantize_moved-over.new.levels;
       slopes = with_items s.slopes c.go_on_moved.new.slopes;
       lines = with_items s.lines c.go_on_moved.new.lines;
-      fresh = with_items s.fresh fresh;
       weights = c.requantize_moved-over.new.weights;
-      calm = c.catch_up.new.calm;
       agenda = c.go_on_moved.new.agenda;
-      work = c.requantize_moved-over.new.work;
+      touched = c.go_on_moved.new.touched;
       rows = c.requantize_moved-over.new.rows;
     } in
     let good : FitsMachine m next = record {
-      own_conditions = arrived_anew m own (with_items own.arrived c.catch_up.new.arrived) c.go_on_moved.ensures.fits (same_length own.arrived c.catch_up.new.arrived ∙ c.go_on_moved.ensures.fits.arrived);
+      own_conditions = arrived_anew m own (with_items own.arrived c.catch_up.new.arrived) c.catch_up.new.apart c.go_on_moved.ensures.fits
+          (same_length own.arrived c.catch_up.new.arrived ∙ c.go_on_moved.ensures.fits.arrived) c.catch_up.ensures.count;
       uses = fits.uses;
       lines = same_length s.lines c.go_on_moved.new.lines ∙ fits.lines;
       levels = same_length s.levels c.requantize_moved-over.new.levels ∙ fits.levels;
       slopes = same_length s.slopes c.go_on_moved.new.slopes ∙ fits.slopes;
-      fresh = same_length s.fresh fresh ∙ fits.fresh;
       weights = (c.requantize_moved-over.ensures.weights calm).as_many;
       moved_room = fits.moved_room;
+      touched_room = omega (arith, c.go_on_moved.ensures.room, fits.touched_room);
       changed_room = fits.changed_room;
       fired_room = fits.fired_room;
       assigned_room = fits.assigned_room;
       places = c.go_on_moved.ensures.places ∙ taken.without.as_many ∙ fits.places;
-      states = c.requantize_moved-over.ensures.states ∙ fits.states;
-      discretes = ap length of_d ∙ fits.discretes;
-      before = ap (λ (v : Values). length v.pre) work ∙ fits.before;
-      small_states = c.requantize_moved-over.ensures.small_x calm;
-      small_discretes = subst (All (IsWithin 43)) (sym of_d) fits.small_discretes;
-      work_room = omega (arith, ap (λ (v : Values). v.room) work, fits.work_room);
+      states = fits.states;
+      discretes = fits.discretes;
+      before = fits.before;
+      small_states = fits.small_states;
+      small_discretes = fits.small_discretes;
+      work_room = fits.work_room;
       row_room = omega (arith, c.requantize_moved-over.ensures.room, fits.row_room);
     } in
-    let of_slopes : next.slopes.items ≡ c.go_on_moved.new.slopes = with_items_is s.slopes c.go_on_moved.new.slopes (c.go_on_moved.auto.slopes ∙ c.as_mut_slice-3.ensures.len) in
-    let of_lines : next.lines.items ≡ c.go_on_moved.new.lines = with_items_is s.lines c.go_on_moved.new.lines (c.go_on_moved.auto.lines ∙ c.as_mut_slice-4.ensures.len) in
+    let of_slopes : next.slopes.items ≡ c.go_on_moved.new.slopes = with_items_is s.slopes c.go_on_moved.new.slopes (c.go_on_moved.auto.slopes ∙ c.as_mut_slice-2.ensures.len) in
+    let of_lines : next.lines.items ≡ c.go_on_moved.new.lines = with_items_is s.lines c.go_on_moved.new.lines (c.go_on_moved.auto.lines ∙ c.as_mut_slice-3.ensures.len) in
     let of_arrived : next.conditions.arrived.items ≡ s.conditions.settled.items =
     with_items_is own.arrived c.catch_up.new.arrived (c.catch_up.auto.arrived ∙ c.as_mut_slice-arrived.ensures.len) ∙ c.catch_up.ensures.arrived ∙ c.as_slice-settled.ensures.value ∙ own_settled in
     let own_levels : next.levels.items ≡ c.as_slice-4.result.now = sym c.as_slice-4.ensures.value in
     let light : position (is_overweight m next.levels.items next.work.d) m.rows ≡ None =
     ap (λ l. position (is_overweight m l next.work.d) m.rows) (own_levels ∙ levels)
-    ∙ ap (λ d. position (is_overweight m fresh d) m.rows) of_d
     ∙ (both_none (first_past 43 fresh) (position (is_overweight m fresh s.work.d) m.rows) (sym none_both.1)).1 in
     let many_states : length x ≡ state_count m = length-map-range_with_len (λ j. state_at (line_at s.lines.items j) t) 0 (length s.lines.items) ∙ fits.lines in
-    let settled : s.conditions.settled.items ≡ truths m x next.work.d t =
-    same_truths m c.args.tick agenda s taken c.requires.in_time c.requires.none_changes ∙ ap (λ d. truths m x d t) (sym of_d) in
+    let settled : s.conditions.settled.items ≡ truths m x next.work.d t = same_truths m c.args.tick agenda s taken c.requires.in_time c.requires.none_changes in
+    let slopes : c.go_on_moved.new.slopes ≡ tabulate (state_count m) (λ j. slope_at m j next.levels.items next.work.d) =
+    c.go_on_moved.ensures.slopes
+    ∙ ap (λ d. tabulate (state_count m) (λ j. slope_at m j c.as_slice-4.result.now d)) of_d
+    ∙ ap (λ l. tabulate (state_count m) (λ j. slope_at m j l next.work.d)) (sym own_levels) in
     let again = stands_again m t next x many_states good
-    (λ j inside. subst (λ l. IsWithin 43 (int_at l j)) (sym (own_levels ∙ levels ∙ sym (c.requantize_moved-over.ensures.levels calm)))
+    (λ j inside. subst (λ l. IsWithin 43 (int_at l j)) (sym (own_levels ∙ levels ∙ sym (c.requantize_moved-over.ensures.taken.1.levels calm)))
     (c.requantize_moved-over.ensures.small calm j (pos 0) (omega (arith, inside, many, s.levels.ok.0, fits.levels))))
     light
-    (of_slopes ∙ c.go_on_moved.ensures.slopes ∙ ap (λ l. tabulate (state_count m) (λ j. slope_at m j l next.work.d)) (sym own_levels))
-    (subst (λ l. AreWeights m l next.work.d next.weights) (sym (own_levels ∙ levels ∙ sym (c.requantize_moved-over.ensures.levels calm)))
-    (subst (λ d. AreWeights m c.requantize_moved-over.new.levels d next.weights) (sym of_d) (c.requantize_moved-over.ensures.weights calm)))
+    (of_slopes ∙ slopes)
+    (subst (λ l. AreWeights m l next.work.d next.weights) (sym (own_levels ∙ levels ∙ sym (c.requantize_moved-over.ensures.taken.1.levels calm)))
+    (c.requantize_moved-over.ensures.weights calm))
     (λ j inside.
     subst (λ ls. IsTurned m t (int_at x j) (int_at next.levels.items j) (slope_at m j next.levels.items next.work.d) j (line_at ls j) (due_at next.agenda j)) (sym of_lines)
     (subst (λ l. IsTurned m t (int_at x j) (int_at l j) (slope_at m j l next.work.d) j (line_at c.go_on_moved.new.lines j) (due_at next.agenda j)) (sym own_levels)
     (subst (λ y. IsTurned m t y (int_at c.as_slice-4.result.now j) (slope_at m j c.as_slice-4.result.now next.work.d) j (line_at c.go_on_moved.new.lines j) (due_at next.agenda j))
-    (ap (λ ls. state_at (line_at ls j) t) c.as_mut_slice-4.ensures.value ∙ sym (leads m c.args.tick agenda s taken c.requires.in_time j inside)) (c.go_on_moved.ensures.lines j inside))))
+    (ap (λ ls. state_at (line_at ls j) t) c.as_mut_slice-3.ensures.value ∙ sym (leads m c.args.tick agenda s taken c.requires.in_time j inside))
+    (subst (λ d. IsTurned m t (state_at (line_at c.as_mut_slice-3.result.now j) t) (int_at c.as_slice-4.result.now j) (slope_at m j c.as_slice-4.result.now d) j (line_at c.go_on_moved.new.lines j) (due_at next.agenda j))
+    of_d (c.go_on_moved.ensures.lines j inside)))))
     (own_settled ∙ settled)
     (λ place inside.
     subst (λ sl. IsWatched m t x next.work.d sl place (watch_at own.watches.items place) (due_at next.agenda (state_count m + place))) (sym of_slopes)
-    (subst (λ ls. IsWatched m t (states_at ls t) next.work.d c.go_on_moved.new.slopes place (watch_at own.watches.items place) (due_at next.agenda (state_count m + place))) c.as_mut_slice-4.ensures.value
-    (c.go_on_moved.ensures.watches place inside)))
+    (subst (λ ls. IsWatched m t (states_at ls t) next.work.d c.go_on_moved.new.slopes place (watch_at own.watches.items place) (due_at next.agenda (state_count m + place))) c.as_mut_slice-3.ensures.value
+    (subst (λ d. IsWatched m t (states_at c.as_mut_slice-3.result.now t) d c.go_on_moved.new.slopes place (watch_at own.watches.items place) (due_at next.agenda (state_count m + place))) of_d
+    (c.go_on_moved.ensures.watches place inside))))
     (not_rising m c.args.tick agenda s taken c.requires.in_time c.requires.none_changes ∙ sym (none_rises_then (world_of c.args.tick s) (world_of t next) of_arrived own_settled))
     (rising m c.args.tick agenda s taken c.requires.in_time c.requires.none_changes next.agenda
     (c.go_on_moved.ensures.beyond (state_count m + length (conditions m)) (omega arith)))
-    (with_items_is s.fresh fresh (c.requantize_moved-over.auto.fresh ∙ c.as_mut_slice-2.ensures.len) ∙ sym (own_levels ∙ levels))
-    (λ e. of_arrived ∙ sym own_settled) in
+    (λ place none. ap (λ flags. flag_at flags place) (of_arrived ∙ sym own_settled)) in
     let w : World = world_of c.args.tick s in
     let new_levels : next.levels.items ≡ fresh = own_levels ∙ levels in
     let still : s.conditions.settled.items ≡ truths m (moved_states m w) s.work.d t =
@@ -345,27 +359,26 @@ returns g c =
     let end : world_of t next ≡ end_of m t w h fresh =
     ap (λ (y : List ℤ). record { states = y; levels = next.levels.items; discretes = next.work.d; arrived = next.conditions.arrived.items; settled = next.conditions.settled.items }) again.0
     ∙ ap (λ (l : List ℤ). record { states = x; levels = l; discretes = next.work.d; arrived = next.conditions.arrived.items; settled = next.conditions.settled.items }) new_levels
-    ∙ ap (λ (d : List ℤ). record { states = x; levels = fresh; discretes = d; arrived = next.conditions.arrived.items; settled = next.conditions.settled.items }) of_d
     ∙ ap (λ (a : List Bool). record { states = x; levels = fresh; discretes = s.work.d; arrived = a; settled = next.conditions.settled.items }) (of_arrived ∙ still)
     ∙ ap (λ (b : List Bool). record { states = x; levels = fresh; discretes = s.work.d; arrived = truths m (moved_states m w) s.work.d t; settled = b })
     (own_settled ∙ same_truths m c.args.tick agenda s taken c.requires.in_time c.requires.none_changes) in
-    let counted : c.go_on_moved.new.steps ≡ c.args.steps.now + renewals (state_count m) next.levels.items c.go_on_moved.new.slopes s.lines.items =
-    subst (λ ls. c.go_on_moved.new.steps ≡ c.args.steps.now + renewals (state_count m) next.levels.items c.go_on_moved.new.slopes ls) c.as_mut_slice-4.ensures.value
-    (subst (λ l. c.go_on_moved.new.steps ≡ c.args.steps.now + renewals (state_count m) l c.go_on_moved.new.slopes c.as_mut_slice-4.result.now) (sym own_levels) c.go_on_moved.ensures.counted) in
-    let touched : renewals (state_count m) next.levels.items c.go_on_moved.new.slopes s.lines.items ≤ touches_at m t w (Ok (world_of t next)) =
-    renewals_touched m t w (world_of t next) taken.stands.stands_for.left.one_each good.levels fits.discretes good.discretes s.lines.items c.go_on_moved.new.slopes
-    (λ j inside. (taken.stands.stands_for.lines j inside).own_level) (λ j inside. (taken.stands.stands_for.lines j inside).own_slope)
-    (c.go_on_moved.ensures.slopes ∙ ap (λ l. tabulate (state_count m) (λ j. slope_at m j l next.work.d)) (sym own_levels)) in
+    let few : count_by (is_among (reached m s.moved.items)) (range_with_len 0 (state_count m)) ≤ touches_at m t w (Ok (world_of t next)) =
+    reached_touched m t w (world_of t next) s.moved.items taken.due.numbers (λ j among.
+    let inside : j < state_count m = moved_inside (state_count m) s.moved.items taken.due.numbers j among in
+    changes m w (world_of t next) j inside (λ same.
+    moved_changes m c.args.tick agenda s taken c.requires.in_time c.args.q.now.name fresh (allowed none_both.0) j among (ap (λ l. int_at l j) (sym new_levels) ∙ sym same))) in
+    let counted : c.go_on_moved.new.steps ≤ c.args.steps.now + count_by (is_among (reached m s.moved.items)) (range_with_len 0 (state_count m)) =
+    subst (λ js. c.go_on_moved.new.steps ≤ c.args.steps.now + count_by (is_among (reached m js)) (range_with_len 0 (state_count m))) c.as_slice-3.ensures.value c.go_on_moved.ensures.counted in
     record {
       stepped = steps_or (IsRuled c.args.q.now.name) m t w (world_of t next) h fresh None is_h allowed (sym calm ∙ over) (λ none. end);
       rows = λ none.
           c.requantize_moved-over.ensures.rows calm
           ∙ ap (λ l. level_rows t l c.requantize_moved-over.new.levels (states_at c.as_slice.result.now t)) c.as_mut_slice.ensures.value
-          ∙ ap (λ l. level_rows t s.levels.items l (states_at c.as_slice.result.now t)) (c.requantize_moved-over.ensures.levels calm ∙ sym new_levels)
+          ∙ ap (λ l. level_rows t s.levels.items l (states_at c.as_slice.result.now t)) (c.requantize_moved-over.ensures.taken.1.levels calm ∙ sym new_levels)
           ∙ ap (λ ls. level_rows t s.levels.items next.levels.items (states_at ls t)) c.as_slice.ensures.value
           ∙ ap (λ y. level_rows t s.levels.items next.levels.items y) (sym again.0)
           ∙ sym (rows_then m c.args.tick agenda s taken c.requires.in_time c.requires.none_changes (world_of t next));
       stands = λ none. again.1;
       room = c.requantize_moved-over.ensures.room;
-      counted = omega (arith, counted, touched);
+      counted = omega (arith, counted, few);
     }

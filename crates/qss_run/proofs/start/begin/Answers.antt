@@ -8,6 +8,7 @@ use Rattle.mu_num.specs.Sizes.{IsWithin}
 use Rattle.qss_machine.specs.declared.rows.RowKind.TheVariants as kind
 use Rattle.qss_machine.specs.Numbers.{int_at, tabulate}
 use Rattle.qss_machine.specs.Machines.{state_count, slope_at, start_states, start_discretes}
+use Rattle.qss_machine.specs.Firing.{flag_at}
 use Rattle.qss_machine.specs.Handlers.{truths, due_flags}
 use Rattle.qss_machine.specs.Ticks.{is_overweight}
 use Rattle.qss_machine.specs.Runs.{state_rows, discrete_rows}
@@ -60,9 +61,9 @@ returns c =
       lines = same_length s.lines c.set_out.new.lines ∙ fits.lines;
       levels = fits.levels;
       slopes = same_length s.slopes c.set_out.new.slopes ∙ fits.slopes;
-      fresh = fits.fresh;
       weights = c.start.ensures.as_many;
       moved_room = fits.moved_room;
+      touched_room = fits.touched_room;
       changed_room = fits.changed_room;
       fired_room = fits.fired_room;
       assigned_room = fits.assigned_room;
@@ -97,8 +98,7 @@ returns c =
     (c.set_out.ensures.watches place inside))
     (blank.not_rising ∙ sym (ap (λ a. list_any (λ flag. flag) (due_flags next.conditions.settled.items a next.conditions.settled.items)) same ∙ settled_twice next.conditions.settled.items))
     (c.set_out.ensures.rising ∙ sym (ap (λ b. if b then Some (0 + 1) else None) blank.not_rising))
-    blank.fresh_levels
-    (λ e. same) in
+    (λ place none. ap (λ flags. flag_at flags place) same) in
     let of_states : states_at next.lines.items 0 ≡ start_states m = again.0 ∙ blank.states in
     let settled : next.conditions.settled.items ≡ truths m (start_states m) (start_discretes m) 0 =
     c.set_out.ensures.settled ∙ ap (λ x. truths m x next.work.d 0) blank.states ∙ ap (λ d. truths m (start_states m) d 0) blank.discretes in

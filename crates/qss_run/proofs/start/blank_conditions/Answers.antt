@@ -2,6 +2,7 @@
 use Rattle.std.proofs.Common.{◌≡◌, length, ◌∙◌, ap, arith}
 use Rattle.std.proofs.lemmas.List.{length-replicate}
 use Rattle.qss_machine.specs.Handlers.{conditions}
+use Rattle.qss_run.specs.PlaceSets.{PlaceList}
 use Rattle.qss_run.proofs.start.blank_conditions.Goals as goal
 
 pub returns : goal.returns
@@ -12,4 +13,5 @@ returns c =
       watches = ap length c.in_ok-copies.ensures ∙ length-replicate _ _ ∙ places;
       arrived = ap length c.in_ok-arrived.ensures.0 ∙ length-replicate _ _ ∙ places;
       settled = ap length c.in_ok-arrived.ensures.1 ∙ length-replicate _ _ ∙ places;
+      apart = ap (λ (s : PlaceList). s.count) c.in_ok-empty.ensures ∙ places;
     }

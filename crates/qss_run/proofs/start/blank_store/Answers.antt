@@ -39,7 +39,6 @@ returns c =
     let of_pre = ap (λ (v : Values). v.pre) work in
     let room = ap (λ (v : Values). v.room) work in
     let discretes : length c.in_ok-work.work.d ≡ discrete_count m = ap length of_d ∙ length-map m.discretes (λ (d : DiscreteInfo). d.d0) in
-    let twice : c.in_ok-levels_again.field-0.items ≡ c.in_ok-levels.levels.items = c.in_ok-levels_again.ensures ∙ c.as_slice.ensures.value in
     record {
       fits = record {
         own_conditions = c.in_ok-watched.ensures;
@@ -47,9 +46,9 @@ returns c =
         lines = ap length c.in_ok-copies.ensures ∙ length-replicate _ _ ∙ states;
         levels = ap length c.in_ok-levels.ensures ∙ count_start m;
         slopes = ap length c.in_ok-copies-2.ensures ∙ length-replicate _ _ ∙ states;
-        fresh = ap length twice ∙ ap length c.in_ok-levels.ensures ∙ count_start m;
         weights = ap length c.in_ok-copies-3.ensures ∙ length-replicate _ _ ∙ states;
         moved_room = omega (arith, c.in_ok-moved.ensures.0, states);
+        touched_room = omega (arith, c.in_ok-with_capacity-3.ensures.capacity, states);
         changed_room = omega (arith, c.in_ok-moved.ensures.1, places);
         fired_room = omega (arith, c.in_ok-moved.ensures.2, places);
         assigned_room = omega (arith, c.in_ok-with_capacity.ensures.capacity, c.capacity.ensures, ap (λ (v : Values). v.room) c.work.view_is, room);
@@ -76,7 +75,6 @@ returns c =
       states = of_x;
       discretes = of_d;
       levels = c.in_ok-levels.ensures;
-      fresh_levels = twice;
       no_dues = c.in_ok-with_places.ensures.none;
       not_rising = refl;
     }

@@ -85,7 +85,7 @@ pub returns-clause-fits : goal.returns-clause-fits
 returns-clause-fits c =
     let own : Conditions = c.rewatch_all.new.self in
     let fits = c.rewatch_all.ensures.fits in
-    arrived_anew c.args.m.now own (with_items own.arrived c.copy_from_slice.new.self) fits (same_length own.arrived c.copy_from_slice.new.self ∙ fits.arrived)
+    arrived_anew c.args.m.now own (with_items own.arrived c.copy_from_slice.new.self) own.apart fits (same_length own.arrived c.copy_from_slice.new.self ∙ fits.arrived) refl
 
 pub returns-clause-rising : goal.returns-clause-rising
 returns-clause-rising c =

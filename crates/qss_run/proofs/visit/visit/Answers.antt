@@ -1,7 +1,9 @@
 -- What is to be looked at at the next tick was taken out of the agenda.
-use Rattle.std.proofs.Common.{◌≡◌, ◌+◌, length, ◌∙◌, ap, arith}
+use Rattle.std.proofs.Common.{◌≡◌, ◌+◌, length, sym, ◌∙◌, ap, arith}
+use Rattle.qss_machine.specs.Firing.{flag_at}
 use Rattle.qss_machine.specs.Machines.{state_count}
 use Rattle.qss_machine.specs.Handlers.{conditions}
+use Rattle.qss_quiet.specs.Among.{is_among}
 use Rattle.qss_run.specs.declared.store.Store.{Store}
 use Rattle.qss_run.proofs.Jumps.{dues_later}
 use Rattle.qss_run.proofs.Takes.{none_left_before, none_called_before, is_taken, none_to_call}
@@ -19,6 +21,17 @@ call_risen-requires-clause-few g c =
     let s : Store = c.args.s.now in
     let fits = c.requires.stands.fits in
     omega (arith, c.len-states.ensures, s.lines.ok.0, fits.lines, m.has_variables.few, ap length c.as_slice-settled.ensures.value, fits.own_conditions.settled, conditions_few m)
+
+pub call_risen-requires-clause-below : goal.call_risen-requires-clause-below
+call_risen-requires-clause-below g c =
+    let own = c.requires.stands.fits.own_conditions in
+    λ k d h. omega (arith, c.places-apart.ensures.below k d h, own.apart, own.settled, ap length c.as_slice-settled.ensures.value)
+
+pub call_risen-requires-clause-alike : goal.call_risen-requires-clause-alike
+call_risen-requires-clause-alike g c = λ place none.
+    ap (λ flags. flag_at flags place) c.as_slice-arrived.ensures.value
+    ∙ c.requires.stands.alike place (ap (λ these. is_among these place) (sym c.places-apart.ensures.places) ∙ none)
+    ∙ sym (ap (λ flags. flag_at flags place) c.as_slice-settled.ensures.value)
 
 pub call_risen-requires-clause-none_risen : goal.call_risen-requires-clause-none_risen
 call_risen-requires-clause-none_risen g c calm place h =

@@ -1,11 +1,12 @@
 -- There are no more rows than items, since each clause has a branch.
-use Rattle.std.proofs.Common.{◌≡◌, ℕ, zero, suc, ◌+◌, ◌≤◌, List, [], ◌∷◌, length, ℤ, ◌∙◌, ap, arith}
+use Rattle.std.proofs.Common.{◌≡◌, ℕ, zero, suc, ◌+◌, ◌≤◌, List, [], ◌∷◌, length, ℤ, sym, ◌∙◌, ap, arith}
 use Rattle.std.proofs.lemmas.List.Sums.{sum_by-cons}
 use Rattle.std.specs.Prelude.{sum_by, All, vec_capacity}
 use Rattle.qss_machine.specs.declared.parts.BranchInfo.{BranchInfo}
 use Rattle.qss_machine.specs.declared.parts.ClauseInfo.{ClauseInfo}
 use Rattle.qss_machine.specs.declared.rows.Row.{Row}
 use Rattle.qss_machine.specs.Machines.{start_states, start_discretes}
+use Rattle.qss_machine.specs.Numbers.{int_at}
 use Rattle.qss_machine.specs.Limits.{IsClause, item_count}
 use Rattle.qss_hand.specs.Works.{row_room}
 use Rattle.qss_hand.proofs.work.Work.new.Goals as goal
@@ -37,3 +38,12 @@ returns c =
     ∙ ap (λ (d : List ℤ). record { x = start_states c.args.m.now; d = start_discretes c.args.m.now; pre = d; tick = 0; log = c.in_ok-log.log.items; room = vec_capacity c.in_ok-log.log }) c.in_ok-pre.ensures
     ∙ ap (λ (log : List Row). record { x = start_states c.args.m.now; d = start_discretes c.args.m.now; pre = start_discretes c.args.m.now; tick = 0; log = log; room = vec_capacity c.in_ok-log.log }) c.in_ok-log.ensures.items
     ∙ ap (λ (room : ℕ). record { x = start_states c.args.m.now; d = start_discretes c.args.m.now; pre = start_discretes c.args.m.now; tick = 0; log = []; room = room }) (c.in_ok-log.ensures.exact ∙ c.row_room.ensures ∙ ap row_room c.as_slice.ensures)
+
+pub invariant_of-result : goal.invariant_of-result
+invariant_of-result c = record {
+  as_many = ap length c.in_ok-pre.ensures ∙ sym (ap length c.in_ok-d.ensures);
+  below = λ k d h. absurd (omega (arith, h, ap length c.in_ok-assigned.ensures.items));
+  same = λ place none. ap (λ l. int_at l place) (c.in_ok-pre.ensures ∙ sym c.in_ok-d.ensures);
+  few = omega (arith, c.in_ok-assigned.ensures.len);
+  has_room = omega (arith, c.in_ok-assigned.ensures.capacity, c.capacity.ensures);
+}

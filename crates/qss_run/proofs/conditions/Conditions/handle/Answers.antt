@@ -18,6 +18,7 @@ use Rattle.qss_quiet.specs.Logs.{assigned_of}
 use Rattle.qss_quiet.specs.Among.{is_among, AreNumbers}
 use Rattle.qss_quiet.specs.Sims.{condition_at, became_true}
 use Rattle.qss_run.specs.Places.{AreBranches, line_at, watch_at}
+use Rattle.qss_run.specs.PlaceSets.{PlaceList}
 use Rattle.qss_run.specs.Stores.{states_at, handling_from}
 use Rattle.qss_quiet.specs.Writes.{IsWritten}
 use Rattle.qss_quiet.proofs.Overs.{all_within, not_some}
@@ -112,6 +113,17 @@ read_changed-requires-clause-arrived c =
     let ready = c.requires.ready in
     let fits = ready.fits in
     ap length c.as_mut_slice-arrived.ensures.value ∙ fits.arrived ∙ sym (ap length c.as_slice-settled.ensures.value ∙ fits.settled)
+
+pub read_changed-requires-clause-below : goal.read_changed-requires-clause-below
+read_changed-requires-clause-below c =
+    let fits = c.requires.ready.fits in
+    λ k d h. omega (arith, c.places-apart.ensures.below k d h, fits.apart, fits.settled, ap length c.as_slice-settled.ensures.value)
+
+pub read_changed-requires-clause-alike : goal.read_changed-requires-clause-alike
+read_changed-requires-clause-alike c = λ place none.
+    ap (λ flags. flag_at flags place) c.as_mut_slice-arrived.ensures.value
+    ∙ c.requires.ready.alike place (ap (λ these. is_among these place) (sym c.places-apart.ensures.places) ∙ none)
+    ∙ sym (ap (λ flags. flag_at flags place) c.as_slice-settled.ensures.value)
 
 pub read_changed-requires-clause-later : goal.read_changed-requires-clause-later
 read_changed-requires-clause-later c place h =
@@ -346,8 +358,20 @@ returns-clause-arrived c =
     λ e. with_items_is all.arrived c.read_changed.new.arrived (c.read_changed.auto.arrived ∙ c.as_mut_slice-arrived.ensures.len)
     ∙ truths_on_arrival settled arrived c.args.at.now.changed.now holds c.read_changed.new.arrived as_many c.read_changed.ensures m tick x c.args.work.now.d many own rest
 
+pub returns-clause-alike : goal.returns-clause-alike
+returns-clause-alike c =
+    let all : Conditions = c.args.self.now in
+    λ e place none.
+    ap (λ flags. flag_at flags place) (with_items_is all.arrived c.read_changed.new.arrived (c.read_changed.auto.arrived ∙ c.as_mut_slice-arrived.ensures.len))
+    ∙ c.read_changed.ensures.others place none
+    ∙ ap (λ flags. flag_at flags place) c.as_slice-settled.ensures.value
+
+pub returns-clause-none_apart : goal.returns-clause-none_apart
+returns-clause-none_apart c = λ e. ap (λ (s : PlaceList). s.places) c.clear.ensures
+
 pub returns-clause-fits : goal.returns-clause-fits
 returns-clause-fits c =
     let all : Conditions = c.args.self.now in
     let fits = c.requires.ready.fits in
-    λ e. arrived_anew c.args.at.now.machine.now all (with_items all.arrived c.read_changed.new.arrived) fits (same_length all.arrived c.read_changed.new.arrived ∙ fits.arrived)
+    λ e. arrived_anew c.args.at.now.machine.now all (with_items all.arrived c.read_changed.new.arrived) c.clear.new.self fits (same_length all.arrived c.read_changed.new.arrived ∙ fits.arrived)
+    (ap (λ (s : PlaceList). s.count) c.clear.ensures)

@@ -11,7 +11,7 @@ use Rattle.qss_run.proofs.conditions.Conditions.rewatch_all.Goals as goal
 pub loop-place-init : goal.loop-place-init
 loop-place-init c =
     let at = c.args.at.now in
-    record { settled = none_settled c.args.m.now at.tick at.states.now at.discretes.now at.slopes.now (watchings_of c.args.self.now c.args.agenda.now); rest = refl }
+    record { settled = none_settled c.args.m.now at.tick at.states.now at.discretes.now at.slopes.now (watchings_of c.args.self.now c.args.agenda.now); count = refl; rest = refl }
 
 pub overflow_cast-place : goal.overflow_cast-place
 overflow_cast-place c =
@@ -19,7 +19,7 @@ overflow_cast-place c =
 
 pub settle-requires-clause-fits : goal.settle-requires-clause-fits
 settle-requires-clause-fits c =
-    let inv = c.loop-place.invariant in settled_fits c.args.m.now c.args.self.now c.loop-place.self c.requires.fits inv.rest inv.settled.many_watches inv.settled.many_truths
+    let inv = c.loop-place.invariant in settled_fits c.args.m.now c.args.self.now c.loop-place.self c.requires.fits inv.rest inv.settled.many_watches inv.settled.many_truths inv.count
 
 pub settle-requires-clause-places : goal.settle-requires-clause-places
 settle-requires-clause-places c = omega (arith, c.requires.places, c.loop-place.invariant.settled.many_dues)
@@ -35,6 +35,7 @@ loop-place-preserved c =
       settled = subst (λ (places : List ℕ). AreSettled m at.tick at.states.now at.discretes.now at.slopes.now places first after) (sym (all_below-more c.loop-place.place))
           (settled_then m at.tick at.states.now at.discretes.now at.slopes.now (all_below c.loop-place.place) (c.loop-place.place ∷ []) first (watchings_of c.loop-place.self c.loop-place.agenda) after
           inv.settled c.settle.ensures.settled);
+      count = c.settle.ensures.noted.count ∙ inv.count;
       rest = rest_then c.args.self.now c.loop-place.self c.settle.new.self inv.rest c.settle.ensures.rest;
     }
 
@@ -50,7 +51,7 @@ returns c =
           (λ k h. (inv.settled.own k (among_below c.loop-place.place k (omega (arith, h, past)))).own_truth);
       watches = λ place h. (inv.settled.own place (among_below c.loop-place.place place (omega (arith, h, past)))).watched;
       rest = inv.rest;
-      fits = settled_fits m c.args.self.now c.loop-place.self fits inv.rest inv.settled.many_watches inv.settled.many_truths;
+      fits = settled_fits m c.args.self.now c.loop-place.self fits inv.rest inv.settled.many_watches inv.settled.many_truths inv.count;
       places = inv.settled.many_dues;
       others = inv.settled.states;
       beyond = λ place h. inv.settled.beyond place (omega (arith, h, fits.watches));

@@ -1,7 +1,8 @@
 -- The conditions that read a state whose row reads one more moved state have their speeds.
-use Rattle.std.proofs.Common.{◌≡◌, ◌<◌, ℕ, List, [], length, get_or, ℤ, sym, ◌∙◌, subst, arith, below_more}
+use Rattle.std.proofs.Common.{◌≡◌, ◌<◌, ℕ, List, [], length, get_or, ℤ, sym, ◌∙◌, subst, arith, below_more, refl}
+use Rattle.std.proofs.lemmas.Bool.{eqb-true}
 use Rattle.std.proofs.lemmas.List.Elements.{All-from_get_or}
-use Rattle.std.specs.Prelude.{All, slice_index_or}
+use Rattle.std.specs.Prelude.{All, slice_index_or, vec_len}
 use Rattle.qss_machine.specs.Machines.{state_count}
 use Rattle.qss_machine.specs.Handlers.{conditions}
 use Rattle.qss_run.specs.Speeds.{HasSpeed}
@@ -9,6 +10,26 @@ use Rattle.qss_quiet.proofs.KeptReaders.{rows_many, rows_below}
 use Rattle.qss_run.proofs.OwnConditions.{still_goes, watched_then}
 use Rattle.qss_run.proofs.Speeds.{going_on_more, speeds_kept, watched_again}
 use Rattle.qss_run.proofs.conditions.Conditions.rewatch_of.Goals as goal
+
+pub returns-then-is_empty-clause-watches : goal.returns-then-is_empty-clause-watches
+returns-then-is_empty-clause-watches c =
+    λ x d before place h was first.
+    let none : vec_len c.args.self.now.watches ≡ 0 = eqb-true (vec_len c.args.self.now.watches) 0 (sym c.is_empty.ensures ∙ c.if-is_empty.true) in
+    absurd (omega (arith, h, none, c.args.self.now.watches.ok.0, c.requires.ready.fits.watches))
+
+pub returns-then-is_empty-clause-goes_on : goal.returns-then-is_empty-clause-goes_on
+returns-then-is_empty-clause-goes_on c =
+    let none : vec_len c.args.self.now.watches ≡ 0 = eqb-true (vec_len c.args.self.now.watches) 0 (sym c.is_empty.ensures ∙ c.if-is_empty.true) in
+    record {
+      as_many = refl;
+      places = refl;
+      each = λ place h. absurd (omega (arith, h, none, c.args.self.now.watches.ok.0));
+      others = λ place h. refl;
+      beyond = λ place h. refl;
+    }
+
+pub returns-then-is_empty-clause-same : goal.returns-then-is_empty-clause-same
+returns-then-is_empty-clause-same c = refl
 
 pub rows_of-states-requires : goal.rows_of-states-requires
 rows_of-states-requires c =

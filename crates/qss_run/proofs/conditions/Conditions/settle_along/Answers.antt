@@ -46,6 +46,7 @@ returns c =
     (λ j has. c.arrive_read.ensures.own j (ap (λ (condition : Condition). has_entry j condition.form.entries) own ∙ has)) in
     record {
       settled = settled_at m at.tick x full d at.slopes.now place (watchings_of c.args.self.now c.args.agenda.now) (watchings_of c.settle.new.self c.settle.new.agenda) value c.settle.ensures.settled;
+      noted = c.settle.ensures.noted;
       rest = c.settle.ensures.rest;
       arrived = arrived_of m place c.condition-condition.result.now full c.args.x.now x own c.arrive_read.ensures;
       small = arrived_small 88 _ full c.args.x.now x many ready.moment.lines.small ready.values.small_states c.arrive_read.ensures;
