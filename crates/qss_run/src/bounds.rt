@@ -125,8 +125,8 @@ pub(crate) fn are_up_to_at(values: &[i64], places: &[u32], first: u32, bound: u6
     true
 }
 
-/// A size up to which levels and discrete values let no row pass its limits, where these are not greater; none where one is,
-/// or where no such size was found.
+/// The greatest of the limit of levels and its halves for which all rows have room, so that no row passes its limits while
+/// levels and discrete values are at most that in size; none where one of these is greater, or where there is no such half.
 pub(crate) fn bound_for(m: &Machine, levels: &[i64], d: &[i64]) -> Option<u64>
     ensures found { (bound : ℕ) → result ≡ Some bound → IsSafeBound m.now (Some bound) }
     ensures small { (bound : ℕ) → result ≡ Some bound → AreSmall m.now bound levels.now d.now }

@@ -7,10 +7,10 @@ use qss_machine::{Row, Uses};
 use qss_quant::Integrator;
 use qss_sched::Agenda;
 
-/// By state: its line, its level, its slope, and its level once more for the next tick's work. `weights` says when a row is
-/// past its limits. `uses` says which rows and conditions read a variable. The agenda has a place for each state, then one for each condition, and
-/// one for a condition that became true through the handlers; `rising` says whether one did. While `calm` is set, each
-/// condition is on arrival as after the last handlers. `moved`, `changed`, `fired` and `assigned` are room for a tick's work:
+/// By state: its line, its level, its slope, and its level once more for the next tick's work. `weights` are those of rows,
+/// or a bound up to which none passes its limits. `uses` says which rows and conditions read a variable. The agenda has a
+/// place for each state, then one for each condition, and one for a condition that became true through the handlers;
+/// `rising` says whether one did. While `calm` is set, each condition is on arrival as after the last handlers. `moved`, `changed`, `fired` and `assigned` are room for a tick's work:
 /// the numbers of due and reinitialized states, of conditions to be looked at, of due branches and of assigned discrete
 /// variables.
 #[derive(Drop)]
