@@ -38,7 +38,8 @@ fn add_states(kind: RowKind, tick: u64, integrators: &[IntegratorModel], rows: &
     requires in_time { tick < 2 ^ 32 }
     requires room { vec_len rows.old + length integrators.now ≤ vec_capacity rows.old }
     ensures rows { rows.new.items ≡ rows.old.items ++ state_rows kind tick
-        (map (λ i. i.line.level) integrators.now) (map (λ i. state_at i.line tick) integrators.now) }
+        (map (λ i. i.line.level) integrators.now)
+        (map (λ i. state_at i.line tick) integrators.now) }
     ensures count { vec_len rows.new ≡ vec_len rows.old + length integrators.now }
     ensures room { vec_capacity rows.new ≡ vec_capacity rows.old }
 {

@@ -28,7 +28,8 @@ pub(crate) fn next_visit(m: &Machine, q: &Quantizer, tick: u64, s: &Store) -> u6
     ensures crossings { (place next : ℕ) → place < length (conditions m.now)
         → IsCrossingNext (crossing_at s.now.parts place).watch (Some next) → result ≤ next }
     ensures dues { tick + 1 < result → (due : ℕ → Option ℕ)
-        × AreNext m.now tick (world_of tick s.now) (line_at s.now.parts) (crossing_at s.now.parts) due
+        × AreNext m.now tick (world_of tick s.now)
+        (line_at s.now.parts) (crossing_at s.now.parts) due
         × HasNothingBefore result due }
 {
     let arrived = s.truths.arrived.as_slice();

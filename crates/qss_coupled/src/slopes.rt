@@ -25,8 +25,8 @@ fn send_slope(m: &Machine, parts: &mut Components, tick: u64, j: u32) -> Option<
         → IsSlopeSent m.now tick v j parts.new result }
     ensures others { (i : ℕ) → i < state_count m.now → i ≢ j
         → summing_at parts.new i ≡ summing_at parts.old i }
-    ensures later { (v : Values) → AreValues m.now v → Agrees m.now tick v parts.old → AreNear m.now v
-        → LinesLater m.now tick (line_at parts.old) → result ≡ None
+    ensures later { (v : Values) → AreValues m.now v → Agrees m.now tick v parts.old
+        → AreNear m.now v → LinesLater m.now tick (line_at parts.old) → result ≡ None
         → LinesLater m.now tick (line_at parts.new) }
 {
     let functions = parts.functions.as_mut_slice();
@@ -51,8 +51,8 @@ pub(crate) fn send_slopes(m: &Machine, parts: &mut Components, tick: u64) -> Opt
         (line_at parts.new) (summing_at parts.new) (crossing_at parts.new) }
     ensures sent { (v : Values) → AreValues m.now v → Agrees m.now tick v parts.old
         → AreSent m.now tick v parts.new result }
-    ensures later { (v : Values) → AreValues m.now v → Agrees m.now tick v parts.old → AreNear m.now v
-        → LinesLater m.now tick (line_at parts.old) → result ≡ None
+    ensures later { (v : Values) → AreValues m.now v → Agrees m.now tick v parts.old
+        → AreNear m.now v → LinesLater m.now tick (line_at parts.old) → result ≡ None
         → LinesLater m.now tick (line_at parts.new) }
 {
     for j in 0..m.states.as_slice().len() {

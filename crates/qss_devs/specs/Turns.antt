@@ -7,7 +7,7 @@ use Rattle.qss_devs.specs.declared.turn.Turn.TheVariants.{Rests, Passes, Sends}
 use Rattle.qss_devs.specs.Messages.{passes_limit}
 use Rattle.qss_devs.specs.Integrators.{IsLineNext, SendsLevel, TakesLevel}
 
--- it may send this at a tick
+-- it may send this at a tick, by the name of its quantizer's rule
 abbrev pub MaySend : {X : Type 0} {g : _} → IntegratorModel X g → ℕ → Message → Type 0
 MaySend {X} {g} s tick sent = SendsLevel s.machine.value s.quantizer.value.name (λ state old unit level. Unit {0}) s.var s.line tick sent
 

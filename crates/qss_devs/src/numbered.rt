@@ -15,8 +15,8 @@ use crate::message::Message;
 use crate::turn::{Turn, make_turn};
 use qss_machine::Machine;
 
-/// Gives a message to the integrator with a number, at a tick below 2^32 that is not before its last transition and not past its
-/// next one.
+/// Gives a message to the integrator with a number. All are of the machine; the tick is below 2^32, and for none of them before
+/// its last transition or past its next one.
 pub fn tell_integrator(
     m: &Machine,
     integrators: &mut [IntegratorModel],

@@ -7,7 +7,7 @@ ghost use Rattle.qss_cross.specs.Crossing.{IsSmall};
 ghost use Rattle.qss_devs.specs.Crossings.{entry_of, input_at, form_at, speed_by, IsInput, AreParts};
 
 use crate::input::Input;
-use qss_machine::{Machine, add_three, constant_part, time_part, weigh};
+use qss_machine::{Machine, add_three, coefficient_times, constant_part, time_part};
 
 /// An input at a tick.
 pub(crate) fn input_at(input: Input, tick: u64) -> i128
@@ -27,7 +27,7 @@ fn value_part(input: Input, tick: u64) -> i128
     ensures value { result ≡ input.coef *ℤ input_at tick input }
     ensures bound { unsigned_abs result ≤ unsigned_abs input.coef * 2 ^ 88 }
 {
-    weigh(input.coef, input_at(input, tick))
+    coefficient_times(input.coef, input_at(input, tick))
 }
 
 // The inputs at a tick, each times its coefficient, added up.
@@ -53,7 +53,7 @@ fn speed_part(input: Input) -> i128
     ensures value { result ≡ input.coef *ℤ input.speed }
     ensures bound { unsigned_abs result ≤ unsigned_abs input.coef * 2 ^ 88 }
 {
-    weigh(input.coef, input.speed)
+    coefficient_times(input.coef, input.speed)
 }
 
 // How much the inputs change in a tick, each times its coefficient, added up.

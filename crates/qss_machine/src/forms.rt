@@ -18,7 +18,7 @@ fn times(value: i64, unit: i128) -> i128
     i128::from(value) * unit
 }
 
-/// A discrete value of at most 2^43 in the unit of states, which is 2^-unit_bits of its own.
+/// A discrete value of at most 2^43 in size in the unit of states, which is 2^-unit_bits of its own, by at most 44 bits.
 pub fn scaled(value: i64, unit_bits: u8) -> i128
     requires value { IsWithin 43 value }
     requires unit { unit_bits ≤ 44 }
@@ -57,8 +57,8 @@ fn input_at(states: &[i128], discretes: &[i64], before: &[i64], unit_bits: u8, v
     0
 }
 
-/// A coefficient of at most 2^38 times a value of at most 2^88.
-pub fn weigh(coef: i64, value: i128) -> i128
+/// A coefficient of at most 2^38 in size times a value of at most 2^88, a term of a form.
+pub fn coefficient_times(coef: i64, value: i128) -> i128
     requires coef { IsWithin 38 coef }
     requires value { IsWithin 88 value }
     ensures { result ≡ coef *ℤ value }
@@ -88,7 +88,7 @@ fn entry_value(
         entry.var }
     ensures bound { unsigned_abs result ≤ unsigned_abs entry.coef * 2 ^ 88 }
 {
-    weigh(
+    coefficient_times(
         entry.coef,
         input_at(states, discretes, before, unit_bits, entry.var as usize),
     )
@@ -123,7 +123,7 @@ pub(crate) fn form_sum(
     sum
 }
 
-/// A coefficient of time, of at most 2^38, times a tick below 2^32, which counts 2^bits.
+/// A coefficient of time, of at most 2^38 in size, times a tick below 2^32, which counts 2^bits, by at most 56 bits.
 pub fn time_part(time: i64, tick: u64, bits: u8) -> i128
     requires time { IsWithin 38 time }
     requires tick { tick < 2 ^ 32 }
@@ -131,7 +131,7 @@ pub fn time_part(time: i64, tick: u64, bits: u8) -> i128
     ensures value { result ≡ time *ℤ pos (tick * 2 ^ bits) }
     ensures bound { unsigned_abs result ≤ unsigned_abs time * 2 ^ 88 }
 {
-    weigh(time, moment(tick, bits))
+    coefficient_times(time, moment(tick, bits))
 }
 
 // A tick in the unit of states.
@@ -144,7 +144,7 @@ fn moment(tick: u64, bits: u8) -> i128
     i128::from(tick) * unit(bits)
 }
 
-/// A constant of at most 2^78 in the unit of forms, which is 2^-unit_bits of its own.
+/// A constant of at most 2^78 in size in the unit of forms, which is 2^-unit_bits of its own, by at most 44 bits.
 pub fn constant_part(gamma: i128, unit_bits: u8) -> i128
     requires gamma { IsWithin 78 gamma }
     requires unit { unit_bits ≤ 44 }
@@ -164,7 +164,7 @@ fn gamma_times(gamma: i128, unit: i128) -> i128
     gamma * unit
 }
 
-/// The sum of three numbers that fit together.
+/// The sum of three numbers whose sizes come to less than 2^127.
 pub fn add_three(a: i128, b: i128, c: i128) -> i128
     requires { unsigned_abs a + unsigned_abs b + unsigned_abs c < 2 ^ 127 }
     ensures { result ≡ a +ℤ b +ℤ c }

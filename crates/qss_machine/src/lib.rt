@@ -15,7 +15,7 @@ mod system;
 mod uses;
 mod weights;
 
-pub use forms::{add_three, constant_part, scaled, time_part, weigh};
+pub use forms::{add_three, coefficient_times, constant_part, scaled, time_part};
 pub use laws::{
     branches_fire_when_due, rules_are_free, runs_are_legitimate, runs_are_unique, runs_stay_near,
     same_data_is_equal, slopes_are_within_weights,

@@ -49,7 +49,7 @@ pub record IsLineOf (m : Machine) (tick : ℕ) (w : World) (j : ℕ) (line : Lin
 abbrev pub LeavesAt : Machine → ℕ → Line → ℕ → Type 0
 LeavesAt m j line tick = IsAway (level_unit m) (state_at line tick) line.level (quantum_of m j line.level)
 
--- the first tick after now at which a line leaves the quantum of its level
+-- the first tick after now, up to 2^32, at which a line leaves the quantum of its level, if there is one
 abbrev pub IsDue : Machine → ℕ → ℕ → Line → Option ℕ → Type 0
 IsDue m tick j line found = FirstAfter (λ t. LeavesAt m j line t) tick found
 

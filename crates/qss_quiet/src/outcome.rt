@@ -1,3 +1,5 @@
+//! What comes next in a run, and the tick that a simulator went to.
+
 /// What comes next in a run.
 #[derive(Clone, Copy, PartialEq, Eq, Debug, Drop)]
 pub enum Outcome {

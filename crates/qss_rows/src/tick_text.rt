@@ -27,7 +27,9 @@ fn put_digits(tick: u64, digits: &mut [u8; TICK_LENGTH]) -> usize
 
 impl TickText {
     /// The digits of tick 0.
-    pub(crate) fn new() -> TickText {
+    pub(crate) fn new() -> TickText
+        ensures { result.tick ≡ 0 }
+    {
         let mut digits = [0; TICK_LENGTH];
         let from = put_digits(0, &mut digits);
         TickText {

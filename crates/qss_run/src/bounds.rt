@@ -9,6 +9,9 @@ use qss_machine::{Entry, Machine, Product, SlopeRow};
 // The limit of levels and of discrete values.
 const LIMIT: u64 = 1 << 43;
 
+// The limit of mode coefficients.
+const MODE_LIMIT: u128 = 1 << 44;
+
 // A coefficient without its sign.
 fn entry_size(entry: &Entry) -> u128
     requires { IsWithin 44 entry.now.coef }
@@ -44,7 +47,7 @@ fn excess_of(product: &Product, level_bits: u8, bound: u64) -> u128
     (most >> level_bits) + 1
 }
 
-// The excesses of products, added up; none where they are more than 2^44.
+// The excesses of products, added up; none where they pass the limit of mode coefficients.
 fn excess_sum(products: &[Product], level_bits: u8, bound: u64) -> Option<u128>
     requires small { All (λ product. IsWithin 44 product.coef) products.now }
     requires bits { level_bits ≤ 24 }
@@ -55,7 +58,7 @@ fn excess_sum(products: &[Product], level_bits: u8, bound: u64) -> Option<u128>
     let mut sum: u128 = 0;
     for product in products {
         sum += excess_of(product, level_bits, bound);
-        if sum > 1 << 44 {
+        if sum > MODE_LIMIT {
             return None;
         }
     }
@@ -74,7 +77,7 @@ fn has_room(row: &SlopeRow, level_bits: u8, bound: u64) -> bool
     let Some(excesses) = excess_sum(row.products.as_slice(), level_bits, bound) else {
         return false;
     };
-    size_sum(row.entries.as_slice()) + excesses <= 1 << 44
+    size_sum(row.entries.as_slice()) + excesses <= MODE_LIMIT
 }
 
 // Whether all rows have room for a bound.
@@ -125,8 +128,8 @@ pub(crate) fn are_up_to_at(values: &[i64], places: &[u32], first: u32, bound: u6
     true
 }
 
-/// A size up to which levels and discrete values let no row pass its limits, where these are not greater; none where one is,
-/// or where no such size was found.
+/// The greatest of the limit of levels and its halves for which all rows have room, so that no row passes its limits while
+/// levels and discrete values are at most that in size; none where one of these is greater, or where there is no such half.
 pub(crate) fn bound_for(m: &Machine, levels: &[i64], d: &[i64]) -> Option<u64>
     ensures found { (bound : ℕ) → result ≡ Some bound → IsSafeBound m.now (Some bound) }
     ensures small { (bound : ℕ) → result ≡ Some bound → AreSmall m.now bound levels.now d.now }

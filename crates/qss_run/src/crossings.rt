@@ -108,8 +108,8 @@ fn go_on_handled<L: Ledger>(m: &Machine, tick: u64, s: &mut Store, steps: &mut S
 }
 
 /// One tick after the one at which the store stands, from an agenda without the states that are due and the conditions that
-/// are to be looked at there. It gives the variable that overflows, if one does; the store is then good for nothing but its memory for
-/// rows.
+/// are to be looked at there. It gives the variable that overflows, if one does; the store is then good for nothing but its
+/// memory for rows.
 pub(crate) fn visit_changed<L: Ledger>(
     m: &Machine,
     q: &Quantizer,

@@ -7,11 +7,11 @@ use qss_machine::{Row, Uses};
 use qss_quant::Integrator;
 use qss_sched::Agenda;
 
-/// By state: its line, its level and its slope. `weights` says when a row is past its limits. `uses` says which rows and
-/// conditions read a variable. The agenda has a place for each state, then one for each condition, and one for a condition
-/// that became true through the handlers; `rising` says whether one did. `moved`, `touched`, `changed`, `fired` and `assigned`
-/// are room for a tick's work: the numbers of due and reinitialized states, of touched ones, of conditions to be looked at, of
-/// due branches and of assigned discrete variables.
+/// By state: its line, its level and its slope. `weights` are those of rows, or a bound up to which none passes its
+/// limits. `uses` says which rows and conditions read a variable. The agenda has a place for each state, then one for
+/// each condition, and one for a condition that became true through the handlers; `rising` says whether one did. `moved`,
+/// `touched`, `changed`, `fired` and `assigned` are room for a tick's work: the numbers of due and reinitialized states,
+/// of touched ones, of conditions to be looked at, of due branches and of assigned discrete variables.
 #[derive(Drop)]
 pub(crate) struct Store {
     pub conditions: Conditions,

@@ -1,12 +1,12 @@
 //! Weights of rows, kept up once levels and discrete values are great.
 
-ghost use Rattle.std.specs.Prelude.{◌≡◌, ◌↔◌, All, IsTrue, None, length, position};
+ghost use Rattle.std.specs.Prelude.{◌≡◌, ◌↔◌, ℕ, All, IsTrue, None, Some, true, false, length, position};
 ghost use Rattle.mu_num.specs.Sizes.{IsWithin};
 ghost use Rattle.qss_machine.specs.Machines.{state_count, discrete_count};
 ghost use Rattle.qss_machine.specs.Ticks.{is_overweight};
 ghost use Rattle.qss_run.specs.Kept.{AreWeights};
 ghost use Rattle.qss_run.specs.Visitings.{AreNewLevels, AreHandled, first_overweight, WereWeights};
-ghost use Rattle.qss_run.specs.Weighings.{AreUpToAt};
+ghost use Rattle.qss_run.specs.Weighings.{IsUpTo, AreUpToAt, IsSafeBound};
 
 use crate::bounds::{are_up_to_at, bound_for};
 use crate::visiting::{Handled, NewLevels};
@@ -42,7 +42,8 @@ fn are_handled_up_to(at: &NewLevels, left: &Handled, bound: u64) -> bool
 }
 
 impl Weights {
-    /// The weights at levels and discrete values at which no row passes its limits.
+    /// The weights at levels and discrete values at which no row passes its limits. They are kept only where one of these is
+    /// greater than the bound, or where there is no bound.
     pub(crate) fn start(&mut self, m: &Machine, levels: &[i64], d: &[i64])
         requires levels { length levels.now ≡ state_count m.now }
         requires discretes { length d.now ≡ discrete_count m.now }
@@ -50,7 +51,10 @@ impl Weights {
         requires small_levels { All (IsWithin 43) levels.now }
         requires small_discretes { All (IsWithin 43) d.now }
         requires light { position (is_overweight m.now levels.now d.now) m.now.rows ≡ None }
-        ensures { AreWeights m.now levels.now d.now self.new }
+        ensures weights { AreWeights m.now levels.now d.now self.new }
+        ensures bound { self.new.kept ≡ false → IsSafeBound m.now (Some self.new.bound) }
+        ensures kept { self.new.kept ≡ true → (bound : ℕ) → IsSafeBound m.now (Some bound)
+            → All (IsUpTo bound) levels.now → All (IsUpTo bound) d.now → ⊥ }
     {
         if let Some(bound) = bound_for(m, levels, d) {
             self.bound = bound;

@@ -11,9 +11,9 @@ returns-clause-value c =
     let coef : FitsSigned w64 c.args.input.coef = omega (arith, ints) in
     let slow : unsigned_abs c.args.input.speed ≤ 2 ^ 88 = c.requires.slow in
     let speed : FitsSigned w128 c.args.input.speed = omega (arith, ints) in
-    let fits : FitsSigned w128 c.weigh.result = record { sfits = c.weigh.type_inv } in
-    let product = rw (to_z-of_z w64 c.args.input.coef coef, to_z-of_z w128 c.args.input.speed speed) at c.weigh.ensures in
-    to_z-of_z w128 c.weigh.result fits ∙ product
+    let fits : FitsSigned w128 c.coefficient_times.result = record { sfits = c.coefficient_times.type_inv } in
+    let product = rw (to_z-of_z w64 c.args.input.coef coef, to_z-of_z w128 c.args.input.speed speed) at c.coefficient_times.ensures in
+    to_z-of_z w128 c.coefficient_times.result fits ∙ product
 
 pub returns-clause-bound : goal.returns-clause-bound
 returns-clause-bound c =
@@ -21,6 +21,6 @@ returns-clause-bound c =
     let coef : FitsSigned w64 c.args.input.coef = omega (arith, ints) in
     let slow : unsigned_abs c.args.input.speed ≤ 2 ^ 88 = c.requires.slow in
     let speed : FitsSigned w128 c.args.input.speed = omega (arith, ints) in
-    let fits : FitsSigned w128 c.weigh.result = record { sfits = c.weigh.type_inv } in
-    let product = rw (to_z-of_z w64 c.args.input.coef coef, to_z-of_z w128 c.args.input.speed speed) at c.weigh.ensures in
-    rw (to_z-of_z w128 c.weigh.result fits, product, unsigned_abs-mul) (mul-le-mul_left (unsigned_abs c.args.input.coef) slow)
+    let fits : FitsSigned w128 c.coefficient_times.result = record { sfits = c.coefficient_times.type_inv } in
+    let product = rw (to_z-of_z w64 c.args.input.coef coef, to_z-of_z w128 c.args.input.speed speed) at c.coefficient_times.ensures in
+    rw (to_z-of_z w128 c.coefficient_times.result fits, product, unsigned_abs-mul) (mul-le-mul_left (unsigned_abs c.args.input.coef) slow)

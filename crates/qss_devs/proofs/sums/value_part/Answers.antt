@@ -10,16 +10,16 @@ returns-clause-value c =
     let coef_small : unsigned_abs c.args.input.coef ≤ 2 ^ 38 = c.requires.coef in
     let coef : FitsSigned w64 c.args.input.coef = omega (arith, ints) in
     let input_fits : FitsSigned w128 c.input_at.result = record { sfits = c.input_at.type_inv } in
-    let fits : FitsSigned w128 c.weigh.result = record { sfits = c.weigh.type_inv } in
-    let product = rw (to_z-of_z w64 c.args.input.coef coef, to_z-of_z w128 c.input_at.result input_fits) at c.weigh.ensures in
-    to_z-of_z w128 c.weigh.result fits ∙ product ∙ ap (λ z. c.args.input.coef *ℤ z) c.input_at.ensures
+    let fits : FitsSigned w128 c.coefficient_times.result = record { sfits = c.coefficient_times.type_inv } in
+    let product = rw (to_z-of_z w64 c.args.input.coef coef, to_z-of_z w128 c.input_at.result input_fits) at c.coefficient_times.ensures in
+    to_z-of_z w128 c.coefficient_times.result fits ∙ product ∙ ap (λ z. c.args.input.coef *ℤ z) c.input_at.ensures
 
 pub returns-clause-bound : goal.returns-clause-bound
 returns-clause-bound c =
     let coef_small : unsigned_abs c.args.input.coef ≤ 2 ^ 38 = c.requires.coef in
     let coef : FitsSigned w64 c.args.input.coef = omega (arith, ints) in
     let input_fits : FitsSigned w128 c.input_at.result = record { sfits = c.input_at.type_inv } in
-    let fits : FitsSigned w128 c.weigh.result = record { sfits = c.weigh.type_inv } in
-    let product = rw (to_z-of_z w64 c.args.input.coef coef, to_z-of_z w128 c.input_at.result input_fits) at c.weigh.ensures in
+    let fits : FitsSigned w128 c.coefficient_times.result = record { sfits = c.coefficient_times.type_inv } in
+    let product = rw (to_z-of_z w64 c.args.input.coef coef, to_z-of_z w128 c.input_at.result input_fits) at c.coefficient_times.ensures in
     let small : unsigned_abs c.input_at.result ≤ 2 ^ 88 = rw c.input_at.ensures c.requires.small in
-    rw (to_z-of_z w128 c.weigh.result fits, product, unsigned_abs-mul) (mul-le-mul_left (unsigned_abs c.args.input.coef) small)
+    rw (to_z-of_z w128 c.coefficient_times.result fits, product, unsigned_abs-mul) (mul-le-mul_left (unsigned_abs c.args.input.coef) small)

@@ -61,7 +61,7 @@ returns c =
       lines = same_length s.lines c.set_out.new.lines ∙ fits.lines;
       levels = fits.levels;
       slopes = same_length s.slopes c.set_out.new.slopes ∙ fits.slopes;
-      weights = c.start.ensures.as_many;
+      weights = c.start.ensures.weights.as_many;
       moved_room = fits.moved_room;
       touched_room = fits.touched_room;
       changed_room = fits.changed_room;
@@ -88,7 +88,7 @@ returns c =
     light
     (of_slopes ∙ c.set_out.ensures.slopes ∙ ap (λ l. tabulate (state_count m) (λ j. slope_at m j l next.work.d)) levels)
     (subst (λ d. AreWeights m s.levels.items d next.weights) of_d
-    (subst (λ l. AreWeights m l c.as_slice-d.result.now next.weights) c.as_slice-2.ensures.value c.start.ensures))
+    (subst (λ l. AreWeights m l c.as_slice-d.result.now next.weights) c.as_slice-2.ensures.value c.start.ensures.weights))
     (λ j inside.
     subst (λ ls. IsTurned m 0 (int_at next.work.x j) (int_at next.levels.items j) (slope_at m j next.levels.items next.work.d) j (line_at ls j) (due_at next.agenda j)) (sym of_lines)
     (subst (λ l. IsTurned m 0 (int_at next.work.x j) (int_at l j) (slope_at m j l next.work.d) j (line_at c.set_out.new.lines j) (due_at next.agenda j)) levels (c.set_out.ensures.lines j inside)))
