@@ -15,13 +15,13 @@ use Rattle.qss_machine.specs.Uses.{row_reads}
 use Rattle.qss_quant.specs.Lines.{Line, state_at}
 use Rattle.qss_cross.specs.Crossing.{Watch}
 use Rattle.qss_sched.specs.Ranks.{due_at}
-use Rattle.qss_run.specs.Handlings.{AreAssigned, states_with, AreWatchedUpTo}
+use Rattle.qss_lines.specs.Variables.{AreAssigned, reads_moved}
+use Rattle.qss_lines.specs.StateLines.{states_with, line_at, states_at}
+use Rattle.qss_watch.specs.Handlings.{AreWatchedUpTo}
 use Rattle.qss_quiet.specs.Among.{is_among, IsOff}
-use Rattle.qss_run.specs.Places.{line_at, watch_at, IsWatched}
+use Rattle.qss_watch.specs.Places.{watch_at, IsWatched}
 use Rattle.qss_quiet.specs.Sims.{condition_at, no_row}
-use Rattle.qss_run.specs.Speeds.{reads_moved}
-use Rattle.qss_run.specs.Stores.{states_at}
-use Rattle.qss_run.proofs.DueLevels.{length-states_at, int_at-states_at}
+use Rattle.qss_lines.proofs.DueLevels.{length-states_at, int_at-states_at}
 use Rattle.qss_quiet.proofs.Quiet.{int_at-tabulate, tabulate-same}
 use Rattle.qss_quiet.proofs.SameSlopes.{slope_same}
 use Rattle.qss_quiet.proofs.Unread.{unread_at}

@@ -17,18 +17,20 @@ use Rattle.qss_quant.specs.Lines.{state_at, IsNear}
 use Rattle.qss_cross.specs.Crossing.{IsSmall, value_at, holds_at}
 use Rattle.qss_hand.specs.Values.{Values}
 use Rattle.qss_sched.specs.Ranks.{due_at}
-use Rattle.qss_run.specs.RowSums.{AreSumsBefore}
-use Rattle.qss_run.specs.declared.shifts.RowSum.TheVariants.{Slope}
+use Rattle.qss_lines.specs.RowSums.{AreSumsBefore}
+use Rattle.qss_lines.specs.declared.shifts.RowSum.TheVariants.{Slope}
 use Rattle.qss_run.specs.declared.store.Store.{Store}
-use Rattle.qss_run.specs.Handlings.{states_with, is_reinitialized, IsHandled, AreMovedTo}
+use Rattle.qss_lines.specs.StateLines.{states_with, line_at, states_at}
+use Rattle.qss_watch.specs.Handlings.{is_reinitialized, IsHandled, handling_from}
+use Rattle.qss_lines.specs.Visitings.{AreMovedTo}
 use Rattle.qss_quiet.specs.Among.{is_among, IsOff}
-use Rattle.qss_run.specs.Moves.{IsWithout}
-use Rattle.qss_run.specs.Places.{line_at, watch_at, IsWatched}
+use Rattle.qss_watch.specs.Moves.{IsWithout}
+use Rattle.qss_watch.specs.Places.{watch_at, IsWatched}
 use Rattle.qss_quiet.specs.Rules.{IsRuled}
 use Rattle.qss_quiet.specs.Sims.{condition_at, IsDue, IsChange, StandsFor, HasNothingBefore, became_true}
-use Rattle.qss_run.specs.Stores.{states_at, handling_from, world_of, IsTaken}
+use Rattle.qss_run.specs.Stores.{world_of, IsTaken}
 use Rattle.qss_run.proofs.AfterHandlers.{length-states_with, int_at-states_with, other_state}
-use Rattle.qss_run.proofs.Handled.{over_early}
+use Rattle.qss_watch.proofs.Handled.{over_early}
 use Rattle.qss_run.proofs.Jumps.{dues_later}
 use Rattle.qss_quiet.proofs.Quiet.{moved_is}
 use Rattle.qss_run.proofs.QuietTick.{value_small, condition_bounded}

@@ -15,14 +15,15 @@ use Rattle.qss_quant.specs.declared.rule.Rule.{Rule}
 use Rattle.qss_quant.specs.Lines.{state_at}
 use Rattle.qss_sched.specs.Ranks.{due_at}
 use Rattle.qss_run.specs.declared.store.Store.{Store}
-use Rattle.qss_run.specs.Moves.{AreAlikeBut}
-use Rattle.qss_run.specs.Places.{line_at, watch_at}
-use Rattle.qss_run.specs.PlaceSets.{PlaceList}
+use Rattle.qss_watch.specs.Moves.{AreAlikeBut}
+use Rattle.qss_lines.specs.StateLines.{line_at, states_at}
+use Rattle.qss_watch.specs.Places.{watch_at}
+use Rattle.qss_watch.specs.PlaceSets.{PlaceList}
 use Rattle.qss_quiet.specs.Sims.{StandsFor, rises}
 use Rattle.qss_quiet.specs.Skips.{states_after, world_after}
-use Rattle.qss_run.specs.Stores.{states_at, world_of, FitsMachine, Stands}
+use Rattle.qss_run.specs.Stores.{world_of, FitsMachine, Stands}
 use Rattle.qss_quiet.specs.Silent.{AreSilent}
-use Rattle.qss_run.proofs.OwnConditions.{arrived_anew}
+use Rattle.qss_watch.proofs.OwnConditions.{arrived_anew}
 use Rattle.qss_quiet.proofs.Quiet.{int_at-tabulate, tabulate-same}
 use Rattle.qss_quiet.proofs.Silence.{line_state_at, none_rises, silence, stands_still}
 use Rattle.qss_quiet.proofs.Silences.{quiet_worlds, quiet_leads, arrived_then}

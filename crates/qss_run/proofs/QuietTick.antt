@@ -27,11 +27,11 @@ use Rattle.qss_machine.proofs.SumLaws.{weighted_sum-entries}
 use Rattle.qss_quant.specs.Lines.{Line}
 use Rattle.qss_cross.specs.Crossing.{Watch, IsSmall, value_at, holds_at}
 use Rattle.qss_sched.specs.Ranks.{due_at}
-use Rattle.qss_run.specs.declared.conditions.BranchPlace.{BranchPlace}
-use Rattle.qss_run.specs.Places.{AreBranches, IsWatched}
+use Rattle.qss_watch.specs.declared.conditions.BranchPlace.{BranchPlace}
+use Rattle.qss_watch.specs.Places.{AreBranches, IsWatched}
 use Rattle.qss_quiet.specs.Skips.{NoneRises}
 use Rattle.qss_quiet.specs.Sims.{slopes_of, condition_at, rises, IsChange, StandsFor}
-use Rattle.qss_run.proofs.Branches.{place_at}
+use Rattle.qss_watch.proofs.Branches.{place_at}
 use Rattle.qss_quiet.proofs.Quiet.{clauses-idle, moved_is}
 use Rattle.qss_quiet.proofs.Flags.{truths_are}
 use Rattle.qss_quiet.proofs.Silence.{from_later, watch_value_at, flag_still}

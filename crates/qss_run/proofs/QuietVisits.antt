@@ -16,17 +16,18 @@ use Rattle.qss_machine.specs.Runs.{level_rows, tick_rows}
 use Rattle.qss_quant.specs.declared.rule.Rule.{Rule}
 use Rattle.qss_quant.specs.Lines.{state_at, IsNear}
 use Rattle.qss_sched.specs.Ranks.{due_at}
-use Rattle.qss_run.specs.RowSums.{AreSumsBefore}
-use Rattle.qss_run.specs.declared.shifts.RowSum.TheVariants.{Slope}
+use Rattle.qss_lines.specs.RowSums.{AreSumsBefore}
+use Rattle.qss_lines.specs.declared.shifts.RowSum.TheVariants.{Slope}
 use Rattle.qss_run.specs.declared.store.Store.{Store}
 use Rattle.qss_quiet.specs.Among.{is_among, IsOff}
 use Rattle.qss_quiet.specs.Skips.{NoneRises}
-use Rattle.qss_run.specs.Places.{line_at, watch_at, IsWatched}
+use Rattle.qss_lines.specs.StateLines.{line_at, states_at}
+use Rattle.qss_watch.specs.Places.{watch_at, IsWatched}
 use Rattle.qss_quiet.specs.Rules.{IsRuled}
 use Rattle.qss_quiet.specs.Sims.{IsDue, StandsFor, HasNothingBefore, became_true}
-use Rattle.qss_run.specs.Speeds.{reads_moved}
-use Rattle.qss_run.specs.Stores.{states_at, world_of, IsTaken}
-use Rattle.qss_run.specs.Visitings.{HasLeft}
+use Rattle.qss_lines.specs.Variables.{reads_moved}
+use Rattle.qss_run.specs.Stores.{world_of, IsTaken}
+use Rattle.qss_lines.specs.Visitings.{HasLeft}
 use Rattle.qss_quiet.proofs.Quiet.{int_at-tabulate}
 use Rattle.qss_quiet.proofs.Silence.{line_state_at, still_near}
 use Rattle.qss_quiet.proofs.NextVisit.{only_due_states_pass}

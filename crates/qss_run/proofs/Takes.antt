@@ -11,7 +11,7 @@ use Rattle.qss_machine.specs.Ticks.{World}
 use Rattle.qss_sched.specs.Ranks.{due_at}
 use Rattle.qss_quiet.specs.Among.{is_among, AreNumbers}
 use Rattle.qss_quiet.specs.Sims.{became_true}
-use Rattle.qss_run.specs.Moves.{AreDue, AreChanging, AreLookedAt, IsCalled, IsWithout, IsTakenAfter, IsTakenOut}
+use Rattle.qss_watch.specs.Moves.{AreDue, AreChanging, AreLookedAt, IsCalled, IsWithout, IsTakenAfter, IsTakenOut}
 use Rattle.qss_run.specs.declared.store.Store.{Store}
 use Rattle.qss_run.specs.Stores.{world_of, Stands, IsTaken}
 use Rattle.qss_run.proofs.Visits.{stands_with}

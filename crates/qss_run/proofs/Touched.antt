@@ -17,16 +17,16 @@ use Rattle.qss_machine.specs.Ticks.{World, handling_at}
 use Rattle.qss_machine.specs.Uses.{row_reads, reading_rows}
 use Rattle.qss_quant.specs.Lines.{Line, state_at}
 use Rattle.qss_quiet.specs.Among.{is_among, AreNumbers}
-use Rattle.qss_run.specs.Gatherings.{reached}
-use Rattle.qss_run.specs.Handlings.{is_reinitialized}
-use Rattle.qss_run.specs.Places.{line_at}
-use Rattle.qss_run.specs.Renewals.{goes_at, goes_from, renewals_from}
+use Rattle.qss_lines.specs.Gatherings.{reached}
+use Rattle.qss_watch.specs.Handlings.{is_reinitialized}
+use Rattle.qss_lines.specs.StateLines.{line_at}
+use Rattle.qss_lines.specs.Renewals.{goes_at, goes_from, renewals_from}
 use Rattle.qss_run.specs.Touches.{touches_at}
-use Rattle.qss_run.proofs.Counting.{count_less}
-use Rattle.qss_run.proofs.Gathering.{among_reached}
+use Rattle.qss_lines.proofs.Counting.{count_less}
+use Rattle.qss_lines.proofs.Gathering.{among_reached}
 use Rattle.qss_quiet.proofs.Among.{among_readers}
 use Rattle.qss_quiet.proofs.Quiet.{int_at-tabulate}
-use Rattle.qss_run.proofs.Renewed.{goes_so}
+use Rattle.qss_lines.proofs.Renewed.{goes_so}
 use Rattle.qss_quiet.proofs.SameSlopes.{level_stays, same_slope}
 use Rattle.qss_quiet.proofs.Writes.{among_at}
 

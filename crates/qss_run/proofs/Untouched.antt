@@ -17,15 +17,16 @@ use Rattle.qss_machine.specs.Firing.{flag_at}
 use Rattle.qss_machine.specs.Uses.{row_reads, condition_reads, reading_rows, reading_conditions}
 use Rattle.qss_cross.specs.Crossing.{Watch}
 use Rattle.qss_sched.specs.Ranks.{due_at}
-use Rattle.qss_run.specs.Handlings.{AreWatchedUpTo}
+use Rattle.qss_watch.specs.Handlings.{AreWatchedUpTo}
 use Rattle.qss_quiet.specs.Among.{is_among}
-use Rattle.qss_run.specs.Places.{watch_at, IsWatched}
+use Rattle.qss_watch.specs.Places.{watch_at, IsWatched}
 use Rattle.qss_quiet.specs.Sims.{condition_at}
-use Rattle.qss_run.specs.Speeds.{reads_moved, AreSlopesBefore}
-use Rattle.qss_run.specs.Rewatchings.{Watchings, AreSettled, readers_of, touched_of, touched_by, readers_before, touched_after}
+use Rattle.qss_lines.specs.Variables.{reads_moved}
+use Rattle.qss_watch.specs.Speeds.{AreSlopesBefore}
+use Rattle.qss_watch.specs.Rewatchings.{Watchings, AreSettled, readers_of, touched_of, touched_by, readers_before, touched_after}
 use Rattle.qss_quiet.proofs.Among.{among_rows}
-use Rattle.qss_run.proofs.Rewatching.{watched_as}
-use Rattle.qss_run.proofs.Speeds.{of_place, speeds_same}
+use Rattle.qss_watch.proofs.Rewatching.{watched_as}
+use Rattle.qss_watch.proofs.Speeds.{of_place, speeds_same}
 
 -- a condition is watched at its value, at the speed of slopes before, and has its truth
 pub record IsWatchedThere (m : Machine) (tick : ℕ) (moved : List ℕ) (states d slopes : List ℤ) (place : ℕ) (now : Watchings) : Type 0 where

@@ -1,11 +1,9 @@
 -- A store after one tick.
-use Rattle.std.proofs.Common.{◌≡◌, ◌≢◌, ℕ, ◌+◌, ◌<◌, Bool, true, false, List, [], length, ℤ, pos, ◌+ℤ◌, ◌*ℤ◌, refl, sym, ◌∙◌, ap, subst, arith}
+use Rattle.std.proofs.Common.{◌≡◌, ◌≢◌, ℕ, ◌+◌, ◌<◌, Bool, true, false, List, [], length, ℤ, pos, ◌+ℤ◌, ◌*ℤ◌, refl, sym, ◌∙◌, ap, subst, arith, Vec, Global}
 use Rattle.std.proofs.lemmas.Int.{ints}
 use Rattle.std.proofs.lemmas.List.{get_or-map, get_or_default}
 use Rattle.std.proofs.lemmas.List.FromFn.{length-map-range_with_len}
-use Rattle.std.proofs.Common.{Vec, Global}
-use Rattle.qss_run.specs.Moves.{AreAlikeBut}
-use Rattle.std.specs.Vec.{with_items}
+use Rattle.qss_watch.specs.Moves.{AreAlikeBut}
 use Rattle.std.specs.Option.{option_or}
 use Rattle.std.specs.Prelude.{Option, Some, None, Ok, All, is_some, position, vec_capacity, if◌then◌else◌}
 use Rattle.mu_num.specs.Sizes.{IsWithin}
@@ -21,10 +19,12 @@ use Rattle.qss_quant.specs.declared.rule.Rule.{Rule}
 use Rattle.qss_quant.specs.Lines.{Line, state_at, IsNear, IsAway}
 use Rattle.qss_sched.specs.Ranks.{due_at}
 use Rattle.qss_run.specs.declared.store.Store.{Store}
-use Rattle.qss_run.specs.Kept.{AreWeights}
-use Rattle.qss_run.specs.Places.{line_at, watch_at, IsTurned, IsWatched}
+use Rattle.qss_lines.specs.Kept.{AreWeights}
+use Rattle.qss_lines.specs.StateLines.{line_at, IsTurned, states_at}
+use Rattle.qss_watch.specs.Places.{watch_at, IsWatched}
 use Rattle.qss_quiet.specs.Sims.{slopes_of, condition_at, IsDue, IsChange, rises, StandsFor}
-use Rattle.qss_run.specs.Stores.{states_at, handling_from, world_of, FitsMachine, Stands}
+use Rattle.qss_watch.specs.Handlings.{handling_from}
+use Rattle.qss_run.specs.Stores.{world_of, FitsMachine, Stands}
 use Rattle.qss_quiet.proofs.Quiet.{int_at-tabulate, tabulate-same, tabulate-int_at, moved_is}
 use Rattle.qss_quiet.proofs.Silence.{from_later, line_state_at}
 
@@ -237,10 +237,6 @@ pub late : (Rule : ℤ → ℤ → ℤ → ℤ → Type 0) (m : Machine) (tick :
     o ≡ option_or (first_past 43 levels) (position (is_overweight m levels h.discretes) m.rows) → Step Rule m tick w (world_unless o next)
 late Rule m tick w next h levels None some is calm allowed e = absurd (cc)
 late Rule m tick w next h levels (Some var) some is calm allowed e = overflows_late Rule m tick w next h levels var is calm allowed e
-
--- elements that are written in place keep their number
-pub same_length : {X : Type 0} (v : Vec X Global) (ws : List X) → length (with_items v ws).items ≡ length v.items
-same_length v ws = sym (with_items v ws).ok.0 ∙ v.ok.0
 
 -- the levels are small
 pub levels_small : (m : Machine) (tick : ℕ) (s : Store) → Stands m tick s → All (IsWithin 43) s.levels.items

@@ -1,34 +1,21 @@
 -- What a simulator keeps, and the world that it stands for.
-use Rattle.std.specs.Prelude.{◌≡◌, ℕ, ◌+◌, ◌≤◌, Bool, false, List, [], length, map, All, ℤ, Option, None, vec_capacity}
+use Rattle.std.specs.Prelude.{◌≡◌, ℕ, ◌+◌, ◌≤◌, false, List, length, map, All, Option, None, vec_capacity}
 use Rattle.mu_num.specs.Sizes.{IsWithin}
 use Rattle.qss_machine.specs.declared.system.Machine.{Machine}
-use Rattle.qss_machine.specs.Numbers.{tabulate, first_past}
 use Rattle.qss_machine.specs.Machines.{state_count, discrete_count, level_unit, start_states, start_discretes}
 use Rattle.qss_machine.specs.Limits.{level_below}
-use Rattle.qss_machine.specs.Handlers.{Handling, conditions, truths, due_flags, run_clauses}
+use Rattle.qss_machine.specs.Handlers.{conditions}
 use Rattle.qss_machine.specs.Ticks.{World}
 use Rattle.qss_machine.specs.Uses.{uses_of}
-use Rattle.qss_quant.specs.Lines.{Line, state_at}
 use Rattle.qss_hand.specs.Works.{row_room}
 use Rattle.qss_sched.specs.Ranks.{due_at, HasNone}
 use Rattle.qss_quiet.specs.declared.outcome.Outcome.{Outcome}
 use Rattle.qss_run.specs.declared.store.Store.{Store}
-use Rattle.qss_run.specs.Places.{line_at, watch_at, AreConditionsOf, KnowsApart}
-use Rattle.qss_run.specs.Kept.{AreWeights}
-use Rattle.qss_run.specs.Moves.{AreDue, AreLookedAt, IsTakenOut}
+use Rattle.qss_lines.specs.StateLines.{line_at, states_at}
+use Rattle.qss_watch.specs.Places.{watch_at, AreConditionsOf, KnowsApart}
+use Rattle.qss_lines.specs.Kept.{AreWeights}
+use Rattle.qss_watch.specs.Moves.{AreDue, AreLookedAt, IsTakenOut}
 use Rattle.qss_quiet.specs.Sims.{slopes_of, rises, StandsFor}
-
--- the states to which lines lead at a tick
-abbrev pub states_at : List Line → ℕ → List ℤ
-states_at lines tick = tabulate (length lines) (λ j. state_at (line_at lines j) tick)
-
--- what the handlers of a tick do, from these values on arrival and these truths of the tick before
-abbrev pub handling_from : Machine → ℕ → List ℤ → List ℤ → List Bool → List Bool → Handling
-handling_from m tick states discretes arrived settled =
-    run_clauses m tick discretes 0
-    (record { states = states; discretes = discretes; rows = []; overflow = first_past 88 states })
-    m.clauses
-    (due_flags (truths m states discretes tick) arrived settled)
 
 -- the world at a tick
 abbrev pub world_of : ℕ → Store → World

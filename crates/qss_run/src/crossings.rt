@@ -8,22 +8,20 @@ ghost use Rattle.qss_machine.specs.Numbers.{tabulate};
 ghost use Rattle.qss_machine.specs.Ticks.{world_unless, Step};
 ghost use Rattle.qss_machine.specs.Runs.{tick_rows};
 ghost use Rattle.qss_sched.specs.Ranks.{due_at};
-ghost use Rattle.qss_run.specs.Handlings.{states_with};
-ghost use Rattle.qss_run.specs.Places.{KnowsApart};
-ghost use Rattle.qss_run.specs.Renewals.{renewals_from};
+ghost use Rattle.qss_lines.specs.StateLines.{states_with};
+ghost use Rattle.qss_watch.specs.Places.{KnowsApart};
+ghost use Rattle.qss_lines.specs.Renewals.{renewals_from};
 ghost use Rattle.qss_quiet.specs.Rules.{IsRuled};
 ghost use Rattle.qss_run.specs.Stores.{world_of, Stands, IsTaken};
 ghost use Rattle.qss_run.specs.Touches.{touches_at};
-ghost use Rattle.qss_run.specs.Visitings.{CanGoOnHandled};
+ghost use Rattle.qss_run.specs.Visits.{CanGoOnHandled};
 
-use crate::requantized::requantize_handled;
-use crate::reseated::reslope_handled;
 use crate::rewatched::rewatch_handled;
-use crate::rising::rise;
 use crate::store::Store;
-use crate::visiting::{Changing, Handled, HandledArrival, NewLevels};
+use qss_lines::{Handled, HandledArrival, NewLevels, requantize_handled, reslope_handled};
 use qss_machine::Machine;
 use qss_quant::{Quantizer, Steps};
+use qss_watch::{Changing, rise};
 use std::sync::ledger::Ledger;
 
 // The store knows whether a condition became true through the handlers of a tick, and its agenda has the next tick then.

@@ -10,13 +10,13 @@ ghost use Rattle.qss_run.specs.Stores.{world_of, Stands};
 ghost use Rattle.qss_quiet.specs.Silent.{AreSilent, IsVisit};
 ghost use Rattle.qss_run.specs.Touches.{touches_at};
 
-use crate::calm::catch_up;
 use crate::held::next_visit;
 use crate::store::Store;
 use crate::visit::visit;
 use qss_machine::Machine;
 use qss_quant::{Quantizer, Steps};
 use qss_quiet::Visited;
+use qss_watch::catch_up;
 use std::sync::ledger::Ledger;
 
 // Goes to just before the next tick at which something happens, or just before the last one.

@@ -1,82 +1,31 @@
 //! A tick at which nothing but states is due.
 
-ghost use Rattle.std.specs.Prelude.{◌≡◌, ℕ, ◌+◌, ◌<◌, ◌≤◌, ◌^◌, [], All, length, position, List, ℤ, Option, None, count_by, vec_capacity};
+ghost use Rattle.std.specs.Prelude.{◌≡◌, ℕ, ◌+◌, ◌<◌, ◌≤◌, ◌^◌, [], All, length, List, Option, None, count_by, vec_capacity};
 ghost use Rattle.std.specs.List.{range_with_len};
-ghost use Rattle.std.specs.Option.{option_or};
 ghost use Rattle.mu_num.specs.Sizes.{IsWithin};
-ghost use Rattle.qss_machine.specs.Numbers.{int_at, first_past};
+ghost use Rattle.qss_machine.specs.Numbers.{int_at};
 ghost use Rattle.qss_machine.specs.Handlers.{conditions};
-ghost use Rattle.qss_machine.specs.Machines.{state_count, discrete_count, slope_at};
-ghost use Rattle.qss_machine.specs.Ticks.{is_overweight, world_unless, Step};
-ghost use Rattle.qss_machine.specs.Runs.{level_rows, tick_rows};
+ghost use Rattle.qss_machine.specs.Machines.{state_count, slope_at};
+ghost use Rattle.qss_machine.specs.Ticks.{world_unless, Step};
+ghost use Rattle.qss_machine.specs.Runs.{tick_rows};
 ghost use Rattle.qss_quant.specs.Lines.{state_at};
 ghost use Rattle.qss_sched.specs.Ranks.{due_at};
 ghost use Rattle.qss_quiet.specs.Among.{is_among};
-ghost use Rattle.qss_run.specs.Gatherings.{reached};
-ghost use Rattle.qss_run.specs.Kept.{AreWeights};
-ghost use Rattle.qss_run.specs.Levels.{AreRequantizedOnArrival};
-ghost use Rattle.qss_run.specs.Places.{AreConditionsOf, AreWatched, HasPlaces, line_at, IsTurned};
+ghost use Rattle.qss_lines.specs.Gatherings.{reached};
+ghost use Rattle.qss_watch.specs.Places.{AreConditionsOf, AreWatched, HasPlaces};
+ghost use Rattle.qss_lines.specs.StateLines.{line_at, IsTurned, states_at};
 ghost use Rattle.qss_quiet.specs.Rules.{IsRuled};
-ghost use Rattle.qss_run.specs.Stores.{states_at, world_of, Stands, IsTaken};
+ghost use Rattle.qss_run.specs.Stores.{world_of, Stands, IsTaken};
 ghost use Rattle.qss_run.specs.Touches.{touches_at};
-ghost use Rattle.qss_run.specs.Visitings.{CanArrive, CanReslope, HoldsLevels, quiet_slopes};
+ghost use Rattle.qss_lines.specs.Visitings.{CanReslope, quiet_slopes};
 
-use crate::calm::catch_up;
-use crate::conditions::Conditions;
-use crate::gathered::reslope_of;
-use crate::relevel::requantize_due;
 use crate::store::Store;
-use crate::visiting::{Arrival, NewLevels, QuietLevels};
-use crate::weights::Weights;
-use qss_hand::Work;
-use qss_machine::{Machine, Row};
+use qss_lines::{Arrival, QuietLevels, requantize_moved, reslope_of};
+use qss_machine::Machine;
 use qss_quant::{Integrator, Quantizer, Steps};
 use qss_sched::Agenda;
+use qss_watch::{Conditions, catch_up};
 use std::sync::ledger::Ledger;
-
-// The due states arrive and take their new levels. It gives the variable that overflows, on arrival, by its level or by
-// its row.
-fn requantize_moved(
-    at: &Arrival,
-    q: &Quantizer,
-    work: &Work,
-    levels: &mut [i64],
-    weights: &mut Weights,
-    rows: &mut Vec<Row>,
-) -> Option<u32>
-    requires ready { CanArrive at.now levels.old }
-    requires discretes { length work.now.d ≡ discrete_count at.now.machine.now }
-    requires small_discretes { All (IsWithin 43) work.now.d }
-    requires held { HoldsLevels at.now.machine.now at.now.lines.now work.now.d
-        levels.old weights.old }
-    requires room { state_count at.now.machine.now ≤ vec_capacity rows.old }
-    ensures taken { (new : List ℤ) × AreRequantizedOnArrival at.now q.now.name
-        levels.old levels.new new
-        (option_or (first_past 43 new)
-        (position (is_overweight at.now.machine.now new work.now.d) at.now.machine.now.rows))
-        result }
-    ensures small { result ≡ None → All (IsWithin 43) levels.new }
-    ensures weights { result ≡ None
-        → AreWeights at.now.machine.now levels.new work.now.d weights.new }
-    ensures rows { result ≡ None
-        → rows.new.items ≡ level_rows at.now.tick levels.old levels.new
-        (states_at at.now.lines.now at.now.tick) }
-    ensures room { vec_capacity rows.new ≡ vec_capacity rows.old }
-{
-    let over = requantize_due(at, q, levels, rows);
-    if over.is_some() {
-        return over;
-    }
-    let new = NewLevels {
-        machine: at.machine,
-        uses: at.uses,
-        tick: at.tick,
-        moved: at.moved,
-        levels,
-    };
-    let d = work.d.as_slice();
-    weights.follow(&new, d, at.lines)
-}
 
 // The moved states and those whose rows read one of them go on from a tick at their new slopes, and the conditions that
 // read these at their new speeds.

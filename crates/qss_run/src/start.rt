@@ -1,8 +1,7 @@
 //! A store at tick 0.
 
-ghost use Rattle.std.specs.Prelude.{◌≡◌, ℕ, ◌+◌, ◌<◌, ◌≤◌, ◌++◌, List, All, IfOk, None, false, pos, length, map, position, replicate, vec_capacity};
+ghost use Rattle.std.specs.Prelude.{◌≡◌, ℕ, ◌+◌, ◌<◌, ◌≤◌, ◌++◌, All, IfOk, None, false, pos, length, map, position, vec_capacity};
 ghost use Rattle.mu_num.specs.Sizes.{IsWithin};
-ghost use Rattle.qss_machine.specs.declared.parts.Rel.TheVariants.{Less};
 ghost use Rattle.qss_machine.specs.declared.rows.RowKind.TheVariants as kind;
 ghost use Rattle.qss_machine.specs.Limits.{level_below};
 ghost use Rattle.qss_machine.specs.Numbers.{int_at, tabulate};
@@ -12,55 +11,22 @@ ghost use Rattle.qss_machine.specs.Handlers.{conditions, truths};
 ghost use Rattle.qss_machine.specs.Runs.{state_rows, discrete_rows, world_rows};
 ghost use Rattle.qss_quant.specs.Lines.{IsNear};
 ghost use Rattle.qss_sched.specs.Ranks.{due_at, HasNone};
-ghost use Rattle.qss_run.specs.Moments.{AreWithin};
-ghost use Rattle.qss_run.specs.Places.{AreBranches, AreConditionsOf, AreWatched, line_at, IsTurned};
+ghost use Rattle.qss_lines.specs.Variables.{AreWithin};
+ghost use Rattle.qss_watch.specs.Places.{AreConditionsOf, AreWatched};
+ghost use Rattle.qss_lines.specs.StateLines.{line_at, IsTurned};
 ghost use Rattle.qss_quiet.specs.Sims.{IsDue};
-ghost use Rattle.qss_run.specs.Stores.{world_of, FitsMachine, Stands, IsBlank};
+ghost use Rattle.qss_run.specs.Stores.{world_of, Stands, IsBlank};
 
-use crate::conditions::{BranchPlace, Conditions};
-use crate::copies::copies;
 use crate::ends::set_world_rows;
-use crate::moment::Point;
-use crate::place_set::PlaceSet;
 use crate::store::Store;
-use crate::weights::Weights;
-use qss_cross::Detector;
 use qss_hand::Work;
-use qss_machine::{Machine, Rel, Row, RowKind, Uses};
+use qss_lines::Weights;
+use qss_machine::{Machine, Row, RowKind, Uses};
 use qss_quant::Integrator;
 use qss_quiet::start_levels;
 use qss_sched::Agenda;
+use qss_watch::{Conditions, Point, blank_conditions, copies};
 use std::alloc::{AllocError, Global};
-
-// The branches of a clause, after those before it.
-fn add_branches(found: &mut Vec<BranchPlace>, clause: u32, count: usize) -> Result<(), AllocError>
-    requires { count ≤ 16384 }
-    ensures { IfOk result
-        (λ done. found.new.items
-        ≡ found.old.items
-        ++ tabulate count (λ branch. record { clause = clause; branch = branch })) }
-{
-    for branch in 0..count {
-        found.push(BranchPlace {
-            clause,
-            branch: branch as u32,
-        })?;
-    }
-    Ok(())
-}
-
-// The branches of all conditions in source order.
-fn branch_places(alloc: Global, m: &Machine) -> Result<Vec<BranchPlace>, AllocError>
-    ensures { IfOk result (λ branches. AreBranches m.now branches.items) }
-{
-    let clauses = m.clauses.as_slice();
-    let mut found: Vec<BranchPlace> = Vec::new(alloc);
-    for clause in 0..clauses.len() {
-        let count = clauses[clause].branches.as_slice().len();
-        add_branches(&mut found, clause as u32, count)?;
-    }
-    Ok(found)
-}
 
 // A line that rests at 0.
 fn resting_line() -> Integrator
@@ -72,45 +38,6 @@ fn resting_line() -> Integrator
         slope: 0,
         level: 0,
     }
-}
-
-// A condition that rests at 0.
-fn resting_watch() -> Detector
-    ensures { result ≡ record { rel = Less; tick = 0; value = pos 0; speed = pos 0 } }
-{
-    Detector {
-        rel: Rel::Less,
-        tick: 0,
-        value: 0,
-        speed: 0,
-    }
-}
-
-// Two lists of flags, one for each condition.
-fn flag_lists(alloc: Global, count: usize) -> Result<(Vec<bool>, Vec<bool>), AllocError>
-    ensures { IfOk result
-        (λ lists. let flags = replicate count false in (lists.0.items ≡ flags)
-        × (lists.1.items ≡ flags)) }
-{
-    let first = copies(alloc, false, count)?;
-    let second = copies(alloc, false, count)?;
-    Ok((first, second))
-}
-
-// The conditions, at rest at 0.
-fn blank_conditions(alloc: Global, m: &Machine) -> Result<Conditions, AllocError>
-    ensures { IfOk result (λ all. AreConditionsOf m.now all) }
-{
-    let branches = branch_places(alloc, m)?;
-    let count = branches.len();
-    let (arrived, settled) = flag_lists(alloc, count)?;
-    Ok(Conditions {
-        branches,
-        watches: copies(alloc, resting_watch(), count)?,
-        arrived,
-        settled,
-        apart: PlaceSet::empty(alloc, count)?,
-    })
 }
 
 // Memory for the numbers of moved states, of changed conditions and of due branches.

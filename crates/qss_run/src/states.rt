@@ -4,8 +4,7 @@ ghost use Rattle.std.specs.Prelude.{◌≡◌, ℕ, ◌<◌, ◌≤◌, ◌^◌,
 ghost use Rattle.mu_num.specs.Ticks.{tick_limit};
 ghost use Rattle.qss_machine.specs.Numbers.{tabulate};
 ghost use Rattle.qss_quant.specs.Lines.{state_at};
-ghost use Rattle.qss_run.specs.Places.{line_at};
-ghost use Rattle.qss_run.specs.Stores.{states_at};
+ghost use Rattle.qss_lines.specs.StateLines.{line_at, states_at};
 
 use qss_hand::Work;
 use qss_quant::Integrator;

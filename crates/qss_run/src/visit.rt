@@ -8,12 +8,11 @@ ghost use Rattle.qss_run.specs.Stores.{world_of, Stands};
 ghost use Rattle.qss_run.specs.Touches.{touches_at};
 
 use crate::crossings::visit_changed;
-use crate::due::{take_changed, take_due};
-use crate::rising::call_risen;
 use crate::sparse::visit_due;
 use crate::store::Store;
 use qss_machine::Machine;
 use qss_quant::{Quantizer, Steps};
+use qss_watch::{call_risen, take_changed, take_due};
 use std::sync::ledger::Ledger;
 
 /// One tick after the one at which the store stands. It gives the variable that overflows, if one does; the store is then

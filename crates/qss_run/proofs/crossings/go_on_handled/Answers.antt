@@ -13,23 +13,26 @@ use Rattle.qss_machine.specs.Ticks.{is_overweight}
 use Rattle.qss_quant.specs.Lines.{state_at, IsNear}
 use Rattle.qss_sched.specs.Ranks.{due_at}
 use Rattle.qss_hand.specs.Values.{Values}
-use Rattle.qss_run.specs.declared.conditions.Conditions.{Conditions}
+use Rattle.qss_watch.specs.declared.conditions.Conditions.{Conditions}
 use Rattle.qss_run.specs.declared.store.Store.{Store}
-use Rattle.qss_run.specs.declared.shifts.RowSum.TheVariants.{Slope}
-use Rattle.qss_run.specs.Handlings.{AreAssigned, AreDiscretes, AreWatchedUpTo, states_with}
+use Rattle.qss_lines.specs.declared.shifts.RowSum.TheVariants.{Slope}
+use Rattle.qss_lines.specs.Variables.{AreAssigned, AreDiscretes}
+use Rattle.qss_watch.specs.Handlings.{AreWatchedUpTo}
+use Rattle.qss_lines.specs.StateLines.{states_with, line_at, IsTurned, states_at}
 use Rattle.qss_quiet.specs.Among.{is_among, AreNumbers}
 use Rattle.qss_quiet.specs.Logs.{reinitialized_of}
-use Rattle.qss_run.specs.Moments.{AreLinesAt}
-use Rattle.qss_run.specs.Places.{line_at, watch_at, IsTurned, IsWatched}
-use Rattle.qss_run.specs.Renewals.{renewals_from}
-use Rattle.qss_run.specs.RowSums.{AreSumsBefore}
+use Rattle.qss_watch.specs.Moments.{AreLinesAt}
+use Rattle.qss_watch.specs.Places.{watch_at, IsWatched}
+use Rattle.qss_lines.specs.Renewals.{renewals_from}
+use Rattle.qss_lines.specs.RowSums.{AreSumsBefore}
 use Rattle.qss_quiet.specs.Sims.{IsDue}
-use Rattle.qss_run.specs.Stores.{states_at, world_of, FitsMachine, Stands}
+use Rattle.qss_run.specs.Stores.{world_of, FitsMachine, Stands}
 use Rattle.qss_run.proofs.AfterHandlers.{length-states_with, same_states, same_slopes, same_worlds, lead_to, watched_up_to}
-use Rattle.qss_run.proofs.Reinitialized.{among_reinitialized}
-use Rattle.qss_run.proofs.Turning.{slopes_small}
+use Rattle.qss_watch.proofs.Reinitialized.{among_reinitialized}
+use Rattle.qss_lines.proofs.Turning.{slopes_small}
 use Rattle.qss_hand.proofs.Turns.{conditions_few}
-use Rattle.qss_run.proofs.Visits.{state_small, stands_again, same_length}
+use Rattle.qss_run.proofs.Visits.{state_small, stands_again}
+use Rattle.qss_lines.proofs.InPlace.{same_length}
 use Rattle.qss_run.proofs.crossings.go_on_handled.Goals as goal
 
 pub reslope_handled-requires : goal.reslope_handled-requires

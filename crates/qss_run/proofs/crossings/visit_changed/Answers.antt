@@ -15,29 +15,33 @@ use Rattle.qss_quant.specs.Lines.{state_at}
 use Rattle.qss_cross.specs.Crossing.{Watch, IsSmall, value_at, holds_at}
 use Rattle.qss_hand.specs.Values.{Values}
 use Rattle.qss_sched.specs.Ranks.{due_at}
-use Rattle.qss_run.specs.RowSums.{AreSumsBefore}
-use Rattle.qss_run.specs.declared.shifts.RowSum.TheVariants.{Slope}
-use Rattle.qss_run.specs.declared.conditions.Conditions.{Conditions}
+use Rattle.qss_lines.specs.RowSums.{AreSumsBefore}
+use Rattle.qss_lines.specs.declared.shifts.RowSum.TheVariants.{Slope}
+use Rattle.qss_watch.specs.declared.conditions.Conditions.{Conditions}
 use Rattle.qss_run.specs.declared.store.Store.{Store}
-use Rattle.qss_run.specs.Handlings.{states_with, is_reinitialized, AreAssigned, AreDiscretes, IsHandled, AreMovedTo}
+use Rattle.qss_lines.specs.StateLines.{states_with, line_at, states_at}
+use Rattle.qss_watch.specs.Handlings.{is_reinitialized, IsHandled, handling_from}
+use Rattle.qss_lines.specs.Variables.{AreAssigned, AreDiscretes}
+use Rattle.qss_lines.specs.Visitings.{AreMovedTo}
 use Rattle.qss_quiet.specs.Among.{is_among, AreNumbers, IsOff}
-use Rattle.qss_run.specs.Moves.{AreAlikeBut}
-use Rattle.qss_run.specs.Places.{line_at, watch_at, IsWatched}
-use Rattle.qss_run.specs.Renewals.{renewals_from}
+use Rattle.qss_watch.specs.Moves.{AreAlikeBut}
+use Rattle.qss_watch.specs.Places.{watch_at, IsWatched}
+use Rattle.qss_lines.specs.Renewals.{renewals_from}
 use Rattle.qss_quiet.specs.Rules.{IsRuled}
 use Rattle.qss_quiet.specs.Sims.{condition_at}
 use Rattle.qss_quiet.proofs.Overs.{not_some, all_within}
-use Rattle.qss_run.specs.Kept.{AreWeights}
-use Rattle.qss_run.specs.Stores.{states_at, handling_from, world_of}
+use Rattle.qss_lines.specs.Kept.{AreWeights}
+use Rattle.qss_run.specs.Stores.{world_of}
 use Rattle.qss_run.specs.Touches.{touches_at}
 use Rattle.qss_run.proofs.AfterHandlers.{same_worlds}
 use Rattle.qss_run.proofs.Crossed.{none_early, reinits_known, later_dues, flag_same, rest_as_before, watched_then, watched_still, moved_to, near_after, due_after, levels_before_handlers, conditions_stay}
-use Rattle.qss_run.proofs.DueLevels.{int_at-states_at}
-use Rattle.qss_run.proofs.Handled.{rows_handled}
+use Rattle.qss_lines.proofs.DueLevels.{int_at-states_at}
+use Rattle.qss_watch.proofs.Handled.{rows_handled}
 use Rattle.qss_run.proofs.QuietVisits.{earlier, own_slope, rest_small}
 use Rattle.qss_run.proofs.Reinits.{kept_state}
 use Rattle.qss_run.proofs.Touched.{renewals_from_touched}
-use Rattle.qss_run.proofs.Visits.{arrives, handles_from, both_none, early, late, steps_to, end_of, same_length, levels_small}
+use Rattle.qss_run.proofs.Visits.{arrives, handles_from, both_none, early, late, steps_to, end_of, levels_small}
+use Rattle.qss_lines.proofs.InPlace.{same_length}
 use Rattle.qss_run.proofs.crossings.visit_changed.Goals as goal
 
 pub handle-over-requires-clause-ready : goal.handle-over-requires-clause-ready

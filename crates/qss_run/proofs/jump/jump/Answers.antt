@@ -8,8 +8,8 @@ use Rattle.qss_sched.specs.Ranks.{due_at}
 use Rattle.std.specs.Vec.{with_items}
 use Rattle.qss_run.specs.declared.store.Store.{Store}
 use Rattle.qss_quiet.specs.Rules.{IsRuled}
-use Rattle.qss_run.specs.Moves.{AreAlikeBut}
-use Rattle.qss_run.specs.PlaceSets.{PlaceList}
+use Rattle.qss_watch.specs.Moves.{AreAlikeBut}
+use Rattle.qss_watch.specs.PlaceSets.{PlaceList}
 use Rattle.qss_run.specs.Stores.{world_of, Stands}
 use Rattle.qss_quiet.specs.Silent.{AreSilent}
 use Rattle.qss_run.proofs.Jumps.{next_later, with_arrived, world_then, stands_then, silent_then}

@@ -8,22 +8,23 @@ use Rattle.qss_machine.specs.Handlers.{conditions}
 use Rattle.qss_cross.specs.Crossing.{IsSmall, Watch}
 use Rattle.qss_sched.specs.Ranks.{due_at}
 use Rattle.qss_hand.specs.Values.{Values}
-use Rattle.qss_run.specs.declared.conditions.Conditions.{Conditions}
+use Rattle.qss_watch.specs.declared.conditions.Conditions.{Conditions}
 use Rattle.qss_run.specs.declared.store.Store.{Store}
 use Rattle.qss_quiet.specs.Logs.{reinitialized_of}
 use Rattle.qss_quiet.specs.Among.{is_among}
-use Rattle.qss_run.specs.Moments.{AreLinesAt, AreSlopesOf}
-use Rattle.qss_run.specs.Moves.{AreAlikeBut}
-use Rattle.qss_run.specs.Places.{watch_at, IsWatched}
-use Rattle.qss_run.specs.Rewatchings.{watchings_of, touched_after, one_reads}
+use Rattle.qss_watch.specs.Moments.{AreLinesAt}
+use Rattle.qss_lines.specs.Variables.{AreSlopesOf}
+use Rattle.qss_watch.specs.Moves.{AreAlikeBut}
+use Rattle.qss_watch.specs.Places.{watch_at, IsWatched}
+use Rattle.qss_watch.specs.Rewatchings.{watchings_of, touched_after, one_reads}
 use Rattle.qss_quiet.specs.Sims.{condition_at}
-use Rattle.qss_run.specs.Speeds.{AreSlopesBefore}
-use Rattle.qss_run.specs.Stores.{states_at}
+use Rattle.qss_watch.specs.Speeds.{AreSlopesBefore}
+use Rattle.qss_lines.specs.StateLines.{states_at}
 use Rattle.qss_quiet.proofs.Flags.{truths_are}
-use Rattle.qss_run.proofs.Apart.{alike_then}
-use Rattle.qss_run.proofs.OwnConditions.{settled_fits, still_fits, rest_watched, same_settled}
+use Rattle.qss_watch.proofs.Apart.{alike_then}
+use Rattle.qss_watch.proofs.OwnConditions.{settled_fits, still_fits, rest_watched, same_settled}
 use Rattle.qss_run.proofs.QuietTick.{value_small, condition_bounded}
-use Rattle.qss_run.proofs.Settling.{among_settling, unread_by}
+use Rattle.qss_watch.proofs.Settling.{among_settling, unread_by}
 use Rattle.qss_run.proofs.Untouched.{each_watched}
 use Rattle.qss_run.proofs.rewatched.rewatch_handled.Goals as goal
 

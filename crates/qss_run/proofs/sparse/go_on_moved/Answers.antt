@@ -2,15 +2,15 @@
 use Rattle.std.proofs.Common.{◌+◌, List, ℤ, refl, sym, ◌∙◌, subst, arith}
 use Rattle.qss_machine.specs.Machines.{state_count}
 use Rattle.qss_cross.specs.Crossing.{IsSmall}
-use Rattle.qss_run.specs.declared.conditions.Conditions.{Conditions}
-use Rattle.qss_run.specs.Places.{watch_at, IsWatched}
+use Rattle.qss_watch.specs.declared.conditions.Conditions.{Conditions}
+use Rattle.qss_watch.specs.Places.{watch_at, IsWatched}
 use Rattle.qss_quiet.specs.Sims.{condition_at}
-use Rattle.qss_run.specs.Speeds.{AreSlopesBefore}
-use Rattle.qss_run.specs.Stores.{states_at}
-use Rattle.qss_run.proofs.OwnConditions.{still_fits}
+use Rattle.qss_watch.specs.Speeds.{AreSlopesBefore}
+use Rattle.qss_lines.specs.StateLines.{states_at}
+use Rattle.qss_watch.proofs.OwnConditions.{still_fits}
 use Rattle.qss_run.proofs.QuietTick.{value_small, condition_bounded}
 use Rattle.qss_run.proofs.QuietVisits.{slopes_stay}
-use Rattle.qss_run.proofs.Turning.{slopes_small}
+use Rattle.qss_lines.proofs.Turning.{slopes_small}
 use Rattle.qss_run.proofs.sparse.go_on_moved.Goals as goal
 
 pub reslope_of-requires-clause-ready : goal.reslope_of-requires-clause-ready

@@ -15,27 +15,29 @@ use Rattle.qss_machine.specs.Runs.{level_rows}
 use Rattle.qss_quant.specs.Lines.{state_at, IsNear}
 use Rattle.qss_sched.specs.Ranks.{due_at}
 use Rattle.qss_hand.specs.Values.{Values}
-use Rattle.qss_run.specs.RowSums.{AreSumsBefore}
-use Rattle.qss_run.specs.declared.shifts.RowSum.TheVariants.{Slope}
-use Rattle.qss_run.specs.declared.conditions.Conditions.{Conditions}
+use Rattle.qss_lines.specs.RowSums.{AreSumsBefore}
+use Rattle.qss_lines.specs.declared.shifts.RowSum.TheVariants.{Slope}
+use Rattle.qss_watch.specs.declared.conditions.Conditions.{Conditions}
 use Rattle.qss_run.specs.declared.store.Store.{Store}
 use Rattle.qss_machine.specs.Firing.{flag_at}
 use Rattle.qss_quiet.specs.Among.{is_among, AreNumbers, IsOff}
-use Rattle.qss_run.specs.Places.{line_at, watch_at, IsTurned, IsWatched}
+use Rattle.qss_lines.specs.StateLines.{line_at, IsTurned, states_at}
+use Rattle.qss_watch.specs.Places.{watch_at, IsWatched}
 use Rattle.qss_quiet.specs.Rules.{IsRuled}
 use Rattle.qss_quiet.specs.Sims.{IsDue}
 use Rattle.qss_quiet.proofs.Overs.{not_some, clash, all_within}
-use Rattle.qss_run.specs.Gatherings.{reached}
-use Rattle.qss_run.specs.Kept.{AreWeights}
-use Rattle.qss_run.specs.Stores.{states_at, world_of, FitsMachine}
-use Rattle.qss_run.specs.Visitings.{HasLeft}
+use Rattle.qss_lines.specs.Gatherings.{reached}
+use Rattle.qss_lines.specs.Kept.{AreWeights}
+use Rattle.qss_run.specs.Stores.{world_of, FitsMachine}
+use Rattle.qss_lines.specs.Visitings.{HasLeft}
 use Rattle.qss_run.specs.Touches.{touches_at}
-use Rattle.qss_run.proofs.DueLevels.{moved_inside}
-use Rattle.qss_run.proofs.OwnConditions.{arrived_anew}
+use Rattle.qss_lines.proofs.DueLevels.{moved_inside}
+use Rattle.qss_watch.proofs.OwnConditions.{arrived_anew}
 use Rattle.qss_run.proofs.QuietVisits.{steps_or, leads, rest_small, rest_near, due_left, moved_changes, own_slope, levels_before, handled, arrived, near, kept_due, same_truths, watched, not_rising, rising, rows_then}
 use Rattle.qss_run.proofs.QuietTick.{none_rises_then}
 use Rattle.qss_run.proofs.Touched.{changes, reached_touched}
-use Rattle.qss_run.proofs.Visits.{stands_again, end_of, both_none, same_length, levels_small, state_within}
+use Rattle.qss_run.proofs.Visits.{stands_again, end_of, both_none, levels_small, state_within}
+use Rattle.qss_lines.proofs.InPlace.{same_length}
 use Rattle.qss_run.proofs.sparse.visit_due.Goals as goal
 
 pub requantize_moved-over-requires-clause-ready : goal.requantize_moved-over-requires-clause-ready

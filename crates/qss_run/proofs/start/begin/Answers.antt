@@ -15,12 +15,14 @@ use Rattle.qss_machine.specs.Runs.{state_rows, discrete_rows}
 use Rattle.qss_sched.specs.Ranks.{due_at}
 use Rattle.qss_hand.specs.Values.{Values}
 use Rattle.qss_run.specs.declared.store.Store.{Store}
-use Rattle.qss_run.specs.Places.{line_at, watch_at, IsTurned, IsWatched}
-use Rattle.qss_run.specs.Kept.{AreWeights}
-use Rattle.qss_run.specs.Stores.{states_at, FitsMachine}
+use Rattle.qss_lines.specs.StateLines.{line_at, IsTurned, states_at}
+use Rattle.qss_watch.specs.Places.{watch_at, IsWatched}
+use Rattle.qss_lines.specs.Kept.{AreWeights}
+use Rattle.qss_run.specs.Stores.{FitsMachine}
 use Rattle.qss_quiet.proofs.Skipped.{settled_twice}
 use Rattle.qss_quiet.proofs.Starts.{levels_at_start, levels_start, light_at, count_start}
-use Rattle.qss_run.proofs.Visits.{same_length, stands_again}
+use Rattle.qss_lines.proofs.InPlace.{same_length}
+use Rattle.qss_run.proofs.Visits.{stands_again}
 use Rattle.qss_run.proofs.start.begin.Goals as goal
 
 pub start-requires-clause-levels : goal.start-requires-clause-levels

@@ -9,11 +9,11 @@ use Rattle.qss_machine.specs.Numbers.{int_at}
 use Rattle.qss_machine.specs.Machines.{state_count, slope_at}
 use Rattle.qss_quant.specs.Lines.{Line, state_at}
 use Rattle.qss_sched.specs.Ranks.{due_at}
-use Rattle.qss_run.specs.Places.{IsTurned}
+use Rattle.qss_lines.specs.StateLines.{IsTurned}
 use Rattle.qss_quiet.proofs.Firsts.{one_more}
 use Rattle.qss_quiet.proofs.Lines.{line_here}
 use Rattle.qss_quiet.proofs.LightRows.{row_is_light}
-use Rattle.qss_run.proofs.Turning.{is_true, turned_more, near_along}
+use Rattle.qss_lines.proofs.Turning.{is_true, turned_more, near_along}
 use Rattle.qss_run.proofs.start.start_lines.Goals as goal
 use mir.Syntax.{w64, w128}
 

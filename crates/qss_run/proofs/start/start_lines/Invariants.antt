@@ -2,7 +2,7 @@ use Rattle.std.proofs.Common.{◌≡◌, ℕ, ◌<◌, ◌≤◌, length}
 use Rattle.qss_machine.specs.Numbers.{int_at}
 use Rattle.qss_machine.specs.Machines.{state_count, slope_at}
 use Rattle.qss_sched.specs.Ranks.{due_at}
-use Rattle.qss_run.specs.Places.{line_at, IsTurned}
+use Rattle.qss_lines.specs.StateLines.{line_at, IsTurned}
 use Rattle.qss_run.proofs.start.start_lines.Given as goal
 
 -- the lines so far are turned, and the others are as they were

@@ -2,7 +2,7 @@
 use Rattle.std.proofs.Common.{length, pos, arith}
 use Rattle.std.proofs.lemmas.List.FromFn.{fill_by_all}
 use Rattle.qss_quant.specs.Lines.{state_at}
-use Rattle.qss_run.specs.Places.{line_at}
+use Rattle.qss_lines.specs.StateLines.{line_at}
 use Rattle.qss_run.proofs.states.arrive.Goals as goal
 
 pub returns : goal.returns

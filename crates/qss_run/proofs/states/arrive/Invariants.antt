@@ -1,7 +1,7 @@
 use Rattle.std.proofs.Common.{◌≡◌, ℕ, ◌<◌, length}
 use Rattle.qss_machine.specs.Numbers.{int_at}
 use Rattle.qss_quant.specs.Lines.{state_at}
-use Rattle.qss_run.specs.Places.{line_at}
+use Rattle.qss_lines.specs.StateLines.{line_at}
 use Rattle.qss_run.proofs.states.arrive.Given as goal
 
 -- the states so far

@@ -6,8 +6,7 @@ use Rattle.std.specs.Prelude.{vec_capacity}
 use Rattle.std.specs.Vec.{with_items}
 use Rattle.qss_quant.specs.Lines.{state_at}
 use Rattle.qss_hand.specs.Values.{Values}
-use Rattle.qss_run.specs.Places.{line_at}
-use Rattle.qss_run.specs.Stores.{states_at}
+use Rattle.qss_lines.specs.StateLines.{line_at, states_at}
 use Rattle.qss_run.proofs.states.arrive_in.Goals as goal
 
 pub returns : goal.returns

@@ -1,0 +1,98 @@
+-- States of which some go on at new slopes, step by step.
+use Rattle.std.proofs.Common.{◌≡◌, ℕ, ◌<◌, true, false, List, [], ◌∷◌, ◌++◌, length, ℤ, sym, ◌∙◌, ap, subst, arith, inl, inr, ◌==◌}
+use Rattle.std.proofs.lemmas.Bool.{or_cases, cases_eq}
+use Rattle.std.proofs.lemmas.List.Folds.{list_any-append}
+use Rattle.std.specs.Prelude.{Option}
+use Rattle.mu_num.proofs.Tests.{eqb-true}
+use Rattle.mu_num.specs.Sizes.{IsWithin}
+use Rattle.qss_machine.specs.declared.system.Machine.{Machine}
+use Rattle.qss_machine.specs.Machines.{state_count, level_unit, quantum_of}
+use Rattle.qss_machine.specs.Numbers.{int_at}
+use Rattle.qss_quant.specs.Lines.{Line, state_at, IsNear}
+use Rattle.qss_sched.specs.Ranks.{due_at}
+use Rattle.qss_quiet.specs.Among.{is_among}
+use Rattle.qss_lines.specs.StateLines.{line_at, IsTurned}
+use Rattle.qss_lines.specs.Renewals.{goes_at}
+use Rattle.qss_lines.specs.Turnings.{MayTurn, GoesOn, Courses, AreTurned}
+
+-- ---- one state
+
+module _ (m : Machine) (tick : ℕ) (level slope : ℤ) (j : ℕ) where
+  -- a line is at one state at the tick all along
+  pub same_state : {old new : Line} {due_old due_new : Option ℕ} → GoesOn m tick level slope j old new due_old due_new → state_at new tick ≡ state_at old tick
+  same_state (inl kept) = ap (λ (l : Line). state_at l tick) kept.0
+  same_state (inr turned) = turned.here
+
+  -- a line that may go on may do so again
+  pub may_turn_again : (old new : Line) (due_old due_new : Option ℕ) → MayTurn m tick level slope j old due_old → GoesOn m tick level slope j old new due_old due_new →
+      MayTurn m tick level slope j new due_new
+  may_turn_again old new due_old due_new may (inl kept) =
+      subst (λ (l : Line). MayTurn m tick level slope j l due_new) (sym kept.0) (subst (MayTurn m tick level slope j old) (sym kept.1) may)
+  may_turn_again old new due_old due_new may (inr turned) = record {
+    not_later = turned.not_later;
+    small = subst (IsWithin 88) (sym turned.here) may.small;
+    near = subst (λ x. IsNear (level_unit m) x level (quantum_of m j level)) (sym turned.here) may.near;
+    due = λ e. turned.is_due;
+  }
+
+  -- a line at its new slope stays at it
+  pub still_turned : (x : ℤ) (old new : Line) (due_old due_new : Option ℕ) → state_at old tick ≡ x → IsTurned m tick x level slope j old due_old →
+      GoesOn m tick level slope j old new due_old due_new → IsTurned m tick x level slope j new due_new
+  still_turned x old new due_old due_new at turned (inl kept) =
+      subst (λ (l : Line). IsTurned m tick x level slope j l due_new) (sym kept.0) (subst (IsTurned m tick x level slope j old) (sym kept.1) turned)
+  still_turned x old new due_old due_new at turned (inr again) = subst (λ z. IsTurned m tick z level slope j new due_new) at again
+
+  pub goes_on_on : (a b c : Line) (due_a due_b due_c : Option ℕ) → GoesOn m tick level slope j a b due_a due_b → GoesOn m tick level slope j b c due_b due_c →
+      GoesOn m tick level slope j a c due_a due_c
+  goes_on_on a b c due_a due_b due_c (inl first) (inl second) = inl (second.0 ∙ first.0, second.1 ∙ first.1)
+  goes_on_on a b c due_a due_b due_c (inl first) (inr second) = inr (subst (λ z. IsTurned m tick z level slope j c due_c) (ap (λ (l : Line). state_at l tick) first.0) second)
+  goes_on_on a b c due_a due_b due_c (inr first) second = inr (still_turned (state_at a tick) b c due_b due_c first.here first second)
+
+-- ---- all states
+
+module _ (m : Machine) (tick : ℕ) (levels slopes : List ℤ) where
+  -- one state goes on at its slope
+  pub one_turned : (j : ℕ) (old new : Courses) → j < state_count m →
+      IsTurned m tick (state_at (line_at old.lines j) tick) (int_at levels j) (int_at slopes j) j (line_at new.lines j) (due_at new.dues j) →
+      ((k : ℕ) → (k ≡ j → ⊥) → line_at new.lines k ≡ line_at old.lines k) → length new.dues ≡ length old.dues →
+      ((place : ℕ) → (place ≡ j → ⊥) → due_at new.dues place ≡ due_at old.dues place) →
+      (goes_at (int_at levels j) (int_at slopes j) (line_at old.lines j) ≡ true → line_at new.lines j ≡ line_at old.lines j) → AreTurned m tick levels slopes (j ∷ []) old new
+  one_turned j old new known turned lines places dues kept =
+      let here = λ (k : ℕ) (same : j ≡ k).
+      subst (λ (i : ℕ). IsTurned m tick (state_at (line_at old.lines i) tick) (int_at levels i) (int_at slopes i) i (line_at new.lines i) (due_at new.dues i)) same turned in
+      record {
+        each = λ k h. elim (cases_eq k j) [
+          | inl same ↦ inr (here k (sym same))
+          | inr other ↦ inl (lines k other, dues k other)
+        ];
+        turned = λ k h among. elim (or_cases (j == k) false among) [
+          | inl same ↦ here k (eqb-true j k same)
+          | inr none ↦ absurd (cc)
+        ];
+        left = λ k h so. elim (cases_eq k j) [
+          | inl same ↦ subst (λ (i : ℕ). line_at new.lines i ≡ line_at old.lines i) (sym same)
+              (kept (subst (λ (i : ℕ). goes_at (int_at levels i) (int_at slopes i) (line_at old.lines i) ≡ true) same so))
+          | inr other ↦ lines k other
+        ];
+        as_many = places;
+        others = λ place past. dues place (λ e. omega (arith, e, past, known));
+      }
+
+  -- and then more do
+  pub turned_then : (xs ys : List ℕ) (a b c : Courses) → AreTurned m tick levels slopes xs a b → AreTurned m tick levels slopes ys b c → AreTurned m tick levels slopes (xs ++ ys) a c
+  turned_then xs ys a b c first second = record {
+    each = λ k h. goes_on_on m tick (int_at levels k) (int_at slopes k) k (line_at a.lines k) (line_at b.lines k) (line_at c.lines k)
+        (due_at a.dues k) (due_at b.dues k) (due_at c.dues k) (first.each k h) (second.each k h);
+    turned = λ k h among.
+        let at : state_at (line_at b.lines k) tick ≡ state_at (line_at a.lines k) tick = same_state m tick (int_at levels k) (int_at slopes k) k (first.each k h) in
+        elim (or_cases (is_among xs k) (is_among ys k) (sym (list_any-append (λ (i : ℕ). i == k) xs ys) ∙ among)) [
+          | inl before ↦ still_turned m tick (int_at levels k) (int_at slopes k) k (state_at (line_at a.lines k) tick) (line_at b.lines k) (line_at c.lines k)
+              (due_at b.dues k) (due_at c.dues k) at (first.turned k h before) (second.each k h)
+          | inr after ↦ subst (λ z. IsTurned m tick z (int_at levels k) (int_at slopes k) k (line_at c.lines k) (due_at c.dues k)) at (second.turned k h after)
+        ];
+    left = λ k h so.
+        let same = first.left k h so in
+        second.left k h (ap (goes_at (int_at levels k) (int_at slopes k)) same ∙ so) ∙ same;
+    as_many = second.as_many ∙ first.as_many;
+    others = λ place past. second.others place past ∙ first.others place past;
+  }

@@ -1,0 +1,308 @@
+-- States that are gathered one after another.
+use Rattle.std.proofs.Common.{◌≡◌, ◌≢◌, ℕ, ◌+◌, ◌<◌, ◌≤◌, Bool, true, false, not, ◌&&◌, ◌||◌, eqb, List, [], ◌∷◌, ◌++◌, length, set, ℤ, count_by, flat_map, refl, sym, ◌∙◌, ap, subst, arith, inl, inr}
+use Rattle.std.proofs.lemmas.Bool.{cases_Bool, cases_eq, eqb-true, eq-eqb, ne_eqb, or_cases, or_parts, or_left, or_right}
+use Rattle.std.proofs.lemmas.List.{length-set, get_or-set_same, get_or-set_other, length-append}
+use Rattle.std.proofs.lemmas.List.Elements.{All-push}
+use Rattle.std.proofs.lemmas.List.Folds.{list_any-append}
+use Rattle.std.specs.List.{range_with_len}
+use Rattle.std.specs.Prelude.{Option, All}
+use Rattle.mu_num.specs.Sizes.{IsWithin}
+use Rattle.qss_machine.specs.declared.system.Machine.{Machine}
+use Rattle.qss_machine.specs.Machines.{state_count, row_at, slope_at}
+use Rattle.qss_machine.specs.Numbers.{int_at, tabulate}
+use Rattle.qss_machine.specs.Uses.{reading_rows}
+use Rattle.qss_quant.specs.Lines.{Line, state_at}
+use Rattle.qss_sched.specs.Ranks.{due_at}
+use Rattle.qss_quiet.specs.Among.{is_among}
+use Rattle.qss_quiet.specs.Sims.{IsDue, no_line}
+use Rattle.qss_quiet.proofs.Among.{among_readers}
+use Rattle.qss_quiet.proofs.Quiet.{int_at-tabulate}
+use Rattle.qss_quiet.proofs.Unread.{unread_at, unread_slope}
+use Rattle.qss_quiet.proofs.Writes.{among_push, index_of}
+use Rattle.qss_lines.specs.declared.shifts.RowSum.TheVariants.{Slope}
+use Rattle.qss_lines.specs.Gatherings.{Gathering, IsAlong, is_behind, behind, CanGather, AreGathered, reached}
+use Rattle.qss_lines.specs.StateLines.{line_at, IsTurned}
+use Rattle.qss_lines.specs.RowSums.{AreSumsBefore}
+use Rattle.qss_lines.specs.Turnings.{Courses}
+use Rattle.qss_lines.proofs.Counting.{one_if, count_few, count_less, count_one}
+use Rattle.qss_quiet.proofs.Lines.{line_here}
+
+-- ---- one line
+
+-- a line that is left is where it was
+along_same : (tick : ℕ) (line : Line) → line.tick ≤ tick → IsAlong tick line line
+along_same tick line not_later = record { not_later = not_later; here = refl; same_slope = refl; same_level = refl }
+
+along_then : (tick : ℕ) (a b c : Line) → IsAlong tick a b → IsAlong tick b c → IsAlong tick a c
+along_then tick a b c first second = record {
+  not_later = second.not_later;
+  here = second.here ∙ first.here;
+  same_slope = second.same_slope ∙ first.same_slope;
+  same_level = second.same_level ∙ first.same_level;
+}
+
+-- a line that moved to the tick is where it was
+along_moved : (tick : ℕ) (line : Line) → IsAlong tick line (record line { tick = tick; x = state_at line tick })
+along_moved tick line = record { not_later = omega arith; here = line_here tick (state_at line tick) line.slope line.level; same_slope = refl; same_level = refl }
+
+-- ---- how many are behind
+
+and_false : (a b : Bool) → b ≡ false → (a && b) ≡ false
+and_false true b e = e
+and_false false b e = refl
+
+-- no more than all
+pub behind_few : (tick : ℕ) (may : ℕ → Bool) (lines : List Line) → behind tick may lines ≤ length lines
+behind_few tick may lines = count_few (length lines) (is_behind tick may lines)
+
+-- no more than may move
+pub behind_may : (tick n : ℕ) (may : ℕ → Bool) (lines : List Line) → length lines ≡ n → behind tick may lines ≤ count_by may (range_with_len 0 n)
+behind_may tick n may lines many =
+    let fewer : behind tick may lines ≤ count_by may (range_with_len 0 (length lines)) =
+    count_less (length lines) (is_behind tick may lines) may (λ j h none. and_false (not (eqb (line_at lines j).tick tick)) (may j) none) in
+    subst (λ (k : ℕ). behind tick may lines ≤ count_by may (range_with_len 0 k)) many fewer
+
+-- a number past all numbers is not among them
+pub not_listed : (n : ℕ) (xs : List ℕ) (place : ℕ) → All (λ j. j < n) xs → n ≤ place → is_among xs place ≡ false
+not_listed n xs place below past = elim (cases_Bool (is_among xs place)) [
+  | inl among ↦ (let found = index_of xs place among in absurd (omega (arith, below found.0 0 found.1, found.2, past)))
+  | inr none ↦ none
+]
+
+-- ---- all lines, where one moves
+
+module _ (tick j : ℕ) (lines : List Line) (line : Line) (inside : j < length lines) (away : (line_at lines j).tick ≢ tick) (is : line ≡ record (line_at lines j) { tick = tick; x = state_at (line_at lines j) tick }) where
+  at_tick : line.tick ≡ tick
+  at_tick = ap (λ (l : Line). l.tick) is
+
+  own : line_at (set lines j line) j ≡ line
+  own = get_or-set_same lines j line no_line inside
+
+  other : (k : ℕ) → k ≢ j → line_at (set lines j line) k ≡ line_at lines k
+  other k ne = get_or-set_other lines j k line no_line ne
+
+  along_set : ((k : ℕ) → k < length lines → (line_at lines k).tick ≤ tick) → (k : ℕ) → k < length lines → IsAlong tick (line_at lines k) (line_at (set lines j line) k)
+  along_set later k h = elim (cases_eq k j) [
+    | inl e ↦ subst (λ (i : ℕ). IsAlong tick (line_at lines i) (line_at (set lines j line) i)) (sym e)
+        (subst (IsAlong tick (line_at lines j)) (sym (own ∙ is)) (along_moved tick (line_at lines j)))
+    | inr ne ↦ subst (IsAlong tick (line_at lines k)) (sym (other k ne)) (along_same tick (line_at lines k) (later k h))
+  ]
+
+  -- one fewer is behind
+  behind_less : (may : ℕ → Bool) → may j ≡ true → behind tick may (set lines j line) + 1 ≡ behind tick may lines
+  behind_less may may_j =
+      let was : ℕ → Bool = is_behind tick may lines in
+      let is_now : ℕ → Bool = is_behind tick may (set lines j line) in
+      let fails : is_now j ≡ false = ap (λ (b : Bool). not b && may j) (eq-eqb (line_at (set lines j line) j).tick tick (ap (λ (l : Line). l.tick) own ∙ at_tick)) in
+      let passed : was j ≡ true = ap (λ (b : Bool). not b && may j) (ne_eqb (line_at lines j).tick tick away) ∙ may_j in
+      let others : (k : ℕ) → k ≢ j → is_now k ≡ was k = λ k ne. ap (λ (l : Line). not (eqb l.tick tick) && may k) (other k ne) in
+      let many : count_by is_now (range_with_len 0 (length (set lines j line))) ≡ count_by is_now (range_with_len 0 (length lines)) =
+      ap (λ (n : ℕ). count_by is_now (range_with_len 0 n)) (length-set lines j line) in
+      let one : one_if (was j) ≡ 1 = ap one_if passed in
+      omega (arith, many, one, count_one (length lines) j was is_now inside fails others)
+
+  module _ (touched : List ℕ) (room : ℕ) (can : CanGather tick lines touched room) where
+    -- there is room for its number
+    pub has_room : length touched < room
+    has_room = omega (arith, can.room_left, behind_less (λ k. true) refl)
+
+    -- and for those of the others
+    pub gather_on : CanGather tick (set lines j line) (touched ++ j ∷ []) room
+    gather_on =
+        let many = length-set lines j line in
+        record {
+          later = λ k h. (along_set can.later k (omega (arith, h, many))).not_later;
+          small = λ k h.
+              let known : k < length lines = omega (arith, h, many) in
+              subst (IsWithin 89) (sym (along_set can.later k known).here) (can.small k known);
+          in_time = can.in_time;
+          below = All-push (λ k. k < length (set lines j line)) touched j
+              (λ i d h. let known = can.below i d h in omega (arith, known, many)) (omega (arith, inside, many));
+          listed = λ k h there. elim (cases_eq k j) [
+            | inl e ↦ among_push touched j k ∙ or_right (is_among touched k) (eqb j k || false) (or_left (eqb j k) false (eq-eqb j k (sym e)))
+            | inr ne ↦
+                among_push touched j k
+                ∙ or_left (is_among touched k) (eqb j k || false) (can.listed k (omega (arith, h, many)) (ap (λ (l : Line). l.tick) (sym (other k ne)) ∙ there))
+          ];
+          room_left = omega (arith, can.room_left, behind_less (λ k. true) refl, length-append touched (j ∷ []));
+        }
+
+    pub gathered_one : AreGathered tick (j ∷ []) (record { lines = lines; touched = touched }) (record { lines = set lines j line; touched = touched ++ j ∷ [] })
+    gathered_one =
+        let here : (k : ℕ) → is_among (j ∷ []) k ≡ true → j ≡ k = λ k among. elim (or_cases (eqb j k) false among) [
+          | inl same ↦ eqb-true j k same
+          | inr none ↦ absurd (cc)
+        ] in
+        record {
+          as_many = length-set lines j line;
+          along = along_set can.later;
+          own = λ k among. among_push touched j k ∙ or_right (is_among touched k) (eqb j k || false) (or_left (eqb j k) false (eq-eqb j k (here k among)));
+          kept = λ k among. among_push touched j k ∙ or_left (is_among touched k) (eqb j k || false) among;
+          others = λ k none. elim (cases_eq k j) [
+            | inl e ↦
+                let among : is_among (touched ++ j ∷ []) k ≡ true =
+                among_push touched j k ∙ or_right (is_among touched k) (eqb j k || false) (or_left (eqb j k) false (eq-eqb j k (sym e))) in
+                absurd (cc)
+            | inr ne ↦ other k ne
+          ];
+          counted = λ may may_all.
+              let first : may j ≡ true = may_all j (or_left (eqb j j) false (eq-eqb j j refl)) in
+              omega (arith, behind_less may first, length-append touched (j ∷ []));
+        }
+
+-- a state that is at the tick is listed
+pub gathered_there : (tick j : ℕ) (lines : List Line) (touched : List ℕ) (room : ℕ) → CanGather tick lines touched room → j < length lines → (line_at lines j).tick ≡ tick →
+    AreGathered tick (j ∷ []) (record { lines = lines; touched = touched }) (record { lines = lines; touched = touched })
+gathered_there tick j lines touched room can inside there = record {
+  as_many = refl;
+  along = λ k h. along_same tick (line_at lines k) (can.later k h);
+  own = λ k among. elim (or_cases (eqb j k) false among) [
+    | inl same ↦ subst (λ (i : ℕ). is_among touched i ≡ true) (eqb-true j k same) (can.listed j inside there)
+    | inr none ↦ absurd (cc)
+  ];
+  kept = λ k among. among;
+  others = λ k none. refl;
+  counted = λ may may_all. refl;
+}
+
+-- ---- more states
+
+pub none_gathered : (tick : ℕ) (lines : List Line) (touched : List ℕ) (room : ℕ) → CanGather tick lines touched room →
+    AreGathered tick [] (record { lines = lines; touched = touched }) (record { lines = lines; touched = touched })
+none_gathered tick lines touched room can = record {
+  as_many = refl;
+  along = λ k h. along_same tick (line_at lines k) (can.later k h);
+  own = λ k among. absurd (cc);
+  kept = λ k among. among;
+  others = λ k none. refl;
+  counted = λ may may_all. refl;
+}
+
+pub gathered_then : (tick : ℕ) (xs ys : List ℕ) (a b c : Gathering) → AreGathered tick xs a b → AreGathered tick ys b c → AreGathered tick (xs ++ ys) a c
+gathered_then tick xs ys a b c first second = record {
+  as_many = second.as_many ∙ first.as_many;
+  along = λ k h. along_then tick (line_at a.lines k) (line_at b.lines k) (line_at c.lines k) (first.along k h) (second.along k (omega (arith, h, first.as_many)));
+  own = λ k among. elim (or_cases (is_among xs k) (is_among ys k) (sym (list_any-append (λ i. eqb i k) xs ys) ∙ among)) [
+    | inl sooner ↦ second.kept k (first.own k sooner)
+    | inr later ↦ second.own k later
+  ];
+  kept = λ k among. second.kept k (first.kept k among);
+  others = λ k none.
+      let before : is_among b.touched k ≡ false = elim (cases_Bool (is_among b.touched k)) [
+        | inl among ↦ (let still : is_among c.touched k ≡ true = second.kept k among in absurd (cc))
+        | inr not_yet ↦ not_yet
+      ] in
+      second.others k none ∙ first.others k before;
+  counted = λ may may_all.
+      let sooner = first.counted may (λ k among. may_all k (list_any-append (λ i. eqb i k) xs ys ∙ or_left (is_among xs k) (is_among ys k) among)) in
+      let later = second.counted may (λ k among. may_all k (list_any-append (λ i. eqb i k) xs ys ∙ or_right (is_among xs k) (is_among ys k) among)) in
+      omega (arith, sooner, later);
+}
+
+-- ---- the moved states and those whose rows read one of them
+
+or_swap : (a r b f : Bool) → ((a || r) || (b || f)) ≡ ((a || b) || (r || f))
+or_swap true r b f = refl
+or_swap false true true f = refl
+or_swap false true false f = refl
+or_swap false false b f = refl
+
+-- a state is reached where it moved, or its row reads one that did
+pub among_reached : (m : Machine) (moved : List ℕ) (k : ℕ) → is_among (reached m moved) k ≡ (is_among moved k || is_among (flat_map (reading_rows m) moved) k)
+among_reached m [] k = refl
+among_reached m (i ∷ moved) k =
+    list_any-append (λ (j : ℕ). eqb j k) (i ∷ reading_rows m i) (reached m moved)
+    ∙ ap (λ (b : Bool). (eqb i k || is_among (reading_rows m i) k) || b) (among_reached m moved k)
+    ∙ or_swap (eqb i k) (is_among (reading_rows m i) k) (is_among moved k) (is_among (flat_map (reading_rows m) moved) k)
+    ∙ ap (λ (b : Bool). (eqb i k || is_among moved k) || b) (sym (list_any-append (λ (j : ℕ). eqb j k) (reading_rows m i) (flat_map (reading_rows m) moved)))
+
+-- ---- the touched states go on
+
+-- these states go on from a tick, at their levels and slopes, from where their lines lead; the others are left
+pub record AreOn (m : Machine) (tick : ℕ) (levels slopes : List ℤ) (states : List ℕ) (old new : Courses) : Type 0 where
+  pub own : (j : ℕ) → is_among states j ≡ true → IsTurned m tick (state_at (line_at old.lines j) tick) (int_at levels j) (int_at slopes j) j (line_at new.lines j) (due_at new.dues j)
+  pub lines : (j : ℕ) → is_among states j ≡ false → line_at new.lines j ≡ line_at old.lines j
+  pub places : length new.dues ≡ length old.dues
+  pub dues : (place : ℕ) → is_among states place ≡ false → due_at new.dues place ≡ due_at old.dues place
+
+module _ (m : Machine) (tick : ℕ) (levels slopes : List ℤ) where
+  pub none_on : (old : Courses) → AreOn m tick levels slopes [] old old
+  none_on old = record { own = λ j among. absurd (cc); lines = λ j none. refl; places = refl; dues = λ place none. refl }
+
+  -- lines are where they were
+  pub still_there : (states : List ℕ) (old new : Courses) → AreOn m tick levels slopes states old new → (j : ℕ) → state_at (line_at new.lines j) tick ≡ state_at (line_at old.lines j) tick
+  still_there states old new on j = elim (cases_Bool (is_among states j)) [
+    | inl among ↦ (on.own j among).here
+    | inr none ↦ ap (λ (l : Line). state_at l tick) (on.lines j none)
+  ]
+
+  pub still_not_later : (states : List ℕ) (old new : Courses) → AreOn m tick levels slopes states old new → (j : ℕ) → (line_at old.lines j).tick ≤ tick → (line_at new.lines j).tick ≤ tick
+  still_not_later states old new on j not_later = elim (cases_Bool (is_among states j)) [
+    | inl among ↦ (on.own j among).not_later
+    | inr none ↦ omega (arith, not_later, ap (λ (l : Line). l.tick) (on.lines j none))
+  ]
+
+  -- one more goes on
+  pub on_more : (states : List ℕ) (j : ℕ) (old between new : Courses) → AreOn m tick levels slopes states old between →
+      IsTurned m tick (state_at (line_at between.lines j) tick) (int_at levels j) (int_at slopes j) j (line_at new.lines j) (due_at new.dues j) →
+      ((k : ℕ) → (k ≡ j → ⊥) → line_at new.lines k ≡ line_at between.lines k) → length new.dues ≡ length between.dues →
+      ((place : ℕ) → (place ≡ j → ⊥) → due_at new.dues place ≡ due_at between.dues place) → AreOn m tick levels slopes (states ++ j ∷ []) old new
+  on_more states j old between new first here lines places dues =
+      let Turned : ℕ → Line → Option ℕ → Type 0 = λ k line due. IsTurned m tick (state_at (line_at old.lines k) tick) (int_at levels k) (int_at slopes k) k line due in
+      let last : Turned j (line_at new.lines j) (due_at new.dues j) =
+      subst (λ (x : ℤ). IsTurned m tick x (int_at levels j) (int_at slopes j) j (line_at new.lines j) (due_at new.dues j)) (still_there states old between first j) here in
+      let not_last : (k : ℕ) → is_among (states ++ j ∷ []) k ≡ false → k ≡ j → ⊥ = λ k none e.
+      let among : is_among (states ++ j ∷ []) k ≡ true = among_push states j k ∙ or_right (is_among states k) (eqb j k || false) (or_left (eqb j k) false (eq-eqb j k (sym e))) in
+      absurd (cc) in
+      let not_first : (k : ℕ) → is_among (states ++ j ∷ []) k ≡ false → is_among states k ≡ false = λ k none. elim (cases_Bool (is_among states k)) [
+        | inl sooner ↦
+            (let among : is_among (states ++ j ∷ []) k ≡ true = among_push states j k ∙ or_left (is_among states k) (eqb j k || false) sooner in absurd (cc))
+        | inr not_yet ↦ not_yet
+      ] in
+      record {
+        own = λ k among. elim (cases_eq k j) [
+          | inl same ↦ subst (λ (a : ℕ). Turned a (line_at new.lines a) (due_at new.dues a)) (sym same) last
+          | inr other ↦ elim (or_cases (is_among states k) (eqb j k || false) (sym (among_push states j k) ∙ among)) [
+            | inl sooner ↦ subst (λ (l : Line). Turned k l (due_at new.dues k)) (sym (lines k other)) (subst (Turned k (line_at between.lines k)) (sym (dues k other)) (first.own k sooner))
+            | inr later ↦ elim (or_cases (eqb j k) false later) [
+              | inl same ↦ absurd (other (sym (eqb-true j k same)))
+              | inr none ↦ absurd (cc)
+            ]
+          ]
+        ];
+        lines = λ k none. lines k (not_last k none) ∙ first.lines k (not_first k none);
+        places = places ∙ first.places;
+        dues = λ k none. dues k (not_last k none) ∙ first.dues k (not_first k none);
+      }
+
+-- ---- all states
+
+module _ (m : Machine) (tick : ℕ) (levels before discretes slopes_old slopes : List ℤ) (moved : List ℕ) (old between : Gathering) (dues : List (Option ℕ)) (new : Courses)
+    (gathered : AreGathered tick (reached m moved) old between) (on : AreOn m tick levels slopes between.touched (record { lines = between.lines; dues = dues }) new)
+    (were : AreSumsBefore Slope m moved levels discretes slopes_old old.lines before) (are : slopes ≡ tabulate (state_count m) (λ j. slope_at m j levels discretes)) where
+  -- each state goes on at its new slope, since that of one that reads no moved state is its old one
+  pub all_on : (k : ℕ) → k < state_count m → k < length old.lines → (line_at old.lines k).tick ≤ tick → (line_at old.lines k).slope ≡ int_at slopes_old k →
+      ((line_at old.lines k).level ≡ int_at levels k → IsDue m tick k (line_at old.lines k) (due_at dues k)) →
+      IsTurned m tick (state_at (line_at old.lines k) tick) (int_at levels k) (slope_at m k levels discretes) k (line_at new.lines k) (due_at new.dues k)
+  all_on k h inside not_later own_slope due =
+      let x : ℤ = state_at (line_at old.lines k) tick in
+      let slope : int_at slopes k ≡ slope_at m k levels discretes = ap (λ xs. int_at xs k) are ∙ int_at-tabulate (state_count m) (λ j. slope_at m j levels discretes) k h in
+      elim (cases_Bool (is_among between.touched k)) [
+        | inl among ↦
+            subst (λ z. IsTurned m tick x (int_at levels k) z k (line_at new.lines k) (due_at new.dues k)) slope
+            (subst (λ z. IsTurned m tick z (int_at levels k) (int_at slopes k) k (line_at new.lines k) (due_at new.dues k)) (gathered.along k inside).here (on.own k among))
+        | inr none ↦
+            let unreached : is_among (reached m moved) k ≡ false = elim (cases_Bool (is_among (reached m moved) k)) [
+              | inl own ↦ (let listed : is_among between.touched k ≡ true = gathered.own k own in absurd (cc))
+              | inr other ↦ other
+            ] in
+            let parts = or_parts (is_among moved k) (is_among (flat_map (reading_rows m) moved) k) (sym (among_reached m moved k) ∙ unreached) in
+            let same : int_at slopes_old k ≡ slope_at m k levels discretes =
+            ap (λ xs. int_at xs k) were.own_sums ∙ int_at-tabulate (state_count m) (λ j. slope_at m j before discretes) k h
+            ∙ sym (unread_slope m.f (row_at m k) moved before levels discretes (unread_at moved (row_at m k) (sym (among_readers m k h moved) ∙ parts.1)) were.off) in
+            let own_level : (line_at old.lines k).level ≡ int_at levels k = were.own_levels k h ∙ sym (were.off.others k parts.0) in
+            let line : line_at new.lines k ≡ line_at old.lines k = on.lines k none ∙ gathered.others k none in
+            subst (λ (l : Line). IsTurned m tick x (int_at levels k) (slope_at m k levels discretes) k l (due_at new.dues k)) (sym line)
+            (subst (IsTurned m tick x (int_at levels k) (slope_at m k levels discretes) k (line_at old.lines k)) (sym (on.dues k none))
+            (record { not_later = not_later; here = refl; own_slope = own_slope ∙ same; own_level = own_level; is_due = due own_level }))
+      ]

@@ -1,0 +1,48 @@
+-- A state's line at a new slope.
+use Rattle.std.proofs.Common.{◌≡◌, ◌≢◌, ℕ, ◌+◌, ◌<◌, Bool, true, length, get_or, set, List, ℤ, sym, ◌∙◌, ap, subst, arith, below_more}
+use Rattle.std.proofs.lemmas.List.{get_or-set_other, get_or-set_same}
+use Rattle.std.proofs.lemmas.List.FromFn.{length-map-range_with_len, get_or-map-range_with_len}
+use Rattle.std.specs.Bool.{IsTrue}
+use Rattle.std.specs.Prelude.{Option, None, position, All}
+use Rattle.mu_num.specs.Sizes.{IsWithin}
+use Rattle.qss_machine.specs.declared.system.Machine.{Machine}
+use Rattle.qss_machine.specs.Numbers.{int_at, tabulate}
+use Rattle.qss_machine.specs.Machines.{state_count, level_unit, quantum_of, slope_at}
+use Rattle.qss_machine.specs.Ticks.{is_overweight}
+use Rattle.qss_quant.specs.Lines.{Line, IsNear}
+use Rattle.qss_sched.specs.Ranks.{due_at}
+use Rattle.qss_lines.specs.StateLines.{line_at, IsTurned}
+use Rattle.qss_quiet.specs.Sims.{no_line}
+use Rattle.qss_quiet.proofs.LightRows.{row_is_light}
+
+pub is_true : (b : Bool) → b ≡ true → IsTrue b
+is_true b e = search (e)
+
+-- ---- one more line, one more level, one more watch
+
+pub turned_more : (m : Machine) (tick : ℕ) (x levels d : List ℤ) (lines : List Line) (agenda next : List (Option ℕ)) (j : ℕ) (line : Line) → j < length lines →
+    ((k : ℕ) → k < j → IsTurned m tick (int_at x k) (int_at levels k) (slope_at m k levels d) k (line_at lines k) (due_at agenda k)) →
+    ((place : ℕ) → (place ≡ j → ⊥) → due_at next place ≡ due_at agenda place) →
+    IsTurned m tick (int_at x j) (int_at levels j) (slope_at m j levels d) j line (due_at next j) →
+    (k : ℕ) → k < j + 1 → IsTurned m tick (int_at x k) (int_at levels k) (slope_at m k levels d) k (line_at (set lines j line) k) (due_at next k)
+turned_more m tick x levels d lines agenda next j line h before others here =
+    below_more (λ k. IsTurned m tick (int_at x k) (int_at levels k) (slope_at m k levels d) k (line_at (set lines j line) k) (due_at next k)) j
+    (λ k below.
+    let ne : k ≢ j = omega (arith, below) in
+    subst (λ l. IsTurned m tick (int_at x k) (int_at levels k) (slope_at m k levels d) k l (due_at next k)) (sym (get_or-set_other lines j k line no_line ne))
+    (subst (IsTurned m tick (int_at x k) (int_at levels k) (slope_at m k levels d) k (line_at lines k)) (sym (others k ne)) (before k below)))
+    (subst (λ l. IsTurned m tick (int_at x j) (int_at levels j) (slope_at m j levels d) j l (due_at next j)) (sym (get_or-set_same lines j line no_line h)) here)
+
+pub slopes_small : (m : Machine) (levels d e slopes : List ℤ) → position (is_overweight m levels d) m.rows ≡ None → e ≡ d →
+    slopes ≡ tabulate (state_count m) (λ j. slope_at m j levels e) → All (IsWithin 88) slopes
+slopes_small m levels d e slopes light same is k z h =
+    let many : length slopes ≡ state_count m = ap length is ∙ length-map-range_with_len (λ j. slope_at m j levels e) 0 (state_count m) in
+    let inside : k < state_count m = omega (arith, h, many) in
+    let here : get_or slopes k z ≡ slope_at m k levels d =
+    ap (λ xs. get_or xs k z) is ∙ get_or-map-range_with_len (λ j. slope_at m j levels e) 0 (state_count m) k k z inside (omega arith) ∙ ap (slope_at m k levels) same in
+    subst (IsWithin 88) (sym here) (row_is_light m levels d light k inside).slope
+
+-- a state near its level, in other words
+pub near_along : (m : Machine) (j : ℕ) (x y l k : ℤ) → x ≡ y → l ≡ k → IsNear (level_unit m) y k (quantum_of m j k) → IsNear (level_unit m) x l (quantum_of m j l)
+near_along m j x y l k same own near =
+    subst (λ z. IsNear (level_unit m) z l (quantum_of m j l)) (sym same) (subst (λ v. IsNear (level_unit m) y v (quantum_of m j v)) (sym own) near)

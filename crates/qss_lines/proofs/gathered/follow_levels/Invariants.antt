@@ -1,0 +1,22 @@
+use Rattle.std.proofs.Common.{◌≡◌, ◌+◌, ◌*◌, ◌^◌, ◌<◌, ◌≤◌, ℕ, ℤ, List, length, take}
+use Rattle.std.specs.Prelude.{unsigned_abs, vec_capacity}
+use Rattle.qss_machine.specs.Machines.{state_count}
+use Rattle.qss_machine.specs.Numbers.{int_at}
+use Rattle.qss_lines.specs.declared.shifts.RowSum.TheVariants.{Slope}
+use Rattle.qss_lines.specs.Gatherings.{CanGather, AreGathered, reached}
+use Rattle.qss_lines.specs.RowSums.{sum_at, AreSumsBefore}
+use Rattle.qss_lines.proofs.Shifting.{levels_along}
+use Rattle.qss_lines.proofs.gathered.follow_levels.Given as goal
+
+-- the slopes where the moved states so far have their levels, and what these reach
+abbrev pub invariant-loop-state : goal.invariant-loop-state
+invariant-loop-state g l = record {
+  own : (old : List ℤ) → AreSumsBefore Slope l.at.machine.now l.at.moved.now l.at.levels.now l.at.discretes.now l.fn.slopes l.fn.lines old → (j : ℕ) → j < state_count l.at.machine.now →
+      int_at l.slopes j ≡ sum_at Slope l.at.machine.now j (levels_along (take l.state-index l.at.moved.now) l.at.levels.now old) l.at.discretes.now;
+  as_many : length l.slopes ≡ state_count l.at.machine.now;
+  near : (j : ℕ) → j < state_count l.at.machine.now → unsigned_abs (int_at l.slopes j) ≤ (l.state-index + 1) * 2 ^ 88;
+  can : CanGather l.at.tick l.lines l.touched.items (vec_capacity l.touched);
+  gathered : AreGathered l.at.tick (reached l.at.machine.now (take l.state-index l.at.moved.now)) (record { lines = l.fn.lines; touched = l.fn.touched.items }) (record { lines = l.lines; touched = l.touched.items });
+  counted : l.steps + length l.fn.touched.items ≡ l.fn.steps + length l.touched.items;
+  room : vec_capacity l.touched ≡ vec_capacity l.fn.touched;
+}

@@ -1,0 +1,71 @@
+-- One more state goes on.
+use Rattle.std.proofs.Common.{◌≡◌, ℕ, ℤ, List, take, get_or, sym, subst, arith}
+use Rattle.std.proofs.lemmas.List.{take_all, take_more}
+use Rattle.mu_num.specs.Sizes.{IsWithin}
+use Rattle.qss_machine.specs.Machines.{level_unit, quantum_of}
+use Rattle.qss_machine.specs.Numbers.{int_at}
+use Rattle.qss_quant.specs.Lines.{state_at, IsNear}
+use Rattle.qss_lines.specs.StateLines.{line_at}
+use Rattle.qss_lines.specs.Turnings.{Courses}
+use Rattle.qss_lines.proofs.Gathering.{AreOn, none_on, still_there, still_not_later, on_more}
+use Rattle.qss_lines.proofs.gathered.go_on_each.Goals as goal
+
+pub loop-j-init : goal.loop-j-init
+loop-j-init c = record { on = none_on c.args.at.now.machine.now c.args.at.now.tick c.args.at.now.levels.now c.args.slopes.now (record { lines = c.args.lines.now; dues = c.args.agenda.now }) }
+
+pub go_on-requires-clause-state : goal.go_on-requires-clause-state
+go_on-requires-clause-state c = c.requires.states c.loop-j.j-index 0 c.loop-j-test.true
+
+pub go_on-requires-clause-lines : goal.go_on-requires-clause-lines
+go_on-requires-clause-lines c = omega (arith, c.loop-j.auto.lines, c.requires.lines)
+
+pub go_on-requires-clause-places : goal.go_on-requires-clause-places
+go_on-requires-clause-places c = omega (arith, c.loop-j.invariant.on.places, c.requires.places)
+
+pub go_on-requires-clause-ready : goal.go_on-requires-clause-ready
+go_on-requires-clause-ready c =
+    let m = c.args.at.now.machine.now in
+    let tick = c.args.at.now.tick in
+    let levels : List ℤ = c.args.at.now.levels.now in
+    let slopes : List ℤ = c.args.slopes.now in
+    let i = c.loop-j.j-index in
+    let states : List ℕ = c.args.states.now in
+    let j : ℕ = get_or states i 0 in
+    let level : ℤ = int_at levels j in
+    let first : Courses = record { lines = c.args.lines.now; dues = c.args.agenda.now } in
+    let before : Courses = record { lines = c.loop-j.lines; dues = c.loop-j.agenda } in
+    let may = c.requires.ready j (c.requires.states i 0 c.loop-j-test.true) in
+    let there : state_at (line_at c.loop-j.lines j) tick ≡ state_at (line_at c.args.lines.now j) tick =
+    still_there m tick levels slopes (take i states) first before c.loop-j.invariant.on j in
+    record {
+      not_later = still_not_later m tick levels slopes (take i states) first before c.loop-j.invariant.on j may.not_later;
+      small = subst (IsWithin 89) (sym there) may.small;
+      near = subst (λ (x : ℤ). IsNear (level_unit m) x level (quantum_of m j level)) (sym there) may.near;
+    }
+
+pub loop-j-preserved : goal.loop-j-preserved
+loop-j-preserved c =
+    let m = c.args.at.now.machine.now in
+    let tick = c.args.at.now.tick in
+    let levels : List ℤ = c.args.at.now.levels.now in
+    let slopes : List ℤ = c.args.slopes.now in
+    let i = c.loop-j.j-index in
+    let states : List ℕ = c.args.states.now in
+    let first : Courses = record { lines = c.args.lines.now; dues = c.args.agenda.now } in
+    let before : Courses = record { lines = c.loop-j.lines; dues = c.loop-j.agenda } in
+    let after : Courses = record { lines = c.go_on.new.lines; dues = c.go_on.new.agenda } in
+    record {
+      on = subst (λ (these : List ℕ). AreOn m tick levels slopes these first after) (sym (take_more states i 0 c.loop-j-test.true))
+          (on_more m tick levels slopes (take i states) (get_or states i 0) first before after c.loop-j.invariant.on c.go_on.ensures.turned c.go_on.ensures.lines c.go_on.ensures.places
+          c.go_on.ensures.dues);
+    }
+
+pub returns : goal.returns
+returns c =
+    let m = c.args.at.now.machine.now in
+    let first : Courses = record { lines = c.args.lines.now; dues = c.args.agenda.now } in
+    let last : Courses = record { lines = c.loop-j.lines; dues = c.loop-j.agenda } in
+    let on : AreOn m c.args.at.now.tick c.args.at.now.levels.now c.args.slopes.now c.args.states.now first last =
+    subst (λ (these : List ℕ). AreOn m c.args.at.now.tick c.args.at.now.levels.now c.args.slopes.now these first last) (take_all c.loop-j.j-index c.args.states.now c.loop-j-test.false)
+    c.loop-j.invariant.on in
+    record { turned = on.own; lines = on.lines; places = on.places; dues = on.dues }

@@ -1,0 +1,112 @@
+-- The states that go on and those that do not.
+use Rattle.std.proofs.Common.{◌<◌, ◌≤◌, true, ℕ, ℤ, List, length, count_by, refl, sym, ◌∙◌, ap, subst, arith}
+use Rattle.std.proofs.lemmas.List.Elements.{All-nil}
+use Rattle.std.specs.List.{range_with_len}
+use Rattle.std.specs.Prelude.{All}
+use Rattle.qss_machine.specs.Machines.{state_count, level_unit, quantum_of}
+use Rattle.qss_machine.specs.Numbers.{int_at}
+use Rattle.qss_quant.specs.Lines.{IsNear}
+use Rattle.qss_quiet.specs.Among.{is_among}
+use Rattle.qss_lines.specs.Gatherings.{Gathering, behind, reached}
+use Rattle.qss_lines.specs.Turnings.{Courses}
+use Rattle.qss_lines.proofs.Gathering.{AreOn, behind_few, behind_may, not_listed, all_on}
+use Rattle.qss_lines.proofs.Turning.{slopes_small}
+use Rattle.qss_lines.proofs.gathered.reslope_of.Goals as goal
+
+pub follow_levels-requires-clause-new : goal.follow_levels-requires-clause-new
+follow_levels-requires-clause-new g c = c.requires.ready.new
+
+pub follow_levels-requires-clause-lines : goal.follow_levels-requires-clause-lines
+follow_levels-requires-clause-lines g c = c.requires.ready.lines
+
+pub follow_levels-requires-clause-before : goal.follow_levels-requires-clause-before
+follow_levels-requires-clause-before g c = c.requires.ready.before
+
+pub follow_levels-requires-clause-can : goal.follow_levels-requires-clause-can
+follow_levels-requires-clause-can g c =
+    let lines = c.args.lines.now in
+    let many = c.requires.ready.lines in
+    record {
+      later = λ j h. let earlier = c.requires.ready.earlier j (omega (arith, h, many)) in omega (arith, earlier);
+      small = λ j h. let small = c.requires.ready.small_states j (omega (arith, h, many)) in omega (arith, small);
+      in_time = c.requires.ready.in_time;
+      below = subst (All (λ j. j < length lines)) (sym c.clear.ensures.items) (All-nil (λ j. j < length lines));
+      listed = λ j h there. let earlier = c.requires.ready.earlier j (omega (arith, h, many)) in absurd (omega (arith, earlier, there));
+      room_left = omega (arith, ap length c.clear.ensures.items, behind_few c.args.at.now.tick (λ j. true) lines, c.requires.room, many, c.clear.ensures.capacity);
+    }
+
+pub go_on_each-requires-clause-new : goal.go_on_each-requires-clause-new
+go_on_each-requires-clause-new g c = c.requires.ready.new
+
+pub go_on_each-requires-clause-slopes_of : goal.go_on_each-requires-clause-slopes_of
+go_on_each-requires-clause-slopes_of g c = record {
+  as_many = c.follow_levels.auto.slopes ∙ c.requires.ready.slopes;
+  small = slopes_small c.args.at.now.machine.now c.args.at.now.levels.now c.args.at.now.discretes.now c.args.at.now.discretes.now c.follow_levels.new.slopes c.requires.ready.light refl
+      c.follow_levels.ensures.slopes;
+}
+
+pub go_on_each-requires-clause-states : goal.go_on_each-requires-clause-states
+go_on_each-requires-clause-states g c =
+    subst (All (λ j. j < state_count c.args.at.now.machine.now)) (sym c.as_slice.ensures.value)
+    (λ i d h. let known = c.follow_levels.ensures.can.below i d h in omega (arith, known, c.follow_levels.auto.lines, c.requires.ready.lines))
+
+pub go_on_each-requires-clause-lines : goal.go_on_each-requires-clause-lines
+go_on_each-requires-clause-lines g c = c.follow_levels.auto.lines ∙ c.requires.ready.lines
+
+pub go_on_each-requires-clause-places : goal.go_on_each-requires-clause-places
+go_on_each-requires-clause-places g c = c.requires.ready.places
+
+pub go_on_each-requires-clause-in_time : goal.go_on_each-requires-clause-in_time
+go_on_each-requires-clause-in_time g c = c.requires.ready.in_time
+
+pub go_on_each-requires-clause-ready : goal.go_on_each-requires-clause-ready
+go_on_each-requires-clause-ready g c j h =
+    let m = c.args.at.now.machine.now in
+    let level : ℤ = int_at c.args.at.now.levels.now j in
+    let known : j < length c.follow_levels.new.lines = omega (arith, h, c.follow_levels.auto.lines, c.requires.ready.lines) in
+    record {
+      not_later = c.follow_levels.ensures.can.later j known;
+      small = c.follow_levels.ensures.can.small j known;
+      near = subst (λ (x : ℤ). IsNear (level_unit m) x level (quantum_of m j level)) (sym (c.follow_levels.ensures.gathered.along j (omega (arith, h, c.requires.ready.lines))).here)
+          (c.requires.ready.near j h);
+    }
+
+pub returns-clause-lines : goal.returns-clause-lines
+returns-clause-lines g c k h =
+    let m = c.args.at.now.machine.now in
+    let tick = c.args.at.now.tick in
+    let levels : List ℤ = c.args.at.now.levels.now in
+    let slopes : List ℤ = c.follow_levels.new.slopes in
+    let first : Gathering = record { lines = c.args.lines.now; touched = c.clear.new.self.items } in
+    let between : Gathering = record { lines = c.follow_levels.new.lines; touched = c.follow_levels.new.touched.items } in
+    let last : Courses = record { lines = c.go_on_each.new.lines; dues = c.go_on_each.new.agenda } in
+    let on : AreOn m tick levels slopes between.touched (record { lines = between.lines; dues = c.args.agenda.now }) last = record {
+      own = λ j among. c.go_on_each.ensures.turned j (ap (λ xs. is_among xs j) c.as_slice.ensures.value ∙ among);
+      lines = λ j none. c.go_on_each.ensures.lines j (ap (λ xs. is_among xs j) c.as_slice.ensures.value ∙ none);
+      places = c.go_on_each.ensures.places;
+      dues = λ j none. c.go_on_each.ensures.dues j (ap (λ xs. is_among xs j) c.as_slice.ensures.value ∙ none);
+    } in
+    let earlier = c.requires.ready.earlier k h in
+    all_on m tick levels c.requires.ready.before.0 c.args.at.now.discretes.now c.args.slopes.now slopes c.args.at.now.moved.now first between c.args.agenda.now last
+    c.follow_levels.ensures.gathered on c.requires.ready.before.1 c.follow_levels.ensures.slopes k h (omega (arith, h, c.requires.ready.lines)) (omega (arith, earlier))
+    (c.requires.ready.own_slope k h) (c.requires.ready.due k h)
+
+pub returns-clause-others : goal.returns-clause-others
+returns-clause-others g c place past =
+    let m = c.args.at.now.machine.now in
+    let touched : List ℕ = c.follow_levels.new.touched.items in
+    let below : All (λ j. j < state_count m) touched = λ i d h.
+    let known = c.follow_levels.ensures.can.below i d h in omega (arith, known, c.follow_levels.auto.lines, c.requires.ready.lines) in
+    c.go_on_each.ensures.dues place (ap (λ xs. is_among xs place) c.as_slice.ensures.value ∙ not_listed (state_count m) touched place below past)
+
+pub returns-clause-counted : goal.returns-clause-counted
+returns-clause-counted g c =
+    let m = c.args.at.now.machine.now in
+    let tick = c.args.at.now.tick in
+    let may = is_among (reached m c.args.at.now.moved.now) in
+    let count = c.follow_levels.ensures.gathered.counted may (λ j among. among) in
+    let fewer : behind tick may c.args.lines.now ≤ count_by may (range_with_len 0 (state_count m)) = behind_may tick (state_count m) may c.args.lines.now c.requires.ready.lines in
+    omega (arith, count, fewer, c.follow_levels.ensures.counted, ap length c.clear.ensures.items)
+
+pub returns-clause-room : goal.returns-clause-room
+returns-clause-room g c = c.follow_levels.ensures.room ∙ c.clear.ensures.capacity

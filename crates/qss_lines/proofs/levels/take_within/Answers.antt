@@ -1,0 +1,43 @@
+-- The level passes its limit, or it is taken.
+use Rattle.std.proofs.Common.{◌≡◌, ◌++◌, false, refl, sym, ◌∙◌, ap}
+use Rattle.std.proofs.lemmas.Int.{to_z-of_z}
+use Rattle.mu_num.specs.Sizes.{passes}
+use Rattle.mu_num.proofs.SizeTests.{passes-within}
+use Rattle.qss_quiet.proofs.LevelRows.{row_of}
+use Rattle.qss_lines.proofs.levels.take_within.Goals as goal
+use mir.Syntax.{w128}
+use mir.Val.{to_z, of_z}
+
+pub returns-then-passes-clause-past : goal.returns-then-passes-clause-past
+returns-then-passes-clause-past c = sym (sym (rw (to_z-of_z w128 c.args.fresh c.ranges.fresh) at c.passes.ensures) ∙ c.if-passes.true)
+
+pub returns-then-passes-clause-left : goal.returns-then-passes-clause-left
+returns-then-passes-clause-left c past = (refl, refl)
+
+pub returns-then-passes-clause-level : goal.returns-then-passes-clause-level
+returns-then-passes-clause-level c within = absurd (cc)
+
+pub returns-then-passes-clause-rows : goal.returns-then-passes-clause-rows
+returns-then-passes-clause-rows c within = absurd (cc)
+
+pub take_level-requires-clause-small : goal.take_level-requires-clause-small
+take_level-requires-clause-small c =
+    let within : passes 43 c.args.fresh ≡ false = sym (rw (to_z-of_z w128 c.args.fresh c.ranges.fresh) at c.passes.ensures) ∙ c.if-passes.false in
+    rw (to_z-of_z w128 c.args.fresh c.ranges.fresh) (passes-within 43 c.args.fresh within)
+
+pub returns-clause-past : goal.returns-clause-past
+returns-clause-past c = sym (sym (rw (to_z-of_z w128 c.args.fresh c.ranges.fresh) at c.passes.ensures) ∙ c.if-passes.false)
+
+pub returns-clause-left : goal.returns-clause-left
+returns-clause-left c past = absurd (cc)
+
+pub returns-clause-level : goal.returns-clause-level
+returns-clause-level c within = c.take_level.ensures.level ∙ to_z-of_z w128 c.args.fresh c.ranges.fresh
+
+pub returns-clause-rows : goal.returns-clause-rows
+returns-clause-rows c within =
+    let old = c.args.level.now in
+    let before = c.args.rows.now.items in
+    c.take_level.ensures.rows
+    ∙ ap (λ z. before ++ row_of c.args.tick c.args.var old z (to_z w128 (of_z w128 c.args.state))) (to_z-of_z w128 c.args.fresh c.ranges.fresh)
+    ∙ ap (λ z. before ++ row_of c.args.tick c.args.var old c.args.fresh z) (to_z-of_z w128 c.args.state c.ranges.state)

@@ -1,0 +1,15 @@
+-- The first moved state past its limit is the first of all.
+use Rattle.std.proofs.Common.{◌≡◌, sym, ◌∙◌}
+use Rattle.qss_machine.specs.Numbers.{first_past}
+use Rattle.qss_lines.specs.StateLines.{states_at}
+use Rattle.qss_lines.proofs.DueLevels.{past_on_arrival, arrived_within}
+use Rattle.qss_lines.proofs.relevel.arrive_within.Goals as goal
+
+pub returns-clause-over : goal.returns-clause-over
+returns-clause-over c = past_on_arrival c.args.tick c.args.lines.now c.args.moved.now c.requires.moved c.arrive_due.result c.requires.others_small c.arrive_due.ensures.first
+
+pub returns-clause-small_x : goal.returns-clause-small_x
+returns-clause-small_x c none =
+    let over : c.arrive_due.result ≡ first_past 88 (states_at c.args.lines.now c.args.tick) =
+    past_on_arrival c.args.tick c.args.lines.now c.args.moved.now c.requires.moved c.arrive_due.result c.requires.others_small c.arrive_due.ensures.first in
+    arrived_within c.args.tick c.args.lines.now c.args.moved.now c.requires.moved c.args.x.now c.arrive_due.new.x c.arrive_due.ensures.arrived c.requires.small_x (sym over ∙ none)

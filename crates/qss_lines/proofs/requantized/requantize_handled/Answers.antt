@@ -1,0 +1,86 @@
+-- The weights are those at the levels before.
+use Rattle.std.proofs.Common.{◌≡◌, List, length, ℤ, sym, ◌∙◌, ap, subst}
+use Rattle.std.specs.List.{position}
+use Rattle.std.specs.Prelude.{None, All}
+use Rattle.mu_num.specs.Sizes.{IsWithin}
+use Rattle.qss_hand.specs.Values.{Values}
+use Rattle.qss_machine.specs.Numbers.{first_past}
+use Rattle.qss_machine.specs.Ticks.{is_overweight}
+use Rattle.qss_lines.specs.Variables.{AreAssigned}
+use Rattle.qss_lines.specs.Visitings.{AreMovedTo}
+use Rattle.qss_quiet.specs.Among.{IsOff}
+use Rattle.qss_quiet.proofs.Overs.{not_some, clash}
+use Rattle.qss_lines.specs.Kept.{AreWeights}
+use Rattle.qss_lines.proofs.FirstOvers.{over_first, over_second}
+use Rattle.qss_lines.proofs.requantized.requantize_handled.Goals as goal
+
+pub follow_handled-requires-clause-left : goal.follow_handled-requires-clause-left
+follow_handled-requires-clause-left g c =
+    let m = c.args.at.now.machine.now in
+    let fits = c.requires.ready.fits in
+    let of_x : c.as_slice-x.result.now ≡ c.args.at.now.work.now.x = c.as_slice-x.ensures.value ∙ ap (λ (v : Values). v.x) c.work.view_is in
+    let of_pre : c.as_slice-pre.result.now ≡ c.args.at.now.work.now.pre = c.as_slice-pre.ensures.value ∙ ap (λ (v : Values). v.pre) c.work.view_is in
+    let of_d : c.as_slice-d.result.now ≡ c.args.at.now.work.now.d = c.as_slice-d.ensures.value ∙ ap (λ (v : Values). v.d) c.work.view_is in
+    record {
+      assigned_known = c.requires.ready.assigned_known;
+      own = subst (λ (d : List ℤ). AreAssigned m c.args.at.now.assigned.now c.as_slice-pre.result.now d) (sym of_d)
+          (subst (λ (p : List ℤ). AreAssigned m c.args.at.now.assigned.now p c.args.at.now.work.now.d) (sym of_pre) c.requires.ready.own);
+      many_states = ap length of_x ∙ fits.states;
+      many_before = ap length of_pre ∙ fits.before;
+      many_discretes = ap length of_d ∙ fits.discretes;
+      small_states = subst (All (IsWithin 88)) (sym of_x) fits.small_states;
+      small_before = subst (All (IsWithin 43)) (sym of_pre) fits.small_before;
+      small_discretes = subst (All (IsWithin 43)) (sym of_d) fits.small_discretes;
+    }
+
+pub follow_handled-requires-clause-before : goal.follow_handled-requires-clause-before
+follow_handled-requires-clause-before g c =
+    let m = c.args.at.now.machine.now in
+    let old : List ℤ = c.args.levels.now in
+    let none : c.requantize_states-over.result ≡ None = not_some c.requantize_states-over.result (sym c.is_some.ensures ∙ c.if-is_some.false) in
+    let pre : c.as_slice-pre.result.now ≡ c.args.at.now.work.now.pre = c.as_slice-pre.ensures.value ∙ ap (λ (v : Values). v.pre) c.work.view_is in (
+      old,
+      record {
+        off = subst (IsOff c.args.at.now.moved.now old) (sym (c.requantize_states-over.ensures.taken.1.levels none)) c.requantize_states-over.ensures.taken.1.others;
+        small = c.requires.held.small_levels;
+        light = subst (λ (d : List ℤ). position (is_overweight m old d) m.rows ≡ None) (sym pre) c.requires.held.light;
+        own = subst (λ (d : List ℤ). AreWeights m old d c.args.weights.now) (sym pre) c.requires.held.weights;
+        own_levels = c.requires.held.own_levels;
+      },
+    )
+
+pub returns-then-is_some-clause-taken : goal.returns-then-is_some-clause-taken
+returns-then-is_some-clause-taken g c =
+    let m = c.args.at.now.machine.now in
+    let x : c.as_slice-x.result.now ≡ c.args.at.now.work.now.x = c.as_slice-x.ensures.value ∙ ap (λ (v : Values). v.x) c.work.view_is in
+    let some = sym c.is_some.ensures ∙ c.if-is_some.true in
+    let taken = c.requantize_states-over.ensures.taken in (
+      taken.0,
+      record {
+        over_is = over_first c.requantize_states-over.result (first_past 43 taken.0) (position (is_overweight m taken.0 c.args.at.now.work.now.d) m.rows) some taken.1.over_is;
+        allowed = λ states are. taken.1.allowed states (subst (λ (xs : List ℤ). AreMovedTo m c.args.at.now.moved.now xs c.args.levels.now states) (sym x) are);
+        others = taken.1.others;
+        levels = λ none. clash c.requantize_states-over.result some none;
+      },
+    )
+
+pub returns-clause-taken : goal.returns-clause-taken
+returns-clause-taken g c =
+    let m = c.args.at.now.machine.now in
+    let x : c.as_slice-x.result.now ≡ c.args.at.now.work.now.x = c.as_slice-x.ensures.value ∙ ap (λ (v : Values). v.x) c.work.view_is in
+    let of_d : c.as_slice-d.result.now ≡ c.args.at.now.work.now.d = c.as_slice-d.ensures.value ∙ ap (λ (v : Values). v.d) c.work.view_is in
+    let none : c.requantize_states-over.result ≡ None = not_some c.requantize_states-over.result (sym c.is_some.ensures ∙ c.if-is_some.false) in
+    let taken = c.requantize_states-over.ensures.taken in
+    let new : List ℤ = taken.0 in
+    let weighed : c.follow_handled.result ≡ position (is_overweight m new c.args.at.now.work.now.d) m.rows =
+    c.follow_handled.ensures.over
+    ∙ ap (λ (l : List ℤ). position (is_overweight m l c.as_slice-d.result.now) m.rows) (taken.1.levels none)
+    ∙ ap (λ (d : List ℤ). position (is_overweight m new d) m.rows) of_d in (
+      new,
+      record {
+        over_is = over_second c.follow_handled.result (first_past 43 new) (position (is_overweight m new c.args.at.now.work.now.d) m.rows) (sym taken.1.over_is ∙ none) weighed;
+        allowed = λ states are. taken.1.allowed states (subst (λ (xs : List ℤ). AreMovedTo m c.args.at.now.moved.now xs c.args.levels.now states) (sym x) are);
+        others = taken.1.others;
+        levels = λ calm. taken.1.levels none;
+      },
+    )

@@ -1,0 +1,64 @@
+-- The weights are those at the levels before.
+use Rattle.std.proofs.Common.{◌≡◌, List, ℤ, sym, ◌∙◌, ap, subst}
+use Rattle.std.specs.List.{position}
+use Rattle.std.specs.Prelude.{None}
+use Rattle.qss_hand.specs.Values.{Values}
+use Rattle.qss_machine.specs.Numbers.{first_past}
+use Rattle.qss_machine.specs.Ticks.{is_overweight}
+use Rattle.qss_quiet.specs.Among.{IsOff}
+use Rattle.qss_lines.specs.Kept.{AreWeights}
+use Rattle.qss_quiet.proofs.Overs.{not_some, clash}
+use Rattle.qss_lines.proofs.FirstOvers.{over_sooner, over_later}
+use Rattle.qss_lines.proofs.requantized.requantize_moved.Goals as goal
+
+pub follow-requires-clause-before : goal.follow-requires-clause-before
+follow-requires-clause-before g c =
+    let m = c.args.at.now.machine.now in
+    let old : List ℤ = c.args.levels.now in
+    let none : c.requantize_due-over.result ≡ None = not_some c.requantize_due-over.result (sym c.is_some.ensures ∙ c.if-is_some.false) in
+    let of_d : c.as_slice-d.result.now ≡ c.args.work.now.d =
+    c.as_slice-d.ensures.value ∙ ap (λ (v : Values). v.d) c.work.view_is in (
+      old,
+      record {
+        off = subst (IsOff c.args.at.now.moved.now old) (sym (c.requantize_due-over.ensures.taken.1.levels none)) c.requantize_due-over.ensures.taken.1.others;
+        small = c.requires.held.small_levels;
+        light = subst (λ (d : List ℤ). position (is_overweight m old d) m.rows ≡ None) (sym of_d) c.requires.held.light;
+        own = subst (λ (d : List ℤ). AreWeights m old d c.args.weights.now) (sym of_d) c.requires.held.weights;
+        own_levels = c.requires.held.own_levels;
+      },
+    )
+
+pub returns-then-is_some-clause-taken : goal.returns-then-is_some-clause-taken
+returns-then-is_some-clause-taken g c =
+    let some = sym c.is_some.ensures ∙ c.if-is_some.true in
+    let taken = c.requantize_due-over.ensures.taken in (
+      taken.0,
+      record {
+        over_is = over_sooner c.requantize_due-over.result _ (first_past 43 taken.0) (position (is_overweight c.args.at.now.machine.now taken.0 c.args.work.now.d) c.args.at.now.machine.now.rows) some
+            taken.1.over_is;
+        allowed = taken.1.allowed;
+        others = taken.1.others;
+        levels = λ none. clash c.requantize_due-over.result some none;
+      },
+    )
+
+pub returns-clause-taken : goal.returns-clause-taken
+returns-clause-taken g c =
+    let m = c.args.at.now.machine.now in
+    let none : c.requantize_due-over.result ≡ None = not_some c.requantize_due-over.result (sym c.is_some.ensures ∙ c.if-is_some.false) in
+    let of_d : c.as_slice-d.result.now ≡ c.args.work.now.d =
+    c.as_slice-d.ensures.value ∙ ap (λ (v : Values). v.d) c.work.view_is in
+    let taken = c.requantize_due-over.ensures.taken in
+    let new : List ℤ = taken.0 in
+    let weighed : c.follow.result ≡ position (is_overweight m new c.args.work.now.d) m.rows =
+    c.follow.ensures.over
+    ∙ ap (λ (l : List ℤ). position (is_overweight m l c.as_slice-d.result.now) m.rows) (taken.1.levels none)
+    ∙ ap (λ (d : List ℤ). position (is_overweight m new d) m.rows) of_d in (
+      new,
+      record {
+        over_is = over_later c.requantize_due-over.result _ (first_past 43 new) c.follow.result (position (is_overweight m new c.args.work.now.d) m.rows) none taken.1.over_is weighed;
+        allowed = taken.1.allowed;
+        others = taken.1.others;
+        levels = λ calm. taken.1.levels none;
+      },
+    )

@@ -1,0 +1,19 @@
+-- A mode coefficient within its limit.
+use Rattle.std.proofs.Common.{sym, subst}
+use Rattle.std.proofs.lemmas.Int.{to_z-of_z}
+use Rattle.std.specs.Int.RustNames.{FitsSigned}
+use Rattle.mu_num.specs.Sizes.{IsWithin}
+use Rattle.qss_machine.specs.Machines.{state_count, row_at}
+use Rattle.qss_machine.specs.Slopes.{mode_coefficient}
+use Rattle.qss_machine.proofs.ModeTests.{fits_at}
+use Rattle.qss_lines.proofs.shifts.shift_of.Goals as goal
+use mir.Syntax.{w128}
+
+pub taken_mode-requires : goal.taken_mode-requires
+taken_mode-requires c =
+    let m = c.args.at.now.machine.now in
+    let d = c.args.at.now.discretes.now in
+    let fits : FitsSigned w128 c.mode_coef_from-mode.result = record { sfits = c.mode_coef_from-mode.type_inv } in
+    rw (to_z-of_z w128 c.mode_coef_from-mode.result fits)
+    (subst (IsWithin 44) (sym c.mode_coef_from-mode.ensures)
+    (fits_at (state_count m) c.args.state (mode_coefficient m.f (state_count m) (row_at m c.args.row) d) c.requires.state (c.requires.mode.fits c.args.row c.requires.row)))

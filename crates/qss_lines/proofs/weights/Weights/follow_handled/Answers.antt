@@ -1,0 +1,66 @@
+-- While the moved levels and the assigned values stay within the bound, no row passes its limits.
+use Rattle.std.proofs.Common.{◌≡◌, List, length, ℤ, false, true, refl, sym, ◌∙◌, ap}
+use Rattle.qss_lines.specs.declared.weights.Weights.{Weights}
+use Rattle.qss_lines.specs.Weighings.{AreSmall}
+use Rattle.qss_lines.proofs.Kept.{levels_still, values_still, light_up_to, not_kept, kept_anew}
+use Rattle.qss_lines.proofs.weights.Weights.follow_handled.Goals as goal
+
+pub reweigh_handled-requires-clause-before : goal.reweigh_handled-requires-clause-before
+reweigh_handled-requires-clause-before c =
+    let before = c.requires.before.1 in (
+      c.requires.before.0,
+      record {
+        off = before.off;
+        small = before.small;
+        light = before.light;
+        own_sums = c.as_mut_slice.ensures.value ∙ before.own.own c.if-self.true;
+        own_levels = before.own_levels;
+      },
+    )
+
+pub weigh_every-requires-clause-weights : goal.weigh_every-requires-clause-weights
+weigh_every-requires-clause-weights c = ap length c.as_mut_slice-2.ensures.value ∙ c.requires.before.1.own.as_many
+
+pub returns-then-self : goal.returns-then-self
+returns-then-self c =
+    let m = c.args.at.now.machine.now in
+    let self : Weights = c.args.self.now in
+    record {
+      over = c.reweigh_handled.ensures.over;
+      weights = λ none.
+          kept_anew m c.args.at.now.levels.now c.args.left.now.discretes.now self c.reweigh_handled.new.weights c.if-self.true c.requires.before.1.own.as_many
+          (c.reweigh_handled.auto.weights ∙ c.as_mut_slice.ensures.len) (c.reweigh_handled.ensures.weights none);
+    }
+
+pub returns-then-are_handled_up_to : goal.returns-then-are_handled_up_to
+returns-then-are_handled_up_to c =
+    let m = c.args.at.now.machine.now in
+    let self : Weights = c.args.self.now in
+    let left = c.requires.left in
+    let levels : List ℤ = c.args.at.now.levels.now in
+    let pre : List ℤ = c.args.left.now.before.now in
+    let d : List ℤ = c.args.left.now.discretes.now in
+    let old : List ℤ = c.requires.before.0 in
+    let before = c.requires.before.1 in
+    let off : self.kept ≡ false = c.if-self.false in
+    let were = before.own.small off in
+    let within = c.are_handled_up_to.ensures.0 c.if-are_handled_up_to.true in
+    let are : AreSmall m self.bound levels d = record {
+      safe = were.safe;
+      small_levels = levels_still self.bound c.args.at.now.moved.now old levels before.off were.small_levels within.0;
+      small_discretes = values_still m self.bound c.args.left.now.assigned.now pre d left.many_before left.many_discretes left.own were.small_discretes within.1;
+    } in
+    record {
+      over = sym (light_up_to m self.bound levels d c.requires.ready.levels left.many_discretes are);
+      weights = λ none. not_kept m levels d self off before.own.as_many are;
+    }
+
+pub returns : goal.returns
+returns c =
+    let on : Weights = record c.args.self.now { kept = true } in
+    record {
+      over = c.weigh_every.ensures.over;
+      weights = λ none.
+          kept_anew c.args.at.now.machine.now c.args.at.now.levels.now c.args.left.now.discretes.now on c.weigh_every.new.weights refl c.requires.before.1.own.as_many
+          (c.weigh_every.auto.weights ∙ c.as_mut_slice-2.ensures.len) (c.weigh_every.ensures.weights none);
+    }

@@ -1,0 +1,60 @@
+-- States that a tick touches, while they are gathered: they move to it along their lines, and are listed.
+use Rattle.std.specs.Prelude.{◌≡◌, ℕ, ◌+◌, ◌<◌, ◌≤◌, Bool, true, false, not, ◌&&◌, List, ◌∷◌, length, All, ℤ, flat_map, ◌==◌, count_by}
+use Rattle.std.specs.List.{range_with_len}
+use Rattle.mu_num.specs.Sizes.{IsWithin}
+use Rattle.mu_num.specs.Ticks.{tick_limit}
+use Rattle.qss_machine.specs.declared.system.Machine.{Machine}
+use Rattle.qss_machine.specs.Machines.{level_unit, quantum_of}
+use Rattle.qss_machine.specs.Uses.{reading_rows}
+use Rattle.qss_quant.specs.Lines.{Line, state_at, IsNear}
+use Rattle.qss_quiet.specs.Among.{is_among}
+use Rattle.qss_lines.specs.StateLines.{line_at}
+
+-- lines of states, and the numbers of touched ones
+pub record Gathering : Type 0 where
+  pub lines : List Line
+  pub touched : List ℕ
+
+-- a line is at a tick where it was, and goes on as it did
+pub record IsAlong (tick : ℕ) (old new : Line) : Type 0 where
+  pub not_later : new.tick ≤ tick
+  pub here : state_at new tick ≡ state_at old tick
+  pub same_slope : new.slope ≡ old.slope
+  pub same_level : new.level ≡ old.level
+
+-- whether a state's line is not at a tick yet, of those states that may move
+abbrev pub is_behind : ℕ → (ℕ → Bool) → List Line → ℕ → Bool
+is_behind tick may lines j = not ((line_at lines j).tick == tick) && may j
+
+-- how many of them are not
+abbrev pub behind : ℕ → (ℕ → Bool) → List Line → ℕ
+behind tick may lines = count_by (is_behind tick may lines) (range_with_len 0 (length lines))
+
+-- lines that may move to a tick of a run, of which those that are there are listed, and room for all others
+pub record CanGather (tick : ℕ) (lines : List Line) (touched : List ℕ) (room : ℕ) : Type 0 where
+  pub later : (j : ℕ) → j < length lines → (line_at lines j).tick ≤ tick
+  pub small : (j : ℕ) → j < length lines → IsWithin 89 (state_at (line_at lines j) tick)
+  pub in_time : tick ≤ tick_limit
+  pub below : All (λ j. j < length lines) touched
+  pub listed : (j : ℕ) → j < length lines → (line_at lines j).tick ≡ tick → is_among touched j ≡ true
+  pub room_left : length touched + behind tick (λ j. true) lines ≤ room
+
+-- these states are listed, and the lines of listed ones moved to a tick if they were not there; the others are as they were, and what was listed stays so
+pub record AreGathered (tick : ℕ) (states : List ℕ) (old new : Gathering) : Type 0 where
+  pub as_many : length new.lines ≡ length old.lines
+  pub along : (j : ℕ) → j < length old.lines → IsAlong tick (line_at old.lines j) (line_at new.lines j)
+  pub own : (j : ℕ) → is_among states j ≡ true → is_among new.touched j ≡ true
+  pub kept : (j : ℕ) → is_among old.touched j ≡ true → is_among new.touched j ≡ true
+  pub others : (j : ℕ) → is_among new.touched j ≡ false → line_at new.lines j ≡ line_at old.lines j
+  pub counted : (may : ℕ → Bool) → ((j : ℕ) → is_among states j ≡ true → may j ≡ true) →
+      length new.touched + behind tick may new.lines ≡ length old.touched + behind tick may old.lines
+
+-- the moved states, each with those whose rows read it
+abbrev pub reached : Machine → List ℕ → List ℕ
+reached m moved = flat_map (λ j. j ∷ reading_rows m j) moved
+
+-- a line may go on from a tick at a level: it is there or was before, and leads to a state within the limit and near the level
+pub record MayGoOn (m : Machine) (tick j : ℕ) (level : ℤ) (line : Line) : Type 0 where
+  pub not_later : line.tick ≤ tick
+  pub small : IsWithin 89 (state_at line tick)
+  pub near : IsNear (level_unit m) (state_at line tick) level (quantum_of m j level)

@@ -1,0 +1,45 @@
+-- Levels that states take at a tick.
+use Rattle.std.specs.Prelude.{◌≡◌, ℕ, ◌++◌, List, [], ◌∷◌, ℤ, pos, Option, None, if◌then◌else◌}
+use Rattle.std.specs.List.{flat_map}
+use Rattle.std.specs.Option.{option_or}
+use Rattle.std.specs.Ordering.{int_eq}
+use Rattle.mu_num.specs.Sizes.{passes}
+use Rattle.qss_machine.specs.declared.rows.Row.{Row}
+use Rattle.qss_machine.specs.declared.rows.RowKind.TheVariants as kind
+use Rattle.qss_machine.specs.declared.system.Machine.{Machine}
+use Rattle.qss_machine.specs.Numbers.{int_at, first_past}
+use Rattle.qss_machine.specs.Ticks.{IsNextLevel, AreNextLevels}
+use Rattle.qss_quant.specs.declared.rule.Rule.{Rule}
+use Rattle.qss_quiet.specs.Among.{IsOff}
+use Rattle.qss_quiet.specs.Rules.{IsRuled}
+use Rattle.qss_quiet.specs.Writes.{IsFirstOf, IsWritten}
+use Rattle.qss_lines.specs.declared.visiting.Arrival.{Arrival}
+use Rattle.qss_lines.specs.Visitings.{AreMovedTo}
+use Rattle.qss_lines.specs.StateLines.{states_at}
+
+-- the row of a state that takes a level, where it is another one
+abbrev pub taken_row : ℕ → List ℤ → List ℤ → List ℤ → ℕ → List Row
+taken_row tick states old new j =
+    if int_eq (int_at old j) (int_at new j) then [] else record { tick = tick; kind = kind.Level; var = j; level = int_at new j; state = int_at states j } ∷ []
+
+-- new levels under a rule at these states, and the first of these that is past its limit, if one is; else they are kept, with their rows after those before
+pub record AreRequantized (m : Machine) (name : Option Rule) (tick : ℕ) (states : List ℤ) (places : List ℕ) (old kept new : List ℤ) (before rows : List Row) (first : Option ℕ) : Type 0 where
+  pub allowed : IsWritten (pos 0) (λ j level. IsNextLevel (IsRuled name) m j (int_at states j) (int_at old j) level) places old new
+  pub found : IsFirstOf (λ j. passes 43 (int_at new j)) places first
+  pub off : IsOff places old kept
+  pub levels : first ≡ None → kept ≡ new
+  pub own_rows : first ≡ None → rows ≡ before ++ flat_map (taken_row tick states old new) places
+
+-- new levels of an arrival, of which only the moved states have others: allowed if no state passes its limit, and kept if nothing overflows, there or later
+pub record AreRequantizedOnArrival (at : Arrival) (name : Option Rule) (old kept new : List ℤ) (later over : Option ℕ) : Type 0 where
+  pub over_is : over ≡ option_or (first_past 88 (states_at at.lines.now at.tick)) later
+  pub allowed : first_past 88 (states_at at.lines.now at.tick) ≡ None → AreNextLevels (IsRuled name) at.machine.now (states_at at.lines.now at.tick) old new
+  pub others : IsOff at.moved.now old new
+  pub levels : over ≡ None → kept ≡ new
+
+-- new levels of which only the moved states, which are these, have others: allowed, and kept if nothing overflows
+pub record AreRequantizedAt (m : Machine) (name : Option Rule) (moved : List ℕ) (x old kept new : List ℤ) (later over : Option ℕ) : Type 0 where
+  pub over_is : over ≡ later
+  pub allowed : (states : List ℤ) → AreMovedTo m moved x old states → AreNextLevels (IsRuled name) m states old new
+  pub others : IsOff moved old new
+  pub levels : over ≡ None → kept ≡ new

@@ -1,0 +1,11 @@
+pub mod StateLines
+pub mod Variables
+pub mod Overweights
+pub mod Weighings
+pub mod Kept
+pub mod Turnings
+pub mod RowSums
+pub mod Renewals
+pub mod Visitings
+pub mod Levels
+pub mod Gatherings

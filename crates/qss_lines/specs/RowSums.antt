@@ -1,0 +1,35 @@
+-- The two sums of a row over levels: its slope, and its weight, which takes the sizes of all numbers.
+use Rattle.std.specs.Prelude.{◌≡◌, ℕ, ◌+◌, ◌^◌, ◌<◌, ◌≤◌, List, ℤ, ◌+ℤ◌, ◌-ℤ◌, ◌*ℤ◌, unsigned_abs, None, All, position}
+use Rattle.mu_num.specs.Sizes.{IsWithin}
+use Rattle.qss_machine.specs.declared.system.Machine.{Machine}
+use Rattle.qss_machine.specs.Machines.{state_count, mode_coefficient_at, slope_at, weight_at}
+use Rattle.qss_machine.specs.Numbers.{int_at, size, tabulate}
+use Rattle.qss_machine.specs.Ticks.{is_overweight}
+use Rattle.qss_quant.specs.Lines.{Line}
+use Rattle.qss_lines.specs.declared.shifts.RowSum.{RowSum}
+use Rattle.qss_lines.specs.declared.shifts.RowSum.TheVariants.{Slope, Weight}
+use Rattle.qss_quiet.specs.Among.{IsOff}
+use Rattle.qss_lines.specs.StateLines.{line_at}
+
+-- a number as a sum takes it
+abbrev pub taken_by : RowSum → ℤ → ℤ
+taken_by Slope z = z
+taken_by Weight z = size z
+
+-- the sum of a row at levels and discrete values
+abbrev pub sum_at : RowSum → Machine → ℕ → List ℤ → List ℤ → ℤ
+sum_at Slope m j levels discretes = slope_at m j levels discretes
+sum_at Weight m j levels discretes = weight_at m j levels discretes
+
+-- the levels before those of the moved states changed: within their limit, no row past its limits there, and the sums and the lines are theirs
+pub record AreSumsBefore (kind : RowSum) (m : Machine) (moved : List ℕ) (levels discretes sums : List ℤ) (lines : List Line) (old : List ℤ) : Type 0 where
+  pub off : IsOff moved old levels
+  pub small : All (IsWithin 43) old
+  pub light : position (is_overweight m old discretes) m.rows ≡ None
+  pub own_sums : sums ≡ tabulate (state_count m) (λ j. sum_at kind m j old discretes)
+  pub own_levels : (j : ℕ) → j < state_count m → (line_at lines j).level ≡ int_at old j
+
+-- the sum of a row after a state took another level, both as the sum takes them, and how much greater its size may be
+abbrev pub HasFollowed : RowSum → Machine → ℕ → ℤ → ℤ → List ℤ → List ℤ → ℕ → ℤ → Type 0
+HasFollowed kind m state old new discretes sums j sum =
+    (sum ≡ int_at sums j +ℤ taken_by kind (mode_coefficient_at m j state discretes) *ℤ (new -ℤ old)) × (unsigned_abs sum ≤ unsigned_abs (int_at sums j) + 2 ^ 88)

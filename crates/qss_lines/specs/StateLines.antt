@@ -1,0 +1,27 @@
+-- The lines of states, by number, and the states to which they lead.
+use Rattle.std.specs.Prelude.{ℕ, List, length, ℤ, if◌then◌else◌, ◌≡◌, ◌≤◌, Option, slice_index_or}
+use Rattle.qss_machine.specs.Numbers.{int_at, tabulate}
+use Rattle.qss_machine.specs.declared.system.Machine.{Machine}
+use Rattle.qss_quant.specs.Lines.{Line, state_at}
+use Rattle.qss_quiet.specs.Among.{is_among}
+use Rattle.qss_quiet.specs.Sims.{IsDue, no_line}
+
+-- the line of a state
+abbrev pub line_at : List Line → ℕ → Line
+line_at lines j = slice_index_or lines j no_line
+
+-- the states to which lines lead at a tick
+abbrev pub states_at : List Line → ℕ → List ℤ
+states_at lines tick = tabulate (length lines) (λ j. state_at (line_at lines j) tick)
+
+-- the states at a tick: the moved ones are these, the others are where their lines lead
+abbrev pub states_with : List Line → ℕ → List ℕ → List ℤ → List ℤ
+states_with lines tick moved x = tabulate (length lines) (λ j. if is_among moved j then int_at x j else state_at (line_at lines j) tick)
+
+-- a state's line is at this state at a tick and goes on at this slope and level, and this is the tick at which it then leaves its quantum
+pub record IsTurned (m : Machine) (tick : ℕ) (state level slope : ℤ) (j : ℕ) (line : Line) (due : Option ℕ) : Type 0 where
+  pub not_later : line.tick ≤ tick
+  pub here : state_at line tick ≡ state
+  pub own_slope : line.slope ≡ slope
+  pub own_level : line.level ≡ level
+  pub is_due : IsDue m tick j line due

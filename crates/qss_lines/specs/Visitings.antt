@@ -1,0 +1,192 @@
+-- What the parts of a visit are given.
+use Rattle.std.specs.Prelude.{◌≡◌, ℕ, ◌<◌, ◌≤◌, ◌^◌, true, false, List, length, All, ℤ, Option, None, position}
+use Rattle.mu_num.specs.Sizes.{IsWithin}
+use Rattle.mu_num.specs.Ticks.{tick_limit}
+use Rattle.qss_machine.specs.declared.system.Machine.{Machine}
+use Rattle.qss_machine.specs.Machines.{state_count, discrete_count, level_unit, row_at, slope_at, quantum_of}
+use Rattle.qss_machine.specs.Numbers.{int_at, tabulate}
+use Rattle.qss_machine.specs.Slopes.{mode_fits}
+use Rattle.qss_machine.specs.Ticks.{is_near, is_overweight}
+use Rattle.qss_machine.specs.Uses.{uses_of}
+use Rattle.qss_quant.specs.Lines.{Line, state_at, IsNear, IsAway}
+use Rattle.qss_sched.specs.Ranks.{due_at}
+use Rattle.qss_hand.specs.Works.{AreValuesOf}
+use Rattle.qss_quiet.specs.Among.{is_among, AreNumbers}
+use Rattle.qss_quiet.specs.Sims.{IsDue}
+use Rattle.qss_lines.specs.declared.shifts.RowSum.{RowSum}
+use Rattle.qss_lines.specs.declared.shifts.RowSum.TheVariants.{Slope}
+use Rattle.qss_lines.specs.declared.visiting.Arrival.{Arrival}
+use Rattle.qss_lines.specs.declared.visiting.Handled.{Handled}
+use Rattle.qss_lines.specs.declared.visiting.HandledArrival.{HandledArrival}
+use Rattle.qss_lines.specs.declared.visiting.Mode.{Mode}
+use Rattle.qss_lines.specs.declared.visiting.NewLevels.{NewLevels}
+use Rattle.qss_lines.specs.declared.visiting.QuietLevels.{QuietLevels}
+use Rattle.qss_lines.specs.declared.weights.Weights.{Weights}
+use Rattle.qss_lines.specs.Variables.{AreDiscretes, AreAssigned, AreSlopesOf}
+use Rattle.qss_lines.specs.StateLines.{states_with, line_at}
+use Rattle.qss_lines.specs.Kept.{AreWeights, AreWeightsBefore}
+use Rattle.qss_lines.specs.RowSums.{sum_at, AreSumsBefore}
+
+-- discrete values of a machine within the limit, at which the mode coefficients of all rows are within theirs
+pub record IsMode (at : Mode) : Type 0 where
+  pub as_many : length at.discretes.now ≡ discrete_count at.machine.now
+  pub small : All (IsWithin 43) at.discretes.now
+  pub fits : (row : ℕ) → row < state_count at.machine.now →
+      mode_fits at.machine.now.f (state_count at.machine.now) (row_at at.machine.now row) at.discretes.now ≡ true
+
+-- a machine's readers, numbers of its states, and a level of each state, within the limit
+pub record AreNewLevels (at : NewLevels) : Type 0 where
+  pub uses : at.uses.now ≡ uses_of at.machine.now
+  pub moved : AreNumbers (state_count at.machine.now) at.moved.now
+  pub levels : length at.levels.now ≡ state_count at.machine.now
+  pub small_levels : All (IsWithin 43) at.levels.now
+
+-- the sums of all rows at these levels and at discrete values
+abbrev pub new_sums : RowSum → NewLevels → List ℤ → List ℤ
+new_sums kind at discretes =
+    tabulate (state_count at.machine.now) (λ j. sum_at kind at.machine.now j at.levels.now discretes)
+
+-- the slopes of all rows there
+abbrev pub new_slopes : NewLevels → List ℤ → List ℤ
+new_slopes at discretes =
+    tabulate (state_count at.machine.now) (λ j. slope_at at.machine.now j at.levels.now discretes)
+
+-- the first row that is past its limits there, if one is
+abbrev pub first_overweight : NewLevels → List ℤ → Option ℕ
+first_overweight at discretes =
+    position (is_overweight at.machine.now at.levels.now discretes) at.machine.now.rows
+
+-- sums and lines of the levels before, at discrete values
+abbrev pub WereSums : RowSum → NewLevels → List ℤ → List ℤ → List Line → Type 0
+WereSums kind at discretes sums lines =
+    (old : List ℤ) × AreSumsBefore kind at.machine.now at.moved.now at.levels.now discretes sums lines old
+
+-- weights and lines of the levels before, at discrete values
+abbrev pub WereWeights : NewLevels → List ℤ → Weights → List Line → Type 0
+WereWeights at discretes weights lines =
+    (old : List ℤ) × AreWeightsBefore at.machine.now at.moved.now at.levels.now discretes weights lines old
+
+-- values of a machine's states and discrete variables after handlers, and of these before them, within the limits: only the assigned ones are others
+pub record AreHandled (m : Machine) (left : Handled) : Type 0 where
+  pub assigned_known : AreDiscretes m left.assigned.now
+  pub own : AreAssigned m left.assigned.now left.before.now left.discretes.now
+  pub many_states : length left.states.now ≡ state_count m
+  pub many_before : length left.before.now ≡ discrete_count m
+  pub many_discretes : length left.discretes.now ≡ discrete_count m
+  pub small_states : All (IsWithin 88) left.states.now
+  pub small_before : All (IsWithin 43) left.before.now
+  pub small_discretes : All (IsWithin 43) left.discretes.now
+
+-- a machine's readers, a line of each state, and numbers of states
+pub record IsArrival (at : Arrival) : Type 0 where
+  pub uses : at.uses.now ≡ uses_of at.machine.now
+  pub lines : length at.lines.now ≡ state_count at.machine.now
+  pub moved : AreNumbers (state_count at.machine.now) at.moved.now
+
+-- a state is at least the quantum away from its level
+abbrev pub HasLeft : Machine → ℕ → ℤ → ℤ → Type 0
+HasLeft m j state level = IsAway (level_unit m) state level (quantum_of m j level)
+
+-- the moved states may arrive at a tick of a run: along their lines they leave the quanta of these levels, and the others pass no limit, and are near these levels
+pub record CanArrive (at : Arrival) (levels : List ℤ) : Type 0 where
+  pub arrival : IsArrival at
+  pub later : (j : ℕ) → j < length at.lines.now → (line_at at.lines.now j).tick ≤ at.tick
+  pub in_time : at.tick < 2 ^ 32
+  pub moved_away : (j : ℕ) → is_among at.moved.now j ≡ true →
+      HasLeft at.machine.now j (state_at (line_at at.lines.now j) at.tick) (int_at levels j)
+  pub others_small : (j : ℕ) → j < state_count at.machine.now → is_among at.moved.now j ≡ false →
+      IsWithin 88 (state_at (line_at at.lines.now j) at.tick)
+  pub others_near : (j : ℕ) → j < state_count at.machine.now → is_among at.moved.now j ≡ false →
+      is_near at.machine.now j (state_at (line_at at.lines.now j) at.tick) (int_at levels j) ≡ true
+
+-- levels of a machine's states that the lines have, within their limit, and the weights of all rows there and at discrete values, none past its limit
+pub record HoldsLevels (m : Machine) (lines : List Line) (d levels_old : List ℤ) (weights_old : Weights) : Type 0 where
+  pub levels : length levels_old ≡ state_count m
+  pub small_levels : All (IsWithin 43) levels_old
+  pub light : position (is_overweight m levels_old d) m.rows ≡ None
+  pub weights : AreWeights m levels_old d weights_old
+  pub own_levels : (j : ℕ) → j < state_count m → (line_at lines j).level ≡ int_at levels_old j
+
+-- a machine's readers, a line of each state, numbers of states and of discrete variables, and values within the limits of which only those were assigned
+pub record IsHandledArrival (at : HandledArrival) : Type 0 where
+  pub uses : at.uses.now ≡ uses_of at.machine.now
+  pub lines : length at.lines.now ≡ state_count at.machine.now
+  pub moved : AreNumbers (state_count at.machine.now) at.moved.now
+  pub assigned_known : AreDiscretes at.machine.now at.assigned.now
+  pub own : AreAssigned at.machine.now at.assigned.now at.work.now.pre at.work.now.d
+  pub fits : AreValuesOf at.machine.now at.work.now
+
+-- a machine's states may go on at their new levels and at these slopes
+pub record CanGoOn (at : NewLevels) (slopes : List ℤ) : Type 0 where
+  pub new : AreNewLevels at
+  pub slopes_of : AreSlopesOf at.machine.now slopes
+  pub in_time : at.tick ≤ tick_limit
+
+-- a value of each state, within the limit
+pub record AreStatesOf (m : Machine) (x : List ℤ) : Type 0 where
+  pub as_many : length x ≡ state_count m
+  pub small : All (IsWithin 88) x
+
+-- a machine's readers, numbers of its states, and a level of each state and discrete values, within the limit
+pub record AreQuietLevels (at : QuietLevels) : Type 0 where
+  pub uses : at.uses.now ≡ uses_of at.machine.now
+  pub moved : AreNumbers (state_count at.machine.now) at.moved.now
+  pub levels : length at.levels.now ≡ state_count at.machine.now
+  pub small_levels : All (IsWithin 43) at.levels.now
+  pub discretes : length at.discretes.now ≡ discrete_count at.machine.now
+  pub small_discretes : All (IsWithin 43) at.discretes.now
+
+-- the slopes of all rows there
+abbrev pub quiet_slopes : QuietLevels → List ℤ
+quiet_slopes at = tabulate (state_count at.machine.now) (λ j. slope_at at.machine.now j at.levels.now at.discretes.now)
+
+-- slopes and lines of the levels before, at the same discrete values
+abbrev pub WereSlopes : QuietLevels → List ℤ → List Line → Type 0
+WereSlopes at slopes lines =
+    (old : List ℤ) × AreSumsBefore Slope at.machine.now at.moved.now at.levels.now at.discretes.now slopes lines old
+
+-- the moved states may go on at their new levels, and all states at their new slopes, from the slopes, the lines and the due ticks before
+pub record CanReslope (at : QuietLevels) (slopes_old : List ℤ) (lines_old : List Line) (dues_old : List (Option ℕ)) : Type 0 where
+  pub new : AreQuietLevels at
+  pub slopes : length slopes_old ≡ state_count at.machine.now
+  pub lines : length lines_old ≡ state_count at.machine.now
+  pub places : state_count at.machine.now ≤ length dues_old
+  pub light : position (is_overweight at.machine.now at.levels.now at.discretes.now) at.machine.now.rows ≡ None
+  pub in_time : at.tick ≤ tick_limit
+  pub earlier : (j : ℕ) → j < state_count at.machine.now → (line_at lines_old j).tick < at.tick
+  pub small_states : (j : ℕ) → j < state_count at.machine.now → IsWithin 88 (state_at (line_at lines_old j) at.tick)
+  pub near : (j : ℕ) → j < state_count at.machine.now →
+      IsNear (level_unit at.machine.now) (state_at (line_at lines_old j) at.tick) (int_at at.levels.now j) (quantum_of at.machine.now j (int_at at.levels.now j))
+  pub before : WereSlopes at slopes_old lines_old
+  pub own_slope : (j : ℕ) → j < state_count at.machine.now → (line_at lines_old j).slope ≡ int_at slopes_old j
+  pub due : (j : ℕ) → j < state_count at.machine.now → (line_at lines_old j).level ≡ int_at at.levels.now j →
+      IsDue at.machine.now at.tick j (line_at lines_old j) (due_at dues_old j)
+
+-- the states after handlers: the moved ones as these left them, the others where their lines lead
+abbrev pub states_left : NewLevels → Handled → List Line → List ℤ
+states_left at left lines = states_with lines at.tick at.moved.now left.states.now
+
+-- the moved states may go on after handlers from where these left them, and all states at their new slopes, from the slopes, the lines and the due ticks before
+pub record CanReseat (at : NewLevels) (left : Handled) (slopes_old : List ℤ) (lines_old : List Line) (dues_old : List (Option ℕ)) : Type 0 where
+  pub new : AreNewLevels at
+  pub handled : AreHandled at.machine.now left
+  pub slopes : length slopes_old ≡ state_count at.machine.now
+  pub lines : length lines_old ≡ state_count at.machine.now
+  pub places : state_count at.machine.now ≤ length dues_old
+  pub light : first_overweight at left.discretes.now ≡ None
+  pub in_time : at.tick ≤ tick_limit
+  pub small_states : All (IsWithin 88) (states_left at left lines_old)
+  pub later : (j : ℕ) → j < state_count at.machine.now → (line_at lines_old j).tick ≤ at.tick
+  pub small : (j : ℕ) → j < state_count at.machine.now → IsWithin 89 (state_at (line_at lines_old j) at.tick)
+  pub near : (j : ℕ) → j < state_count at.machine.now →
+      IsNear (level_unit at.machine.now) (int_at (states_left at left lines_old) j) (int_at at.levels.now j) (quantum_of at.machine.now j (int_at at.levels.now j))
+  pub before : WereSums Slope at left.before.now slopes_old lines_old
+  pub own_slope : (j : ℕ) → j < state_count at.machine.now → (line_at lines_old j).slope ≡ int_at slopes_old j
+  pub due : (j : ℕ) → j < state_count at.machine.now → is_among at.moved.now j ≡ false → (line_at lines_old j).level ≡ int_at at.levels.now j →
+      IsDue at.machine.now at.tick j (line_at lines_old j) (due_at dues_old j)
+
+-- states of which the moved ones are these, and each other one is near its level
+pub record AreMovedTo (m : Machine) (moved : List ℕ) (x levels states : List ℤ) : Type 0 where
+  pub as_many : length states ≡ state_count m
+  pub own : (j : ℕ) → is_among moved j ≡ true → int_at states j ≡ int_at x j
+  pub near : (j : ℕ) → j < state_count m → is_among moved j ≡ false → is_near m j (int_at states j) (int_at levels j) ≡ true

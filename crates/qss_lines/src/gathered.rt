@@ -1,0 +1,287 @@
+//! States that a tick touches at which nothing but states is due: they are gathered, and go on from it at new slopes.
+
+ghost use Rattle.std.specs.Prelude.{◌≡◌, ℕ, ◌+◌, ◌<◌, ◌≤◌, ◌∷◌, [], All, length, pos, true, false, vec_capacity, count_by};
+ghost use Rattle.std.specs.List.{range_with_len};
+ghost use Rattle.mu_num.specs.Sizes.{IsWithin};
+ghost use Rattle.mu_num.specs.Ticks.{tick_limit};
+ghost use Rattle.qss_machine.specs.Numbers.{int_at};
+ghost use Rattle.qss_machine.specs.Machines.{state_count, level_unit, row_at, slope_at, quantum_of};
+ghost use Rattle.qss_machine.specs.Slopes.{mode_fits};
+ghost use Rattle.qss_machine.specs.Uses.{reading_rows};
+ghost use Rattle.qss_quant.specs.Lines.{state_at, IsNear};
+ghost use Rattle.qss_sched.specs.Ranks.{due_at};
+ghost use Rattle.qss_quiet.specs.Among.{is_among};
+ghost use Rattle.qss_quiet.specs.Writes.{IsWritten};
+ghost use Rattle.qss_lines.specs.Gatherings.{CanGather, AreGathered, MayGoOn, reached};
+ghost use Rattle.qss_lines.specs.Variables.{AreSlopesOf};
+ghost use Rattle.qss_lines.specs.StateLines.{line_at, IsTurned};
+ghost use Rattle.qss_lines.specs.RowSums.{HasFollowed};
+ghost use Rattle.qss_lines.specs.declared.shifts.RowSum.TheVariants as sum;
+ghost use Rattle.qss_lines.specs.Visitings.{AreQuietLevels, CanReslope, quiet_slopes, WereSlopes};
+
+use crate::shifts::{RowSum, shift_rows};
+use crate::visiting::{Mode, QuietLevels};
+use qss_machine::Machine;
+use qss_quant::{Integrator, Steps};
+use qss_quiet::leaving;
+use qss_sched::Agenda;
+use std::sync::ledger::Ledger;
+
+// A line moves to a tick, unless it is there. It gives whether it was not.
+fn arrive_at<L: Ledger>(line: &mut Integrator, tick: u64, steps: &mut Steps<L>) -> bool
+    requires later { line.old.tick ≤ tick }
+    requires in_time { tick ≤ tick_limit }
+    requires small { IsWithin 89 (state_at line.old tick) }
+    ensures moved { result ≡ true
+        → (line.old.tick ≡ tick → ⊥)
+        × (line.new ≡ record line.old { tick = tick; x = state_at line.old tick })
+        × (steps.new ≡ steps.old + 1) }
+    ensures left { result ≡ false
+        → (line.old.tick ≡ tick) × (line.new ≡ line.old) × (steps.new ≡ steps.old) }
+{
+    if line.tick == tick {
+        return false;
+    }
+    line.move_to(tick, steps);
+    true
+}
+
+// A state moves to a tick and joins the touched ones, unless it is there.
+fn gather<L: Ledger>(
+    tick: u64,
+    j: u32,
+    lines: &mut [Integrator],
+    touched: &mut Vec<u32>,
+    steps: &mut Steps<L>,
+)
+    requires can { CanGather tick lines.old touched.old.items (vec_capacity touched.old) }
+    requires known { j < length lines.old }
+    ensures can { CanGather tick lines.new touched.new.items (vec_capacity touched.new) }
+    ensures gathered { AreGathered tick (j ∷ [])
+        (record { lines = lines.old; touched = touched.old.items })
+        (record { lines = lines.new; touched = touched.new.items }) }
+    ensures counted { steps.new + length touched.old.items
+        ≡ steps.old + length touched.new.items }
+    ensures room { vec_capacity touched.new ≡ vec_capacity touched.old }
+{
+    let line = &mut lines[j as usize];
+    if arrive_at(line, tick, steps) {
+        touched.push_reserved(j);
+    }
+}
+
+// These states move to a tick and join the touched ones, unless they are there.
+fn gather_each<L: Ledger>(
+    tick: u64,
+    states: &[u32],
+    lines: &mut [Integrator],
+    touched: &mut Vec<u32>,
+    steps: &mut Steps<L>,
+)
+    requires can { CanGather tick lines.old touched.old.items (vec_capacity touched.old) }
+    requires known { All (λ j. j < length lines.old) states.now }
+    ensures can { CanGather tick lines.new touched.new.items (vec_capacity touched.new) }
+    ensures gathered { AreGathered tick states.now
+        (record { lines = lines.old; touched = touched.old.items })
+        (record { lines = lines.new; touched = touched.new.items }) }
+    ensures counted { steps.new + length touched.old.items
+        ≡ steps.old + length touched.new.items }
+    ensures room { vec_capacity touched.new ≡ vec_capacity touched.old }
+{
+    for j in states {
+        gather(tick, *j, lines, touched, steps);
+    }
+}
+
+// The slopes of the rows that read a moved state follow its level, from that of its line, and it and the states of these rows
+// are gathered.
+fn follow_level<L: Ledger>(
+    at: &QuietLevels,
+    state: u32,
+    slopes: &mut [i128],
+    lines: &mut [Integrator],
+    touched: &mut Vec<u32>,
+    steps: &mut Steps<L>,
+)
+    requires new { AreQuietLevels at.now }
+    requires state { state < state_count at.now.machine.now }
+    requires modes { (row : ℕ) → row < state_count at.now.machine.now
+        → mode_fits at.now.machine.now.f (state_count at.now.machine.now)
+        (row_at at.now.machine.now row) at.now.discretes.now ≡ true }
+    requires slopes { length slopes.old ≡ state_count at.now.machine.now }
+    requires small_slopes { (j : ℕ) → j < state_count at.now.machine.now
+        → IsWithin 100 (int_at slopes.old j) }
+    requires lines { length lines.old ≡ state_count at.now.machine.now }
+    requires can { CanGather at.now.tick lines.old touched.old.items
+        (vec_capacity touched.old) }
+    ensures slopes { IsWritten (pos 0)
+        (HasFollowed sum.Slope at.now.machine.now state (line_at lines.old state).level
+        (int_at at.now.levels.now state) at.now.discretes.now slopes.old)
+        (reading_rows at.now.machine.now state) slopes.old slopes.new }
+    ensures can { CanGather at.now.tick lines.new touched.new.items (vec_capacity touched.new) }
+    ensures gathered { AreGathered at.now.tick (state ∷ reading_rows at.now.machine.now state)
+        (record { lines = lines.old; touched = touched.old.items })
+        (record { lines = lines.new; touched = touched.new.items }) }
+    ensures counted { steps.new + length touched.old.items
+        ≡ steps.old + length touched.new.items }
+    ensures room { vec_capacity touched.new ≡ vec_capacity touched.old }
+{
+    let j = state as usize;
+    let line = &lines[j];
+    let old = line.level;
+    let new = at.levels[j];
+    let rows = at.uses.rows_of(state);
+    let mode = Mode {
+        machine: at.machine,
+        discretes: at.discretes,
+    };
+    shift_rows(RowSum::Slope, &mode, at.uses, state, old, new, slopes);
+    gather(at.tick, state, lines, touched, steps);
+    gather_each(at.tick, rows, lines, touched, steps);
+}
+
+// The slopes of all rows follow where the moved states take their levels, from those of their lines, and these states and those
+// whose rows read one of them are gathered.
+fn follow_levels<L: Ledger>(
+    at: &QuietLevels,
+    slopes: &mut [i128],
+    lines: &mut [Integrator],
+    touched: &mut Vec<u32>,
+    steps: &mut Steps<L>,
+)
+    requires new { AreQuietLevels at.now }
+    requires lines { length lines.old ≡ state_count at.now.machine.now }
+    requires before { WereSlopes at.now slopes.old lines.old }
+    requires can { CanGather at.now.tick lines.old touched.old.items
+        (vec_capacity touched.old) }
+    ensures slopes { slopes.new ≡ quiet_slopes at.now }
+    ensures can { CanGather at.now.tick lines.new touched.new.items (vec_capacity touched.new) }
+    ensures gathered { AreGathered at.now.tick (reached at.now.machine.now at.now.moved.now)
+        (record { lines = lines.old; touched = touched.old.items })
+        (record { lines = lines.new; touched = touched.new.items }) }
+    ensures counted { steps.new + length touched.old.items
+        ≡ steps.old + length touched.new.items }
+    ensures room { vec_capacity touched.new ≡ vec_capacity touched.old }
+{
+    for state in at.moved {
+        follow_level(at, *state, slopes, lines, touched, steps);
+    }
+}
+
+// A line is as this one from now on.
+fn set_line(line: &mut Integrator, here: &Integrator)
+    ensures { line.new ≡ here.now }
+{
+    *line = *here;
+}
+
+// State j goes on as this line, and the agenda has the tick at which it then leaves its quantum.
+fn go_on_as(m: &Machine, j: u32, here: &Integrator, line: &mut Integrator, agenda: &mut Agenda)
+    requires state { j < state_count m.now }
+    requires place { j < length agenda.old }
+    requires near { IsNear (level_unit m.now) here.now.x here.now.level
+        (quantum_of m.now j here.now.level) }
+    ensures turned { IsTurned m.now here.now.tick here.now.x here.now.level here.now.slope j
+        line.new (due_at agenda.new j) }
+    ensures as_many { length agenda.new ≡ length agenda.old }
+    ensures others { (place : ℕ) → (place ≡ j → ⊥)
+        → due_at agenda.new place ≡ due_at agenda.old place }
+{
+    set_line(line, here);
+    agenda.set(j, leaving(m, j, here));
+}
+
+// A state goes on from a tick at its level and its slope, from where its line leads.
+fn go_on(at: &QuietLevels, slopes: &[i128], j: u32, lines: &mut [Integrator], agenda: &mut Agenda)
+    requires new { AreQuietLevels at.now }
+    requires slopes_of { AreSlopesOf at.now.machine.now slopes.now }
+    requires state { j < state_count at.now.machine.now }
+    requires lines { length lines.old ≡ state_count at.now.machine.now }
+    requires places { state_count at.now.machine.now ≤ length agenda.old }
+    requires in_time { at.now.tick ≤ tick_limit }
+    requires ready { MayGoOn at.now.machine.now at.now.tick j (int_at at.now.levels.now j)
+        (line_at lines.old j) }
+    ensures turned { IsTurned at.now.machine.now at.now.tick
+        (state_at (line_at lines.old j) at.now.tick)
+        (int_at at.now.levels.now j) (int_at slopes.now j) j (line_at lines.new j)
+        (due_at agenda.new j) }
+    ensures lines { (k : ℕ) → (k ≡ j → ⊥) → line_at lines.new k ≡ line_at lines.old k }
+    ensures places { length agenda.new ≡ length agenda.old }
+    ensures dues { (place : ℕ) → (place ≡ j → ⊥)
+        → due_at agenda.new place ≡ due_at agenda.old place }
+{
+    let slope = slopes[j as usize];
+    let level = at.levels[j as usize];
+    let line = &mut lines[j as usize];
+    let x = line.value_at(at.tick);
+    let here = Integrator {
+        tick: at.tick,
+        x,
+        slope,
+        level,
+    };
+    go_on_as(at.machine, j, &here, line, agenda);
+}
+
+// These states go on from a tick at their levels and slopes, from where their lines lead.
+fn go_on_each(
+    at: &QuietLevels,
+    slopes: &[i128],
+    states: &[u32],
+    lines: &mut [Integrator],
+    agenda: &mut Agenda,
+)
+    requires new { AreQuietLevels at.now }
+    requires slopes_of { AreSlopesOf at.now.machine.now slopes.now }
+    requires states { All (λ j. j < state_count at.now.machine.now) states.now }
+    requires lines { length lines.old ≡ state_count at.now.machine.now }
+    requires places { state_count at.now.machine.now ≤ length agenda.old }
+    requires in_time { at.now.tick ≤ tick_limit }
+    requires ready { (j : ℕ) → j < state_count at.now.machine.now
+        → MayGoOn at.now.machine.now at.now.tick j (int_at at.now.levels.now j)
+        (line_at lines.old j) }
+    ensures turned { (j : ℕ) → is_among states.now j ≡ true
+        → IsTurned at.now.machine.now at.now.tick
+        (state_at (line_at lines.old j) at.now.tick)
+        (int_at at.now.levels.now j) (int_at slopes.now j) j (line_at lines.new j)
+        (due_at agenda.new j) }
+    ensures lines { (j : ℕ) → is_among states.now j ≡ false
+        → line_at lines.new j ≡ line_at lines.old j }
+    ensures places { length agenda.new ≡ length agenda.old }
+    ensures dues { (place : ℕ) → is_among states.now place ≡ false
+        → due_at agenda.new place ≡ due_at agenda.old place }
+{
+    for j in states {
+        go_on(at, slopes, *j, lines, agenda);
+    }
+}
+
+/// The moved states, and those whose rows read one of them, go on from a tick at their new slopes, each once.
+pub fn reslope_of<L: Ledger>(
+    at: &QuietLevels,
+    slopes: &mut [i128],
+    lines: &mut [Integrator],
+    touched: &mut Vec<u32>,
+    agenda: &mut Agenda,
+    steps: &mut Steps<L>,
+)
+    requires ready { CanReslope at.now slopes.old lines.old agenda.old }
+    requires room { state_count at.now.machine.now ≤ vec_capacity touched.old }
+    ensures slopes { slopes.new ≡ quiet_slopes at.now }
+    ensures lines { (j : ℕ) → j < state_count at.now.machine.now
+        → IsTurned at.now.machine.now at.now.tick (state_at (line_at lines.old j) at.now.tick)
+        (int_at at.now.levels.now j)
+        (slope_at at.now.machine.now j at.now.levels.now at.now.discretes.now)
+        j (line_at lines.new j) (due_at agenda.new j) }
+    ensures places { length agenda.new ≡ length agenda.old }
+    ensures others { (place : ℕ) → state_count at.now.machine.now ≤ place
+        → due_at agenda.new place ≡ due_at agenda.old place }
+    ensures counted { steps.new
+        ≤ steps.old + count_by (is_among (reached at.now.machine.now at.now.moved.now))
+        (range_with_len 0 (state_count at.now.machine.now)) }
+    ensures room { vec_capacity touched.new ≡ vec_capacity touched.old }
+{
+    touched.clear();
+    follow_levels(at, slopes, lines, touched, steps);
+    go_on_each(at, slopes, touched.as_slice(), lines, agenda);
+}

@@ -1,0 +1,200 @@
+//! New levels of the states that are due at one tick.
+
+ghost use Rattle.std.specs.Prelude.{◌≡◌, ℕ, ◌+◌, ◌<◌, ◌≤◌, ◌^◌, ◌++◌, List, ℤ, All, None, Some, length, pos, true, false, vec_len, vec_capacity, if◌then◌else◌};
+ghost use Rattle.std.specs.Option.{option_or};
+ghost use Rattle.mu_num.specs.Sizes.{IsWithin, passes};
+ghost use Rattle.mu_num.specs.Ticks.{tick_limit};
+ghost use Rattle.qss_machine.specs.Numbers.{int_at, first_past};
+ghost use Rattle.qss_machine.specs.Machines.{state_count};
+ghost use Rattle.qss_machine.specs.Runs.{level_rows};
+ghost use Rattle.qss_quant.specs.Lines.{state_at};
+ghost use Rattle.qss_lines.specs.Visitings.{AreMovedTo, CanArrive};
+ghost use Rattle.qss_quiet.specs.Among.{is_among, AreNumbers};
+ghost use Rattle.qss_lines.specs.Levels.{AreRequantized, AreRequantizedOnArrival, AreRequantizedAt};
+ghost use Rattle.qss_lines.specs.StateLines.{line_at, states_at};
+ghost use Rattle.qss_quiet.specs.Writes.{IsFirstOf, IsWritten};
+
+use crate::levels::take_within;
+use crate::visiting::Arrival;
+use mu_num::passes;
+use qss_machine::Row;
+use qss_quant::{Integrator, Quantizer};
+use qss_quiet::next_level;
+
+// The one that was found first, else this state, where it is past its limit.
+fn found_or(first: Option<u32>, state: u32, past: bool) -> Option<u32>
+    ensures { result ≡ option_or first (if past then Some state else None) }
+{
+    if past {
+        return first.or(Some(state));
+    }
+    first
+}
+
+// A moved state at a tick, along its line.
+fn arrival_of(lines: &[Integrator], tick: u64, state: u32) -> i128
+    requires known { state < length lines.now }
+    requires later { (line_at lines.now state).tick ≤ tick }
+    requires in_time { tick ≤ tick_limit }
+    ensures { result ≡ state_at (line_at lines.now state) tick }
+{
+    let j = state as usize;
+    lines[j].value_at(tick)
+}
+
+// The moved states at a tick, along their lines. It gives the least of them that is past the limit of states, if one is.
+fn arrive_due(lines: &[Integrator], tick: u64, moved: &[u32], x: &mut [i128]) -> Option<u32>
+    requires as_many { length x.old ≡ length lines.now }
+    requires moved { AreNumbers (length lines.now) moved.now }
+    requires later { (j : ℕ) → j < length lines.now → (line_at lines.now j).tick ≤ tick }
+    requires in_time { tick ≤ tick_limit }
+    ensures first { IsFirstOf (λ j. passes 88 (state_at (line_at lines.now j) tick)) moved.now
+        result }
+    ensures arrived { IsWritten (pos 0)
+        (λ j z. z ≡ state_at (line_at lines.now j) tick) moved.now x.old x.new }
+{
+    let mut first = None;
+    for state in moved {
+        let j = *state as usize;
+        let value = arrival_of(lines, tick, *state);
+        first = found_or(first, *state, passes(value, 88));
+        x[j] = value;
+    }
+    first
+}
+
+// The moved states arrive, each of which leaves the quantum of its level there, and take the rule's answers, with a row for
+// each that is another level. It gives the least that is past its limit on arrival, if one is; else the least whose level is past
+// its limit, if one is.
+fn leave_due(at: &Arrival, q: &Quantizer, levels: &mut [i64], rows: &mut Vec<Row>) -> Option<u32>
+    requires ready { CanArrive at.now levels.old }
+    requires levels { length levels.old ≡ state_count at.now.machine.now }
+    requires small_levels { All (IsWithin 43) levels.old }
+    requires room { vec_len rows.old + state_count at.now.machine.now ≤ vec_capacity rows.old }
+    ensures passed { (var : ℕ) → first_past 88 (states_at at.now.lines.now at.now.tick) ≡ Some var
+        → result ≡ Some var }
+    ensures taken { first_past 88 (states_at at.now.lines.now at.now.tick) ≡ None
+        → (new : List ℤ) × AreRequantized at.now.machine.now q.now.name at.now.tick
+        (states_at at.now.lines.now at.now.tick)
+        at.now.moved.now levels.old levels.new new rows.old.items rows.new.items result }
+    ensures room { vec_capacity rows.new ≡ vec_capacity rows.old }
+{
+    let unit = at.machine.level_unit();
+    let mut first = None;
+    for state in at.moved {
+        let j = *state as usize;
+        let value = arrival_of(at.lines, at.tick, *state);
+        if passes(value, 88) {
+            return Some(*state);
+        }
+        let fresh = q.answer(value, levels[j], unit);
+        let past = take_within(rows, at.tick, *state, &mut levels[j], fresh, value);
+        first = found_or(first, *state, past);
+    }
+    first
+}
+
+// The moved states take their new levels, with a row for each that is another one. It gives the least whose level is past its
+// limit, if one is.
+fn relevel_due(
+    at: &Arrival,
+    q: &Quantizer,
+    x: &[i128],
+    levels: &mut [i64],
+    rows: &mut Vec<Row>,
+) -> Option<u32>
+    requires states { length x.now ≡ state_count at.now.machine.now }
+    requires levels { length levels.old ≡ state_count at.now.machine.now }
+    requires moved { AreNumbers (state_count at.now.machine.now) at.now.moved.now }
+    requires small_states { (j : ℕ) → is_among at.now.moved.now j ≡ true
+        → IsWithin 88 (int_at x.now j) }
+    requires small_levels { All (IsWithin 43) levels.old }
+    requires room { vec_len rows.old + state_count at.now.machine.now ≤ vec_capacity rows.old }
+    ensures taken { (new : List ℤ) × AreRequantized at.now.machine.now q.now.name at.now.tick x.now
+        at.now.moved.now levels.old levels.new new rows.old.items rows.new.items result }
+    ensures room { vec_capacity rows.new ≡ vec_capacity rows.old }
+{
+    let unit = at.machine.level_unit();
+    let mut first = None;
+    for state in at.moved {
+        let j = *state as usize;
+        let fresh = next_level(at.machine, q, *state, x[j], levels[j], unit);
+        let past = take_within(rows, at.tick, *state, &mut levels[j], fresh, x[j]);
+        first = found_or(first, *state, past);
+    }
+    first
+}
+
+/// The moved states take their new levels, with a row for each that is another one. It gives the state whose level overflows,
+/// if one does.
+pub(crate) fn requantize_states(
+    at: &Arrival,
+    q: &Quantizer,
+    x: &[i128],
+    levels: &mut [i64],
+    rows: &mut Vec<Row>,
+) -> Option<u32>
+    requires states { length x.now ≡ state_count at.now.machine.now }
+    requires levels { length levels.old ≡ state_count at.now.machine.now }
+    requires moved { AreNumbers (state_count at.now.machine.now) at.now.moved.now }
+    requires small_states { (j : ℕ) → is_among at.now.moved.now j ≡ true
+        → IsWithin 88 (int_at x.now j) }
+    requires small_levels { All (IsWithin 43) levels.old }
+    requires room { vec_len rows.old + state_count at.now.machine.now ≤ vec_capacity rows.old }
+    ensures taken { (new : List ℤ) × AreRequantizedAt at.now.machine.now q.now.name
+        at.now.moved.now x.now levels.old levels.new new (first_past 43 new) result }
+    ensures small { result ≡ None → All (IsWithin 43) levels.new }
+    ensures rows { result ≡ None
+        → (states : List ℤ) → AreMovedTo at.now.machine.now at.now.moved.now x.now levels.old states
+        → rows.new.items ≡ rows.old.items ++ level_rows at.now.tick levels.old levels.new states }
+    ensures room { vec_capacity rows.new ≡ vec_capacity rows.old }
+{
+    relevel_due(at, q, x, levels, rows)
+}
+
+/// The due states arrive along their lines at a tick below 2^32. It gives the state that is more than 2^88 in size there, if one
+/// is; the states that are not due are not.
+pub fn arrive_within(
+    lines: &[Integrator],
+    tick: u64,
+    moved: &[u32],
+    x: &mut [i128],
+) -> Option<u32>
+    requires states { length x.old ≡ length lines.now }
+    requires moved { AreNumbers (length lines.now) moved.now }
+    requires later { (j : ℕ) → j < length lines.now → (line_at lines.now j).tick ≤ tick }
+    requires in_time { tick < 2 ^ 32 }
+    requires others_small { (j : ℕ) → j < length lines.now
+        → is_among moved.now j ≡ false
+        → IsWithin 88 (state_at (line_at lines.now j) tick) }
+    requires small_x { All (IsWithin 88) x.old }
+    ensures over { result ≡ first_past 88 (states_at lines.now tick) }
+    ensures arrived { IsWritten (pos 0) (λ j z. z ≡ state_at (line_at lines.now j) tick) moved.now
+        x.old x.new }
+    ensures small_x { result ≡ None → All (IsWithin 88) x.new }
+{
+    arrive_due(lines, tick, moved, x)
+}
+
+/// The due states arrive and take their new levels. It gives the state that passes a limit, on arrival or by its level.
+pub(crate) fn requantize_due(
+    at: &Arrival,
+    q: &Quantizer,
+    levels: &mut [i64],
+    rows: &mut Vec<Row>,
+) -> Option<u32>
+    requires ready { CanArrive at.now levels.old }
+    requires levels { length levels.old ≡ state_count at.now.machine.now }
+    requires small_levels { All (IsWithin 43) levels.old }
+    requires room { state_count at.now.machine.now ≤ vec_capacity rows.old }
+    ensures taken { (new : List ℤ) × AreRequantizedOnArrival at.now q.now.name
+        levels.old levels.new new (first_past 43 new) result }
+    ensures small { result ≡ None → All (IsWithin 43) levels.new }
+    ensures rows { result ≡ None
+        → rows.new.items ≡ level_rows at.now.tick levels.old levels.new
+        (states_at at.now.lines.now at.now.tick) }
+    ensures room { vec_capacity rows.new ≡ vec_capacity rows.old }
+{
+    rows.clear();
+    leave_due(at, q, levels, rows)
+}

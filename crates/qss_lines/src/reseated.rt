@@ -1,0 +1,252 @@
+//! Lines at new states and slopes after handlers.
+
+ghost use Rattle.std.specs.Prelude.{◌≡◌, ℕ, ◌+◌, ◌<◌, ◌≤◌, List, ℤ, pos, All, None, length, position, true, false, flat_map, if◌then◌else◌};
+ghost use Rattle.mu_num.specs.Sizes.{IsWithin};
+ghost use Rattle.qss_machine.specs.Numbers.{int_at};
+ghost use Rattle.qss_machine.specs.Machines.{state_count, discrete_count, level_unit, slope_at, quantum_of};
+ghost use Rattle.qss_machine.specs.Ticks.{is_overweight};
+ghost use Rattle.qss_machine.specs.Uses.{reading_rows, uses_of};
+ghost use Rattle.qss_quant.specs.Lines.{state_at, IsNear};
+ghost use Rattle.qss_sched.specs.Ranks.{due_at};
+ghost use Rattle.qss_quiet.specs.Among.{is_among};
+ghost use Rattle.qss_lines.specs.StateLines.{line_at, IsTurned};
+ghost use Rattle.qss_lines.specs.Renewals.{goes_from, renewals_from};
+ghost use Rattle.qss_quiet.specs.Writes.{IsWritten};
+ghost use Rattle.qss_lines.specs.declared.shifts.RowSum.TheVariants as sum;
+ghost use Rattle.qss_lines.specs.Visitings.{AreNewLevels, AreHandled, AreStatesOf, CanGoOn, CanReseat, first_overweight, new_slopes, states_left, WereSums};
+
+use crate::shifts::shift_slopes;
+use crate::slopes::renew;
+use crate::turned::turn_readers;
+use crate::visiting::{Handled, NewLevels};
+use qss_machine::{Machine, Uses};
+use qss_quant::{Integrator, Steps};
+use qss_quiet::leaving;
+use qss_sched::Agenda;
+use std::sync::ledger::Ledger;
+
+// The slopes of these rows are added up anew.
+fn slope_rows(m: &Machine, rows: &[u32], levels: &[i64], d: &[i64], slopes: &mut [i128])
+    requires rows { All (λ row. row < state_count m.now) rows.now }
+    requires levels { length levels.now ≡ state_count m.now }
+    requires discretes { length d.now ≡ discrete_count m.now }
+    requires slopes { length slopes.old ≡ state_count m.now }
+    requires small_levels { All (IsWithin 43) levels.now }
+    requires small_discretes { All (IsWithin 43) d.now }
+    requires light { position (is_overweight m.now levels.now d.now) m.now.rows ≡ None }
+    ensures { IsWritten (pos 0) (λ j slope. slope ≡ slope_at m.now j levels.now d.now) rows.now
+        slopes.old slopes.new }
+{
+    for row in rows {
+        slopes[*row as usize] = m.slope(*row, levels, d);
+    }
+}
+
+// The slopes of the rows that read one of these variables are added up anew.
+fn slope_readers(
+    m: &Machine,
+    uses: &Uses,
+    variables: &[u32],
+    levels: &[i64],
+    d: &[i64],
+    slopes: &mut [i128],
+)
+    requires uses { uses.now ≡ uses_of m.now }
+    requires variables { All (λ var. var < state_count m.now + discrete_count m.now) variables.now }
+    requires levels { length levels.now ≡ state_count m.now }
+    requires discretes { length d.now ≡ discrete_count m.now }
+    requires slopes { length slopes.old ≡ state_count m.now }
+    requires small_levels { All (IsWithin 43) levels.now }
+    requires small_discretes { All (IsWithin 43) d.now }
+    requires light { position (is_overweight m.now levels.now d.now) m.now.rows ≡ None }
+    ensures { IsWritten (pos 0) (λ j slope. slope ≡ slope_at m.now j levels.now d.now)
+        (flat_map (reading_rows m.now) variables.now) slopes.old slopes.new }
+{
+    for var in variables {
+        slope_rows(m, uses.rows_of(*var), levels, d, slopes);
+    }
+}
+
+// The slopes of all rows follow where the moved states take their levels and the assigned discrete variables their values.
+fn follow_slopes(at: &NewLevels, left: &Handled, lines: &[Integrator], slopes: &mut [i128])
+    requires ready { AreNewLevels at.now }
+    requires left { AreHandled at.now.machine.now left.now }
+    requires lines { length lines.now ≡ state_count at.now.machine.now }
+    requires light { first_overweight at.now left.now.discretes.now ≡ None }
+    requires before { WereSums sum.Slope at.now left.now.before.now slopes.old lines.now }
+    ensures { slopes.new ≡ new_slopes at.now left.now.discretes.now }
+{
+    shift_slopes(at, left.before, lines, slopes);
+    slope_readers(
+        at.machine,
+        at.uses,
+        left.assigned,
+        at.levels,
+        left.discretes,
+        slopes,
+    );
+}
+
+// State j goes on as this line, from its tick, and the agenda has the tick at which it then leaves its quantum, whatever it
+// had. A line that goes on so already is left as it is.
+fn reseat<L: Ledger>(
+    m: &Machine,
+    j: u32,
+    here: &Integrator,
+    line: &mut Integrator,
+    agenda: &mut Agenda,
+    steps: &mut Steps<L>,
+)
+    requires state { j < state_count m.now }
+    requires place { j < length agenda.old }
+    requires later { line.old.tick ≤ here.now.tick }
+    requires small { IsWithin 89 (state_at line.old here.now.tick) }
+    requires near { IsNear (level_unit m.now) here.now.x here.now.level
+        (quantum_of m.now j here.now.level) }
+    ensures turned { IsTurned m.now here.now.tick here.now.x here.now.level here.now.slope j
+        line.new (due_at agenda.new j) }
+    ensures as_many { length agenda.new ≡ length agenda.old }
+    ensures others { (place : ℕ) → (place ≡ j → ⊥)
+        → due_at agenda.new place ≡ due_at agenda.old place }
+    ensures kept { goes_from here.now.tick here.now.x here.now.level here.now.slope line.old ≡ true
+        → line.new ≡ line.old }
+    ensures counted { steps.new ≡ steps.old
+        + (if goes_from here.now.tick here.now.x here.now.level here.now.slope line.old
+        then 0 else 1) }
+{
+    renew(line, here, steps);
+    agenda.set(j, leaving(m, j, here));
+}
+
+// A moved state goes on from a tick where it is, at its level and its slope.
+fn seat<L: Ledger>(
+    at: &NewLevels,
+    slopes: &[i128],
+    j: u32,
+    x: &[i128],
+    lines: &mut [Integrator],
+    agenda: &mut Agenda,
+    steps: &mut Steps<L>,
+)
+    requires state { j < state_count at.now.machine.now }
+    requires on { CanGoOn at.now slopes.now }
+    requires states { AreStatesOf at.now.machine.now x.now }
+    requires lines { length lines.old ≡ state_count at.now.machine.now }
+    requires places { state_count at.now.machine.now ≤ length agenda.old }
+    requires later { (line_at lines.old j).tick ≤ at.now.tick }
+    requires small { IsWithin 89 (state_at (line_at lines.old j) at.now.tick) }
+    requires near { IsNear (level_unit at.now.machine.now) (int_at x.now j)
+        (int_at at.now.levels.now j)
+        (quantum_of at.now.machine.now j (int_at at.now.levels.now j)) }
+    ensures turned { IsTurned at.now.machine.now at.now.tick (int_at x.now j)
+        (int_at at.now.levels.now j)
+        (int_at slopes.now j) j (line_at lines.new j) (due_at agenda.new j) }
+    ensures lines { (k : ℕ) → (k ≡ j → ⊥) → line_at lines.new k ≡ line_at lines.old k }
+    ensures kept { goes_from at.now.tick (int_at x.now j) (int_at at.now.levels.now j)
+        (int_at slopes.now j)
+        (line_at lines.old j) ≡ true
+        → line_at lines.new j ≡ line_at lines.old j }
+    ensures places { length agenda.new ≡ length agenda.old }
+    ensures dues { (place : ℕ) → (place ≡ j → ⊥)
+        → due_at agenda.new place ≡ due_at agenda.old place }
+    ensures counted { (states : List ℤ) → int_at states j ≡ int_at x.now j
+        → steps.new + renewals_from
+        (state_count at.now.machine.now) at.now.tick states at.now.levels.now slopes.now
+        lines.new
+        ≡ steps.old + renewals_from
+        (state_count at.now.machine.now) at.now.tick states at.now.levels.now slopes.now
+        lines.old }
+{
+    let slope = slopes[j as usize];
+    let level = at.levels[j as usize];
+    let here = Integrator {
+        tick: at.tick,
+        x: x[j as usize],
+        slope,
+        level,
+    };
+    let line = &mut lines[j as usize];
+    reseat(at.machine, j, &here, line, agenda, steps);
+}
+
+// The moved states go on from a tick where they are.
+fn seat_each<L: Ledger>(
+    at: &NewLevels,
+    slopes: &[i128],
+    x: &[i128],
+    lines: &mut [Integrator],
+    agenda: &mut Agenda,
+    steps: &mut Steps<L>,
+)
+    requires on { CanGoOn at.now slopes.now }
+    requires states { AreStatesOf at.now.machine.now x.now }
+    requires lines { length lines.old ≡ state_count at.now.machine.now }
+    requires places { state_count at.now.machine.now ≤ length agenda.old }
+    requires later { (j : ℕ) → j < state_count at.now.machine.now
+        → (line_at lines.old j).tick ≤ at.now.tick }
+    requires small { (j : ℕ) → j < state_count at.now.machine.now
+        → IsWithin 89 (state_at (line_at lines.old j) at.now.tick) }
+    requires near { (j : ℕ) → is_among at.now.moved.now j ≡ true
+        → IsNear (level_unit at.now.machine.now) (int_at x.now j) (int_at at.now.levels.now j)
+        (quantum_of at.now.machine.now j (int_at at.now.levels.now j)) }
+    ensures turned { (j : ℕ) → is_among at.now.moved.now j ≡ true
+        → IsTurned at.now.machine.now at.now.tick (int_at x.now j) (int_at at.now.levels.now j)
+        (int_at slopes.now j) j (line_at lines.new j) (due_at agenda.new j) }
+    ensures lines { (j : ℕ) → is_among at.now.moved.now j ≡ false
+        → line_at lines.new j ≡ line_at lines.old j }
+    ensures kept { (j : ℕ)
+        → goes_from at.now.tick (int_at x.now j) (int_at at.now.levels.now j) (int_at slopes.now j)
+        (line_at lines.old j) ≡ true
+        → line_at lines.new j ≡ line_at lines.old j }
+    ensures places { length agenda.new ≡ length agenda.old }
+    ensures dues { (place : ℕ) → is_among at.now.moved.now place ≡ false
+        → due_at agenda.new place ≡ due_at agenda.old place }
+    ensures counted { (states : List ℤ)
+        → ((j : ℕ) → is_among at.now.moved.now j ≡ true → int_at states j ≡ int_at x.now j)
+        → steps.new + renewals_from
+        (state_count at.now.machine.now) at.now.tick states at.now.levels.now slopes.now
+        lines.new
+        ≡ steps.old + renewals_from
+        (state_count at.now.machine.now) at.now.tick states at.now.levels.now slopes.now
+        lines.old }
+{
+    for j in at.moved {
+        seat(at, slopes, *j, x, lines, agenda, steps);
+    }
+}
+
+/// After handlers the moved states go on from a tick where these left them, and those whose rows read one of them or an
+/// assigned discrete variable where their lines lead, all at their new slopes and with their new due ticks. `steps` counts the lines
+/// that move.
+pub fn reslope_handled<L: Ledger>(
+    at: &NewLevels,
+    left: &Handled,
+    slopes: &mut [i128],
+    lines: &mut [Integrator],
+    agenda: &mut Agenda,
+    steps: &mut Steps<L>,
+)
+    requires { CanReseat at.now left.now slopes.old lines.old agenda.old }
+    ensures slopes { slopes.new ≡ new_slopes at.now left.now.discretes.now }
+    ensures lines { (j : ℕ) → j < state_count at.now.machine.now
+        → IsTurned at.now.machine.now at.now.tick (int_at (states_left at.now left.now lines.old) j)
+        (int_at at.now.levels.now j)
+        (slope_at at.now.machine.now j at.now.levels.now left.now.discretes.now)
+        j (line_at lines.new j) (due_at agenda.new j) }
+    ensures kept { (j : ℕ) → j < state_count at.now.machine.now
+        → goes_from at.now.tick (int_at (states_left at.now left.now lines.old) j)
+        (int_at at.now.levels.now j)
+        (int_at slopes.new j) (line_at lines.old j) ≡ true
+        → line_at lines.new j ≡ line_at lines.old j }
+    ensures places { length agenda.new ≡ length agenda.old }
+    ensures others { (place : ℕ) → state_count at.now.machine.now ≤ place
+        → due_at agenda.new place ≡ due_at agenda.old place }
+    ensures counted { steps.new
+        ≡ steps.old + renewals_from (state_count at.now.machine.now) at.now.tick
+        (states_left at.now left.now lines.old) at.now.levels.now slopes.new lines.old }
+{
+    follow_slopes(at, left, lines, slopes);
+    seat_each(at, slopes, left.states, lines, agenda, steps);
+    turn_readers(at, slopes, at.moved, lines, agenda, steps);
+    turn_readers(at, slopes, left.assigned, lines, agenda, steps);
+}

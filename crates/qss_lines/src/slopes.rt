@@ -1,0 +1,76 @@
+//! Lines at new slopes.
+
+ghost use Rattle.std.specs.Prelude.{◌≡◌, ℕ, ◌+◌, ◌<◌, ◌≤◌, length, true, false, if◌then◌else◌};
+ghost use Rattle.mu_num.specs.Sizes.{IsWithin};
+ghost use Rattle.qss_machine.specs.Machines.{state_count, level_unit, quantum_of};
+ghost use Rattle.qss_quant.specs.Lines.{state_at, IsNear};
+ghost use Rattle.qss_sched.specs.Ranks.{due_at};
+ghost use Rattle.qss_quiet.specs.Sims.{IsDue};
+ghost use Rattle.qss_lines.specs.Renewals.{goes_from};
+
+use qss_machine::Machine;
+use qss_quant::{Integrator, Steps};
+use qss_quiet::leaving;
+use qss_sched::Agenda;
+use std::sync::ledger::Ledger;
+
+/// A line goes on as this one, from its tick. Where it does so already, it is left as it is. It gives whether it was not.
+pub(crate) fn renew<L: Ledger>(
+    line: &mut Integrator,
+    here: &Integrator,
+    steps: &mut Steps<L>,
+) -> bool
+    requires later { line.old.tick ≤ here.now.tick }
+    requires small { IsWithin 89 (state_at line.old here.now.tick) }
+    ensures moved { result ≡ true → (line.new ≡ here.now) × (steps.new ≡ steps.old + 1) }
+    ensures kept { state_at line.old here.now.tick ≡ here.now.x → line.old.slope ≡ here.now.slope
+        → line.old.level ≡ here.now.level → result ≡ false }
+    ensures left { result ≡ false
+        → (line.new ≡ line.old) × (state_at line.old here.now.tick ≡ here.now.x)
+        × (line.old.slope ≡ here.now.slope) × (line.old.level ≡ here.now.level)
+        × (steps.new ≡ steps.old) }
+{
+    if line.slope == here.slope && line.level == here.level && line.value_at(here.tick) == here.x {
+        return false;
+    }
+    line.move_to(here.tick, steps);
+    *line = *here;
+    true
+}
+
+/// State j goes on as this line, from its tick, and the agenda has the tick at which it then leaves its quantum. A line that
+/// goes on so already is left as it is.
+pub(crate) fn reslope<L: Ledger>(
+    m: &Machine,
+    j: u32,
+    here: &Integrator,
+    line: &mut Integrator,
+    agenda: &mut Agenda,
+    steps: &mut Steps<L>,
+)
+    requires state { j < state_count m.now }
+    requires place { j < length agenda.old }
+    requires later { line.old.tick ≤ here.now.tick }
+    requires small { IsWithin 89 (state_at line.old here.now.tick) }
+    requires near { IsNear (level_unit m.now) here.now.x here.now.level
+        (quantum_of m.now j here.now.level) }
+    requires due { state_at line.old here.now.tick ≡ here.now.x → line.old.level ≡ here.now.level
+        → IsDue m.now here.now.tick j line.old (due_at agenda.old j) }
+    ensures not_later { line.new.tick ≤ here.now.tick }
+    ensures here { state_at line.new here.now.tick ≡ here.now.x }
+    ensures own_slope { line.new.slope ≡ here.now.slope }
+    ensures own_level { line.new.level ≡ here.now.level }
+    ensures as_many { length agenda.new ≡ length agenda.old }
+    ensures others { (place : ℕ) → (place ≡ j → ⊥)
+        → due_at agenda.new place ≡ due_at agenda.old place }
+    ensures due { IsDue m.now here.now.tick j line.new (due_at agenda.new j) }
+    ensures kept { goes_from here.now.tick here.now.x here.now.level here.now.slope line.old ≡ true
+        → line.new ≡ line.old }
+    ensures counted { steps.new ≡ steps.old
+        + (if goes_from here.now.tick here.now.x here.now.level here.now.slope line.old
+        then 0 else 1) }
+{
+    if renew(line, here, steps) {
+        agenda.set(j, leaving(m, j, line));
+    }
+}

@@ -1,0 +1,126 @@
+//! Lines at new slopes, of states whose rows read a variable that changed.
+
+ghost use Rattle.std.specs.Prelude.{◌≡◌, ℕ, ◌+◌, ◌<◌, ◌≤◌, All, length, true, flat_map};
+ghost use Rattle.qss_machine.specs.Numbers.{int_at};
+ghost use Rattle.qss_machine.specs.Machines.{state_count, discrete_count};
+ghost use Rattle.qss_machine.specs.Uses.{reading_rows};
+ghost use Rattle.qss_quant.specs.Lines.{state_at};
+ghost use Rattle.qss_sched.specs.Ranks.{due_at};
+ghost use Rattle.qss_lines.specs.StateLines.{line_at, IsTurned};
+ghost use Rattle.qss_lines.specs.Renewals.{goes_at, renewals};
+ghost use Rattle.qss_lines.specs.Turnings.{MayTurn, AreTurned};
+ghost use Rattle.qss_lines.specs.Visitings.{CanGoOn};
+
+use crate::slopes::reslope;
+use crate::visiting::NewLevels;
+use qss_quant::{Integrator, Steps};
+use qss_sched::Agenda;
+use std::sync::ledger::Ledger;
+
+// A state goes on from a tick at its level and its slope.
+fn turn<L: Ledger>(
+    at: &NewLevels,
+    slopes: &[i128],
+    j: u32,
+    lines: &mut [Integrator],
+    agenda: &mut Agenda,
+    steps: &mut Steps<L>,
+)
+    requires state { j < state_count at.now.machine.now }
+    requires on { CanGoOn at.now slopes.now }
+    requires lines { length lines.old ≡ state_count at.now.machine.now }
+    requires places { state_count at.now.machine.now ≤ length agenda.old }
+    requires ready { MayTurn at.now.machine.now at.now.tick (int_at at.now.levels.now j)
+        (int_at slopes.now j)
+        j (line_at lines.old j) (due_at agenda.old j) }
+    ensures turned { IsTurned at.now.machine.now at.now.tick
+        (state_at (line_at lines.old j) at.now.tick)
+        (int_at at.now.levels.now j) (int_at slopes.now j) j (line_at lines.new j)
+        (due_at agenda.new j) }
+    ensures lines { (k : ℕ) → (k ≡ j → ⊥) → line_at lines.new k ≡ line_at lines.old k }
+    ensures kept { goes_at (int_at at.now.levels.now j) (int_at slopes.now j) (line_at lines.old j)
+        ≡ true
+        → line_at lines.new j ≡ line_at lines.old j }
+    ensures places { length agenda.new ≡ length agenda.old }
+    ensures dues { (place : ℕ) → (place ≡ j → ⊥)
+        → due_at agenda.new place ≡ due_at agenda.old place }
+    ensures counted { steps.new
+        + renewals (state_count at.now.machine.now) at.now.levels.now slopes.now lines.new
+        ≡ steps.old + renewals
+        (state_count at.now.machine.now) at.now.levels.now slopes.now lines.old }
+{
+    let slope = slopes[j as usize];
+    let level = at.levels[j as usize];
+    let line = &mut lines[j as usize];
+    let x = line.value_at(at.tick);
+    let here = Integrator {
+        tick: at.tick,
+        x,
+        slope,
+        level,
+    };
+    reslope(at.machine, j, &here, line, agenda, steps);
+}
+
+// These states go on from a tick at their levels and slopes.
+fn turn_each<L: Ledger>(
+    at: &NewLevels,
+    slopes: &[i128],
+    states: &[u32],
+    lines: &mut [Integrator],
+    agenda: &mut Agenda,
+    steps: &mut Steps<L>,
+)
+    requires states { All (λ j. j < state_count at.now.machine.now) states.now }
+    requires on { CanGoOn at.now slopes.now }
+    requires lines { length lines.old ≡ state_count at.now.machine.now }
+    requires places { state_count at.now.machine.now ≤ length agenda.old }
+    requires ready { (j : ℕ) → j < state_count at.now.machine.now
+        → MayTurn at.now.machine.now at.now.tick (int_at at.now.levels.now j) (int_at slopes.now j)
+        j (line_at lines.old j) (due_at agenda.old j) }
+    ensures turned { AreTurned at.now.machine.now at.now.tick at.now.levels.now slopes.now
+        states.now
+        (record { lines = lines.old; dues = agenda.old })
+        (record { lines = lines.new; dues = agenda.new }) }
+    ensures counted { steps.new
+        + renewals (state_count at.now.machine.now) at.now.levels.now slopes.now lines.new
+        ≡ steps.old + renewals
+        (state_count at.now.machine.now) at.now.levels.now slopes.now lines.old }
+{
+    for j in states {
+        turn(at, slopes, *j, lines, agenda, steps);
+    }
+}
+
+/// The states whose rows read one of these variables go on from a tick at their levels and slopes.
+pub(crate) fn turn_readers<L: Ledger>(
+    at: &NewLevels,
+    slopes: &[i128],
+    variables: &[u32],
+    lines: &mut [Integrator],
+    agenda: &mut Agenda,
+    steps: &mut Steps<L>,
+)
+    requires variables { All
+        (λ var. var < state_count at.now.machine.now
+        + discrete_count at.now.machine.now) variables.now }
+    requires on { CanGoOn at.now slopes.now }
+    requires lines { length lines.old ≡ state_count at.now.machine.now }
+    requires places { state_count at.now.machine.now ≤ length agenda.old }
+    requires ready { (j : ℕ) → j < state_count at.now.machine.now
+        → MayTurn at.now.machine.now at.now.tick (int_at at.now.levels.now j) (int_at slopes.now j)
+        j (line_at lines.old j) (due_at agenda.old j) }
+    ensures turned { AreTurned at.now.machine.now at.now.tick at.now.levels.now slopes.now
+        (flat_map (reading_rows at.now.machine.now) variables.now)
+        (record { lines = lines.old; dues = agenda.old })
+        (record { lines = lines.new; dues = agenda.new }) }
+    ensures counted { steps.new
+        + renewals (state_count at.now.machine.now) at.now.levels.now slopes.now lines.new
+        ≡ steps.old + renewals
+        (state_count at.now.machine.now) at.now.levels.now slopes.now lines.old }
+{
+    for var in variables {
+        let readers = at.uses.rows_of(*var);
+        turn_each(at, slopes, readers, lines, agenda, steps);
+    }
+}

@@ -1,0 +1,166 @@
+//! Weights along the changes of levels and of discrete values.
+
+ghost use Rattle.std.specs.Prelude.{◌≡◌, ◌<◌, pos, All, None, length, flat_map, position};
+ghost use Rattle.mu_num.specs.Sizes.{IsWithin};
+ghost use Rattle.qss_machine.specs.Machines.{state_count, discrete_count};
+ghost use Rattle.qss_machine.specs.Ticks.{is_overweight};
+ghost use Rattle.qss_machine.specs.Uses.{reading_rows, uses_of};
+ghost use Rattle.qss_lines.specs.Variables.{AreDiscretes};
+ghost use Rattle.qss_lines.specs.Overweights.{IsWeighed};
+ghost use Rattle.qss_quiet.specs.Sims.{weights_at};
+ghost use Rattle.qss_lines.specs.declared.shifts.RowSum.TheVariants as sum;
+ghost use Rattle.qss_quiet.specs.Writes.{IsWritten};
+ghost use Rattle.qss_lines.specs.Visitings.{AreNewLevels, AreHandled, first_overweight, WereSums};
+
+use crate::readers::least_reader;
+use crate::shifts::{RowSum, shift_sums};
+use crate::visiting::{Handled, NewLevels};
+use mu_num::passes;
+use qss_machine::{Machine, Uses};
+use qss_quant::Integrator;
+
+/// The weights of all rows, at these discrete values, follow where the moved states take their levels, from those of their
+/// lines. It gives the least row past its limits, if one is.
+pub(crate) fn reweigh_of(
+    at: &NewLevels,
+    d: &[i64],
+    lines: &[Integrator],
+    weights: &mut [i128],
+) -> Option<u32>
+    requires ready { AreNewLevels at.now }
+    requires discretes { length d.now ≡ discrete_count at.now.machine.now }
+    requires small_discretes { All (IsWithin 43) d.now }
+    requires lines { length lines.now ≡ state_count at.now.machine.now }
+    requires before { WereSums sum.Weight at.now d.now weights.old lines.now }
+    ensures over { result ≡ first_overweight at.now d.now }
+    ensures weights { weights.new ≡ weights_at at.now.machine.now at.now.levels.now d.now }
+{
+    shift_sums(RowSum::Weight, at, d, lines, weights);
+    least_reader(at.uses, at.moved, weights, None)
+}
+
+// The weight of a row, or where its mode coefficients pass their limit a number that is past that of weights.
+fn weigh_row(m: &Machine, row: u32, levels: &[i64], d: &[i64]) -> i128
+    requires row { row < state_count m.now }
+    requires levels { length levels.now ≡ state_count m.now }
+    requires discretes { length d.now ≡ discrete_count m.now }
+    requires small_levels { All (IsWithin 43) levels.now }
+    requires small_discretes { All (IsWithin 43) d.now }
+    ensures { IsWeighed m.now levels.now d.now row result }
+{
+    if m.mode_fits(row, d) {
+        m.weight(row, levels, d)
+    } else {
+        i128::MAX
+    }
+}
+
+// The weights of these rows are added up anew.
+fn weigh_rows(m: &Machine, rows: &[u32], levels: &[i64], d: &[i64], weights: &mut [i128])
+    requires rows { All (λ row. row < state_count m.now) rows.now }
+    requires levels { length levels.now ≡ state_count m.now }
+    requires discretes { length d.now ≡ discrete_count m.now }
+    requires weights { length weights.old ≡ state_count m.now }
+    requires small_levels { All (IsWithin 43) levels.now }
+    requires small_discretes { All (IsWithin 43) d.now }
+    ensures { IsWritten (pos 0) (IsWeighed m.now levels.now d.now) rows.now weights.old
+        weights.new }
+{
+    for row in rows {
+        weights[*row as usize] = weigh_row(m, *row, levels, d);
+    }
+}
+
+// The weights of the rows that read one of these discrete variables are added up anew.
+fn weigh_readers(
+    m: &Machine,
+    uses: &Uses,
+    assigned: &[u32],
+    levels: &[i64],
+    d: &[i64],
+    weights: &mut [i128],
+)
+    requires uses { uses.now ≡ uses_of m.now }
+    requires assigned { AreDiscretes m.now assigned.now }
+    requires levels { length levels.now ≡ state_count m.now }
+    requires discretes { length d.now ≡ discrete_count m.now }
+    requires weights { length weights.old ≡ state_count m.now }
+    requires small_levels { All (IsWithin 43) levels.now }
+    requires small_discretes { All (IsWithin 43) d.now }
+    ensures { IsWritten (pos 0) (IsWeighed m.now levels.now d.now)
+        (flat_map (reading_rows m.now) assigned.now) weights.old weights.new }
+{
+    for var in assigned {
+        weigh_rows(m, uses.rows_of(*var), levels, d, weights);
+    }
+}
+
+/// The weights of all rows follow where the moved states take their levels, from those of their lines, and where discrete
+/// variables were assigned. It gives the least row past its limits, if one is; the weights are good for nothing then.
+pub(crate) fn reweigh_handled(
+    at: &NewLevels,
+    left: &Handled,
+    lines: &[Integrator],
+    weights: &mut [i128],
+) -> Option<u32>
+    requires ready { AreNewLevels at.now }
+    requires left { AreHandled at.now.machine.now left.now }
+    requires lines { length lines.now ≡ state_count at.now.machine.now }
+    requires before { WereSums sum.Weight at.now left.now.before.now weights.old lines.now }
+    ensures over { result ≡ first_overweight at.now left.now.discretes.now }
+    ensures weights { result ≡ None
+        → weights.new ≡ weights_at at.now.machine.now at.now.levels.now left.now.discretes.now }
+{
+    shift_sums(RowSum::Weight, at, left.before, lines, weights);
+    weigh_readers(
+        at.machine,
+        at.uses,
+        left.assigned,
+        at.levels,
+        left.discretes,
+        weights,
+    );
+    let least = least_reader(at.uses, at.moved, weights, None);
+    least_reader(at.uses, left.assigned, weights, least)
+}
+
+/// The weights of all rows, whatever their limits. It gives the least row past them, if one is; the weights are good for nothing
+/// then.
+pub(crate) fn weigh_every(
+    m: &Machine,
+    levels: &[i64],
+    d: &[i64],
+    weights: &mut [i128],
+) -> Option<u32>
+    requires levels { length levels.now ≡ state_count m.now }
+    requires discretes { length d.now ≡ discrete_count m.now }
+    requires weights { length weights.old ≡ state_count m.now }
+    requires small_levels { All (IsWithin 43) levels.now }
+    requires small_discretes { All (IsWithin 43) d.now }
+    ensures over { result ≡ position (is_overweight m.now levels.now d.now) m.now.rows }
+    ensures weights { result ≡ None → weights.new ≡ weights_at m.now levels.now d.now }
+{
+    for row in 0..weights.len() {
+        let weight = weigh_row(m, row as u32, levels, d);
+        if passes(weight, 88) {
+            return Some(row as u32);
+        }
+        weights[row] = weight;
+    }
+    None
+}
+
+/// The weights of all rows, none past its limits.
+pub(crate) fn weigh_all(m: &Machine, levels: &[i64], d: &[i64], weights: &mut [i128])
+    requires levels { length levels.now ≡ state_count m.now }
+    requires discretes { length d.now ≡ discrete_count m.now }
+    requires weights { length weights.old ≡ state_count m.now }
+    requires small_levels { All (IsWithin 43) levels.now }
+    requires small_discretes { All (IsWithin 43) d.now }
+    requires light { position (is_overweight m.now levels.now d.now) m.now.rows ≡ None }
+    ensures { weights.new ≡ weights_at m.now levels.now d.now }
+{
+    for row in 0..weights.len() {
+        weights[row] = m.weight(row as u32, levels, d);
+    }
+}

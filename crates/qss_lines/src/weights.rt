@@ -1,0 +1,117 @@
+//! Weights of rows, kept up once levels and discrete values are great.
+
+ghost use Rattle.std.specs.Prelude.{◌≡◌, ◌↔◌, ℕ, All, IsTrue, None, Some, true, false, length, position};
+ghost use Rattle.mu_num.specs.Sizes.{IsWithin};
+ghost use Rattle.qss_machine.specs.Machines.{state_count, discrete_count};
+ghost use Rattle.qss_machine.specs.Ticks.{is_overweight};
+ghost use Rattle.qss_lines.specs.Kept.{AreWeights};
+ghost use Rattle.qss_lines.specs.Visitings.{AreNewLevels, AreHandled, first_overweight, WereWeights};
+ghost use Rattle.qss_lines.specs.Weighings.{IsUpTo, AreUpToAt, IsSafeBound};
+
+use crate::bounds::{are_up_to_at, bound_for};
+use crate::visiting::{Handled, NewLevels};
+use crate::weighing::{reweigh_handled, reweigh_of, weigh_all, weigh_every};
+use qss_machine::Machine;
+use qss_quant::Integrator;
+
+/// The weights of all rows. Up to a bound on the sizes of levels and discrete values no row passes its limits, and as long as
+/// none was greater the weights are not kept.
+#[derive(Drop)]
+pub struct Weights {
+    /// The bound; it says nothing once the weights are kept.
+    pub bound: u64,
+    /// Whether the weights are kept.
+    pub kept: bool,
+    /// By row its weight, where they are kept.
+    pub of_rows: Vec<i128>,
+}
+
+// Whether the levels of moved states and the values of assigned discrete variables are at most a bound in size.
+fn are_handled_up_to(at: &NewLevels, left: &Handled, bound: u64) -> bool
+    requires ready { AreNewLevels at.now }
+    requires left { AreHandled at.now.machine.now left.now }
+    ensures { IsTrue result ↔ (AreUpToAt bound at.now.levels.now 0 at.now.moved.now
+        × AreUpToAt bound left.now.discretes.now
+        (state_count at.now.machine.now) left.now.assigned.now) }
+{
+    if !are_up_to_at(at.levels, at.moved, 0, bound) {
+        return false;
+    }
+    let states = at.levels.len() as u32;
+    are_up_to_at(left.discretes, left.assigned, states, bound)
+}
+
+impl Weights {
+    /// The weights at levels and discrete values at which no row passes its limits. They are kept only where one of these is
+    /// greater than the bound, or where there is no bound.
+    pub fn start(&mut self, m: &Machine, levels: &[i64], d: &[i64])
+        requires levels { length levels.now ≡ state_count m.now }
+        requires discretes { length d.now ≡ discrete_count m.now }
+        requires weights { length self.old.of_rows.items ≡ state_count m.now }
+        requires small_levels { All (IsWithin 43) levels.now }
+        requires small_discretes { All (IsWithin 43) d.now }
+        requires light { position (is_overweight m.now levels.now d.now) m.now.rows ≡ None }
+        ensures weights { AreWeights m.now levels.now d.now self.new }
+        ensures bound { self.new.kept ≡ false → IsSafeBound m.now (Some self.new.bound) }
+        ensures kept { self.new.kept ≡ true → (bound : ℕ) → IsSafeBound m.now (Some bound)
+            → All (IsUpTo bound) levels.now → All (IsUpTo bound) d.now → ⊥ }
+    {
+        if let Some(bound) = bound_for(m, levels, d) {
+            self.bound = bound;
+            self.kept = false;
+            return;
+        }
+        self.kept = true;
+        weigh_all(m, levels, d, self.of_rows.as_mut_slice());
+    }
+
+    /// The weights, at these discrete values, follow where the moved states take their levels, from those of their lines. It
+    /// gives the least row past its limits, if one is; the weights are good for nothing then.
+    pub(crate) fn follow(&mut self, at: &NewLevels, d: &[i64], lines: &[Integrator]) -> Option<u32>
+        requires ready { AreNewLevels at.now }
+        requires discretes { length d.now ≡ discrete_count at.now.machine.now }
+        requires small_discretes { All (IsWithin 43) d.now }
+        requires lines { length lines.now ≡ state_count at.now.machine.now }
+        requires before { WereWeights at.now d.now self.old lines.now }
+        ensures over { result ≡ first_overweight at.now d.now }
+        ensures weights { result ≡ None
+            → AreWeights at.now.machine.now at.now.levels.now d.now self.new }
+    {
+        if self.kept {
+            return reweigh_of(at, d, lines, self.of_rows.as_mut_slice());
+        }
+        if are_up_to_at(at.levels, at.moved, 0, self.bound) {
+            return None;
+        }
+        self.kept = true;
+        weigh_every(at.machine, at.levels, d, self.of_rows.as_mut_slice())
+    }
+
+    /// The weights follow where the moved states take their levels, from those of their lines, and where discrete variables
+    /// were assigned. It gives the least row past its limits, if one is; the weights are good for nothing then.
+    pub(crate) fn follow_handled(
+        &mut self,
+        at: &NewLevels,
+        left: &Handled,
+        lines: &[Integrator],
+    ) -> Option<u32>
+        requires ready { AreNewLevels at.now }
+        requires left { AreHandled at.now.machine.now left.now }
+        requires lines { length lines.now ≡ state_count at.now.machine.now }
+        requires before { WereWeights at.now left.now.before.now self.old lines.now }
+        ensures over { result ≡ first_overweight at.now left.now.discretes.now }
+        ensures weights { result ≡ None
+            → AreWeights at.now.machine.now
+            at.now.levels.now left.now.discretes.now self.new }
+    {
+        if self.kept {
+            return reweigh_handled(at, left, lines, self.of_rows.as_mut_slice());
+        }
+        if are_handled_up_to(at, left, self.bound) {
+            return None;
+        }
+        self.kept = true;
+        let d = left.discretes;
+        weigh_every(at.machine, at.levels, d, self.of_rows.as_mut_slice())
+    }
+}

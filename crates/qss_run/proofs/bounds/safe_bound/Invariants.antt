@@ -1,8 +1,0 @@
-use Rattle.std.proofs.Common.{ℕ, ◌<◌}
-use Rattle.std.specs.Prelude.{All}
-use Rattle.qss_run.specs.Weighings.{HasRoom, half_limit}
-use Rattle.qss_run.proofs.bounds.safe_bound.Given as goal
-
--- not all rows have room for the halves so far
-abbrev pub invariant-loop-halvings : goal.invariant-loop-halvings
-invariant-loop-halvings l = (fewer : ℕ) → fewer < l.halvings → All (HasRoom l.m.f (half_limit fewer)) l.m.rows → ⊥

@@ -1,0 +1,171 @@
+-- Conditions on arrival, and what the handlers of the branches do that are then due.
+use Rattle.std.proofs.Common.{◌≡◌, ℕ, ◌+◌, ◌<◌, ◌≤◌, Bool, true, false, ◌&&◌, ◌||◌, List, [], length, get_or, ℤ, pos, refl, sym, ap, ◌∙◌, subst, inl, inr, ◌⊎◌, arith, eqb}
+use Rattle.std.proofs.lemmas.Bool.{cases_Bool, or_parts, or_cases, eqb-true}
+use Rattle.std.proofs.lemmas.List.{get_or_default}
+use Rattle.std.proofs.lemmas.List.Elements.{All-filter}
+use Rattle.std.proofs.lemmas.List.FromFn.{length-map-range_with_len, get_or-map-range_with_len}
+use Rattle.std.proofs.lemmas.List.Kept.{IsStrictlyIncreasing-filter}
+use Rattle.std.proofs.lemmas.Map.Views.{any-filter_same}
+use Rattle.std.specs.List.{filter}
+use Rattle.std.specs.Prelude.{not, Option, None, if◌then◌else◌}
+use Rattle.qss_machine.specs.declared.system.Machine.{Machine}
+use Rattle.qss_machine.specs.Firing.{flag_at}
+use Rattle.qss_machine.specs.Handlers.{Handling, conditions, truths, due_flags, run_clauses}
+use Rattle.qss_machine.specs.Machines.{state_count, discrete_count, truth}
+use Rattle.qss_machine.specs.Numbers.{int_at, first_past}
+use Rattle.qss_quant.specs.Lines.{Line, state_at}
+use Rattle.qss_hand.specs.Values.{Values}
+use Rattle.qss_hand.specs.Works.{AreValuesOf, row_room}
+use Rattle.qss_watch.specs.Handlings.{flags_of, handling_of_fired, is_reinitialized, IsHandled, handling_from}
+use Rattle.qss_lines.specs.StateLines.{states_with, line_at, states_at}
+use Rattle.qss_quiet.specs.Logs.{assigned_of}
+use Rattle.qss_quiet.specs.Among.{is_among, AreNumbers}
+use Rattle.qss_quiet.specs.Sims.{condition_at}
+use Rattle.qss_quiet.specs.Writes.{IsWritten}
+use Rattle.qss_watch.proofs.Reported.{AreLogged, among_assigned, logged, small_after}
+use Rattle.qss_lines.proofs.DueLevels.{int_at-states_at}
+use Rattle.qss_quiet.proofs.Firsts.{same_lists}
+use Rattle.qss_quiet.proofs.Flags.{due_flags_are, truths_are}
+use Rattle.qss_quiet.proofs.Quiet.{int_at-tabulate}
+use Rattle.qss_hand.proofs.Turns.{rows_clauses}
+use Rattle.qss_quiet.proofs.Writes.{among_at}
+use Rattle.qss_quiet.proofs.Overs.{all_within}
+
+-- a flag that is known at once
+known_flag : (looked holds settled : Bool) → (looked ≡ false → holds ≡ settled) → (if looked then holds else settled) ≡ holds
+known_flag true holds settled same = refl
+known_flag false holds settled same = sym (same refl)
+
+-- a condition that stays true is not due
+not_due : (settled arrived : Bool) → (settled && not arrived) ≡ false → (settled && not (arrived && settled)) ≡ false
+not_due true true e = refl
+not_due true false e = e
+not_due false arrived e = refl
+
+only_looked : (fires looked : Bool) → (looked ≡ false → fires ≡ false) → (fires && looked) ≡ fires
+only_looked true true e = refl
+only_looked true false e = sym (e refl)
+only_looked false looked e = refl
+
+-- those of these conditions that hold and did not both on the last arrival and after the last handlers
+abbrev pub fired_of : (ℕ → Bool) → List Bool → List Bool → List ℕ → List ℕ
+fired_of holds arrived settled looked = filter (λ place. holds place && not (flag_at arrived place && flag_at settled place)) looked
+
+module _ (settled arrived : List Bool) (looked : List ℕ) (holds : ℕ → Bool) where
+  abbrev fires : ℕ → Bool
+  fires place = holds place && not (flag_at arrived place && flag_at settled place)
+
+  among_fired : (place : ℕ) → is_among (fired_of holds arrived settled looked) place ≡ (fires place && is_among looked place)
+  among_fired place = any-filter_same (λ k. eqb k place) fires (fires place) (λ k e. ap fires (eqb-true k place e)) looked
+
+  pub fired_numbers : (n : ℕ) → AreNumbers n looked → AreNumbers n (fired_of holds arrived settled looked)
+  fired_numbers n numbers = record {
+    rising = IsStrictlyIncreasing-filter fires looked numbers.rising;
+    below = All-filter fires (λ j. j < n) looked numbers.below;
+  }
+
+  module _ (now : List Bool) (many : length arrived ≡ length settled) (read : IsWritten false (λ place flag. flag ≡ holds place) looked settled now) where
+    on_arrival : (place : ℕ) → flag_at now place ≡ (if is_among looked place then holds place else flag_at settled place)
+    on_arrival place = by_among (cases_Bool (is_among looked place))
+      where
+        by_among : (is_among looked place ≡ true) ⊎ (is_among looked place ≡ false) → flag_at now place ≡ (if is_among looked place then holds place else flag_at settled place)
+        by_among (inl e) = read.each place e ∙ sym (ap (λ b. if b then holds place else flag_at settled place) e)
+        by_among (inr e) = read.others place e ∙ sym (ap (λ b. if b then holds place else flag_at settled place) e)
+
+    module _ (m : Machine) (tick : ℕ) (x d : List ℤ) (all : length settled ≡ length (conditions m))
+        (own : (place : ℕ) → place < length settled → holds place ≡ truth m (condition_at m place) x d tick)
+        (others : (place : ℕ) → place < length settled → is_among looked place ≡ false →
+        (truth m (condition_at m place) x d tick ≡ flag_at settled place) × ((flag_at settled place && not (flag_at arrived place)) ≡ false)) where
+      now_holds : (k : ℕ) → k < length settled → flag_at now k ≡ holds k
+      now_holds k h = on_arrival k ∙ known_flag (is_among looked k) (holds k) (flag_at settled k) (λ e. own k h ∙ (others k h e).0)
+
+      pub truths_on_arrival : now ≡ truths m x d tick
+      truths_on_arrival = truths_are m x d tick now (read.as_many ∙ all) (λ k h. let inside : k < length settled = omega (arith, h, all) in now_holds k inside ∙ own k inside)
+
+      -- the branches that are due are those of these conditions
+      fired_flags : flags_of (length settled) (fired_of holds arrived settled looked) ≡ due_flags now arrived settled
+      fired_flags =
+          let same : length settled ≡ length now = sym read.as_many in
+          let table = length-map-range_with_len (is_among (fired_of holds arrived settled looked)) 0 (length settled) in
+          due_flags_are now arrived settled (flags_of (length settled) (fired_of holds arrived settled looked)) (many ∙ same) same (table ∙ same)
+          (λ k h.
+          let inside : k < length settled = omega (arith, h, same) in
+          let due : Bool → Bool = λ b. b && not (flag_at arrived k && flag_at settled k) in
+          get_or-map-range_with_len (is_among (fired_of holds arrived settled looked)) 0 (length settled) k k false inside (omega arith)
+          ∙ among_fired k
+          ∙ only_looked (fires k) (is_among looked k)
+          (λ e. ap due (own k inside ∙ (others k inside e).0) ∙ not_due (flag_at settled k) (flag_at arrived k) (others k inside e).1)
+          ∙ sym (ap due (now_holds k inside)))
+
+      -- the handlers of these branches are those of the tick
+      pub fired_handling : (begun : List ℤ) (fired : List ℕ) → first_past 88 x ≡ None → begun ≡ d → fired ≡ fired_of holds arrived settled looked →
+          handling_of_fired m tick x begun fired ≡ handling_from m tick x d arrived settled
+      fired_handling begun fired calm same are =
+          let start : Option ℕ → Handling = λ o. record { states = x; discretes = d; rows = []; overflow = o } in
+          ap (λ e. handling_of_fired m tick x e fired) same
+          ∙ ap (handling_of_fired m tick x d) are
+          ∙ ap (λ n. run_clauses m tick d 0 (start None) m.clauses (flags_of n (fired_of holds arrived settled looked))) (sym all)
+          ∙ ap (run_clauses m tick d 0 (start None) m.clauses) fired_flags
+          ∙ ap (λ (flags : List Bool). run_clauses m tick d 0 (start None) m.clauses (due_flags flags arrived settled)) truths_on_arrival
+          ∙ ap (λ (o : Option ℕ). run_clauses m tick d 0 (start o) m.clauses (due_flags (truths m x d tick) arrived settled)) (sym calm)
+
+-- the branches that fired have room for their rows
+pub rows_fired : (m : Machine) (tick : ℕ) (x d : List ℤ) (fired : List ℕ) → length (handling_of_fired m tick x d fired).rows ≤ row_room m.clauses
+rows_fired m tick x d fired =
+    omega (arith, rows_clauses m tick d 0 (record { states = x; discretes = d; rows = []; overflow = None }) m.clauses (flags_of (length (conditions m)) fired))
+
+module _ (m : Machine) (tick : ℕ) (lines : List Line) (due fired : List ℕ) (old begun new : Values) (many : length lines ≡ state_count m) (calm : first_past 88 (states_at lines tick) ≡ None)
+    (arrived : IsWritten (pos 0) (λ j z. z ≡ state_at (line_at lines j) tick) due old.x begun.x) where
+  abbrev done : Handling
+  done = handling_of_fired m tick (states_at lines tick) begun.d fired
+
+  says : AreLogged m (states_at lines tick) begun.d done
+  says = logged m tick (states_at lines tick) begun.d None (flags_of (length (conditions m)) fired)
+
+  -- only states are reinitialized
+  pub known_states : (j : ℕ) → is_reinitialized done.rows j ≡ true → j < state_count m
+  known_states = says.reinits
+
+  module _ (begins : begun ≡ record old { x = begun.x }) (work : new ≡ record { x = new.x; d = done.discretes; pre = begun.d; tick = tick; log = done.rows; room = begun.room })
+      (all : length done.states ≡ state_count m)
+      (still : (j : ℕ) → int_at begun.x j ≡ int_at (states_at lines tick) j → int_at new.x j ≡ int_at done.states j)
+      (anew : (j : ℕ) → is_reinitialized done.rows j ≡ true → int_at new.x j ≡ int_at done.states j)
+      (moved : List ℕ) (each : (j : ℕ) → is_among moved j ≡ (is_among due j || is_reinitialized done.rows j)) where
+    -- a moved state is as in the values, and another one where its line leads
+    moved_state : (j : ℕ) → j < length lines → is_among moved j ≡ true → int_at done.states j ≡ int_at new.x j
+    moved_state j inside e = by_parts (or_cases (is_among due j) (is_reinitialized done.rows j) (sym (each j) ∙ e))
+      where
+        by_parts : (is_among due j ≡ true) ⊎ (is_reinitialized done.rows j ≡ true) → int_at done.states j ≡ int_at new.x j
+        by_parts (inl here) = sym (still j (arrived.each j here ∙ sym (int_at-states_at lines tick j inside)))
+        by_parts (inr here) = sym (anew j here)
+
+    other_state : (j : ℕ) → j < length lines → is_among moved j ≡ false → int_at done.states j ≡ state_at (line_at lines j) tick
+    other_state j inside e =
+        let both = or_parts (is_among due j) (is_reinitialized done.rows j) (sym (each j) ∙ e) in
+        says.states j both.1 ∙ int_at-states_at lines tick j inside
+
+    own_states : done.states ≡ states_with lines tick moved new.x
+    own_states =
+        let one : ℕ → ℤ = λ j. if is_among moved j then int_at new.x j else state_at (line_at lines j) tick in
+        let table : length (states_with lines tick moved new.x) ≡ length lines = length-map-range_with_len one 0 (length lines) in
+        same_lists (pos 0) done.states (states_with lines tick moved new.x) (all ∙ sym many ∙ sym table)
+        (λ j h. let inside : j < length lines = omega (arith, h, table) in by_among j inside (cases_Bool (is_among moved j)) ∙ sym (int_at-tabulate (length lines) one j inside))
+      where
+        by_among : (j : ℕ) → j < length lines → (is_among moved j ≡ true) ⊎ (is_among moved j ≡ false) →
+            int_at done.states j ≡ (if is_among moved j then int_at new.x j else state_at (line_at lines j) tick)
+        by_among j inside (inl e) = moved_state j inside e ∙ sym (ap (λ b. if b then int_at new.x j else state_at (line_at lines j) tick) e)
+        by_among j inside (inr e) = other_state j inside e ∙ sym (ap (λ b. if b then int_at new.x j else state_at (line_at lines j) tick) e)
+
+    pub is_handled : AreValuesOf m new → AreNumbers (state_count m) moved → IsHandled m tick lines due moved (assigned_of done.rows) old new done
+    is_handled fits numbers = record {
+      values = work ∙ ap (λ (v : Values). record { x = new.x; d = done.discretes; pre = v.d; tick = tick; log = done.rows; room = v.room }) begins;
+      fits = fits;
+      own_states = own_states;
+      small = small_after m tick (states_at lines tick) begun.d None (flags_of (length (conditions m)) fired) (all_within 88 (states_at lines tick) calm);
+      numbers = numbers;
+      moves = each;
+      variables = λ k d h.
+          subst (λ var. (state_count m ≤ var) × (var < state_count m + discrete_count m)) (get_or_default (assigned_of done.rows) k 0 d h)
+          (says.sets (get_or (assigned_of done.rows) k 0) (sym (among_assigned done.rows (get_or (assigned_of done.rows) k 0)) ∙ among_at (assigned_of done.rows) k h));
+      others = λ g inside e. says.discretes g (sym (among_assigned done.rows (state_count m + g)) ∙ e) ∙ ap (λ (v : Values). int_at v.d g) begins;
+    }

@@ -1,0 +1,17 @@
+pub mod Watched
+pub mod Handled
+pub mod Branches
+pub mod Dues
+pub mod Called
+pub mod PlaceSets
+pub mod Apart
+pub mod Speeds
+pub mod Firings
+pub mod Reported
+pub mod Agreeing
+pub mod Arrived
+pub mod Rewatching
+pub mod Settling
+pub mod Reinitialized
+pub mod Arrivals
+pub mod OwnConditions

@@ -1,0 +1,124 @@
+-- Conditions that go on, or of which some settle, are a machine's conditions still.
+use Rattle.std.proofs.Common.{◌≡◌, ℕ, List, [], ◌++◌, length, ℤ, Vec, Global, refl, sym, ◌∙◌, ap, subst, arith}
+use Rattle.std.specs.Prelude.{Bool, Option}
+use Rattle.qss_machine.specs.declared.system.Machine.{Machine}
+use Rattle.qss_machine.specs.Handlers.{conditions}
+use Rattle.qss_quant.specs.Lines.{Line}
+use Rattle.qss_cross.specs.Crossing.{IsSmall}
+use Rattle.qss_watch.specs.declared.conditions.Conditions.{Conditions}
+use Rattle.qss_watch.specs.declared.moment.Moment.{Moment}
+use Rattle.qss_watch.specs.Moments.{CanRewatch, CanSettle}
+use Rattle.qss_watch.specs.Places.{AreBranches, AreConditionsOf}
+use Rattle.qss_watch.specs.PlaceSets.{PlaceList}
+use Rattle.qss_watch.specs.Rewatchings.{Watchings, AreSettled, AreSettledAlong, watchings_of, touched_after}
+use Rattle.qss_watch.specs.Speeds.{AreGoingOn}
+use Rattle.qss_lines.specs.StateLines.{states_at}
+use Rattle.qss_watch.proofs.Apart.{none_noted, noted_then}
+use Rattle.qss_watch.proofs.Rewatching.{none_settled, settled_then}
+use Rattle.qss_watch.proofs.Settling.{none_arrived, arrived_on}
+
+-- ---- whose truths on arrival are others
+
+pub arrived_anew : (m : Machine) (all : Conditions) (arrived : Vec Bool Global) (apart : PlaceList) → AreConditionsOf m all → length arrived.items ≡ length (conditions m) →
+    apart.count ≡ all.apart.count → AreConditionsOf m (record all { arrived = arrived; apart = apart })
+arrived_anew m all arrived apart are many count = record { branches = are.branches; watches = are.watches; arrived = many; settled = are.settled; apart = count ∙ are.apart }
+
+-- ---- that go on at speeds
+
+pub watched_then : (a b c : Conditions) → b ≡ record a { watches = b.watches } → c ≡ record b { watches = c.watches } → c ≡ record a { watches = c.watches }
+watched_then a b c first second = second ∙ ap (λ (all : Conditions). record all { watches = c.watches }) first
+
+pub still_fits : (m : Machine) (old new : Conditions) → AreConditionsOf m old → new ≡ record old { watches = new.watches } → length new.watches.items ≡ length old.watches.items → AreConditionsOf m new
+still_fits m old new are rest many = record {
+  branches = subst (AreBranches m) (sym (ap (λ (all : Conditions). all.branches.items) rest)) are.branches;
+  watches = many ∙ are.watches;
+  arrived = ap (λ (all : Conditions). length all.arrived.items) rest ∙ are.arrived;
+  settled = ap (λ (all : Conditions). length all.settled.items) rest ∙ are.settled;
+  apart = ap (λ (all : Conditions). all.apart.count) rest ∙ are.apart;
+}
+
+pub still_goes : (m : Machine) (tick : ℕ) (slopes : List ℤ) (old new : Conditions) (due next : List (Option ℕ)) → CanRewatch m tick slopes old due → new ≡ record old { watches = new.watches } →
+    AreGoingOn m tick slopes old.watches.items new.watches.items due next → CanRewatch m tick slopes new next
+still_goes m tick slopes old new due next can rest going = record {
+  fits = still_fits m old new can.fits rest going.as_many;
+  places = omega (arith, going.places, can.places);
+  small = record {
+    later = λ place h. (going.each place (omega (arith, h, going.as_many))).not_later;
+    small = λ place h. subst IsSmall (sym (going.each place (omega (arith, h, going.as_many))).here) (can.small.small place (omega (arith, h, going.as_many)));
+  };
+  slopes_of = can.slopes_of;
+  in_time = can.in_time;
+}
+
+-- ---- of which some settle
+
+pub settled_fits : (m : Machine) (old new : Conditions) → AreConditionsOf m old → new ≡ record old { watches = new.watches; settled = new.settled; apart = new.apart } →
+    length new.watches.items ≡ length old.watches.items → length new.settled.items ≡ length old.settled.items → new.apart.count ≡ old.apart.count → AreConditionsOf m new
+settled_fits m old new are rest watches settled count = record {
+  branches = subst (AreBranches m) (sym (ap (λ (all : Conditions). all.branches.items) rest)) are.branches;
+  watches = watches ∙ are.watches;
+  arrived = ap (λ (all : Conditions). length all.arrived.items) rest ∙ are.arrived;
+  settled = settled ∙ are.settled;
+  apart = count ∙ are.apart;
+}
+
+pub rest_then : (a b c : Conditions) → b ≡ record a { watches = b.watches; settled = b.settled; apart = b.apart } → c ≡ record b { watches = c.watches; settled = c.settled; apart = c.apart } →
+    c ≡ record a { watches = c.watches; settled = c.settled; apart = c.apart }
+rest_then a b c first second = second ∙ ap (λ (all : Conditions). record all { watches = c.watches; settled = c.settled; apart = c.apart }) first
+
+module _ (at : Moment) (d : List ℤ) where
+  -- none has settled at first
+  pub none_along : (all : Conditions) (due : List (Option ℕ)) (x : List ℤ) → CanSettle at d all due x → AreSettledAlong at d [] all all due due x x
+  none_along all due x can = record {
+    settled = none_settled at.machine.now at.tick (states_at at.lines.now at.tick) d at.slopes.now (watchings_of all due);
+    noted = none_noted all;
+    rest = refl;
+    arrived = none_arrived at.machine.now (states_at at.lines.now at.tick) x;
+    small = can.values.small_states;
+  }
+
+  -- and then more settle
+  pub along_then : (xs ys : List ℕ) (a b c : Conditions) (p q r : List (Option ℕ)) (x y z : List ℤ) → AreSettledAlong at d xs a b p q x y → AreSettledAlong at d ys b c q r y z →
+      AreSettledAlong at d (xs ++ ys) a c p r x z
+  along_then xs ys a b c p q r x y z first second = record {
+    settled = settled_then at.machine.now at.tick (states_at at.lines.now at.tick) d at.slopes.now xs ys (watchings_of a p) (watchings_of b q) (watchings_of c r) first.settled second.settled;
+    noted = noted_then xs ys a b c first.noted second.noted (ap (λ (all : Conditions). all.arrived.items) second.rest) (λ place none. (second.settled.kept place none).truth);
+    rest = rest_then a b c first.rest second.rest;
+    arrived = arrived_on at.machine.now xs ys (states_at at.lines.now at.tick) x y z first.arrived second.arrived;
+    small = second.small;
+  }
+
+  -- these lists of places one after another, where the second is another one that is equal
+  pub along_more : (xs ys zs all : List ℕ) (a b c : Conditions) (p q r : List (Option ℕ)) (x y z : List ℤ) → AreSettledAlong at d xs a b p q x y → zs ≡ ys → all ≡ xs ++ ys →
+      AreSettledAlong at d zs b c q r y z → AreSettledAlong at d all a c p r x z
+  along_more xs ys zs all a b c p q r x y z first same is second =
+      subst (λ (places : List ℕ). AreSettledAlong at d places a c p r x z) (sym is)
+      (along_then xs ys a b c p q r x y z first (subst (λ (places : List ℕ). AreSettledAlong at d places b c q r y z) same second))
+
+  -- others may settle then
+  pub still_settles : (places : List ℕ) (old new : Conditions) (due next : List (Option ℕ)) (x y : List ℤ) → CanSettle at d old due x → AreSettledAlong at d places old new due next x y →
+      CanSettle at d new next y
+  still_settles places old new due next x y can are = record {
+    moment = can.moment;
+    fits = settled_fits at.machine.now old new can.fits are.rest are.settled.many_watches are.settled.many_truths are.noted.count;
+    places = omega (arith, are.settled.many_dues, can.places);
+    values = record { states = are.arrived.as_many ∙ can.values.states; discretes = can.values.discretes; small_states = are.small; small_discretes = can.values.small_discretes };
+  }
+
+-- after that some go on
+pub rest_watched : (a b c : Conditions) → b ≡ record a { watches = b.watches; settled = b.settled; apart = b.apart } → c ≡ record b { watches = c.watches } →
+    c ≡ record a { watches = c.watches; settled = c.settled; apart = c.apart }
+rest_watched a b c first second =
+    second ∙ ap (λ (all : Conditions). record all { watches = c.watches }) first
+    ∙ ap (λ settled. record a { watches = c.watches; settled = settled; apart = b.apart }) (sym (ap (λ (all : Conditions). all.settled) second))
+    ∙ ap (λ apart. record a { watches = c.watches; settled = c.settled; apart = apart }) (sym (ap (λ (all : Conditions). all.apart) second))
+
+-- settled at equal lines and slopes, in equal lists
+pub same_settled : (m : Machine) (tick : ℕ) (lines passed_lines : List Line) (d slopes passed_slopes : List ℤ) (listed assigned passed_assigned changed passed_changed : List ℕ) (old new : Watchings) →
+    passed_lines ≡ lines → passed_slopes ≡ slopes → passed_assigned ≡ assigned → passed_changed ≡ changed → AreSettled m tick (states_at passed_lines tick) d passed_slopes (touched_after m listed passed_assigned passed_changed) old new →
+    AreSettled m tick (states_at lines tick) d slopes (touched_after m listed assigned changed) old new
+same_settled m tick lines passed_lines d slopes passed_slopes listed assigned passed_assigned changed passed_changed old new of_lines of_slopes of_assigned of_changed are =
+    subst (λ ls. AreSettled m tick (states_at ls tick) d slopes (touched_after m listed assigned changed) old new) of_lines
+    (subst (λ v. AreSettled m tick (states_at passed_lines tick) d v (touched_after m listed assigned changed) old new) of_slopes
+    (subst (λ vs. AreSettled m tick (states_at passed_lines tick) d passed_slopes (touched_after m listed vs changed) old new) of_assigned
+    (subst (λ cs. AreSettled m tick (states_at passed_lines tick) d passed_slopes (touched_after m listed passed_assigned cs) old new) of_changed are)))

@@ -1,0 +1,25 @@
+-- The conditions apart are those of the set.
+use Rattle.std.proofs.Common.{Bool, sym, ◌∙◌, ap, arith}
+use Rattle.std.specs.Prelude.{if◌then◌else◌}
+use Rattle.qss_machine.specs.Firing.{flag_at}
+use Rattle.qss_quiet.specs.Among.{is_among}
+use Rattle.qss_watch.specs.PlaceSets.{PlaceList}
+use Rattle.qss_watch.proofs.calm.catch_up.Goals as goal
+
+pub agree-requires-clause-below : goal.agree-requires-clause-below
+agree-requires-clause-below c = λ k d h. omega (arith, c.places.ensures.below k d h, c.requires.count)
+
+pub agree-requires-clause-alike : goal.agree-requires-clause-alike
+agree-requires-clause-alike c = λ place none. c.requires.alike place (ap (λ these. is_among these place) (sym c.places.ensures.places) ∙ none)
+
+pub returns-then-still-clause-arrived : goal.returns-then-still-clause-arrived
+returns-then-still-clause-arrived c = c.agree.ensures ∙ ap (λ (b : Bool). if b then c.args.settled.now else c.args.arrived.now) (sym c.if-still.true)
+
+pub returns-else-still-clause-arrived : goal.returns-else-still-clause-arrived
+returns-else-still-clause-arrived c = ap (λ (b : Bool). if b then c.args.settled.now else c.args.arrived.now) (sym c.if-still.false)
+
+pub returns-then-still-clause-count : goal.returns-then-still-clause-count
+returns-then-still-clause-count c = ap (λ (s : PlaceList). s.count) c.clear.ensures
+
+pub returns-then-still-clause-alike : goal.returns-then-still-clause-alike
+returns-then-still-clause-alike c = λ place none. ap (λ flags. flag_at flags place) c.agree.ensures

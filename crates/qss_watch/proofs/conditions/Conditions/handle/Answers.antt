@@ -1,0 +1,377 @@
+-- The branches of the conditions that hold on arrival, and did not both before, are those that are due.
+use Rattle.std.proofs.Common.{◌≡◌, ◌<◌, ◌≤◌, ◌||◌, true, false, ℕ, List, length, ℤ, pos, sym, ap, ◌∙◌, subst, arith}
+use Rattle.std.proofs.lemmas.List.{with_items_is}
+use Rattle.std.specs.Prelude.{Bool, None, All}
+use Rattle.std.specs.Vec.{with_items}
+use Rattle.mu_num.specs.Sizes.{IsWithin}
+use Rattle.qss_machine.specs.declared.rows.Row.{Row}
+use Rattle.qss_machine.specs.Firing.{flag_at}
+use Rattle.qss_machine.specs.Handlers.{Handling, conditions}
+use Rattle.qss_machine.specs.Machines.{state_count, truth}
+use Rattle.qss_machine.specs.Numbers.{first_past}
+use Rattle.qss_quant.specs.Lines.{state_at}
+use Rattle.qss_cross.specs.Crossing.{Watch, IsSmall, value_at, holds_at}
+use Rattle.qss_hand.specs.Values.{Values}
+use Rattle.qss_watch.specs.declared.conditions.Conditions.{Conditions}
+use Rattle.qss_watch.specs.Handlings.{handling_of_fired, is_reinitialized, IsHandled, handling_from}
+use Rattle.qss_quiet.specs.Logs.{assigned_of}
+use Rattle.qss_quiet.specs.Among.{is_among, AreNumbers}
+use Rattle.qss_quiet.specs.Sims.{condition_at, became_true}
+use Rattle.qss_watch.specs.Places.{AreBranches, watch_at}
+use Rattle.qss_lines.specs.StateLines.{line_at, states_at}
+use Rattle.qss_watch.specs.PlaceSets.{PlaceList}
+use Rattle.qss_quiet.specs.Writes.{IsWritten}
+use Rattle.qss_quiet.proofs.Overs.{all_within, not_some}
+use Rattle.qss_watch.proofs.Arrivals.{fired_numbers, truths_on_arrival, fired_handling, rows_fired, known_states, is_handled}
+use Rattle.qss_watch.proofs.Handled.{over_early}
+use Rattle.qss_watch.proofs.OwnConditions.{arrived_anew}
+use Rattle.qss_lines.proofs.InPlace.{same_length}
+use Rattle.qss_watch.proofs.conditions.Conditions.handle.Goals as goal
+
+pub arrive_moved-passed-requires-clause-moved : goal.arrive_moved-passed-requires-clause-moved
+arrive_moved-passed-requires-clause-moved c =
+    let ready = c.requires.ready in
+    subst (λ n. AreNumbers n c.as_slice.result.now) (sym ready.lines) (subst (AreNumbers (state_count c.args.at.now.machine.now)) (sym c.as_slice.ensures.value) ready.moved)
+
+pub arrive_moved-passed-requires-clause-others_small : goal.arrive_moved-passed-requires-clause-others_small
+arrive_moved-passed-requires-clause-others_small c j h none =
+    let ready = c.requires.ready in
+    ready.others_small j (omega (arith, h, ready.lines)) (ap (λ js. is_among js j) (sym c.as_slice.ensures.value) ∙ none)
+
+pub returns-then-is_some-clause-over : goal.returns-then-is_some-clause-over
+returns-then-is_some-clause-over c =
+    let all : Conditions = c.args.self.now in
+    over_early c.args.at.now.machine.now c.args.at.now.tick (states_at c.args.at.now.lines.now c.args.at.now.tick) c.args.work.now.d all.arrived.items all.settled.items
+    c.arrive_moved-passed.result (sym c.is_some.ensures ∙ c.if-is_some.true) c.arrive_moved-passed.ensures.over
+
+pub list_fired-requires-clause-watches : goal.list_fired-requires-clause-watches
+list_fired-requires-clause-watches c =
+    let all : Conditions = c.args.self.now in
+    let ready = c.requires.ready in
+    let fits = ready.fits in
+    ap length c.as_slice-watches.ensures.value ∙ fits.watches ∙ sym (ap length c.as_slice-settled.ensures.value ∙ fits.settled)
+
+pub list_fired-requires-clause-changed : goal.list_fired-requires-clause-changed
+list_fired-requires-clause-changed c =
+    let all : Conditions = c.args.self.now in
+    let ready = c.requires.ready in
+    let fits = ready.fits in
+    subst (λ n. AreNumbers n c.args.at.now.changed.now) (sym (ap length c.as_slice-settled.ensures.value ∙ fits.settled)) ready.changed
+
+pub list_fired-requires-clause-arrived : goal.list_fired-requires-clause-arrived
+list_fired-requires-clause-arrived c =
+    let all : Conditions = c.args.self.now in
+    let ready = c.requires.ready in
+    let fits = ready.fits in
+    ap length c.as_mut_slice-arrived.ensures.value ∙ fits.arrived ∙ sym (ap length c.as_slice-settled.ensures.value ∙ fits.settled)
+
+pub list_fired-requires-clause-room : goal.list_fired-requires-clause-room
+list_fired-requires-clause-room c =
+    let all : Conditions = c.args.self.now in
+    let ready = c.requires.ready in
+    let fits = ready.fits in
+    omega (arith, ap length c.as_slice-settled.ensures.value, fits.settled, c.requires.fired_room)
+
+pub list_fired-requires-clause-later : goal.list_fired-requires-clause-later
+list_fired-requires-clause-later c place h =
+    let all : Conditions = c.args.self.now in
+    let ready = c.requires.ready in
+    let fits = ready.fits in
+    subst (λ ws. (watch_at ws place).tick ≤ c.args.at.now.tick) (sym c.as_slice-watches.ensures.value)
+    (ready.watched place (omega (arith, h, ap length c.as_slice-settled.ensures.value, fits.settled))).0
+
+pub list_fired-requires-clause-small : goal.list_fired-requires-clause-small
+list_fired-requires-clause-small c place h =
+    let all : Conditions = c.args.self.now in
+    let ready = c.requires.ready in
+    let fits = ready.fits in
+    let m = c.args.at.now.machine.now in
+    let tick = c.args.at.now.tick in
+    let lines = c.args.at.now.lines.now in
+    let x : List ℤ = states_at lines tick in
+    let calm : first_past 88 x ≡ None = sym c.arrive_moved-passed.ensures.over ∙ not_some c.arrive_moved-passed.result (sym c.is_some.ensures ∙ c.if-is_some.false) in
+    subst (λ ws. IsSmall (value_at (watch_at ws place) tick)) (sym c.as_slice-watches.ensures.value)
+    ((ready.watched place (omega (arith, h, ap length c.as_slice-settled.ensures.value, fits.settled))).1 (all_within 88 x calm))
+
+pub read_changed-requires-clause-watches : goal.read_changed-requires-clause-watches
+read_changed-requires-clause-watches c =
+    let all : Conditions = c.args.self.now in
+    let ready = c.requires.ready in
+    let fits = ready.fits in
+    ap length c.as_slice-watches.ensures.value ∙ fits.watches ∙ sym (ap length c.as_slice-settled.ensures.value ∙ fits.settled)
+
+pub read_changed-requires-clause-changed : goal.read_changed-requires-clause-changed
+read_changed-requires-clause-changed c =
+    let all : Conditions = c.args.self.now in
+    let ready = c.requires.ready in
+    let fits = ready.fits in
+    subst (λ n. AreNumbers n c.args.at.now.changed.now) (sym (ap length c.as_slice-settled.ensures.value ∙ fits.settled)) ready.changed
+
+pub read_changed-requires-clause-arrived : goal.read_changed-requires-clause-arrived
+read_changed-requires-clause-arrived c =
+    let all : Conditions = c.args.self.now in
+    let ready = c.requires.ready in
+    let fits = ready.fits in
+    ap length c.as_mut_slice-arrived.ensures.value ∙ fits.arrived ∙ sym (ap length c.as_slice-settled.ensures.value ∙ fits.settled)
+
+pub read_changed-requires-clause-below : goal.read_changed-requires-clause-below
+read_changed-requires-clause-below c =
+    let fits = c.requires.ready.fits in
+    λ k d h. omega (arith, c.places-apart.ensures.below k d h, fits.apart, fits.settled, ap length c.as_slice-settled.ensures.value)
+
+pub read_changed-requires-clause-alike : goal.read_changed-requires-clause-alike
+read_changed-requires-clause-alike c = λ place none.
+    ap (λ flags. flag_at flags place) c.as_mut_slice-arrived.ensures.value
+    ∙ c.requires.ready.alike place (ap (λ these. is_among these place) (sym c.places-apart.ensures.places) ∙ none)
+    ∙ sym (ap (λ flags. flag_at flags place) c.as_slice-settled.ensures.value)
+
+pub read_changed-requires-clause-later : goal.read_changed-requires-clause-later
+read_changed-requires-clause-later c place h =
+    let all : Conditions = c.args.self.now in
+    let ready = c.requires.ready in
+    let fits = ready.fits in
+    subst (λ ws. (watch_at ws place).tick ≤ c.args.at.now.tick) (sym c.as_slice-watches.ensures.value)
+    (ready.watched place (omega (arith, h, ap length c.as_slice-settled.ensures.value, fits.settled))).0
+
+pub read_changed-requires-clause-small : goal.read_changed-requires-clause-small
+read_changed-requires-clause-small c place h =
+    let all : Conditions = c.args.self.now in
+    let ready = c.requires.ready in
+    let fits = ready.fits in
+    let m = c.args.at.now.machine.now in
+    let tick = c.args.at.now.tick in
+    let lines = c.args.at.now.lines.now in
+    let x : List ℤ = states_at lines tick in
+    let calm : first_past 88 x ≡ None = sym c.arrive_moved-passed.ensures.over ∙ not_some c.arrive_moved-passed.result (sym c.is_some.ensures ∙ c.if-is_some.false) in
+    subst (λ ws. IsSmall (value_at (watch_at ws place) tick)) (sym c.as_slice-watches.ensures.value)
+    ((ready.watched place (omega (arith, h, ap length c.as_slice-settled.ensures.value, fits.settled))).1 (all_within 88 x calm))
+
+pub handle_fired-over-requires-clause-branches : goal.handle_fired-over-requires-clause-branches
+handle_fired-over-requires-clause-branches c =
+    subst (AreBranches c.args.at.now.machine.now) (sym c.as_slice-branches.ensures.value) c.requires.ready.fits.branches
+
+pub handle_fired-over-requires-clause-fired : goal.handle_fired-over-requires-clause-fired
+handle_fired-over-requires-clause-fired c =
+    let all : Conditions = c.args.self.now in
+    let ready = c.requires.ready in
+    let fits = ready.fits in
+    let m = c.args.at.now.machine.now in
+    let count : ℕ = length c.as_slice-branches.result.now in
+    let places : count ≡ length (conditions m) = ap length c.as_slice-branches.ensures.value ∙ fits.branches.as_many in
+    subst (AreNumbers count) (sym (c.as_slice-2.ensures.value ∙ c.list_fired.ensures.fired))
+    (fired_numbers c.as_slice-settled.result.now c.as_mut_slice-arrived.result.now c.args.at.now.changed.now (λ place. holds_at (watch_at c.as_slice-watches.result.now place) c.args.at.now.tick) count
+    (subst (λ n. AreNumbers n c.args.at.now.changed.now) (sym places) ready.changed))
+
+pub handle_fired-over-requires-clause-lines : goal.handle_fired-over-requires-clause-lines
+handle_fired-over-requires-clause-lines c =
+    let ready = c.requires.ready in
+    let m = c.args.at.now.machine.now in
+    let tick = c.args.at.now.tick in
+    let lines = c.args.at.now.lines.now in
+    let x : List ℤ = states_at lines tick in
+    let calm : first_past 88 x ≡ None = sym c.arrive_moved-passed.ensures.over ∙ not_some c.arrive_moved-passed.result (sym c.is_some.ensures ∙ c.if-is_some.false) in
+    record { as_many = ready.lines; later = ready.later; small = all_within 88 x calm; in_time = ready.in_time }
+
+pub handle_fired-over-requires-clause-values : goal.handle_fired-over-requires-clause-values
+handle_fired-over-requires-clause-values c =
+    let values = c.requires.ready.values in
+    let of_d = ap (λ (v : Values). v.d) c.arrive_moved-passed.ensures.work in
+    record {
+      states = c.arrive_moved-passed.ensures.arrived.as_many ∙ values.states;
+      discretes = ap length of_d ∙ values.discretes;
+      small_states = c.arrive_moved-passed.ensures.small (not_some c.arrive_moved-passed.result (sym c.is_some.ensures ∙ c.if-is_some.false));
+      small_discretes = subst (All (IsWithin 43)) (sym of_d) values.small_discretes;
+    }
+
+pub returns-then-is_some-2-clause-over : goal.returns-then-is_some-2-clause-over
+returns-then-is_some-2-clause-over c =
+    let all : Conditions = c.args.self.now in
+    let ready = c.requires.ready in
+    let fits = ready.fits in
+    let m = c.args.at.now.machine.now in
+    let tick = c.args.at.now.tick in
+    let lines = c.args.at.now.lines.now in
+    let x : List ℤ = states_at lines tick in
+    let calm : first_past 88 x ≡ None = sym c.arrive_moved-passed.ensures.over ∙ not_some c.arrive_moved-passed.result (sym c.is_some.ensures ∙ c.if-is_some.false) in
+    let watches : List Watch = c.as_slice-watches.result.now in
+    let settled : List Bool = c.as_slice-settled.result.now in
+    let arrived : List Bool = c.as_mut_slice-arrived.result.now in
+    let of_watches : watches ≡ all.watches.items = c.as_slice-watches.ensures.value in
+    let of_settled : settled ≡ all.settled.items = c.as_slice-settled.ensures.value in
+    let of_arrived : arrived ≡ all.arrived.items = c.as_mut_slice-arrived.ensures.value in
+    let many : length settled ≡ length (conditions m) = ap length of_settled ∙ fits.settled in
+    let holds : ℕ → Bool = λ place. holds_at (watch_at watches place) tick in
+    let own : (place : ℕ) → place < length settled → holds place ≡ truth m (condition_at m place) x c.args.work.now.d tick =
+    λ place h. ap (λ ws. holds_at (watch_at ws place) tick) of_watches ∙ (ready.watched place (omega (arith, h, many))).2 in
+    let rest : (place : ℕ) → place < length settled → is_among c.args.at.now.changed.now place ≡ false →
+    (truth m (condition_at m place) x c.args.work.now.d tick ≡ flag_at settled place) × (became_true arrived settled place ≡ false) =
+    λ place h none.
+    subst (λ (b : List Bool). (truth m (condition_at m place) x c.args.work.now.d tick ≡ flag_at b place) × (became_true arrived b place ≡ false)) (sym of_settled)
+    (subst (λ (a : List Bool). (truth m (condition_at m place) x c.args.work.now.d tick ≡ flag_at all.settled.items place) × (became_true a all.settled.items place ≡ false)) (sym of_arrived)
+    (ready.others place (omega (arith, h, many)) none)) in
+    let as_many : length arrived ≡ length settled = ap length of_arrived ∙ fits.arrived ∙ sym many in
+    let same : handling_of_fired m tick x c.arrive_moved-passed.new.work.d c.as_slice-2.result.now ≡ handling_from m tick x c.args.work.now.d all.arrived.items all.settled.items =
+    fired_handling settled arrived c.args.at.now.changed.now holds c.read_changed.new.arrived as_many c.read_changed.ensures m tick x c.args.work.now.d many own rest
+    c.arrive_moved-passed.new.work.d c.as_slice-2.result.now calm (ap (λ (v : Values). v.d) c.arrive_moved-passed.ensures.work) (c.as_slice-2.ensures.value ∙ c.list_fired.ensures.fired)
+    ∙ ap (λ a. handling_from m tick x c.args.work.now.d a settled) of_arrived
+    ∙ ap (handling_from m tick x c.args.work.now.d all.arrived.items) of_settled in
+    c.handle_fired-over.ensures.over ∙ ap (λ (h : Handling). h.overflow) same
+
+pub join_reinitialized-requires-clause-known : goal.join_reinitialized-requires-clause-known
+join_reinitialized-requires-clause-known c =
+    let ready = c.requires.ready in
+    let m = c.args.at.now.machine.now in
+    let tick = c.args.at.now.tick in
+    let lines = c.args.at.now.lines.now in
+    let x : List ℤ = states_at lines tick in
+    let calm : first_past 88 x ≡ None = sym c.arrive_moved-passed.ensures.over ∙ not_some c.arrive_moved-passed.result (sym c.is_some.ensures ∙ c.if-is_some.false) in
+    let begun : Values = c.arrive_moved-passed.new.work in
+    let came : IsWritten (pos 0) (λ j z. z ≡ state_at (line_at lines j) tick) c.args.moved.now.items c.args.work.now.x begun.x =
+    subst (λ these. IsWritten (pos 0) (λ j z. z ≡ state_at (line_at lines j) tick) these c.args.work.now.x begun.x) c.as_slice.ensures.value c.arrive_moved-passed.ensures.arrived in
+    let none : c.handle_fired-over.result ≡ None = not_some c.handle_fired-over.result (sym c.is_some-2.ensures ∙ c.if-is_some-2.false) in
+    let done : Handling = handling_of_fired m tick x c.arrive_moved-passed.new.work.d c.as_slice-2.result.now in
+    let log : c.as_slice-log.result.now ≡ done.rows =
+    c.as_slice-log.ensures.value ∙ ap (λ (v : Values). v.log) c.work.view_is ∙ ap (λ (v : Values). v.log) (c.handle_fired-over.ensures.work none) in
+    λ j e. subst (λ n. j < n) (sym (ap length c.as_slice-3.ensures))
+    (known_states m tick lines c.args.moved.now.items c.as_slice-2.result.now c.args.work.now begun c.handle_fired-over.new.work ready.lines calm came j (subst (λ rows. is_reinitialized rows j ≡ true) log e))
+
+pub list_assigned-requires : goal.list_assigned-requires
+list_assigned-requires c =
+    let m = c.args.at.now.machine.now in
+    let tick = c.args.at.now.tick in
+    let lines = c.args.at.now.lines.now in
+    let x : List ℤ = states_at lines tick in
+    let none : c.handle_fired-over.result ≡ None = not_some c.handle_fired-over.result (sym c.is_some-2.ensures ∙ c.if-is_some-2.false) in
+    let done : Handling = handling_of_fired m tick x c.arrive_moved-passed.new.work.d c.as_slice-2.result.now in
+    let log : c.as_slice-log.result.now ≡ done.rows =
+    c.as_slice-log.ensures.value ∙ ap (λ (v : Values). v.log) c.work.view_is ∙ ap (λ (v : Values). v.log) (c.handle_fired-over.ensures.work none) in
+    omega (arith, ap length log, rows_fired m tick x c.arrive_moved-passed.new.work.d c.as_slice-2.result.now, c.requires.assigned_room)
+
+pub returns-clause-over : goal.returns-clause-over
+returns-clause-over c =
+    let all : Conditions = c.args.self.now in
+    let ready = c.requires.ready in
+    let fits = ready.fits in
+    let m = c.args.at.now.machine.now in
+    let tick = c.args.at.now.tick in
+    let lines = c.args.at.now.lines.now in
+    let x : List ℤ = states_at lines tick in
+    let calm : first_past 88 x ≡ None = sym c.arrive_moved-passed.ensures.over ∙ not_some c.arrive_moved-passed.result (sym c.is_some.ensures ∙ c.if-is_some.false) in
+    let watches : List Watch = c.as_slice-watches.result.now in
+    let settled : List Bool = c.as_slice-settled.result.now in
+    let arrived : List Bool = c.as_mut_slice-arrived.result.now in
+    let of_watches : watches ≡ all.watches.items = c.as_slice-watches.ensures.value in
+    let of_settled : settled ≡ all.settled.items = c.as_slice-settled.ensures.value in
+    let of_arrived : arrived ≡ all.arrived.items = c.as_mut_slice-arrived.ensures.value in
+    let many : length settled ≡ length (conditions m) = ap length of_settled ∙ fits.settled in
+    let holds : ℕ → Bool = λ place. holds_at (watch_at watches place) tick in
+    let own : (place : ℕ) → place < length settled → holds place ≡ truth m (condition_at m place) x c.args.work.now.d tick =
+    λ place h. ap (λ ws. holds_at (watch_at ws place) tick) of_watches ∙ (ready.watched place (omega (arith, h, many))).2 in
+    let rest : (place : ℕ) → place < length settled → is_among c.args.at.now.changed.now place ≡ false →
+    (truth m (condition_at m place) x c.args.work.now.d tick ≡ flag_at settled place) × (became_true arrived settled place ≡ false) =
+    λ place h none.
+    subst (λ (b : List Bool). (truth m (condition_at m place) x c.args.work.now.d tick ≡ flag_at b place) × (became_true arrived b place ≡ false)) (sym of_settled)
+    (subst (λ (a : List Bool). (truth m (condition_at m place) x c.args.work.now.d tick ≡ flag_at all.settled.items place) × (became_true a all.settled.items place ≡ false)) (sym of_arrived)
+    (ready.others place (omega (arith, h, many)) none)) in
+    let as_many : length arrived ≡ length settled = ap length of_arrived ∙ fits.arrived ∙ sym many in
+    let same : handling_of_fired m tick x c.arrive_moved-passed.new.work.d c.as_slice-2.result.now ≡ handling_from m tick x c.args.work.now.d all.arrived.items all.settled.items =
+    fired_handling settled arrived c.args.at.now.changed.now holds c.read_changed.new.arrived as_many c.read_changed.ensures m tick x c.args.work.now.d many own rest
+    c.arrive_moved-passed.new.work.d c.as_slice-2.result.now calm (ap (λ (v : Values). v.d) c.arrive_moved-passed.ensures.work) (c.as_slice-2.ensures.value ∙ c.list_fired.ensures.fired)
+    ∙ ap (λ a. handling_from m tick x c.args.work.now.d a settled) of_arrived
+    ∙ ap (handling_from m tick x c.args.work.now.d all.arrived.items) of_settled in
+    let none : c.handle_fired-over.result ≡ None = not_some c.handle_fired-over.result (sym c.is_some-2.ensures ∙ c.if-is_some-2.false) in
+    sym none ∙ c.handle_fired-over.ensures.over ∙ ap (λ (h : Handling). h.overflow) same
+
+pub returns-clause-handled : goal.returns-clause-handled
+returns-clause-handled c =
+    let all : Conditions = c.args.self.now in
+    let ready = c.requires.ready in
+    let fits = ready.fits in
+    let m = c.args.at.now.machine.now in
+    let tick = c.args.at.now.tick in
+    let lines = c.args.at.now.lines.now in
+    let x : List ℤ = states_at lines tick in
+    let calm : first_past 88 x ≡ None = sym c.arrive_moved-passed.ensures.over ∙ not_some c.arrive_moved-passed.result (sym c.is_some.ensures ∙ c.if-is_some.false) in
+    let watches : List Watch = c.as_slice-watches.result.now in
+    let settled : List Bool = c.as_slice-settled.result.now in
+    let arrived : List Bool = c.as_mut_slice-arrived.result.now in
+    let of_watches : watches ≡ all.watches.items = c.as_slice-watches.ensures.value in
+    let of_settled : settled ≡ all.settled.items = c.as_slice-settled.ensures.value in
+    let of_arrived : arrived ≡ all.arrived.items = c.as_mut_slice-arrived.ensures.value in
+    let many : length settled ≡ length (conditions m) = ap length of_settled ∙ fits.settled in
+    let holds : ℕ → Bool = λ place. holds_at (watch_at watches place) tick in
+    let own : (place : ℕ) → place < length settled → holds place ≡ truth m (condition_at m place) x c.args.work.now.d tick =
+    λ place h. ap (λ ws. holds_at (watch_at ws place) tick) of_watches ∙ (ready.watched place (omega (arith, h, many))).2 in
+    let rest : (place : ℕ) → place < length settled → is_among c.args.at.now.changed.now place ≡ false →
+    (truth m (condition_at m place) x c.args.work.now.d tick ≡ flag_at settled place) × (became_true arrived settled place ≡ false) =
+    λ place h none.
+    subst (λ (b : List Bool). (truth m (condition_at m place) x c.args.work.now.d tick ≡ flag_at b place) × (became_true arrived b place ≡ false)) (sym of_settled)
+    (subst (λ (a : List Bool). (truth m (condition_at m place) x c.args.work.now.d tick ≡ flag_at all.settled.items place) × (became_true a all.settled.items place ≡ false)) (sym of_arrived)
+    (ready.others place (omega (arith, h, many)) none)) in
+    let as_many : length arrived ≡ length settled = ap length of_arrived ∙ fits.arrived ∙ sym many in
+    let same : handling_of_fired m tick x c.arrive_moved-passed.new.work.d c.as_slice-2.result.now ≡ handling_from m tick x c.args.work.now.d all.arrived.items all.settled.items =
+    fired_handling settled arrived c.args.at.now.changed.now holds c.read_changed.new.arrived as_many c.read_changed.ensures m tick x c.args.work.now.d many own rest
+    c.arrive_moved-passed.new.work.d c.as_slice-2.result.now calm (ap (λ (v : Values). v.d) c.arrive_moved-passed.ensures.work) (c.as_slice-2.ensures.value ∙ c.list_fired.ensures.fired)
+    ∙ ap (λ a. handling_from m tick x c.args.work.now.d a settled) of_arrived
+    ∙ ap (handling_from m tick x c.args.work.now.d all.arrived.items) of_settled in
+    let begun : Values = c.arrive_moved-passed.new.work in
+    let came : IsWritten (pos 0) (λ j z. z ≡ state_at (line_at lines j) tick) c.args.moved.now.items c.args.work.now.x begun.x =
+    subst (λ these. IsWritten (pos 0) (λ j z. z ≡ state_at (line_at lines j) tick) these c.args.work.now.x begun.x) c.as_slice.ensures.value c.arrive_moved-passed.ensures.arrived in
+    let none : c.handle_fired-over.result ≡ None = not_some c.handle_fired-over.result (sym c.is_some-2.ensures ∙ c.if-is_some-2.false) in
+    let done : Handling = handling_of_fired m tick x c.arrive_moved-passed.new.work.d c.as_slice-2.result.now in
+    let log : c.as_slice-log.result.now ≡ done.rows =
+    c.as_slice-log.ensures.value ∙ ap (λ (v : Values). v.log) c.work.view_is ∙ ap (λ (v : Values). v.log) (c.handle_fired-over.ensures.work none) in
+    let did = c.handle_fired-over.ensures in
+    let listed : c.list_assigned.new.assigned.items ≡ assigned_of done.rows = c.list_assigned.ensures.assigned ∙ ap assigned_of log in
+    λ e. subst (IsHandled m tick lines c.args.moved.now.items c.join_reinitialized.new.moved.items c.list_assigned.new.assigned.items c.args.work.now c.handle_fired-over.new.work) same
+    (subst (λ assigned. IsHandled m tick lines c.args.moved.now.items c.join_reinitialized.new.moved.items assigned c.args.work.now c.handle_fired-over.new.work done) (sym listed) (is_handled m tick lines c.args.moved.now.items c.as_slice-2.result.now c.args.work.now begun c.handle_fired-over.new.work ready.lines calm came
+    c.arrive_moved-passed.ensures.work (did.work none) (did.many none) (did.arrived none) (did.reinitialized none) c.join_reinitialized.new.moved.items
+    (λ j. c.join_reinitialized.ensures.each j ∙ ap (λ (rows : List Row). is_among c.args.moved.now.items j || is_reinitialized rows j) log)
+    (did.fits none) (subst (λ n. AreNumbers n c.join_reinitialized.new.moved.items) (ap length c.as_slice-3.ensures) c.join_reinitialized.ensures.numbers)))
+
+pub returns-clause-arrived : goal.returns-clause-arrived
+returns-clause-arrived c =
+    let all : Conditions = c.args.self.now in
+    let ready = c.requires.ready in
+    let fits = ready.fits in
+    let m = c.args.at.now.machine.now in
+    let tick = c.args.at.now.tick in
+    let lines = c.args.at.now.lines.now in
+    let x : List ℤ = states_at lines tick in
+    let watches : List Watch = c.as_slice-watches.result.now in
+    let settled : List Bool = c.as_slice-settled.result.now in
+    let arrived : List Bool = c.as_mut_slice-arrived.result.now in
+    let of_watches : watches ≡ all.watches.items = c.as_slice-watches.ensures.value in
+    let of_settled : settled ≡ all.settled.items = c.as_slice-settled.ensures.value in
+    let of_arrived : arrived ≡ all.arrived.items = c.as_mut_slice-arrived.ensures.value in
+    let many : length settled ≡ length (conditions m) = ap length of_settled ∙ fits.settled in
+    let holds : ℕ → Bool = λ place. holds_at (watch_at watches place) tick in
+    let own : (place : ℕ) → place < length settled → holds place ≡ truth m (condition_at m place) x c.args.work.now.d tick =
+    λ place h. ap (λ ws. holds_at (watch_at ws place) tick) of_watches ∙ (ready.watched place (omega (arith, h, many))).2 in
+    let rest : (place : ℕ) → place < length settled → is_among c.args.at.now.changed.now place ≡ false →
+    (truth m (condition_at m place) x c.args.work.now.d tick ≡ flag_at settled place) × (became_true arrived settled place ≡ false) =
+    λ place h none.
+    subst (λ (b : List Bool). (truth m (condition_at m place) x c.args.work.now.d tick ≡ flag_at b place) × (became_true arrived b place ≡ false)) (sym of_settled)
+    (subst (λ (a : List Bool). (truth m (condition_at m place) x c.args.work.now.d tick ≡ flag_at all.settled.items place) × (became_true a all.settled.items place ≡ false)) (sym of_arrived)
+    (ready.others place (omega (arith, h, many)) none)) in
+    let as_many : length arrived ≡ length settled = ap length of_arrived ∙ fits.arrived ∙ sym many in
+    λ e. with_items_is all.arrived c.read_changed.new.arrived (c.read_changed.auto.arrived ∙ c.as_mut_slice-arrived.ensures.len)
+    ∙ truths_on_arrival settled arrived c.args.at.now.changed.now holds c.read_changed.new.arrived as_many c.read_changed.ensures m tick x c.args.work.now.d many own rest
+
+pub returns-clause-alike : goal.returns-clause-alike
+returns-clause-alike c =
+    let all : Conditions = c.args.self.now in
+    λ e place none.
+    ap (λ flags. flag_at flags place) (with_items_is all.arrived c.read_changed.new.arrived (c.read_changed.auto.arrived ∙ c.as_mut_slice-arrived.ensures.len))
+    ∙ c.read_changed.ensures.others place none
+    ∙ ap (λ flags. flag_at flags place) c.as_slice-settled.ensures.value
+
+pub returns-clause-none_apart : goal.returns-clause-none_apart
+returns-clause-none_apart c = λ e. ap (λ (s : PlaceList). s.places) c.clear.ensures
+
+pub returns-clause-fits : goal.returns-clause-fits
+returns-clause-fits c =
+    let all : Conditions = c.args.self.now in
+    let fits = c.requires.ready.fits in
+    λ e. arrived_anew c.args.at.now.machine.now all (with_items all.arrived c.read_changed.new.arrived) c.clear.new.self fits (same_length all.arrived c.read_changed.new.arrived ∙ fits.arrived)
+    (ap (λ (s : PlaceList). s.count) c.clear.ensures)

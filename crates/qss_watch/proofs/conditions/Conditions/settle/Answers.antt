@@ -1,0 +1,65 @@
+-- One condition is settled.
+use Rattle.std.proofs.Common.{◌≡◌, ◌+◌, ◌==◌, ◌&&◌, ◌||◌, length, set, refl, sym, ◌∙◌, ap, arith}
+use Rattle.std.proofs.lemmas.List.{length-set, with_items_is}
+use Rattle.std.specs.Vec.{with_items}
+use Rattle.qss_machine.specs.declared.parts.Condition.{Condition}
+use Rattle.qss_machine.specs.Firing.{flag_at}
+use Rattle.qss_machine.specs.Machines.{state_count, compares, truth}
+use Rattle.qss_cross.specs.Crossing.{Watch}
+use Rattle.qss_quiet.specs.Among.{is_among}
+use Rattle.qss_watch.specs.declared.conditions.Conditions.{Conditions}
+use Rattle.qss_watch.specs.Moves.{differ}
+use Rattle.qss_watch.specs.Rewatchings.{watchings_of}
+use Rattle.qss_quiet.specs.Sims.{condition_at}
+use Rattle.qss_watch.proofs.Apart.{one_noted}
+use Rattle.qss_watch.proofs.Rewatching.{one_settled}
+use Rattle.qss_watch.proofs.Watched.{watch_is}
+use Rattle.qss_hand.proofs.Turns.{conditions_few}
+use Rattle.qss_watch.proofs.conditions.Conditions.settle.Goals as goal
+
+pub overflow_add-at : goal.overflow_add-at
+overflow_add-at c =
+    let m = c.args.m.now in omega (arith, c.requires.place, c.requires.point.slopes.as_many, conditions_few m, m.has_variables.few)
+
+pub returns-clause-settled : goal.returns-clause-settled
+returns-clause-settled c =
+    let m = c.args.m.now in
+    let at = c.args.at.now in
+    let place = c.args.place in
+    let all : Conditions = c.args.self.now in
+    let fits = c.requires.fits in
+    let watch : Watch = c.watch_of-watch.result in
+    let own : c.condition-condition.result.now ≡ condition_at m place = c.condition-condition.ensures.value in
+    let dues : c.set.new.self ≡ set c.args.agenda.now (state_count m + place) c.next_change.result =
+    c.set.ensures ∙ ap (λ n. set c.args.agenda.now (n + place) c.next_change.result) c.requires.point.slopes.as_many in
+    let watches = with_items_is all.watches (set c.as_mut_slice-watches.result.now place watch) (length-set c.as_mut_slice-watches.result.now place watch ∙ c.as_mut_slice-watches.ensures.len)
+    ∙ ap (λ ws. set ws place watch) c.as_mut_slice-watches.ensures.value in
+    let settled = with_items_is all.settled (set c.as_mut_slice-settled.result.now place c.truth-holds.result)
+    (length-set c.as_mut_slice-settled.result.now place c.truth-holds.result ∙ c.as_mut_slice-settled.ensures.len)
+    ∙ ap (λ flags. set flags place c.truth-holds.result) c.as_mut_slice-settled.ensures.value in
+    one_settled m at.tick at.states.now at.discretes.now at.slopes.now place (watchings_of all c.args.agenda.now)
+    (record {
+      watches = (with_items all.watches (set c.as_mut_slice-watches.result.now place watch)).items;
+      settled = (with_items all.settled (set c.as_mut_slice-settled.result.now place c.truth-holds.result)).items;
+      dues = c.set.new.self;
+    })
+    watch c.truth-holds.result c.next_change.result (omega (arith, c.requires.place, fits.watches)) (omega (arith, c.requires.place, fits.settled)) (omega (arith, c.requires.place, c.requires.places))
+    watches settled dues
+    (watch_is m at.tick at.states.now at.discretes.now at.slopes.now place c.condition-condition.result.now watch c.next_change.result c.watch_of-watch.ensures own c.next_change.ensures)
+    (c.truth-holds.ensures ∙ ap (λ (w : Watch). compares w.rel w.value) c.watch_of-watch.ensures ∙ ap (λ (condition : Condition). truth m condition at.states.now at.discretes.now at.tick) own)
+
+pub note-requires-clause-place : goal.note-requires-clause-place
+note-requires-clause-place c = omega (arith, c.requires.place, c.requires.fits.arrived, ap length c.as_slice-arrived.ensures.value)
+
+pub note-requires-clause-count : goal.note-requires-clause-count
+note-requires-clause-count c = c.requires.fits.apart ∙ sym (ap length c.as_slice-arrived.ensures.value ∙ c.requires.fits.arrived)
+
+pub returns-clause-noted : goal.returns-clause-noted
+returns-clause-noted c =
+    let place = c.args.place in
+    let all : Conditions = c.args.self.now in
+    let holds = c.truth-holds.result in
+    let settled = with_items_is all.settled (set c.as_mut_slice-settled.result.now place holds) (length-set c.as_mut_slice-settled.result.now place holds ∙ c.as_mut_slice-settled.ensures.len)
+    ∙ ap (λ flags. set flags place holds) c.as_mut_slice-settled.ensures.value in
+    one_noted place holds all _ (omega (arith, c.requires.place, c.requires.fits.settled)) refl settled c.note.ensures.count
+    (λ other. c.note.ensures.places other ∙ ap (λ flags. is_among all.apart.places other || (place == other && differ holds (flag_at flags place))) c.as_slice-arrived.ensures.value)

@@ -1,0 +1,23 @@
+-- Where no state was reinitialized, all is as it was. Else those that are due at the tick, once all are in the agenda, are the moved states.
+use Rattle.std.proofs.Common.{rules, sym, ◌∙◌}
+use Rattle.qss_watch.proofs.Reinitialized.{AreGiven, joined, joined_without, joins_nothing}
+use Rattle.qss_watch.proofs.logged.join_reinitialized.Goals as goal
+
+pub returns-clause-each : goal.returns-clause-each
+returns-clause-each c =
+    let back = c.give_back.ensures in
+    let given : AreGiven c.args.tick c.args.log.now c.give_back.new.agenda c.give_reinitialized.new.agenda =
+    record { as_many = c.give_reinitialized.ensures.as_many; given = c.give_reinitialized.ensures.given; others = c.give_reinitialized.ensures.others } in
+    joined c.args.states c.args.tick c.args.log.now c.args.moved.now.items c.take_due.new.moved.items c.args.agenda.now c.give_back.new.agenda c.give_reinitialized.new.agenda c.take_due.new.agenda
+    c.requires.taken.later c.requires.known c.requires.moved back.as_many (search rules) (search rules) given c.take_due.ensures.due c.take_due.ensures.without
+
+pub returns-clause-without : goal.returns-clause-without
+returns-clause-without c =
+    let back = c.give_back.ensures in
+    let given : AreGiven c.args.tick c.args.log.now c.give_back.new.agenda c.give_reinitialized.new.agenda =
+    record { as_many = c.give_reinitialized.ensures.as_many; given = c.give_reinitialized.ensures.given; others = c.give_reinitialized.ensures.others } in
+    joined_without c.args.states c.args.tick c.args.log.now c.args.moved.now.items c.take_due.new.moved.items c.args.agenda.now c.give_back.new.agenda c.give_reinitialized.new.agenda c.take_due.new.agenda
+    c.requires.taken.later c.requires.known c.requires.moved back.as_many (search rules) (search rules) given c.take_due.ensures.due c.take_due.ensures.without
+
+pub returns-then-not-some_reinitialize-clause-each : goal.returns-then-not-some_reinitialize-clause-each
+returns-then-not-some_reinitialize-clause-each c = joins_nothing c.args.log.now (sym c.some_reinitialize.ensures ∙ c.if-not-some_reinitialize.true) c.args.moved.now.items

@@ -1,0 +1,69 @@
+-- The handlers of a tick at which few conditions change, and what they leave.
+use Rattle.std.specs.Prelude.{◌≡◌, ℕ, ◌+◌, ◌<◌, Bool, false, ◌&&◌, ◌||◌, List, [], length, ℤ, Option, None, All, ◌==◌}
+use Rattle.std.specs.List.{list_any}
+use Rattle.mu_num.specs.Sizes.{IsWithin}
+use Rattle.qss_machine.specs.declared.rows.Row.{Row}
+use Rattle.qss_machine.specs.declared.system.Machine.{Machine}
+use Rattle.qss_machine.specs.Counts.{is_reinit}
+use Rattle.qss_machine.specs.Numbers.{int_at, tabulate, first_past}
+use Rattle.qss_machine.specs.Machines.{state_count, discrete_count, truth}
+use Rattle.qss_machine.specs.Handlers.{Handling, conditions, run_clauses, truths, due_flags}
+use Rattle.qss_machine.specs.Firing.{flag_at}
+use Rattle.qss_quant.specs.Lines.{Line}
+use Rattle.qss_cross.specs.Crossing.{Watch}
+use Rattle.qss_hand.specs.Values.{Values}
+use Rattle.qss_hand.specs.Works.{AreValuesOf}
+use Rattle.qss_sched.specs.Ranks.{due_at}
+use Rattle.qss_quiet.specs.Among.{is_among, AreNumbers}
+use Rattle.qss_watch.specs.Places.{watch_at, IsWatched}
+use Rattle.qss_quiet.specs.Sims.{condition_at}
+use Rattle.qss_lines.specs.Variables.{reads_moved, AreDiscretes, AreAssigned}
+use Rattle.qss_lines.specs.StateLines.{states_with}
+
+-- flags of which those at these places are set
+abbrev pub flags_of : ℕ → List ℕ → List Bool
+flags_of count places = tabulate count (is_among places)
+
+-- what the handlers of a tick do at which these branches are due, from these values on arrival, of which none passed its limit
+abbrev pub handling_of_fired : Machine → ℕ → List ℤ → List ℤ → List ℕ → Handling
+handling_of_fired m tick states discretes fired =
+    run_clauses m tick discretes 0
+    (record { states = states; discretes = discretes; rows = []; overflow = None })
+    m.clauses
+    (flags_of (length (conditions m)) fired)
+
+-- whether rows say that a state was reinitialized
+abbrev pub is_reinitialized : List Row → ℕ → Bool
+is_reinitialized rows j = list_any (λ row. is_reinit row.kind && row.var == j) rows
+
+-- what the handlers of a tick did, where the due states are these: the moved states are those and the reinitialized ones
+pub record IsHandled (m : Machine) (tick : ℕ) (lines : List Line) (due moved assigned : List ℕ) (old new : Values) (h : Handling) : Type 0 where
+  pub values : new ≡ record { x = new.x; d = h.discretes; pre = old.d; tick = tick; log = h.rows; room = old.room }
+  pub fits : AreValuesOf m new
+  pub own_states : h.states ≡ states_with lines tick moved new.x
+  pub small : All (IsWithin 88) h.states
+  pub numbers : AreNumbers (state_count m) moved
+  pub moves : (j : ℕ) → is_among moved j ≡ (is_among due j || is_reinitialized h.rows j)
+  pub variables : AreDiscretes m assigned
+  pub others : AreAssigned m assigned old.d h.discretes
+
+-- conditions watched up to a tick at which these states moved, some of them by reinitialization, these discrete variables were assigned and these conditions changed
+pub record AreWatchedUpTo (m : Machine) (tick : ℕ) (moved reinitialized assigned changed : List ℕ) (x states pre d before slopes : List ℤ) (settled : List Bool) (watches : List Watch) (due : List (Option ℕ)) : Type 0 where
+  pub each : (place : ℕ) → place < length (conditions m) → is_among changed place ≡ false →
+      IsWatched m tick x pre before place (watch_at watches place) (due_at due (state_count m + place))
+  pub settled_so : (place : ℕ) → place < length (conditions m) → is_among changed place ≡ false →
+      flag_at settled place ≡ truth m (condition_at m place) x pre tick
+  pub other_states : (j : ℕ) → j < state_count m → is_among reinitialized j ≡ false → int_at states j ≡ int_at x j
+  pub other_discretes : AreAssigned m assigned pre d
+  pub other_slopes : (j : ℕ) → j < state_count m → reads_moved m moved j ≡ false → reads_moved m assigned j ≡ false → int_at slopes j ≡ int_at before j
+  pub many_states : (length x ≡ state_count m) × (length states ≡ state_count m)
+  pub many_discretes : (length pre ≡ discrete_count m) × (length d ≡ discrete_count m)
+  pub many_slopes : (length before ≡ state_count m) × (length slopes ≡ state_count m)
+
+-- what the handlers of a tick do, from these values on arrival and these truths of the tick before
+abbrev pub handling_from : Machine → ℕ → List ℤ → List ℤ → List Bool → List Bool → Handling
+handling_from m tick states discretes arrived settled =
+    run_clauses m tick discretes 0
+    (record { states = states; discretes = discretes; rows = []; overflow = first_past 88 states })
+    m.clauses
+    (due_flags (truths m states discretes tick) arrived settled)

@@ -1,0 +1,34 @@
+//! Conditions on arrival after ticks at which they do not change.
+
+ghost use Rattle.std.specs.Prelude.{◌≡◌, ◌<◌, All, length, if◌then◌else◌};
+ghost use Rattle.qss_watch.specs.Moves.{AreAlikeBut};
+
+use crate::place_set::PlaceSet;
+
+/// Each condition is on arrival as it was after the last handlers. Before, only those of these places were not.
+pub(crate) fn agree(apart: &[u32], settled: &[bool], arrived: &mut [bool])
+    requires as_many { length arrived.old ≡ length settled.now }
+    requires below { All (λ place. place < length settled.now) apart.now }
+    requires alike { AreAlikeBut apart.now arrived.old settled.now }
+    ensures { arrived.new ≡ settled.now }
+{
+    for condition in apart {
+        let place = *condition as usize;
+        arrived[place] = settled[place];
+    }
+}
+
+/// After a tick at which no condition changes they are on arrival as they were after the last handlers.
+pub fn catch_up(still: bool, settled: &[bool], arrived: &mut [bool], apart: &mut PlaceSet)
+    requires as_many { length arrived.old ≡ length settled.now }
+    requires count { apart.old.count ≡ length settled.now }
+    requires alike { AreAlikeBut apart.old.places arrived.old settled.now }
+    ensures arrived { arrived.new ≡ (if still then settled.now else arrived.old) }
+    ensures count { apart.new.count ≡ apart.old.count }
+    ensures alike { AreAlikeBut apart.new.places arrived.new settled.now }
+{
+    if still {
+        agree(apart.places(), settled, arrived);
+        apart.clear();
+    }
+}

@@ -1,0 +1,96 @@
+//! What is due at one tick.
+
+ghost use Rattle.std.specs.Prelude.{◌≡◌, ◌≢◌, ℕ, ◌+◌, ◌<◌, ◌≤◌, ◌^◌, [], All, MatchOption, None, Some, length, true, false, vec_capacity};
+ghost use Rattle.qss_sched.specs.Ranks.{due_at, IsLeast};
+ghost use Rattle.qss_quiet.specs.Among.{is_among};
+ghost use Rattle.qss_watch.specs.Moves.{AreDue, AreChanging, IsTakenAfter, IsWithout};
+
+use qss_sched::Agenda;
+
+// The least of some first places that is due at a tick, where nothing is due before.
+fn due_place(agenda: &Agenda, tick: u64, places: u32) -> Option<u32>
+    requires { (place due : ℕ) → due_at agenda.now place ≡ Some due → tick ≤ due }
+    ensures { MatchOption result ((j : ℕ) → j < places → due_at agenda.now j ≢ Some tick)
+        (λ place. (place < places) × IsLeast agenda.now tick place) }
+{
+    match agenda.next() {
+        Some((due, place)) => {
+            if due == tick && place < places {
+                Some(place)
+            } else {
+                None
+            }
+        }
+        None => None,
+    }
+}
+
+// Takes what is due at a tick at `count` places after the first ones out of the agenda, rising, where nothing is due at
+// those then.
+fn take(agenda: &mut Agenda, tick: u64, first: u32, count: u32, found: &mut Vec<u32>)
+    requires room { count ≤ vec_capacity found.old }
+    requires places { first + count ≤ length agenda.old }
+    requires few { first + count < 2 ^ 32 }
+    requires none_before { (place due : ℕ) → due_at agenda.old place ≡ Some due → tick ≤ due }
+    requires none_first { (j : ℕ) → j < first → due_at agenda.old j ≢ Some tick }
+    ensures changing { AreChanging first count tick agenda.old found.new.items }
+    ensures taken { IsTakenAfter first found.new.items agenda.old agenda.new }
+    ensures room { vec_capacity found.new ≡ vec_capacity found.old }
+{
+    found.clear();
+    for _ in 0..count {
+        match due_place(agenda, tick, first + count) {
+            Some(place) => {
+                agenda.set(place, None);
+                found.push_reserved(place - first);
+            }
+            None => return,
+        }
+    }
+}
+
+/// Takes the states that are due at a tick out of the agenda, rising, where nothing is due before it.
+pub fn take_due(agenda: &mut Agenda, tick: u64, states: u32, moved: &mut Vec<u32>)
+    requires room { states ≤ vec_capacity moved.old }
+    requires places { states ≤ length agenda.old }
+    requires none_before { (place due : ℕ) → due_at agenda.old place ≡ Some due → tick ≤ due }
+    ensures due { AreDue states tick agenda.old moved.new.items }
+    ensures without { IsWithout moved.new.items agenda.old agenda.new }
+    ensures room { vec_capacity moved.new ≡ vec_capacity moved.old }
+{
+    take(agenda, tick, 0, states, moved);
+}
+
+/// Takes the conditions that are due at a tick out of the agenda, rising, where none of the states before them is due then.
+pub fn take_changed(
+    agenda: &mut Agenda,
+    tick: u64,
+    states: u32,
+    conditions: u32,
+    changed: &mut Vec<u32>,
+)
+    requires room { conditions ≤ vec_capacity changed.old }
+    requires places { states + conditions ≤ length agenda.old }
+    requires few { states + conditions < 2 ^ 32 }
+    requires none_before { (place due : ℕ) → due_at agenda.old place ≡ Some due → tick ≤ due }
+    requires no_states { (j : ℕ) → j < states → due_at agenda.old j ≢ Some tick }
+    ensures changing { AreChanging states conditions tick agenda.old changed.new.items }
+    ensures taken { IsTakenAfter states changed.new.items agenda.old agenda.new }
+    ensures room { vec_capacity changed.new ≡ vec_capacity changed.old }
+{
+    take(agenda, tick, states, conditions, changed);
+}
+
+/// Puts states back that were taken out.
+pub(crate) fn give_back(agenda: &mut Agenda, tick: u64, moved: &[u32])
+    requires { All (λ place. place < length agenda.old) moved.now }
+    ensures as_many { length agenda.new ≡ length agenda.old }
+    ensures back { (place : ℕ) → is_among moved.now place ≡ true
+        → due_at agenda.new place ≡ Some tick }
+    ensures others { (place : ℕ) → is_among moved.now place ≡ false
+        → due_at agenda.new place ≡ due_at agenda.old place }
+{
+    for place in moved {
+        agenda.set(*place, Some(tick));
+    }
+}

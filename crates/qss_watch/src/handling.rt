@@ -1,0 +1,119 @@
+//! The handlers of a tick at which conditions change.
+
+ghost use Rattle.std.specs.Prelude.{◌≡◌, ℕ, ◌<◌, ◌≤◌, ◌^◌, [], All, None, length, pos, false, vec_capacity};
+ghost use Rattle.mu_num.specs.Sizes.{IsWithin};
+ghost use Rattle.qss_machine.specs.Handlers.{conditions, truths};
+ghost use Rattle.qss_machine.specs.Numbers.{first_past};
+ghost use Rattle.qss_machine.specs.Machines.{state_count};
+ghost use Rattle.qss_quant.specs.Lines.{state_at};
+ghost use Rattle.qss_hand.specs.Works.{row_room};
+ghost use Rattle.qss_watch.specs.Handlings.{IsHandled, handling_from};
+ghost use Rattle.qss_quiet.specs.Among.{is_among, AreNumbers};
+ghost use Rattle.qss_watch.specs.Moves.{AreAlikeBut, IsWithout};
+ghost use Rattle.qss_watch.specs.Places.{AreConditionsOf};
+ghost use Rattle.qss_lines.specs.StateLines.{line_at, states_at};
+ghost use Rattle.qss_watch.specs.Moments.{CanHandle};
+ghost use Rattle.qss_quiet.specs.Writes.{IsWritten};
+
+use crate::conditions::Conditions;
+use crate::fired::handle_fired;
+use crate::logged::{join_reinitialized, list_assigned};
+use crate::moment::Changing;
+use crate::reading::{list_fired, read_changed};
+use qss_hand::Work;
+use qss_lines::arrive_within;
+use qss_quant::Integrator;
+use qss_sched::Agenda;
+
+// The due states arrive among the values that handlers work on.
+fn arrive_moved(lines: &[Integrator], tick: u64, moved: &[u32], work: &mut Work) -> Option<u32>
+    requires as_many { length work.old.x ≡ length lines.now }
+    requires moved { AreNumbers (length lines.now) moved.now }
+    requires later { (j : ℕ) → j < length lines.now → (line_at lines.now j).tick ≤ tick }
+    requires in_time { tick < 2 ^ 32 }
+    requires others_small { (j : ℕ) → j < length lines.now
+        → is_among moved.now j ≡ false
+        → IsWithin 88 (state_at (line_at lines.now j) tick) }
+    requires small { All (IsWithin 88) work.old.x }
+    ensures work { work.new ≡ record work.old { x = work.new.x } }
+    ensures arrived { IsWritten (pos 0) (λ j z. z ≡ state_at (line_at lines.now j) tick) moved.now
+        work.old.x work.new.x }
+    ensures over { result ≡ first_past 88 (states_at lines.now tick) }
+    ensures small { result ≡ None → All (IsWithin 88) work.new.x }
+{
+    arrive_within(lines, tick, moved, work.x.as_mut_slice())
+}
+
+impl Conditions {
+    /// The handlers of a tick at which these states are due, and these conditions change or became true through the handlers
+    /// before. Reinitialized states join the moved ones, all of which leave the agenda. It gives the variable that overflows,
+    /// on arrival or by an assignment, if one does.
+    pub fn handle(
+        &mut self,
+        at: &Changing,
+        fired: &mut Vec<u32>,
+        moved: &mut Vec<u32>,
+        assigned: &mut Vec<u32>,
+        work: &mut Work,
+        agenda: &mut Agenda,
+    ) -> Option<u32>
+        requires ready { CanHandle at.now self.old moved.old.items work.old agenda.old }
+        requires room { row_room at.now.machine.now.clauses ≤ work.old.room }
+        requires fired_room { length (conditions at.now.machine.now) ≤ vec_capacity fired.old }
+        requires moved_room { state_count at.now.machine.now ≤ vec_capacity moved.old }
+        requires assigned_room { row_room at.now.machine.now.clauses ≤ vec_capacity assigned.old }
+        ensures over { result
+            ≡ (handling_from at.now.machine.now at.now.tick (states_at at.now.lines.now at.now.tick)
+            work.old.d self.old.arrived.items self.old.settled.items).overflow }
+        ensures handled { result ≡ None
+            → IsHandled at.now.machine.now at.now.tick at.now.lines.now moved.old.items
+            moved.new.items assigned.new.items
+            work.old work.new
+            (handling_from at.now.machine.now at.now.tick
+            (states_at at.now.lines.now at.now.tick)
+            work.old.d self.old.arrived.items self.old.settled.items) }
+        ensures arrived { result ≡ None
+            → self.new.arrived.items
+            ≡ truths at.now.machine.now
+            (states_at at.now.lines.now at.now.tick) work.old.d at.now.tick }
+        ensures alike { result ≡ None
+            → AreAlikeBut at.now.changed.now self.new.arrived.items self.new.settled.items }
+        ensures none_apart { result ≡ None → self.new.apart.places ≡ [] }
+        ensures rest { self.new
+            ≡ record self.old { arrived = self.new.arrived; apart = self.new.apart } }
+        ensures fits { result ≡ None → AreConditionsOf at.now.machine.now self.new }
+        ensures without { result ≡ None → IsWithout moved.new.items agenda.old agenda.new }
+        ensures fired_room { vec_capacity fired.new ≡ vec_capacity fired.old }
+        ensures moved_room { vec_capacity moved.new ≡ vec_capacity moved.old }
+        ensures assigned_room { vec_capacity assigned.new ≡ vec_capacity assigned.old }
+    {
+        let passed = arrive_moved(at.lines, at.tick, moved.as_slice(), work);
+        if passed.is_some() {
+            return passed;
+        }
+        let watches = self.watches.as_slice();
+        let settled = self.settled.as_slice();
+        let arrived = self.arrived.as_mut_slice();
+        list_fired(watches, at.tick, at.changed, settled, arrived, fired);
+        let apart = self.apart.places();
+        read_changed(watches, at.tick, at.changed, apart, settled, arrived);
+        self.apart.clear();
+        let branches = self.branches.as_slice();
+        let over = handle_fired(
+            at.machine,
+            branches,
+            at.tick,
+            at.lines,
+            fired.as_slice(),
+            work,
+        );
+        if over.is_some() {
+            return over;
+        }
+        let states = at.machine.states.as_slice().len() as u32;
+        let log = work.log.as_slice();
+        join_reinitialized(agenda, at.tick, states, log, moved);
+        list_assigned(log, assigned);
+        None
+    }
+}

@@ -1,0 +1,136 @@
+//! Conditions at new speeds, where few states moved.
+
+ghost use Rattle.std.specs.Prelude.{◌≡◌, ℕ, ◌<◌, ◌≤◌, All, length, slice_index_or, []};
+ghost use Rattle.mu_num.specs.Ticks.{tick_limit};
+ghost use Rattle.qss_machine.specs.Handlers.{conditions};
+ghost use Rattle.qss_machine.specs.Machines.{state_count};
+ghost use Rattle.qss_machine.specs.Uses.{uses_of};
+ghost use Rattle.qss_cross.specs.Crossing.{IsSmall, value_at};
+ghost use Rattle.qss_sched.specs.Ranks.{due_at};
+ghost use Rattle.qss_watch.specs.Moments.{CanRewatch};
+ghost use Rattle.qss_quiet.specs.Among.{AreNumbers};
+ghost use Rattle.qss_watch.specs.Speeds.{HasSpeed, GoesOn, AreGoingOn, AreWatchedOn};
+
+use crate::conditions::Conditions;
+use qss_cross::Detector;
+use qss_machine::{Machine, Uses};
+use qss_sched::Agenda;
+
+// A watch goes on from a tick at a speed, and the agenda has the tick of its first change, if it had. Where it has the speed already,
+// it is left as it is.
+fn respeed(watch: &mut Detector, tick: u64, speed: i128, place: u32, agenda: &mut Agenda)
+    requires later { watch.old.tick ≤ tick }
+    requires in_time { tick ≤ tick_limit }
+    requires small { IsSmall (value_at watch.old tick) }
+    requires speed { IsSmall speed }
+    requires place { place < length agenda.old }
+    ensures goes_on { GoesOn tick speed watch.old watch.new (due_at agenda.old place)
+        (due_at agenda.new place) }
+    ensures speed { watch.new.speed ≡ speed }
+    ensures places { length agenda.new ≡ length agenda.old }
+    ensures others { (other : ℕ) → (other ≡ place → ⊥)
+        → due_at agenda.new other ≡ due_at agenda.old other }
+{
+    if watch.speed == speed {
+        return;
+    }
+    watch.move_to(tick);
+    let value = watch.value;
+    watch.set(value, speed);
+    agenda.set(place, watch.next_change());
+}
+
+impl Conditions {
+    // One condition goes on from a tick at its speed.
+    fn rewatch(&mut self, m: &Machine, tick: u64, place: u32, slopes: &[i128], agenda: &mut Agenda)
+        requires place { place < length (conditions m.now) }
+        requires ready { CanRewatch m.now tick slopes.now self.old agenda.old }
+        ensures goes_on { AreGoingOn m.now tick slopes.now self.old.watches.items
+            self.new.watches.items agenda.old agenda.new }
+        ensures speed { HasSpeed m.now slopes.now self.new.watches.items place }
+        ensures same { self.new ≡ record self.old { watches = self.new.watches } }
+    {
+        let condition = self.condition(m, place);
+        let speed = m.form_speed(&condition.form, slopes);
+        let entry = (slopes.len() + place as usize) as u32;
+        let watches = self.watches.as_mut_slice();
+        respeed(&mut watches[place as usize], tick, speed, entry, agenda);
+    }
+
+    // The conditions of these places go on from a tick at their speeds.
+    fn rewatch_places(
+        &mut self,
+        m: &Machine,
+        tick: u64,
+        places: &[u32],
+        slopes: &[i128],
+        agenda: &mut Agenda,
+    )
+        requires known { All (λ place. place < length (conditions m.now)) places.now }
+        requires ready { CanRewatch m.now tick slopes.now self.old agenda.old }
+        ensures goes_on { AreGoingOn m.now tick slopes.now self.old.watches.items
+            self.new.watches.items agenda.old agenda.new }
+        ensures speeds { All (HasSpeed m.now slopes.now self.new.watches.items) places.now }
+        ensures same { self.new ≡ record self.old { watches = self.new.watches } }
+    {
+        for place in places {
+            self.rewatch(m, tick, *place, slopes, agenda);
+        }
+    }
+
+    // The conditions that read one of these states go on from a tick at their speeds.
+    fn rewatch_states(
+        &mut self,
+        m: &Machine,
+        uses: &Uses,
+        tick: u64,
+        states: &[u32],
+        slopes: &[i128],
+        agenda: &mut Agenda,
+    )
+        requires uses { uses.now ≡ uses_of m.now }
+        requires known { All (λ state. state < state_count m.now) states.now }
+        requires ready { CanRewatch m.now tick slopes.now self.old agenda.old }
+        ensures goes_on { AreGoingOn m.now tick slopes.now self.old.watches.items
+            self.new.watches.items agenda.old agenda.new }
+        ensures speeds { All
+            (λ state. All (HasSpeed m.now slopes.now self.new.watches.items)
+            (slice_index_or uses.now.1 state []))
+            states.now }
+        ensures same { self.new ≡ record self.old { watches = self.new.watches } }
+    {
+        for state in states {
+            let places = uses.conditions_of(*state);
+            self.rewatch_places(m, tick, places, slopes, agenda);
+        }
+    }
+
+    /// The conditions that read a state whose row reads a moved one go on from a tick at their speeds. Those that were watched at
+    /// the slopes before are watched, and the agenda has the ticks of their first changes.
+    pub fn rewatch_of(
+        &mut self,
+        m: &Machine,
+        uses: &Uses,
+        tick: u64,
+        moved: &[u32],
+        slopes: &[i128],
+        agenda: &mut Agenda,
+    )
+        requires uses { uses.now ≡ uses_of m.now }
+        requires moved { AreNumbers (state_count m.now) moved.now }
+        requires ready { CanRewatch m.now tick slopes.now self.old agenda.old }
+        ensures watches { AreWatchedOn m.now tick moved.now slopes.now self.old.watches.items
+            self.new.watches.items agenda.old agenda.new }
+        ensures goes_on { AreGoingOn m.now tick slopes.now self.old.watches.items
+            self.new.watches.items agenda.old agenda.new }
+        ensures same { self.new ≡ record self.old { watches = self.new.watches } }
+    {
+        if self.watches.is_empty() {
+            return;
+        }
+        for state in moved {
+            let states = uses.rows_of(*state);
+            self.rewatch_states(m, uses, tick, states, slopes, agenda);
+        }
+    }
+}
