@@ -23,21 +23,15 @@ use Rattle.qss_quiet.proofs.Among.{among_rows}
 use Rattle.qss_quiet.proofs.Changes.{slopes_follow_levels}
 use Rattle.qss_quiet.proofs.Firsts.{same_lists}
 use Rattle.qss_quiet.proofs.Quiet.{int_at-tabulate}
-use Rattle.qss_quiet.proofs.KeptReaders.{rows_known}
 use Rattle.qss_quiet.proofs.Unread.{unread_slope, unread_weight}
-use Rattle.qss_quiet.proofs.Readers.{places_rise}
+use Rattle.qss_quiet.proofs.Readers.{reading_numbers}
 use Rattle.qss_quiet.proofs.LightRows.{row_is_light}
-
--- ---- the rows that read a state rise
-
-pub reading_numbers : (m : Machine) (j : ℕ) → AreNumbers (state_count m) (reading_rows m j)
-reading_numbers m j = record { rising = places_rise (row_reads j) 0 m.rows; below = rows_known m j }
 
 -- ---- the coefficients of a state in the rows that read it
 
 module _ (m : Machine) (state : ℕ) (rows : List ℕ) where
   pub reader_numbers : rows ≡ reading_rows m state → AreNumbers (state_count m) rows
-  reader_numbers are = subst (AreNumbers (state_count m)) (sym are) (reading_numbers m state)
+  reader_numbers are = subst (AreNumbers (state_count m)) (sym are) (reading_numbers m state (state_count m) refl)
 
   module _ (coefficients : List ℤ) (rows_are : rows ≡ reading_rows m state) (coefficients_are : coefficients ≡ reading_coefficients m state) where
     abbrev own : ℕ → ℤ

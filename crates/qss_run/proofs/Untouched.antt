@@ -6,9 +6,7 @@ use Rattle.std.proofs.lemmas.List.{get_or-map, length-map, get_or_append_left, g
 use Rattle.std.proofs.lemmas.List.Folds.{Any-from_list_any, list_any-append, list_any_at}
 use Rattle.std.specs.Prelude.{flat_map}
 use Rattle.mu_num.proofs.Tests.{eqb-yes, eqb-true}
-use Rattle.qss_machine.specs.declared.parts.Condition.{Condition}
 use Rattle.qss_machine.specs.declared.parts.Entry.{Entry}
-use Rattle.qss_machine.specs.declared.parts.Rel.TheVariants.{Less}
 use Rattle.qss_machine.specs.declared.system.Machine.{Machine}
 use Rattle.qss_machine.specs.Machines.{state_count, discrete_count, row_at, level_unit, inputs, value_of, compares, truth}
 use Rattle.qss_machine.specs.Numbers.{int_at}
@@ -25,8 +23,9 @@ use Rattle.qss_lines.specs.Variables.{reads_moved}
 use Rattle.qss_watch.specs.Speeds.{AreSlopesBefore}
 use Rattle.qss_watch.specs.Rewatchings.{Watchings, AreSettled, readers_of, touched_of, touched_by, readers_before, touched_after}
 use Rattle.qss_quiet.proofs.Among.{among_rows}
+use Rattle.qss_quiet.proofs.Readers.{among_conditions}
 use Rattle.qss_watch.proofs.Rewatching.{watched_as}
-use Rattle.qss_watch.proofs.Speeds.{of_place, speeds_same}
+use Rattle.qss_watch.proofs.Speeds.{speeds_same}
 
 -- a condition is watched at its value, at the speed of slopes before, and has its truth
 pub record IsWatchedThere (m : Machine) (tick : ℕ) (moved : List ℕ) (states d slopes : List ℤ) (place : ℕ) (now : Watchings) : Type 0 where
@@ -57,14 +56,7 @@ clash b is is_not = absurd (cc)
 module _ (m : Machine) (place : ℕ) (h : place < length (conditions m)) where
   -- a condition stands among those that read a variable where it reads it
   among_readers : (var : ℕ) → condition_reads var (condition_at m place) ≡ true → is_among (reading_conditions m var) place ≡ true
-  among_readers var reads =
-      let none : Condition = record { form = record { entries = []; time = pos 0; gamma = pos 0 }; rel = Less } in
-      let Stands = λ (k : ℕ). is_among (reading_conditions m var) k ≡ true in
-      let here : 0 + place ≡ place = omega arith in
-      subst Stands here
-      (of_place Stands (condition_reads var) 0 (conditions m) place none
-      (λ k other inside. list_any_at (λ (i : ℕ). i == get_or (reading_conditions m var) k other) (reading_conditions m var) k other inside (eqb-yes _ (get_or (reading_conditions m var) k other) refl))
-      h reads)
+  among_readers var reads = among_conditions m var place h ∙ reads
 
   -- a variable that an untouched condition reads is not one of these, and its row reads none of them
   not_one : (vars : List ℕ) → is_among (touched_by m vars) place ≡ false → (j : ℕ) → condition_reads j (condition_at m place) ≡ true → is_among vars j ≡ false

@@ -1,5 +1,5 @@
 -- Which conditions settle after handlers.
-use Rattle.std.proofs.Common.{◌≡◌, ℕ, ◌+◌, ◌<◌, Bool, true, false, ◌||◌, List, [], ◌∷◌, ◌++◌, length, flat_map, ℤ, pos, refl, sym, ◌∙◌, ap, arith, inl, inr, append-nil, ◌==◌}
+use Rattle.std.proofs.Common.{◌≡◌, ℕ, ◌+◌, ◌<◌, Bool, true, false, ◌||◌, List, [], ◌∷◌, ◌++◌, length, flat_map, ℤ, pos, refl, sym, ◌∙◌, ap, inl, inr, append-nil, ◌==◌}
 use Rattle.std.proofs.lemmas.Grind.{flat_map-append}
 use Rattle.std.proofs.lemmas.Bool.{cases_lt, false_from_ne_true}
 use Rattle.std.proofs.lemmas.List.{get_or_past}
@@ -16,7 +16,7 @@ use Rattle.qss_quiet.specs.Among.{is_among}
 use Rattle.qss_watch.specs.Reads.{AreArrived}
 use Rattle.qss_watch.specs.Rewatchings.{readers_of, touched_of, touched_by, readers_before, touched_after, depends_on, settles_after, one_reads}
 use Rattle.qss_quiet.specs.Sims.{condition_at}
-use Rattle.qss_quiet.proofs.Among.{place_among}
+use Rattle.qss_quiet.proofs.Readers.{among_conditions}
 use Rattle.qss_watch.proofs.Arrived.{arrived_then}
 
 in_two : (xs ys : List ℕ) (place : ℕ) → is_among (xs ++ ys) place ≡ (is_among xs place || is_among ys place)
@@ -36,20 +36,13 @@ module _ (m : Machine) (place : ℕ) (h : place < length (conditions m)) where
   abbrev condition : Condition
   condition = condition_at m place
 
-  -- a condition stands among those that read a variable where it reads it
-  among_conditions : (var : ℕ) → is_among (reading_conditions m var) place ≡ condition_reads var condition
-  among_conditions var =
-      let none : Condition = record { form = record { entries = []; time = pos 0; gamma = pos 0 }; rel = Less } in
-      let e : 0 + place ≡ place = omega arith in
-      ap (is_among (reading_conditions m var)) (sym e) ∙ place_among (condition_reads var) 0 (conditions m) place none h
-
   among_touched : (vars : List ℕ) → is_among (touched_by m vars) place ≡ list_any (depends_on m condition) vars
   among_touched vars =
       in_lists (touched_of m) (depends_on m condition) place
       (λ var.
       in_two (readers_of m (reading_rows m var)) (reading_conditions m var) place
-      ∙ ap (λ b. b || is_among (reading_conditions m var) place) (in_lists (reading_conditions m) (λ j. condition_reads j condition) place among_conditions (reading_rows m var))
-      ∙ ap (λ b. list_any (λ j. condition_reads j condition) (reading_rows m var) || b) (among_conditions var)) vars
+      ∙ ap (λ b. b || is_among (reading_conditions m var) place) (in_lists (reading_conditions m) (λ j. condition_reads j condition) place (λ j. among_conditions m j place h) (reading_rows m var))
+      ∙ ap (λ b. list_any (λ j. condition_reads j condition) (reading_rows m var) || b) (among_conditions m var place h)) vars
 
   -- the conditions that settle are those that changed and those that read what changed
   pub among_settling : (reinitialized assigned changed : List ℕ) → is_among (touched_after m reinitialized assigned changed) place ≡ settles_after m reinitialized assigned changed place
@@ -59,7 +52,7 @@ module _ (m : Machine) (place : ℕ) (h : place < length (conditions m)) where
       let before : List ℕ = readers_before m assigned in
       let on : List ℕ → Bool = list_any (depends_on m condition) in
       let last : is_among before place ≡ list_any (λ var. condition_reads (var + discrete_count m) condition) assigned =
-      in_lists (λ var. reading_conditions m (var + discrete_count m)) (λ var. condition_reads (var + discrete_count m) condition) place (λ var. among_conditions (var + discrete_count m)) assigned in
+      in_lists (λ var. reading_conditions m (var + discrete_count m)) (λ var. condition_reads (var + discrete_count m) condition) place (λ var. among_conditions m (var + discrete_count m) place h) assigned in
       let two : is_among (changed ++ by_reinitialized) place ≡ (is_among changed place || on reinitialized) = in_two changed by_reinitialized place ∙ ap (λ b. is_among changed place || b) (among_touched reinitialized) in
       let three : is_among ((changed ++ by_reinitialized) ++ by_assigned) place ≡ ((is_among changed place || on reinitialized) || on assigned) =
       in_two (changed ++ by_reinitialized) by_assigned place ∙ ap (λ b. b || is_among by_assigned place) two ∙ ap (λ b. (is_among changed place || on reinitialized) || b) (among_touched assigned) in

@@ -37,7 +37,7 @@ if_kept P true first rest all = ((λ e. All-head P first rest all), All-tail P f
 if_kept P false first rest all = ((λ e. absurd (cc)), all)
 
 -- what holds of all these places holds of the place of an element that passes
-pub of_place : {X : Type 0} (P : ℕ → Type 0) (test : X → Bool) (first : ℕ) (xs : List X) (i : ℕ) (d : X) → All P (places_from test first xs) → i < length xs → test (get_or xs i d) ≡ true →
+of_place : {X : Type 0} (P : ℕ → Type 0) (test : X → Bool) (first : ℕ) (xs : List X) (i : ℕ) (d : X) → All P (places_from test first xs) → i < length xs → test (get_or xs i d) ≡ true →
     P (first + i)
 of_place P test first [] i d all h e = absurd (omega (arith, h))
 of_place P test first (x ∷ xs) zero d all h e =
