@@ -1,28 +1,27 @@
 -- The branches of the conditions that hold on arrival, and did not both before, are those that are due.
-use Rattle.std.proofs.Common.{◌≡◌, ◌<◌, ◌≤◌, ◌||◌, true, false, ℕ, List, length, ℤ, pos, sym, ap, ◌∙◌, subst, arith}
+use Rattle.std.proofs.Common.{◌≡◌, ◌<◌, ◌≤◌, ◌||◌, true, ℕ, List, length, ℤ, pos, sym, ap, ◌∙◌, subst, arith}
 use Rattle.std.proofs.lemmas.List.{with_items_is}
-use Rattle.std.specs.Prelude.{Bool, None, All}
+use Rattle.std.specs.Prelude.{None, All}
 use Rattle.std.specs.Vec.{with_items}
 use Rattle.mu_num.specs.Sizes.{IsWithin}
 use Rattle.qss_machine.specs.declared.rows.Row.{Row}
 use Rattle.qss_machine.specs.Firing.{flag_at}
 use Rattle.qss_machine.specs.Handlers.{Handling, conditions}
-use Rattle.qss_machine.specs.Machines.{state_count, truth}
+use Rattle.qss_machine.specs.Machines.{state_count}
 use Rattle.qss_machine.specs.Numbers.{first_past}
 use Rattle.qss_quant.specs.Lines.{state_at}
-use Rattle.qss_cross.specs.Crossing.{Watch, IsSmall, value_at, holds_at}
+use Rattle.qss_cross.specs.Crossing.{IsSmall, value_at, holds_at}
 use Rattle.qss_hand.specs.Values.{Values}
 use Rattle.qss_watch.specs.declared.conditions.Conditions.{Conditions}
 use Rattle.qss_watch.specs.Handlings.{handling_of_fired, is_reinitialized, IsHandled, handling_from}
 use Rattle.qss_quiet.specs.Logs.{assigned_of}
 use Rattle.qss_quiet.specs.Among.{is_among, AreNumbers}
-use Rattle.qss_quiet.specs.Sims.{condition_at, became_true}
 use Rattle.qss_watch.specs.Places.{AreBranches, watch_at}
 use Rattle.qss_lines.specs.StateLines.{line_at, states_at}
 use Rattle.qss_watch.specs.PlaceSets.{PlaceList}
 use Rattle.qss_quiet.specs.Writes.{IsWritten}
 use Rattle.qss_quiet.proofs.Overs.{all_within, not_some}
-use Rattle.qss_watch.proofs.Arrivals.{fired_numbers, truths_on_arrival, fired_handling, rows_fired, known_states, is_handled}
+use Rattle.qss_watch.proofs.Arrivals.{fired_numbers, read_on_arrival, read_handling, rows_fired, known_states, is_handled}
 use Rattle.qss_watch.proofs.Handled.{over_early}
 use Rattle.qss_watch.proofs.OwnConditions.{arrived_anew}
 use Rattle.qss_lines.proofs.InPlace.{same_length}
@@ -193,28 +192,10 @@ returns-then-is_some-2-clause-over c =
     let lines = c.args.at.now.lines.now in
     let x : List ℤ = states_at lines tick in
     let calm : first_past 88 x ≡ None = sym c.arrive_moved-passed.ensures.over ∙ not_some c.arrive_moved-passed.result (sym c.is_some.ensures ∙ c.if-is_some.false) in
-    let watches : List Watch = c.as_slice-watches.result.now in
-    let settled : List Bool = c.as_slice-settled.result.now in
-    let arrived : List Bool = c.as_mut_slice-arrived.result.now in
-    let of_watches : watches ≡ all.watches.items = c.as_slice-watches.ensures.value in
-    let of_settled : settled ≡ all.settled.items = c.as_slice-settled.ensures.value in
-    let of_arrived : arrived ≡ all.arrived.items = c.as_mut_slice-arrived.ensures.value in
-    let many : length settled ≡ length (conditions m) = ap length of_settled ∙ fits.settled in
-    let holds : ℕ → Bool = λ place. holds_at (watch_at watches place) tick in
-    let own : (place : ℕ) → place < length settled → holds place ≡ truth m (condition_at m place) x c.args.work.now.d tick =
-    λ place h. ap (λ ws. holds_at (watch_at ws place) tick) of_watches ∙ (ready.watched place (omega (arith, h, many))).2 in
-    let rest : (place : ℕ) → place < length settled → is_among c.args.at.now.changed.now place ≡ false →
-    (truth m (condition_at m place) x c.args.work.now.d tick ≡ flag_at settled place) × (became_true arrived settled place ≡ false) =
-    λ place h none.
-    subst (λ (b : List Bool). (truth m (condition_at m place) x c.args.work.now.d tick ≡ flag_at b place) × (became_true arrived b place ≡ false)) (sym of_settled)
-    (subst (λ (a : List Bool). (truth m (condition_at m place) x c.args.work.now.d tick ≡ flag_at all.settled.items place) × (became_true a all.settled.items place ≡ false)) (sym of_arrived)
-    (ready.others place (omega (arith, h, many)) none)) in
-    let as_many : length arrived ≡ length settled = ap length of_arrived ∙ fits.arrived ∙ sym many in
     let same : handling_of_fired m tick x c.arrive_moved-passed.new.work.d c.as_slice-2.result.now ≡ handling_from m tick x c.args.work.now.d all.arrived.items all.settled.items =
-    fired_handling settled arrived c.args.at.now.changed.now holds c.read_changed.new.arrived as_many c.read_changed.ensures m tick x c.args.work.now.d many own rest
-    c.arrive_moved-passed.new.work.d c.as_slice-2.result.now calm (ap (λ (v : Values). v.d) c.arrive_moved-passed.ensures.work) (c.as_slice-2.ensures.value ∙ c.list_fired.ensures.fired)
-    ∙ ap (λ a. handling_from m tick x c.args.work.now.d a settled) of_arrived
-    ∙ ap (handling_from m tick x c.args.work.now.d all.arrived.items) of_settled in
+    read_handling c.args.at.now all _ c.args.work.now _ ready c.as_slice-watches.result.now c.as_slice-settled.result.now c.as_mut_slice-arrived.result.now c.read_changed.new.arrived
+    c.as_slice-watches.ensures.value c.as_slice-settled.ensures.value c.as_mut_slice-arrived.ensures.value c.read_changed.ensures
+    c.arrive_moved-passed.new.work.d c.as_slice-2.result.now calm (ap (λ (v : Values). v.d) c.arrive_moved-passed.ensures.work) (c.as_slice-2.ensures.value ∙ c.list_fired.ensures.fired) in
     c.handle_fired-over.ensures.over ∙ ap (λ (h : Handling). h.overflow) same
 
 pub join_reinitialized-requires-clause-known : goal.join_reinitialized-requires-clause-known
@@ -257,28 +238,10 @@ returns-clause-over c =
     let lines = c.args.at.now.lines.now in
     let x : List ℤ = states_at lines tick in
     let calm : first_past 88 x ≡ None = sym c.arrive_moved-passed.ensures.over ∙ not_some c.arrive_moved-passed.result (sym c.is_some.ensures ∙ c.if-is_some.false) in
-    let watches : List Watch = c.as_slice-watches.result.now in
-    let settled : List Bool = c.as_slice-settled.result.now in
-    let arrived : List Bool = c.as_mut_slice-arrived.result.now in
-    let of_watches : watches ≡ all.watches.items = c.as_slice-watches.ensures.value in
-    let of_settled : settled ≡ all.settled.items = c.as_slice-settled.ensures.value in
-    let of_arrived : arrived ≡ all.arrived.items = c.as_mut_slice-arrived.ensures.value in
-    let many : length settled ≡ length (conditions m) = ap length of_settled ∙ fits.settled in
-    let holds : ℕ → Bool = λ place. holds_at (watch_at watches place) tick in
-    let own : (place : ℕ) → place < length settled → holds place ≡ truth m (condition_at m place) x c.args.work.now.d tick =
-    λ place h. ap (λ ws. holds_at (watch_at ws place) tick) of_watches ∙ (ready.watched place (omega (arith, h, many))).2 in
-    let rest : (place : ℕ) → place < length settled → is_among c.args.at.now.changed.now place ≡ false →
-    (truth m (condition_at m place) x c.args.work.now.d tick ≡ flag_at settled place) × (became_true arrived settled place ≡ false) =
-    λ place h none.
-    subst (λ (b : List Bool). (truth m (condition_at m place) x c.args.work.now.d tick ≡ flag_at b place) × (became_true arrived b place ≡ false)) (sym of_settled)
-    (subst (λ (a : List Bool). (truth m (condition_at m place) x c.args.work.now.d tick ≡ flag_at all.settled.items place) × (became_true a all.settled.items place ≡ false)) (sym of_arrived)
-    (ready.others place (omega (arith, h, many)) none)) in
-    let as_many : length arrived ≡ length settled = ap length of_arrived ∙ fits.arrived ∙ sym many in
     let same : handling_of_fired m tick x c.arrive_moved-passed.new.work.d c.as_slice-2.result.now ≡ handling_from m tick x c.args.work.now.d all.arrived.items all.settled.items =
-    fired_handling settled arrived c.args.at.now.changed.now holds c.read_changed.new.arrived as_many c.read_changed.ensures m tick x c.args.work.now.d many own rest
-    c.arrive_moved-passed.new.work.d c.as_slice-2.result.now calm (ap (λ (v : Values). v.d) c.arrive_moved-passed.ensures.work) (c.as_slice-2.ensures.value ∙ c.list_fired.ensures.fired)
-    ∙ ap (λ a. handling_from m tick x c.args.work.now.d a settled) of_arrived
-    ∙ ap (handling_from m tick x c.args.work.now.d all.arrived.items) of_settled in
+    read_handling c.args.at.now all _ c.args.work.now _ ready c.as_slice-watches.result.now c.as_slice-settled.result.now c.as_mut_slice-arrived.result.now c.read_changed.new.arrived
+    c.as_slice-watches.ensures.value c.as_slice-settled.ensures.value c.as_mut_slice-arrived.ensures.value c.read_changed.ensures
+    c.arrive_moved-passed.new.work.d c.as_slice-2.result.now calm (ap (λ (v : Values). v.d) c.arrive_moved-passed.ensures.work) (c.as_slice-2.ensures.value ∙ c.list_fired.ensures.fired) in
     let none : c.handle_fired-over.result ≡ None = not_some c.handle_fired-over.result (sym c.is_some-2.ensures ∙ c.if-is_some-2.false) in
     sym none ∙ c.handle_fired-over.ensures.over ∙ ap (λ (h : Handling). h.overflow) same
 
@@ -292,28 +255,10 @@ returns-clause-handled c =
     let lines = c.args.at.now.lines.now in
     let x : List ℤ = states_at lines tick in
     let calm : first_past 88 x ≡ None = sym c.arrive_moved-passed.ensures.over ∙ not_some c.arrive_moved-passed.result (sym c.is_some.ensures ∙ c.if-is_some.false) in
-    let watches : List Watch = c.as_slice-watches.result.now in
-    let settled : List Bool = c.as_slice-settled.result.now in
-    let arrived : List Bool = c.as_mut_slice-arrived.result.now in
-    let of_watches : watches ≡ all.watches.items = c.as_slice-watches.ensures.value in
-    let of_settled : settled ≡ all.settled.items = c.as_slice-settled.ensures.value in
-    let of_arrived : arrived ≡ all.arrived.items = c.as_mut_slice-arrived.ensures.value in
-    let many : length settled ≡ length (conditions m) = ap length of_settled ∙ fits.settled in
-    let holds : ℕ → Bool = λ place. holds_at (watch_at watches place) tick in
-    let own : (place : ℕ) → place < length settled → holds place ≡ truth m (condition_at m place) x c.args.work.now.d tick =
-    λ place h. ap (λ ws. holds_at (watch_at ws place) tick) of_watches ∙ (ready.watched place (omega (arith, h, many))).2 in
-    let rest : (place : ℕ) → place < length settled → is_among c.args.at.now.changed.now place ≡ false →
-    (truth m (condition_at m place) x c.args.work.now.d tick ≡ flag_at settled place) × (became_true arrived settled place ≡ false) =
-    λ place h none.
-    subst (λ (b : List Bool). (truth m (condition_at m place) x c.args.work.now.d tick ≡ flag_at b place) × (became_true arrived b place ≡ false)) (sym of_settled)
-    (subst (λ (a : List Bool). (truth m (condition_at m place) x c.args.work.now.d tick ≡ flag_at all.settled.items place) × (became_true a all.settled.items place ≡ false)) (sym of_arrived)
-    (ready.others place (omega (arith, h, many)) none)) in
-    let as_many : length arrived ≡ length settled = ap length of_arrived ∙ fits.arrived ∙ sym many in
     let same : handling_of_fired m tick x c.arrive_moved-passed.new.work.d c.as_slice-2.result.now ≡ handling_from m tick x c.args.work.now.d all.arrived.items all.settled.items =
-    fired_handling settled arrived c.args.at.now.changed.now holds c.read_changed.new.arrived as_many c.read_changed.ensures m tick x c.args.work.now.d many own rest
-    c.arrive_moved-passed.new.work.d c.as_slice-2.result.now calm (ap (λ (v : Values). v.d) c.arrive_moved-passed.ensures.work) (c.as_slice-2.ensures.value ∙ c.list_fired.ensures.fired)
-    ∙ ap (λ a. handling_from m tick x c.args.work.now.d a settled) of_arrived
-    ∙ ap (handling_from m tick x c.args.work.now.d all.arrived.items) of_settled in
+    read_handling c.args.at.now all _ c.args.work.now _ ready c.as_slice-watches.result.now c.as_slice-settled.result.now c.as_mut_slice-arrived.result.now c.read_changed.new.arrived
+    c.as_slice-watches.ensures.value c.as_slice-settled.ensures.value c.as_mut_slice-arrived.ensures.value c.read_changed.ensures
+    c.arrive_moved-passed.new.work.d c.as_slice-2.result.now calm (ap (λ (v : Values). v.d) c.arrive_moved-passed.ensures.work) (c.as_slice-2.ensures.value ∙ c.list_fired.ensures.fired) in
     let begun : Values = c.arrive_moved-passed.new.work in
     let came : IsWritten (pos 0) (λ j z. z ≡ state_at (line_at lines j) tick) c.args.moved.now.items c.args.work.now.x begun.x =
     subst (λ these. IsWritten (pos 0) (λ j z. z ≡ state_at (line_at lines j) tick) these c.args.work.now.x begun.x) c.as_slice.ensures.value c.arrive_moved-passed.ensures.arrived in
@@ -332,31 +277,9 @@ returns-clause-handled c =
 pub returns-clause-arrived : goal.returns-clause-arrived
 returns-clause-arrived c =
     let all : Conditions = c.args.self.now in
-    let ready = c.requires.ready in
-    let fits = ready.fits in
-    let m = c.args.at.now.machine.now in
-    let tick = c.args.at.now.tick in
-    let lines = c.args.at.now.lines.now in
-    let x : List ℤ = states_at lines tick in
-    let watches : List Watch = c.as_slice-watches.result.now in
-    let settled : List Bool = c.as_slice-settled.result.now in
-    let arrived : List Bool = c.as_mut_slice-arrived.result.now in
-    let of_watches : watches ≡ all.watches.items = c.as_slice-watches.ensures.value in
-    let of_settled : settled ≡ all.settled.items = c.as_slice-settled.ensures.value in
-    let of_arrived : arrived ≡ all.arrived.items = c.as_mut_slice-arrived.ensures.value in
-    let many : length settled ≡ length (conditions m) = ap length of_settled ∙ fits.settled in
-    let holds : ℕ → Bool = λ place. holds_at (watch_at watches place) tick in
-    let own : (place : ℕ) → place < length settled → holds place ≡ truth m (condition_at m place) x c.args.work.now.d tick =
-    λ place h. ap (λ ws. holds_at (watch_at ws place) tick) of_watches ∙ (ready.watched place (omega (arith, h, many))).2 in
-    let rest : (place : ℕ) → place < length settled → is_among c.args.at.now.changed.now place ≡ false →
-    (truth m (condition_at m place) x c.args.work.now.d tick ≡ flag_at settled place) × (became_true arrived settled place ≡ false) =
-    λ place h none.
-    subst (λ (b : List Bool). (truth m (condition_at m place) x c.args.work.now.d tick ≡ flag_at b place) × (became_true arrived b place ≡ false)) (sym of_settled)
-    (subst (λ (a : List Bool). (truth m (condition_at m place) x c.args.work.now.d tick ≡ flag_at all.settled.items place) × (became_true a all.settled.items place ≡ false)) (sym of_arrived)
-    (ready.others place (omega (arith, h, many)) none)) in
-    let as_many : length arrived ≡ length settled = ap length of_arrived ∙ fits.arrived ∙ sym many in
     λ e. with_items_is all.arrived c.read_changed.new.arrived (c.read_changed.auto.arrived ∙ c.as_mut_slice-arrived.ensures.len)
-    ∙ truths_on_arrival settled arrived c.args.at.now.changed.now holds c.read_changed.new.arrived as_many c.read_changed.ensures m tick x c.args.work.now.d many own rest
+    ∙ read_on_arrival c.args.at.now all _ c.args.work.now _ c.requires.ready c.as_slice-watches.result.now c.as_slice-settled.result.now c.as_mut_slice-arrived.result.now c.read_changed.new.arrived
+    c.as_slice-watches.ensures.value c.as_slice-settled.ensures.value c.as_mut_slice-arrived.ensures.value c.read_changed.ensures
 
 pub returns-clause-alike : goal.returns-clause-alike
 returns-clause-alike c =
