@@ -82,13 +82,12 @@ pub returns-clause-gathered : goal.returns-clause-gathered
 returns-clause-gathered g c =
     let m = c.args.at.now.machine.now in
     let state : ℕ = c.args.state in
-    let tick = c.args.at.now.tick in
     let rows : c.rows_of-rows.result.now ≡ reading_rows m state = c.rows_of-rows.ensures ∙ rows_kept m c.args.at.now.uses.now c.requires.new.uses state (omega (arith, c.requires.state)) in
     let first : Gathering = record { lines = c.args.lines.now; touched = c.args.touched.now.items } in
     let between : Gathering = record { lines = c.gather.new.lines; touched = c.gather.new.touched.items } in
     let last : Gathering = record { lines = c.gather_each.new.lines; touched = c.gather_each.new.touched.items } in
-    subst (λ (read : List ℕ). AreGathered tick (state ∷ read) first last) rows
-    (gathered_then tick (state ∷ []) c.rows_of-rows.result.now first between last c.gather.ensures.gathered c.gather_each.ensures.gathered)
+    subst (λ (read : List ℕ). AreGathered c.args.at.now.tick (state ∷ read) first last) rows
+    (gathered_then c.args.at.now.tick (state ∷ []) c.rows_of-rows.result.now first between last c.gather.ensures.gathered c.gather_each.ensures.gathered)
 
 pub returns-clause-counted : goal.returns-clause-counted
 returns-clause-counted g c = omega (arith, c.gather.ensures.counted, c.gather_each.ensures.counted)

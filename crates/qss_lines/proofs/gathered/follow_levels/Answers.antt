@@ -102,14 +102,13 @@ pub returns-clause-slopes : goal.returns-clause-slopes
 returns-clause-slopes g c =
     let m = c.args.at.now.machine.now in
     let d : List ℤ = c.args.at.now.discretes.now in
-    let inv = c.loop-state.invariant in
     let moved : List ℕ = c.args.at.now.moved.now in
     let levels : List ℤ = c.args.at.now.levels.now in
     let old : List ℤ = c.requires.before.0 in
     let whole : levels_along (take c.loop-state.state-index moved) levels old ≡ levels =
     ap (λ (js : List ℕ). levels_along js levels old) (take_all c.loop-state.state-index moved c.loop-state-test.false) ∙ along_all moved levels old c.requires.before.1.off in
-    fill_by_all (λ j. sum_at Slope m j levels d) c.loop-state.slopes (state_count m) (pos 0) inv.as_many
-    (λ j h. inv.own old c.requires.before.1 j h ∙ ap (λ (l : List ℤ). sum_at Slope m j l d) whole)
+    fill_by_all (λ j. sum_at Slope m j levels d) c.loop-state.slopes (state_count m) (pos 0) c.loop-state.invariant.as_many
+    (λ j h. c.loop-state.invariant.own old c.requires.before.1 j h ∙ ap (λ (l : List ℤ). sum_at Slope m j l d) whole)
 
 pub returns-clause-can : goal.returns-clause-can
 returns-clause-can g c = c.loop-state.invariant.can

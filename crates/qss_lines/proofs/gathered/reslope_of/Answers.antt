@@ -74,30 +74,28 @@ go_on_each-requires-clause-ready g c j h =
 pub returns-clause-lines : goal.returns-clause-lines
 returns-clause-lines g c k h =
     let m = c.args.at.now.machine.now in
-    let tick = c.args.at.now.tick in
     let levels : List ℤ = c.args.at.now.levels.now in
     let slopes : List ℤ = c.follow_levels.new.slopes in
     let first : Gathering = record { lines = c.args.lines.now; touched = c.clear.new.self.items } in
     let between : Gathering = record { lines = c.follow_levels.new.lines; touched = c.follow_levels.new.touched.items } in
     let last : Courses = record { lines = c.go_on_each.new.lines; dues = c.go_on_each.new.agenda } in
-    let on : AreOn m tick levels slopes between.touched (record { lines = between.lines; dues = c.args.agenda.now }) last = record {
+    let on : AreOn m c.args.at.now.tick levels slopes between.touched (record { lines = between.lines; dues = c.args.agenda.now }) last = record {
       own = λ j among. c.go_on_each.ensures.turned j (ap (λ xs. is_among xs j) c.as_slice.ensures.value ∙ among);
       lines = λ j none. c.go_on_each.ensures.lines j (ap (λ xs. is_among xs j) c.as_slice.ensures.value ∙ none);
       places = c.go_on_each.ensures.places;
       dues = λ j none. c.go_on_each.ensures.dues j (ap (λ xs. is_among xs j) c.as_slice.ensures.value ∙ none);
     } in
     let earlier = c.requires.ready.earlier k h in
-    all_on m tick levels c.requires.ready.before.0 c.args.at.now.discretes.now c.args.slopes.now slopes c.args.at.now.moved.now first between c.args.agenda.now last
+    all_on m c.args.at.now.tick levels c.requires.ready.before.0 c.args.at.now.discretes.now c.args.slopes.now slopes c.args.at.now.moved.now first between c.args.agenda.now last
     c.follow_levels.ensures.gathered on c.requires.ready.before.1 c.follow_levels.ensures.slopes k h (omega (arith, h, c.requires.ready.lines)) (omega (arith, earlier))
     (c.requires.ready.own_slope k h) (c.requires.ready.due k h)
 
 pub returns-clause-others : goal.returns-clause-others
 returns-clause-others g c place past =
-    let m = c.args.at.now.machine.now in
     let touched : List ℕ = c.follow_levels.new.touched.items in
-    let below : All (λ j. j < state_count m) touched = λ i d h.
+    let below : All (λ j. j < state_count c.args.at.now.machine.now) touched = λ i d h.
     let known = c.follow_levels.ensures.can.below i d h in omega (arith, known, c.follow_levels.auto.lines, c.requires.ready.lines) in
-    c.go_on_each.ensures.dues place (ap (λ xs. is_among xs place) c.as_slice.ensures.value ∙ not_listed (state_count m) touched place below past)
+    c.go_on_each.ensures.dues place (ap (λ xs. is_among xs place) c.as_slice.ensures.value ∙ not_listed (state_count c.args.at.now.machine.now) touched place below past)
 
 pub returns-clause-counted : goal.returns-clause-counted
 returns-clause-counted g c =

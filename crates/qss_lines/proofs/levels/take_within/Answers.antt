@@ -36,8 +36,6 @@ returns-clause-level c within = c.take_level.ensures.level ∙ to_z-of_z w128 c.
 
 pub returns-clause-rows : goal.returns-clause-rows
 returns-clause-rows c within =
-    let old = c.args.level.now in
-    let before = c.args.rows.now.items in
     c.take_level.ensures.rows
-    ∙ ap (λ z. before ++ row_of c.args.tick c.args.var old z (to_z w128 (of_z w128 c.args.state))) (to_z-of_z w128 c.args.fresh c.ranges.fresh)
-    ∙ ap (λ z. before ++ row_of c.args.tick c.args.var old c.args.fresh z) (to_z-of_z w128 c.args.state c.ranges.state)
+    ∙ ap (λ z. c.args.rows.now.items ++ row_of c.args.tick c.args.var c.args.level.now z (to_z w128 (of_z w128 c.args.state))) (to_z-of_z w128 c.args.fresh c.ranges.fresh)
+    ∙ ap (λ z. c.args.rows.now.items ++ row_of c.args.tick c.args.var c.args.level.now c.args.fresh z) (to_z-of_z w128 c.args.state c.ranges.state)

@@ -16,15 +16,14 @@ use Rattle.qss_lines.proofs.requantized.requantize_handled.Goals as goal
 
 pub follow_handled-requires-clause-left : goal.follow_handled-requires-clause-left
 follow_handled-requires-clause-left g c =
-    let m = c.args.at.now.machine.now in
     let fits = c.requires.ready.fits in
     let of_x : c.as_slice-x.result.now ≡ c.args.at.now.work.now.x = c.as_slice-x.ensures.value ∙ ap (λ (v : Values). v.x) c.work.view_is in
     let of_pre : c.as_slice-pre.result.now ≡ c.args.at.now.work.now.pre = c.as_slice-pre.ensures.value ∙ ap (λ (v : Values). v.pre) c.work.view_is in
     let of_d : c.as_slice-d.result.now ≡ c.args.at.now.work.now.d = c.as_slice-d.ensures.value ∙ ap (λ (v : Values). v.d) c.work.view_is in
     record {
       assigned_known = c.requires.ready.assigned_known;
-      own = subst (λ (d : List ℤ). AreAssigned m c.args.at.now.assigned.now c.as_slice-pre.result.now d) (sym of_d)
-          (subst (λ (p : List ℤ). AreAssigned m c.args.at.now.assigned.now p c.args.at.now.work.now.d) (sym of_pre) c.requires.ready.own);
+      own = subst (λ (d : List ℤ). AreAssigned c.args.at.now.machine.now c.args.at.now.assigned.now c.as_slice-pre.result.now d) (sym of_d)
+          (subst (λ (p : List ℤ). AreAssigned c.args.at.now.machine.now c.args.at.now.assigned.now p c.args.at.now.work.now.d) (sym of_pre) c.requires.ready.own);
       many_states = ap length of_x ∙ fits.states;
       many_before = ap length of_pre ∙ fits.before;
       many_discretes = ap length of_d ∙ fits.discretes;

@@ -38,8 +38,7 @@ seat-requires-clause-small g c =
 
 pub seat-requires-clause-near : goal.seat-requires-clause-near
 seat-requires-clause-near g c =
-    let i = c.loop-j.j-index in
-    c.requires.near (get_or c.args.at.now.moved.now i 0) (among_at c.args.at.now.moved.now i c.loop-j-test.true)
+    c.requires.near (get_or c.args.at.now.moved.now c.loop-j.j-index 0) (among_at c.args.at.now.moved.now c.loop-j.j-index c.loop-j-test.true)
 
 pub loop-j-preserved : goal.loop-j-preserved
 loop-j-preserved g c =
@@ -61,10 +60,9 @@ loop-j-preserved g c =
 
 pub returns : goal.returns
 returns g c =
-    let m = c.args.at.now.machine.now in
     let first : Courses = record { lines = c.args.lines.now; dues = c.args.agenda.now } in
     let last : Courses = record { lines = c.loop-j.lines; dues = c.loop-j.agenda } in
-    let are : AreSeated m c.args.at.now.tick c.args.x.now c.args.at.now.levels.now c.args.slopes.now c.args.at.now.moved.now first last =
-    subst (λ (moved : List ℕ). AreSeated m c.args.at.now.tick c.args.x.now c.args.at.now.levels.now c.args.slopes.now moved first last)
+    let are : AreSeated c.args.at.now.machine.now c.args.at.now.tick c.args.x.now c.args.at.now.levels.now c.args.slopes.now c.args.at.now.moved.now first last =
+    subst (λ (moved : List ℕ). AreSeated c.args.at.now.machine.now c.args.at.now.tick c.args.x.now c.args.at.now.levels.now c.args.slopes.now moved first last)
     (take_all c.loop-j.j-index c.args.at.now.moved.now c.loop-j-test.false) c.loop-j.invariant.are_seated in
     record { turned = are.own; lines = are.lines; kept = are.left; places = are.places; dues = are.dues; counted = c.loop-j.invariant.counted }

@@ -91,10 +91,9 @@ loop-state-preserved c =
 pub returns : goal.returns
 returns c =
     let m = c.args.at.now.machine.now in
-    let inv = c.loop-state.invariant in
     let old : List ℤ = c.requires.before.0 in
     let whole : levels_along (take c.loop-state.state-index c.args.at.now.moved.now) c.args.at.now.levels.now old ≡ c.args.at.now.levels.now =
     ap (λ (moved : List ℕ). levels_along moved c.args.at.now.levels.now old) (take_all c.loop-state.state-index c.args.at.now.moved.now c.loop-state-test.false)
     ∙ along_all c.args.at.now.moved.now c.args.at.now.levels.now old c.requires.before.1.off in
-    fill_by_all (λ j. sum_at c.args.kind m j c.args.at.now.levels.now c.args.d.now) c.loop-state.sums (state_count m) (pos 0) inv.as_many
-    (λ j h. inv.own old c.requires.before.1 j h ∙ ap (λ (levels : List ℤ). sum_at c.args.kind m j levels c.args.d.now) whole)
+    fill_by_all (λ j. sum_at c.args.kind m j c.args.at.now.levels.now c.args.d.now) c.loop-state.sums (state_count m) (pos 0) c.loop-state.invariant.as_many
+    (λ j h. c.loop-state.invariant.own old c.requires.before.1 j h ∙ ap (λ (levels : List ℤ). sum_at c.args.kind m j levels c.args.d.now) whole)

@@ -12,8 +12,7 @@ use Rattle.qss_lines.proofs.slopes.reslope.Goals as goal
 
 pub leaving-requires-clause-near : goal.leaving-requires-clause-near
 leaving-requires-clause-near g c =
-    let m = c.args.m.now in
-    subst (λ (l : Line). IsNear (level_unit m) l.x l.level (quantum_of m c.args.j l.level)) (sym ((c.renew.ensures.moved c.if-renew.true).0)) c.requires.near
+    subst (λ (l : Line). IsNear (level_unit c.args.m.now) l.x l.level (quantum_of c.args.m.now c.args.j l.level)) (sym ((c.renew.ensures.moved c.if-renew.true).0)) c.requires.near
 
 pub returns-then-renew-clause-here : goal.returns-then-renew-clause-here
 returns-then-renew-clause-here g c =

@@ -61,12 +61,10 @@ returns c =
     let m = c.args.m.now in
     let none : SlopeRow = record { entries = []; products = []; beta = pos 0 } in
     let all : state_count m ≡ c.loop-row.row = omega (arith, c.loop-row-test.false, c.loop-row.invariant.as_many) in
-    let levels = c.args.levels.now in
-    let d = c.args.d.now in
     record {
-      over = sym (position-none none (is_overweight m levels d) m.rows
+      over = sym (position-none none (is_overweight m c.args.levels.now c.args.d.now) m.rows
           (λ k h. c.loop-row.invariant.light k (omega (arith, h, c.loop-row-test.false, c.loop-row.invariant.as_many, m.has_rows.one_each))));
       weights = λ e.
-          fill_by_all (λ j. weight_at m j levels d) c.loop-row.weights (state_count m) (pos 0) c.loop-row.invariant.as_many
+          fill_by_all (λ j. weight_at m j c.args.levels.now c.args.d.now) c.loop-row.weights (state_count m) (pos 0) c.loop-row.invariant.as_many
           (λ j h. c.loop-row.invariant.own j (omega (arith, h, c.loop-row-test.false, c.loop-row.invariant.as_many)));
     }

@@ -27,9 +27,8 @@ returns-then-not-are_up_to_at c = (
 
 pub returns : goal.returns
 returns c =
-    let d = c.args.left.now.discretes.now in
     let assigned = c.args.left.now.assigned.now in
     let many = c.requires.ready.levels in (
-      λ e. (c.are_up_to_at.ensures.0 c.if-not-are_up_to_at.false, subst (λ n. AreUpToAt c.args.bound d n assigned) many (c.are_up_to_at-2.ensures.0 e)),
-      λ both. c.are_up_to_at-2.ensures.1 (subst (λ n. AreUpToAt c.args.bound d n assigned) (sym many) both.1),
+      λ e. (c.are_up_to_at.ensures.0 c.if-not-are_up_to_at.false, subst (λ n. AreUpToAt c.args.bound c.args.left.now.discretes.now n assigned) many (c.are_up_to_at-2.ensures.0 e)),
+      λ both. c.are_up_to_at-2.ensures.1 (subst (λ n. AreUpToAt c.args.bound c.args.left.now.discretes.now n assigned) (sym many) both.1),
     )

@@ -206,9 +206,7 @@ note_rising-requires-clause-places g c =
 
 pub note_rising-requires-clause-few : goal.note_rising-requires-clause-few
 note_rising-requires-clause-few g c =
-    let m = c.args.m.now in
-    let fits = c.rewatch_handled.ensures.fits in
-    omega (arith, fits.lines, fits.own_conditions.branches.as_many, conditions_few m, m.has_variables.few)
+    omega (arith, c.rewatch_handled.ensures.fits.lines, c.rewatch_handled.ensures.fits.own_conditions.branches.as_many, conditions_few c.args.m.now, c.args.m.now.has_variables.few)
 
 pub note_rising-requires-clause-count : goal.note_rising-requires-clause-count
 note_rising-requires-clause-count g c = let own = c.rewatch_handled.ensures.fits.own_conditions in own.apart ∙ sym own.settled

@@ -82,10 +82,9 @@ returns-then-is_some-clause-stepped g c =
     let t = c.args.tick + 1 in
     let s : Store = c.args.s.now in
     let agenda : List (Option ℕ) = c.requires.taken.0 in
-    let taken = c.requires.taken.1 in
     let h : Handling = handling_from m t (states_at c.as_slice.result.now t) s.work.d s.conditions.arrived.items s.conditions.settled.items in
     let is_h : h ≡ handling_at m t (world_of c.args.tick s) =
-    handles_from m c.args.tick (record s { agenda = agenda }) taken.stands c.as_slice.result.now s.conditions.arrived.items s.conditions.settled.items
+    handles_from m c.args.tick (record s { agenda = agenda }) c.requires.taken.1.stands c.as_slice.result.now s.conditions.arrived.items s.conditions.settled.items
     c.as_slice.ensures.value refl refl in
     early (IsRuled c.args.q.now.name) m t (world_of c.args.tick s) _ c.handle-over.result (sym c.is_some.ensures ∙ c.if-is_some.true)
     (c.handle-over.ensures.over ∙ ap (λ (k : Handling). k.overflow) is_h)
@@ -95,25 +94,17 @@ requantize_handled-over-requires-clause-ready g c =
     let m = c.args.m.now in
     let t = c.args.tick + 1 in
     let s : Store = c.args.s.now in
-    let agenda : List (Option ℕ) = c.requires.taken.0 in
-    let taken = c.requires.taken.1 in
     let h : Handling = handling_from m t (states_at c.as_slice.result.now t) s.work.d s.conditions.arrived.items s.conditions.settled.items in
-    let is_h : h ≡ handling_at m t (world_of c.args.tick s) =
-    handles_from m c.args.tick (record s { agenda = agenda }) taken.stands c.as_slice.result.now s.conditions.arrived.items s.conditions.settled.items
-    c.as_slice.ensures.value refl refl in
     let calm : c.handle-over.result ≡ None = not_some c.handle-over.result (sym c.is_some.ensures ∙ c.if-is_some.false) in
-    let moved = c.handle-over.new.moved.items in
     let assigned = c.handle-over.new.assigned.items in
     let new : Values = c.handle-over.new.work in
-    let handled : IsHandled m t s.lines.items s.moved.items moved assigned s.work new h =
-    subst (λ ls. IsHandled m t ls s.moved.items moved assigned s.work new h) c.as_slice.ensures.value (c.handle-over.ensures.handled calm) in
-    let calm_h : h.overflow ≡ None = sym c.handle-over.ensures.over ∙ calm in
+    let handled : IsHandled m t s.lines.items s.moved.items c.handle-over.new.moved.items assigned s.work new h =
+    subst (λ ls. IsHandled m t ls s.moved.items c.handle-over.new.moved.items assigned s.work new h) c.as_slice.ensures.value (c.handle-over.ensures.handled calm) in
     let of_d : new.d ≡ h.discretes = ap (λ (v : Values). v.d) handled.values in
     let of_pre : new.pre ≡ s.work.d = ap (λ (v : Values). v.pre) handled.values in
-    let fits = taken.stands.fits in
     record {
-      uses = fits.uses;
-      lines = ap length c.as_slice-3.ensures.value ∙ fits.lines;
+      uses = c.requires.taken.1.stands.fits.uses;
+      lines = ap length c.as_slice-3.ensures.value ∙ c.requires.taken.1.stands.fits.lines;
       moved = subst (AreNumbers (state_count m)) (sym c.as_slice-4.ensures.value) handled.numbers;
       assigned_known = subst (AreDiscretes m) (sym c.as_slice-5.ensures.value) handled.variables;
       own = subst (λ (js : List ℕ). AreAssigned m js new.pre new.d) (sym c.as_slice-5.ensures.value)
@@ -127,21 +118,14 @@ requantize_handled-over-requires-clause-held g c =
     let t = c.args.tick + 1 in
     let s : Store = c.args.s.now in
     let agenda : List (Option ℕ) = c.requires.taken.0 in
-    let taken = c.requires.taken.1 in
     let h : Handling = handling_from m t (states_at c.as_slice.result.now t) s.work.d s.conditions.arrived.items s.conditions.settled.items in
-    let is_h : h ≡ handling_at m t (world_of c.args.tick s) =
-    handles_from m c.args.tick (record s { agenda = agenda }) taken.stands c.as_slice.result.now s.conditions.arrived.items s.conditions.settled.items
-    c.as_slice.ensures.value refl refl in
     let calm : c.handle-over.result ≡ None = not_some c.handle-over.result (sym c.is_some.ensures ∙ c.if-is_some.false) in
-    let moved = c.handle-over.new.moved.items in
     let assigned = c.handle-over.new.assigned.items in
     let new : Values = c.handle-over.new.work in
-    let handled : IsHandled m t s.lines.items s.moved.items moved assigned s.work new h =
-    subst (λ ls. IsHandled m t ls s.moved.items moved assigned s.work new h) c.as_slice.ensures.value (c.handle-over.ensures.handled calm) in
-    let calm_h : h.overflow ≡ None = sym c.handle-over.ensures.over ∙ calm in
-    let of_d : new.d ≡ h.discretes = ap (λ (v : Values). v.d) handled.values in
+    let handled : IsHandled m t s.lines.items s.moved.items c.handle-over.new.moved.items assigned s.work new h =
+    subst (λ ls. IsHandled m t ls s.moved.items c.handle-over.new.moved.items assigned s.work new h) c.as_slice.ensures.value (c.handle-over.ensures.handled calm) in
     let of_pre : new.pre ≡ s.work.d = ap (λ (v : Values). v.pre) handled.values in
-    let stands = taken.stands in
+    let stands = c.requires.taken.1.stands in
     record {
       levels = ap length c.as_mut_slice.ensures.value ∙ stands.fits.levels;
       small_levels = subst (All (IsWithin 43)) (sym c.as_mut_slice.ensures.value) (levels_small m c.args.tick (record s { agenda = agenda }) stands);
@@ -159,25 +143,20 @@ requantize_handled-over-requires-clause-room g c =
     let t = c.args.tick + 1 in
     let s : Store = c.args.s.now in
     let agenda : List (Option ℕ) = c.requires.taken.0 in
-    let taken = c.requires.taken.1 in
     let h : Handling = handling_from m t (states_at c.as_slice.result.now t) s.work.d s.conditions.arrived.items s.conditions.settled.items in
     let is_h : h ≡ handling_at m t (world_of c.args.tick s) =
-    handles_from m c.args.tick (record s { agenda = agenda }) taken.stands c.as_slice.result.now s.conditions.arrived.items s.conditions.settled.items
+    handles_from m c.args.tick (record s { agenda = agenda }) c.requires.taken.1.stands c.as_slice.result.now s.conditions.arrived.items s.conditions.settled.items
     c.as_slice.ensures.value refl refl in
     let calm : c.handle-over.result ≡ None = not_some c.handle-over.result (sym c.is_some.ensures ∙ c.if-is_some.false) in
-    let moved = c.handle-over.new.moved.items in
     let assigned = c.handle-over.new.assigned.items in
     let new : Values = c.handle-over.new.work in
-    let handled : IsHandled m t s.lines.items s.moved.items moved assigned s.work new h =
-    subst (λ ls. IsHandled m t ls s.moved.items moved assigned s.work new h) c.as_slice.ensures.value (c.handle-over.ensures.handled calm) in
-    let calm_h : h.overflow ≡ None = sym c.handle-over.ensures.over ∙ calm in
-    let of_d : new.d ≡ h.discretes = ap (λ (v : Values). v.d) handled.values in
-    let of_pre : new.pre ≡ s.work.d = ap (λ (v : Values). v.pre) handled.values in
+    let handled : IsHandled m t s.lines.items s.moved.items c.handle-over.new.moved.items assigned s.work new h =
+    subst (λ ls. IsHandled m t ls s.moved.items c.handle-over.new.moved.items assigned s.work new h) c.as_slice.ensures.value (c.handle-over.ensures.handled calm) in
     omega (
       arith,
       ap (λ (v : Values). length v.log) handled.values,
       rows_handled m t (states_at c.as_slice.result.now t) s.work.d s.conditions.arrived.items s.conditions.settled.items,
-      taken.stands.fits.row_room,
+      c.requires.taken.1.stands.fits.row_room,
     )
 
 pub returns-then-is_some-2-clause-stepped : goal.returns-then-is_some-2-clause-stepped
@@ -199,7 +178,6 @@ returns-then-is_some-2-clause-stepped g c =
     subst (λ ls. IsHandled m t ls s.moved.items moved assigned s.work new h) c.as_slice.ensures.value (c.handle-over.ensures.handled calm) in
     let calm_h : h.overflow ≡ None = sym c.handle-over.ensures.over ∙ calm in
     let of_d : new.d ≡ h.discretes = ap (λ (v : Values). v.d) handled.values in
-    let of_pre : new.pre ≡ s.work.d = ap (λ (v : Values). v.pre) handled.values in
     let fresh : List ℤ = c.requantize_handled-over.ensures.taken.0 in
     let to : AreMovedTo m c.as_slice-4.result.now new.x c.as_mut_slice.result.now h.states =
     subst (λ js. AreMovedTo m js new.x c.as_mut_slice.result.now h.states) (sym c.as_slice-4.ensures.value)
@@ -336,7 +314,6 @@ returns g c =
     subst (λ ls. IsHandled m t ls s.moved.items moved assigned s.work new h) c.as_slice.ensures.value (c.handle-over.ensures.handled calm) in
     let calm_h : h.overflow ≡ None = sym c.handle-over.ensures.over ∙ calm in
     let of_d : new.d ≡ h.discretes = ap (λ (v : Values). v.d) handled.values in
-    let of_pre : new.pre ≡ s.work.d = ap (λ (v : Values). v.pre) handled.values in
     let fresh : List ℤ = c.requantize_handled-over.ensures.taken.0 in
     let to : AreMovedTo m c.as_slice-4.result.now new.x c.as_mut_slice.result.now h.states =
     subst (λ js. AreMovedTo m js new.x c.as_mut_slice.result.now h.states) (sym c.as_slice-4.ensures.value)

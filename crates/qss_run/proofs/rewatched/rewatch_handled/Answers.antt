@@ -30,13 +30,12 @@ use Rattle.qss_run.proofs.rewatched.rewatch_handled.Goals as goal
 
 pub settle_handled-requires-clause-ready : goal.settle_handled-requires-clause-ready
 settle_handled-requires-clause-ready c =
-    let m = c.args.m.now in
     let fits = c.requires.fits in
     record {
       moment = record {
         uses = fits.uses;
-        lines = subst (AreLinesAt m c.args.tick) (sym c.as_slice.ensures.value) c.requires.lines;
-        slopes = subst (AreSlopesOf m) (sym c.as_slice-2.ensures.value) c.requires.slopes;
+        lines = subst (AreLinesAt c.args.m.now c.args.tick) (sym c.as_slice.ensures.value) c.requires.lines;
+        slopes = subst (AreSlopesOf c.args.m.now) (sym c.as_slice-2.ensures.value) c.requires.slopes;
       };
       fits = fits.own_conditions;
       places = omega (arith, fits.places);

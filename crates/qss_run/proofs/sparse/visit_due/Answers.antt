@@ -97,11 +97,10 @@ returns-then-is_some-clause-stepped g c =
     let t = c.args.tick + 1 in
     let s : Store = c.args.s.now in
     let agenda : List (Option ℕ) = c.requires.taken.0 in
-    let taken = c.requires.taken.1 in
     let x : List ℤ = states_at s.lines.items t in
     let fresh : List ℤ = c.requantize_moved-over.ensures.taken.0 in
     let h : Handling = record { states = x; discretes = s.work.d; rows = []; overflow = first_past 88 x } in
-    let is_h : h ≡ handling_at m t (world_of c.args.tick s) = sym (handled m c.args.tick agenda s taken c.requires.in_time c.requires.none_changes) in
+    let is_h : h ≡ handling_at m t (world_of c.args.tick s) = sym (handled m c.args.tick agenda s c.requires.taken.1 c.requires.in_time c.requires.none_changes) in
     let allowed : first_past 88 x ≡ None → AreNextLevels (IsRuled c.args.q.now.name) m x s.levels.items fresh = λ none.
     subst (λ ls. AreNextLevels (IsRuled c.args.q.now.name) m (states_at ls t) s.levels.items fresh) c.as_slice.ensures.value
     (subst (λ l. AreNextLevels (IsRuled c.args.q.now.name) m (states_at c.as_slice.result.now t) l fresh) c.as_mut_slice.ensures.value
@@ -117,24 +116,13 @@ go_on_moved-requires-clause-small_states g c =
     let m = c.args.m.now in
     let t = c.args.tick + 1 in
     let s : Store = c.args.s.now in
-    let agenda : List (Option ℕ) = c.requires.taken.0 in
-    let taken = c.requires.taken.1 in
     let calm : c.requantize_moved-over.result ≡ None = not_some c.requantize_moved-over.result (sym c.is_some.ensures ∙ c.if-is_some.false) in
     let x : List ℤ = states_at s.lines.items t in
     let fresh : List ℤ = c.requantize_moved-over.ensures.taken.0 in
-    let h : Handling = record { states = x; discretes = s.work.d; rows = []; overflow = first_past 88 x } in
-    let is_h : h ≡ handling_at m t (world_of c.args.tick s) = sym (handled m c.args.tick agenda s taken c.requires.in_time c.requires.none_changes) in
-    let allowed : first_past 88 x ≡ None → AreNextLevels (IsRuled c.args.q.now.name) m x s.levels.items fresh = λ none.
-    subst (λ ls. AreNextLevels (IsRuled c.args.q.now.name) m (states_at ls t) s.levels.items fresh) c.as_slice.ensures.value
-    (subst (λ l. AreNextLevels (IsRuled c.args.q.now.name) m (states_at c.as_slice.result.now t) l fresh) c.as_mut_slice.ensures.value
-    (c.requantize_moved-over.ensures.taken.1.allowed (ap (λ ls. first_past 88 (states_at ls t)) c.as_slice.ensures.value ∙ none))) in
     let over : c.requantize_moved-over.result ≡ option_or (first_past 88 x) (option_or (first_past 43 fresh) (position (is_overweight m fresh s.work.d) m.rows)) =
     c.requantize_moved-over.ensures.taken.1.over_is
     ∙ ap (λ ls. option_or (first_past 88 (states_at ls t)) (option_or (first_past 43 fresh) (position (is_overweight m fresh s.work.d) m.rows))) c.as_slice.ensures.value in
     let none_both = both_none (first_past 88 x) (option_or (first_past 43 fresh) (position (is_overweight m fresh s.work.d) m.rows)) (sym calm ∙ over) in
-    let many : length c.requantize_moved-over.new.levels ≡ s.levels.len = c.requantize_moved-over.auto.levels ∙ c.as_mut_slice.ensures.len in
-    let levels : c.as_slice-4.result.now ≡ fresh =
-    c.as_slice-4.ensures.value ∙ with_items_is s.levels c.requantize_moved-over.new.levels many ∙ c.requantize_moved-over.ensures.taken.1.levels calm in
     subst (λ ls. All (IsWithin 88) (states_at ls t)) (sym c.as_mut_slice-3.ensures.value) (all_within 88 x none_both.0)
 
 pub go_on_moved-requires-clause-ready : goal.go_on_moved-requires-clause-ready
@@ -215,36 +203,19 @@ go_on_moved-requires-clause-watched g c place inside =
     let t = c.args.tick + 1 in
     let s : Store = c.args.s.now in
     let agenda : List (Option ℕ) = c.requires.taken.0 in
-    let taken = c.requires.taken.1 in
-    let calm : c.requantize_moved-over.result ≡ None = not_some c.requantize_moved-over.result (sym c.is_some.ensures ∙ c.if-is_some.false) in
     let x : List ℤ = states_at s.lines.items t in
-    let fresh : List ℤ = c.requantize_moved-over.ensures.taken.0 in
-    let h : Handling = record { states = x; discretes = s.work.d; rows = []; overflow = first_past 88 x } in
-    let is_h : h ≡ handling_at m t (world_of c.args.tick s) = sym (handled m c.args.tick agenda s taken c.requires.in_time c.requires.none_changes) in
-    let allowed : first_past 88 x ≡ None → AreNextLevels (IsRuled c.args.q.now.name) m x s.levels.items fresh = λ none.
-    subst (λ ls. AreNextLevels (IsRuled c.args.q.now.name) m (states_at ls t) s.levels.items fresh) c.as_slice.ensures.value
-    (subst (λ l. AreNextLevels (IsRuled c.args.q.now.name) m (states_at c.as_slice.result.now t) l fresh) c.as_mut_slice.ensures.value
-    (c.requantize_moved-over.ensures.taken.1.allowed (ap (λ ls. first_past 88 (states_at ls t)) c.as_slice.ensures.value ∙ none))) in
-    let over : c.requantize_moved-over.result ≡ option_or (first_past 88 x) (option_or (first_past 43 fresh) (position (is_overweight m fresh s.work.d) m.rows)) =
-    c.requantize_moved-over.ensures.taken.1.over_is
-    ∙ ap (λ ls. option_or (first_past 88 (states_at ls t)) (option_or (first_past 43 fresh) (position (is_overweight m fresh s.work.d) m.rows))) c.as_slice.ensures.value in
-    let none_both = both_none (first_past 88 x) (option_or (first_past 43 fresh) (position (is_overweight m fresh s.work.d) m.rows)) (sym calm ∙ over) in
-    let many : length c.requantize_moved-over.new.levels ≡ s.levels.len = c.requantize_moved-over.auto.levels ∙ c.as_mut_slice.ensures.len in
-    let levels : c.as_slice-4.result.now ≡ fresh =
-    c.as_slice-4.ensures.value ∙ with_items_is s.levels c.requantize_moved-over.new.levels many ∙ c.requantize_moved-over.ensures.taken.1.levels calm in
     let of_d : c.as_slice-5.result.now ≡ s.work.d = c.as_slice-5.ensures.value ∙ ap (λ (v : Values). v.d) c.work.view_is in
     subst (λ ls. IsWatched m t (states_at ls t) c.as_slice-5.result.now c.as_mut_slice-2.result.now place (watch_at s.conditions.watches.items place) (due_at s.agenda (state_count m + place))) (sym c.as_mut_slice-3.ensures.value)
     (subst (λ v. IsWatched m t x c.as_slice-5.result.now v place (watch_at s.conditions.watches.items place) (due_at s.agenda (state_count m + place))) (sym c.as_mut_slice-2.ensures.value)
     (subst (λ d. IsWatched m t x d s.slopes.items place (watch_at s.conditions.watches.items place) (due_at s.agenda (state_count m + place))) (sym of_d)
-    (watched m c.args.tick agenda s taken c.requires.in_time c.requires.none_changes place inside)))
+    (watched m c.args.tick agenda s c.requires.taken.1 c.requires.in_time c.requires.none_changes place inside)))
 
 pub go_on_moved-requires-clause-room : goal.go_on_moved-requires-clause-room
 go_on_moved-requires-clause-room g c = c.requires.taken.1.stands.fits.touched_room
 
 pub catch_up-requires-clause-as_many : goal.catch_up-requires-clause-as_many
 catch_up-requires-clause-as_many g c =
-    let fits = c.go_on_moved.ensures.fits in
-    ap length c.as_mut_slice-arrived.ensures.value ∙ fits.arrived ∙ sym fits.settled ∙ sym (ap length c.as_slice-settled.ensures.value)
+    ap length c.as_mut_slice-arrived.ensures.value ∙ c.go_on_moved.ensures.fits.arrived ∙ sym c.go_on_moved.ensures.fits.settled ∙ sym (ap length c.as_slice-settled.ensures.value)
 
 pub catch_up-requires-clause-count : goal.catch_up-requires-clause-count
 catch_up-requires-clause-count g c =

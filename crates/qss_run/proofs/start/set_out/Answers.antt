@@ -73,8 +73,7 @@ rewatch_all-requires-clause-places c = omega (arith, c.start_lines.ensures.place
 
 pub copy_from_slice-requires : goal.copy_from_slice-requires
 copy_from_slice-requires c =
-    let fits = c.rewatch_all.ensures.fits in
-    ap length c.as_mut_slice.ensures.value ∙ fits.arrived ∙ sym fits.settled ∙ sym (ap length c.as_slice-settled.ensures.value)
+    ap length c.as_mut_slice.ensures.value ∙ c.rewatch_all.ensures.fits.arrived ∙ sym c.rewatch_all.ensures.fits.settled ∙ sym (ap length c.as_slice-settled.ensures.value)
 
 pub returns-clause-arrived : goal.returns-clause-arrived
 returns-clause-arrived c =

@@ -27,7 +27,6 @@ due-requires-clause-unit c =
 
 pub returns-clause-due : goal.returns-clause-due
 returns-clause-due c =
-    let m = c.args.m.now in
     let fits : FitsSigned w64 c.quantum_at-quantum.result = record { sfits = c.quantum_at-quantum.type_inv } in
     let unit : FitsSigned w128 c.level_unit.result = record { sfits = c.level_unit.type_inv } in
     let x = to_z w128 (of_z w128 c.args.x) in
@@ -36,6 +35,6 @@ returns-clause-due c =
     let line : Line = record { tick = 0; x = x; slope = slope; level = level } in
     let held : due_at c.set.new.self c.args.j ≡ c.due.result =
     ap (λ due. due_at due c.args.j) c.set.ensures ∙ get_or-set_same c.args.agenda.now c.args.j c.due.result None c.requires.place in
-    subst (IsDue m 0 c.args.j line) (sym held)
-    (due_here m 0 c.args.j line x slope level (to_z w128 (of_z w128 c.level_unit.result)) (to_z w64 (of_z w64 c.quantum_at-quantum.result)) c.due.result
+    subst (IsDue c.args.m.now 0 c.args.j line) (sym held)
+    (due_here c.args.m.now 0 c.args.j line x slope level (to_z w128 (of_z w128 c.level_unit.result)) (to_z w64 (of_z w64 c.quantum_at-quantum.result)) c.due.result
     refl (to_z-of_z w128 c.level_unit.result unit ∙ c.level_unit.ensures) (to_z-of_z w64 c.quantum_at-quantum.result fits ∙ c.quantum_at-quantum.ensures) c.due.ensures)

@@ -50,19 +50,17 @@ take_due-requires-clause-none_before g c =
 
 pub take_changed-requires-clause-few : goal.take_changed-requires-clause-few
 take_changed-requires-clause-few g c =
-    let m = c.args.m.now in
     let s : Store = c.args.s.now in
-    let fits = c.requires.stands.fits in
     omega (
       arith,
       c.len-states.ensures,
       s.lines.ok.0,
-      fits.lines,
-      m.has_variables.few,
+      c.requires.stands.fits.lines,
+      c.args.m.now.has_variables.few,
       c.len-conditions.ensures,
       s.conditions.branches.ok.0,
-      fits.own_conditions.branches.as_many,
-      conditions_few m,
+      c.requires.stands.fits.own_conditions.branches.as_many,
+      conditions_few c.args.m.now,
     )
 
 pub take_changed-requires-clause-none_before : goal.take_changed-requires-clause-none_before

@@ -29,12 +29,11 @@ weigh_every-requires-clause-weights c = ap length c.as_mut_slice-2.ensures.value
 
 pub returns-then-self : goal.returns-then-self
 returns-then-self c =
-    let m = c.args.at.now.machine.now in
     let self : Weights = c.args.self.now in
     record {
       over = c.reweigh_of.ensures.over;
       weights = λ none.
-          kept_anew m c.args.at.now.levels.now c.args.d.now self c.reweigh_of.new.weights c.if-self.true c.requires.before.1.own.as_many
+          kept_anew c.args.at.now.machine.now c.args.at.now.levels.now c.args.d.now self c.reweigh_of.new.weights c.if-self.true c.requires.before.1.own.as_many
           (c.reweigh_of.auto.weights ∙ c.as_mut_slice.ensures.len) c.reweigh_of.ensures.weights;
     }
 

@@ -34,8 +34,7 @@ arrive_moved-passed-requires-clause-moved c =
 
 pub arrive_moved-passed-requires-clause-others_small : goal.arrive_moved-passed-requires-clause-others_small
 arrive_moved-passed-requires-clause-others_small c j h none =
-    let ready = c.requires.ready in
-    ready.others_small j (omega (arith, h, ready.lines)) (ap (λ js. is_among js j) (sym c.as_slice.ensures.value) ∙ none)
+    c.requires.ready.others_small j (omega (arith, h, c.requires.ready.lines)) (ap (λ js. is_among js j) (sym c.as_slice.ensures.value) ∙ none)
 
 pub returns-then-is_some-clause-over : goal.returns-then-is_some-clause-over
 returns-then-is_some-clause-over c =
@@ -45,78 +44,48 @@ returns-then-is_some-clause-over c =
 
 pub list_fired-requires-clause-watches : goal.list_fired-requires-clause-watches
 list_fired-requires-clause-watches c =
-    let all : Conditions = c.args.self.now in
-    let ready = c.requires.ready in
-    let fits = ready.fits in
-    ap length c.as_slice-watches.ensures.value ∙ fits.watches ∙ sym (ap length c.as_slice-settled.ensures.value ∙ fits.settled)
+    ap length c.as_slice-watches.ensures.value ∙ c.requires.ready.fits.watches ∙ sym (ap length c.as_slice-settled.ensures.value ∙ c.requires.ready.fits.settled)
 
 pub list_fired-requires-clause-changed : goal.list_fired-requires-clause-changed
 list_fired-requires-clause-changed c =
-    let all : Conditions = c.args.self.now in
-    let ready = c.requires.ready in
-    let fits = ready.fits in
-    subst (λ n. AreNumbers n c.args.at.now.changed.now) (sym (ap length c.as_slice-settled.ensures.value ∙ fits.settled)) ready.changed
+    subst (λ n. AreNumbers n c.args.at.now.changed.now) (sym (ap length c.as_slice-settled.ensures.value ∙ c.requires.ready.fits.settled)) c.requires.ready.changed
 
 pub list_fired-requires-clause-arrived : goal.list_fired-requires-clause-arrived
 list_fired-requires-clause-arrived c =
-    let all : Conditions = c.args.self.now in
-    let ready = c.requires.ready in
-    let fits = ready.fits in
-    ap length c.as_mut_slice-arrived.ensures.value ∙ fits.arrived ∙ sym (ap length c.as_slice-settled.ensures.value ∙ fits.settled)
+    ap length c.as_mut_slice-arrived.ensures.value ∙ c.requires.ready.fits.arrived ∙ sym (ap length c.as_slice-settled.ensures.value ∙ c.requires.ready.fits.settled)
 
 pub list_fired-requires-clause-room : goal.list_fired-requires-clause-room
 list_fired-requires-clause-room c =
-    let all : Conditions = c.args.self.now in
-    let ready = c.requires.ready in
-    let fits = ready.fits in
-    omega (arith, ap length c.as_slice-settled.ensures.value, fits.settled, c.requires.fired_room)
+    omega (arith, ap length c.as_slice-settled.ensures.value, c.requires.ready.fits.settled, c.requires.fired_room)
 
 pub list_fired-requires-clause-later : goal.list_fired-requires-clause-later
 list_fired-requires-clause-later c place h =
-    let all : Conditions = c.args.self.now in
-    let ready = c.requires.ready in
-    let fits = ready.fits in
     subst (λ ws. (watch_at ws place).tick ≤ c.args.at.now.tick) (sym c.as_slice-watches.ensures.value)
-    (ready.watched place (omega (arith, h, ap length c.as_slice-settled.ensures.value, fits.settled))).0
+    (c.requires.ready.watched place (omega (arith, h, ap length c.as_slice-settled.ensures.value, c.requires.ready.fits.settled))).0
 
 pub list_fired-requires-clause-small : goal.list_fired-requires-clause-small
 list_fired-requires-clause-small c place h =
-    let all : Conditions = c.args.self.now in
-    let ready = c.requires.ready in
-    let fits = ready.fits in
     let m = c.args.at.now.machine.now in
-    let tick = c.args.at.now.tick in
-    let lines = c.args.at.now.lines.now in
-    let x : List ℤ = states_at lines tick in
+    let x : List ℤ = states_at c.args.at.now.lines.now c.args.at.now.tick in
     let calm : first_past 88 x ≡ None = sym c.arrive_moved-passed.ensures.over ∙ not_some c.arrive_moved-passed.result (sym c.is_some.ensures ∙ c.if-is_some.false) in
-    subst (λ ws. IsSmall (value_at (watch_at ws place) tick)) (sym c.as_slice-watches.ensures.value)
-    ((ready.watched place (omega (arith, h, ap length c.as_slice-settled.ensures.value, fits.settled))).1 (all_within 88 x calm))
+    subst (λ ws. IsSmall (value_at (watch_at ws place) c.args.at.now.tick)) (sym c.as_slice-watches.ensures.value)
+    ((c.requires.ready.watched place (omega (arith, h, ap length c.as_slice-settled.ensures.value, c.requires.ready.fits.settled))).1 (all_within 88 x calm))
 
 pub read_changed-requires-clause-watches : goal.read_changed-requires-clause-watches
 read_changed-requires-clause-watches c =
-    let all : Conditions = c.args.self.now in
-    let ready = c.requires.ready in
-    let fits = ready.fits in
-    ap length c.as_slice-watches.ensures.value ∙ fits.watches ∙ sym (ap length c.as_slice-settled.ensures.value ∙ fits.settled)
+    ap length c.as_slice-watches.ensures.value ∙ c.requires.ready.fits.watches ∙ sym (ap length c.as_slice-settled.ensures.value ∙ c.requires.ready.fits.settled)
 
 pub read_changed-requires-clause-changed : goal.read_changed-requires-clause-changed
 read_changed-requires-clause-changed c =
-    let all : Conditions = c.args.self.now in
-    let ready = c.requires.ready in
-    let fits = ready.fits in
-    subst (λ n. AreNumbers n c.args.at.now.changed.now) (sym (ap length c.as_slice-settled.ensures.value ∙ fits.settled)) ready.changed
+    subst (λ n. AreNumbers n c.args.at.now.changed.now) (sym (ap length c.as_slice-settled.ensures.value ∙ c.requires.ready.fits.settled)) c.requires.ready.changed
 
 pub read_changed-requires-clause-arrived : goal.read_changed-requires-clause-arrived
 read_changed-requires-clause-arrived c =
-    let all : Conditions = c.args.self.now in
-    let ready = c.requires.ready in
-    let fits = ready.fits in
-    ap length c.as_mut_slice-arrived.ensures.value ∙ fits.arrived ∙ sym (ap length c.as_slice-settled.ensures.value ∙ fits.settled)
+    ap length c.as_mut_slice-arrived.ensures.value ∙ c.requires.ready.fits.arrived ∙ sym (ap length c.as_slice-settled.ensures.value ∙ c.requires.ready.fits.settled)
 
 pub read_changed-requires-clause-below : goal.read_changed-requires-clause-below
 read_changed-requires-clause-below c =
-    let fits = c.requires.ready.fits in
-    λ k d h. omega (arith, c.places-apart.ensures.below k d h, fits.apart, fits.settled, ap length c.as_slice-settled.ensures.value)
+    λ k d h. omega (arith, c.places-apart.ensures.below k d h, c.requires.ready.fits.apart, c.requires.ready.fits.settled, ap length c.as_slice-settled.ensures.value)
 
 pub read_changed-requires-clause-alike : goal.read_changed-requires-clause-alike
 read_changed-requires-clause-alike c = λ place none.
@@ -126,24 +95,16 @@ read_changed-requires-clause-alike c = λ place none.
 
 pub read_changed-requires-clause-later : goal.read_changed-requires-clause-later
 read_changed-requires-clause-later c place h =
-    let all : Conditions = c.args.self.now in
-    let ready = c.requires.ready in
-    let fits = ready.fits in
     subst (λ ws. (watch_at ws place).tick ≤ c.args.at.now.tick) (sym c.as_slice-watches.ensures.value)
-    (ready.watched place (omega (arith, h, ap length c.as_slice-settled.ensures.value, fits.settled))).0
+    (c.requires.ready.watched place (omega (arith, h, ap length c.as_slice-settled.ensures.value, c.requires.ready.fits.settled))).0
 
 pub read_changed-requires-clause-small : goal.read_changed-requires-clause-small
 read_changed-requires-clause-small c place h =
-    let all : Conditions = c.args.self.now in
-    let ready = c.requires.ready in
-    let fits = ready.fits in
     let m = c.args.at.now.machine.now in
-    let tick = c.args.at.now.tick in
-    let lines = c.args.at.now.lines.now in
-    let x : List ℤ = states_at lines tick in
+    let x : List ℤ = states_at c.args.at.now.lines.now c.args.at.now.tick in
     let calm : first_past 88 x ≡ None = sym c.arrive_moved-passed.ensures.over ∙ not_some c.arrive_moved-passed.result (sym c.is_some.ensures ∙ c.if-is_some.false) in
-    subst (λ ws. IsSmall (value_at (watch_at ws place) tick)) (sym c.as_slice-watches.ensures.value)
-    ((ready.watched place (omega (arith, h, ap length c.as_slice-settled.ensures.value, fits.settled))).1 (all_within 88 x calm))
+    subst (λ ws. IsSmall (value_at (watch_at ws place) c.args.at.now.tick)) (sym c.as_slice-watches.ensures.value)
+    ((c.requires.ready.watched place (omega (arith, h, ap length c.as_slice-settled.ensures.value, c.requires.ready.fits.settled))).1 (all_within 88 x calm))
 
 pub handle_fired-over-requires-clause-branches : goal.handle_fired-over-requires-clause-branches
 handle_fired-over-requires-clause-branches c =
@@ -151,23 +112,16 @@ handle_fired-over-requires-clause-branches c =
 
 pub handle_fired-over-requires-clause-fired : goal.handle_fired-over-requires-clause-fired
 handle_fired-over-requires-clause-fired c =
-    let all : Conditions = c.args.self.now in
-    let ready = c.requires.ready in
-    let fits = ready.fits in
-    let m = c.args.at.now.machine.now in
     let count : ℕ = length c.as_slice-branches.result.now in
-    let places : count ≡ length (conditions m) = ap length c.as_slice-branches.ensures.value ∙ fits.branches.as_many in
+    let places : count ≡ length (conditions c.args.at.now.machine.now) = ap length c.as_slice-branches.ensures.value ∙ c.requires.ready.fits.branches.as_many in
     subst (AreNumbers count) (sym (c.as_slice-2.ensures.value ∙ c.list_fired.ensures.fired))
     (fired_numbers c.as_slice-settled.result.now c.as_mut_slice-arrived.result.now c.args.at.now.changed.now (λ place. holds_at (watch_at c.as_slice-watches.result.now place) c.args.at.now.tick) count
-    (subst (λ n. AreNumbers n c.args.at.now.changed.now) (sym places) ready.changed))
+    (subst (λ n. AreNumbers n c.args.at.now.changed.now) (sym places) c.requires.ready.changed))
 
 pub handle_fired-over-requires-clause-lines : goal.handle_fired-over-requires-clause-lines
 handle_fired-over-requires-clause-lines c =
     let ready = c.requires.ready in
-    let m = c.args.at.now.machine.now in
-    let tick = c.args.at.now.tick in
-    let lines = c.args.at.now.lines.now in
-    let x : List ℤ = states_at lines tick in
+    let x : List ℤ = states_at c.args.at.now.lines.now c.args.at.now.tick in
     let calm : first_past 88 x ≡ None = sym c.arrive_moved-passed.ensures.over ∙ not_some c.arrive_moved-passed.result (sym c.is_some.ensures ∙ c.if-is_some.false) in
     record { as_many = ready.lines; later = ready.later; small = all_within 88 x calm; in_time = ready.in_time }
 
@@ -186,11 +140,9 @@ pub returns-then-is_some-2-clause-over : goal.returns-then-is_some-2-clause-over
 returns-then-is_some-2-clause-over c =
     let all : Conditions = c.args.self.now in
     let ready = c.requires.ready in
-    let fits = ready.fits in
     let m = c.args.at.now.machine.now in
     let tick = c.args.at.now.tick in
-    let lines = c.args.at.now.lines.now in
-    let x : List ℤ = states_at lines tick in
+    let x : List ℤ = states_at c.args.at.now.lines.now tick in
     let calm : first_past 88 x ≡ None = sym c.arrive_moved-passed.ensures.over ∙ not_some c.arrive_moved-passed.result (sym c.is_some.ensures ∙ c.if-is_some.false) in
     let same : handling_of_fired m tick x c.arrive_moved-passed.new.work.d c.as_slice-2.result.now ≡ handling_from m tick x c.args.work.now.d all.arrived.items all.settled.items =
     read_handling c.args.at.now all _ c.args.work.now _ ready c.as_slice-watches.result.now c.as_slice-settled.result.now c.as_mut_slice-arrived.result.now c.read_changed.new.arrived
@@ -218,25 +170,21 @@ join_reinitialized-requires-clause-known c =
 
 pub list_assigned-requires : goal.list_assigned-requires
 list_assigned-requires c =
-    let m = c.args.at.now.machine.now in
     let tick = c.args.at.now.tick in
-    let lines = c.args.at.now.lines.now in
-    let x : List ℤ = states_at lines tick in
+    let x : List ℤ = states_at c.args.at.now.lines.now tick in
     let none : c.handle_fired-over.result ≡ None = not_some c.handle_fired-over.result (sym c.is_some-2.ensures ∙ c.if-is_some-2.false) in
-    let done : Handling = handling_of_fired m tick x c.arrive_moved-passed.new.work.d c.as_slice-2.result.now in
+    let done : Handling = handling_of_fired c.args.at.now.machine.now tick x c.arrive_moved-passed.new.work.d c.as_slice-2.result.now in
     let log : c.as_slice-log.result.now ≡ done.rows =
     c.as_slice-log.ensures.value ∙ ap (λ (v : Values). v.log) c.work.view_is ∙ ap (λ (v : Values). v.log) (c.handle_fired-over.ensures.work none) in
-    omega (arith, ap length log, rows_fired m tick x c.arrive_moved-passed.new.work.d c.as_slice-2.result.now, c.requires.assigned_room)
+    omega (arith, ap length log, rows_fired c.args.at.now.machine.now tick x c.arrive_moved-passed.new.work.d c.as_slice-2.result.now, c.requires.assigned_room)
 
 pub returns-clause-over : goal.returns-clause-over
 returns-clause-over c =
     let all : Conditions = c.args.self.now in
     let ready = c.requires.ready in
-    let fits = ready.fits in
     let m = c.args.at.now.machine.now in
     let tick = c.args.at.now.tick in
-    let lines = c.args.at.now.lines.now in
-    let x : List ℤ = states_at lines tick in
+    let x : List ℤ = states_at c.args.at.now.lines.now tick in
     let calm : first_past 88 x ≡ None = sym c.arrive_moved-passed.ensures.over ∙ not_some c.arrive_moved-passed.result (sym c.is_some.ensures ∙ c.if-is_some.false) in
     let same : handling_of_fired m tick x c.arrive_moved-passed.new.work.d c.as_slice-2.result.now ≡ handling_from m tick x c.args.work.now.d all.arrived.items all.settled.items =
     read_handling c.args.at.now all _ c.args.work.now _ ready c.as_slice-watches.result.now c.as_slice-settled.result.now c.as_mut_slice-arrived.result.now c.read_changed.new.arrived
@@ -249,7 +197,6 @@ pub returns-clause-handled : goal.returns-clause-handled
 returns-clause-handled c =
     let all : Conditions = c.args.self.now in
     let ready = c.requires.ready in
-    let fits = ready.fits in
     let m = c.args.at.now.machine.now in
     let tick = c.args.at.now.tick in
     let lines = c.args.at.now.lines.now in

@@ -12,11 +12,10 @@ use Rattle.qss_watch.proofs.conditions.Conditions.settle_handled.Goals as goal
 
 pub settle_places-requires-clause-ready : goal.settle_places-requires-clause-ready
 settle_places-requires-clause-ready c =
-    let at = c.args.at.now in
     let d : c.as_slice-d.result.now ≡ c.args.work.now.d = c.as_slice-d.ensures.value ∙ ap (λ (v : Values). v.d) c.work.view_is in
     let x : c.as_mut_slice-x.result.now ≡ c.args.work.now.x = c.as_mut_slice-x.ensures.value ∙ ap (λ (v : Values). v.x) c.work.view_is in
-    subst (λ e. CanSettle at e c.args.self.now c.args.agenda.now c.as_mut_slice-x.result.now) (sym d)
-    (subst (CanSettle at c.args.work.now.d c.args.self.now c.args.agenda.now) (sym x) c.requires.ready)
+    subst (λ e. CanSettle c.args.at.now e c.args.self.now c.args.agenda.now c.as_mut_slice-x.result.now) (sym d)
+    (subst (CanSettle c.args.at.now c.args.work.now.d c.args.self.now c.args.agenda.now) (sym x) c.requires.ready)
 
 pub settle_reinitialized-requires-clause-ready : goal.settle_reinitialized-requires-clause-ready
 settle_reinitialized-requires-clause-ready c =

@@ -15,9 +15,8 @@ loop-var-init c = none_along c.args.at.now c.args.d.now c.args.self.now c.args.a
 
 pub conditions_of-places-requires : goal.conditions_of-places-requires
 conditions_of-places-requires c =
-    let at = c.args.at.now in
     let known = c.requires.known c.loop-var.var-index 0 c.loop-var-test.true in
-    omega (arith, known, conditions_many at.machine.now at.uses.now c.requires.ready.moment.uses)
+    omega (arith, known, conditions_many c.args.at.now.machine.now c.args.at.now.uses.now c.requires.ready.moment.uses)
 
 pub settle_places-requires-clause-ready : goal.settle_places-requires-clause-ready
 settle_places-requires-clause-ready c = still_settles c.args.at.now c.args.d.now _ _ _ _ _ _ _ c.requires.ready c.loop-var.invariant

@@ -38,8 +38,7 @@ pub returns : goal.returns
 returns c =
     let at = c.args.at.now in
     let m = at.machine.now in
-    let uses = c.requires.ready.moment.uses in
     let of_rows = subst (λ (rows : List ℕ). AreSettledAlong at c.args.d.now (readers_of m rows) c.args.self.now c.settle_readers.new.self c.args.agenda.now c.settle_readers.new.agenda c.args.x.now c.settle_readers.new.x)
-    (c.rows_of-rows.ensures ∙ rows_kept m at.uses.now uses c.args.var c.requires.known) c.settle_readers.ensures in
+    (c.rows_of-rows.ensures ∙ rows_kept m at.uses.now c.requires.ready.moment.uses c.args.var c.requires.known) c.settle_readers.ensures in
     along_more at c.args.d.now (readers_of m (reading_rows m c.args.var)) (reading_conditions m c.args.var) _ _ _ _ _ _ _ _ _ _ _ of_rows
-    (c.conditions_of-places.ensures ∙ conditions_kept m at.uses.now uses c.args.var (omega (arith, c.requires.known))) refl c.settle_places.ensures
+    (c.conditions_of-places.ensures ∙ conditions_kept m at.uses.now c.requires.ready.moment.uses c.args.var (omega (arith, c.requires.known))) refl c.settle_places.ensures

@@ -36,7 +36,5 @@ invariant_of-self c =
 
 pub returns : goal.returns
 returns c =
-    let m = c.self.inside in
-    let place = c.args.place in
-    same_set _ _ (c.push_reserved.ensures.items ∙ ap (λ (s : PlaceList). s.places ++ place ∷ []) c.self.view_is)
-    (same_length m.among (set c.as_mut_slice-among.result.now place true) ∙ ap (λ (s : PlaceList). s.count) c.self.view_is)
+    same_set _ _ (c.push_reserved.ensures.items ∙ ap (λ (s : PlaceList). s.places ++ c.args.place ∷ []) c.self.view_is)
+    (same_length c.self.inside.among (set c.as_mut_slice-among.result.now c.args.place true) ∙ ap (λ (s : PlaceList). s.count) c.self.view_is)
