@@ -24,8 +24,8 @@ coefficients_of-requires g c =
     let long = length-map-range_with_len (reading_coefficients m) 0 (state_count m + discrete_count m) in
     rw (same, long) (omega (arith, c.in_ok-machine.ensures.states))
 
-pub as_slice-2-requires : goal.as_slice-2-requires
-as_slice-2-requires g c = omega arith
+pub as_slice-requires-2 : goal.as_slice-requires-2
+as_slice-requires-2 g c = omega arith
 
 pub unreachable-assert_eq-2 : goal.unreachable-assert_eq-2
 unreachable-assert_eq-2 g c = c.assert_eq-assert_failed-2.result
