@@ -110,6 +110,7 @@ fn tells_readers(rt: HostRuntime) -> Result<(), Fail> {
     let machine = falling(rt.alloc())?;
     let uses = Uses::new(rt.alloc(), &machine)?;
     assert_eq!(rt; uses.rows_of(0), [0].as_slice());
+    assert_eq!(rt; uses.coefficients_of(0), [-2].as_slice());
     assert!(rt; uses.conditions_of(0).is_empty());
     Ok(())
 }
