@@ -1,5 +1,7 @@
 -- The lines of states, by number, and the states to which they lead.
-use Rattle.std.specs.Prelude.{ℕ, List, length, ℤ, if◌then◌else◌, ◌≡◌, ◌≤◌, Option, slice_index_or}
+use Rattle.std.specs.Prelude.{ℕ, List, length, All, ℤ, if◌then◌else◌, ◌≡◌, ◌^◌, ◌<◌, ◌≤◌, Option, slice_index_or}
+use Rattle.mu_num.specs.Sizes.{IsWithin}
+use Rattle.qss_machine.specs.Machines.{state_count}
 use Rattle.qss_machine.specs.Numbers.{int_at, tabulate}
 use Rattle.qss_machine.specs.declared.system.Machine.{Machine}
 use Rattle.qss_quant.specs.Lines.{Line, state_at}
@@ -13,6 +15,17 @@ line_at lines j = slice_index_or lines j no_line
 -- the states to which lines lead at a tick
 abbrev pub states_at : List Line → ℕ → List ℤ
 states_at lines tick = tabulate (length lines) (λ j. state_at (line_at lines j) tick)
+
+-- a line of each state, not later than a tick of a run
+pub record AreLinesUpTo (m : Machine) (tick : ℕ) (lines : List Line) : Type 0 where
+  pub as_many : length lines ≡ state_count m
+  pub later : (j : ℕ) → j < length lines → (line_at lines j).tick ≤ tick
+  pub in_time : tick < 2 ^ 32
+
+-- lines up to a tick that lead to states within the limit there
+pub record AreLinesAt (m : Machine) (tick : ℕ) (lines : List Line) : Type 0 where
+  pub up_to : AreLinesUpTo m tick lines
+  pub small : All (IsWithin 88) (states_at lines tick)
 
 -- the states at a tick: the moved ones are these, the others are where their lines lead
 abbrev pub states_with : List Line → ℕ → List ℕ → List ℤ → List ℤ

@@ -7,13 +7,12 @@ ghost use Rattle.qss_sched.specs.Ranks.{due_at};
 ghost use Rattle.qss_lines.specs.Variables.{AreDiscretes, AreSlopesOf};
 ghost use Rattle.qss_watch.specs.Handlings.{is_reinitialized};
 ghost use Rattle.qss_quiet.specs.Logs.{reinitialized_of};
-ghost use Rattle.qss_watch.specs.Moments.{AreLinesAt};
 ghost use Rattle.qss_run.specs.Visits.{WereWatched, IsRewatchedFrom};
 ghost use Rattle.qss_quiet.specs.Among.{AreNumbers};
 ghost use Rattle.qss_watch.specs.Moves.{AreAlikeBut};
 ghost use Rattle.qss_watch.specs.Places.{AreWatched, KnowsApart};
 ghost use Rattle.qss_watch.specs.Rewatchings.{OthersAreKept, OthersAreUnread, watchings_of};
-ghost use Rattle.qss_lines.specs.StateLines.{states_at};
+ghost use Rattle.qss_lines.specs.StateLines.{states_at, AreLinesAt};
 ghost use Rattle.qss_run.specs.Stores.{FitsMachine};
 
 use crate::store::Store;

@@ -21,7 +21,7 @@ use Rattle.qss_watch.specs.declared.conditions.Conditions.{Conditions}
 use Rattle.qss_watch.specs.declared.moment.Changing.{Changing}
 use Rattle.qss_watch.specs.Handlings.{flags_of, handling_of_fired, is_reinitialized, IsHandled, handling_from}
 use Rattle.qss_lines.specs.StateLines.{states_with, line_at, states_at}
-use Rattle.qss_watch.specs.Moments.{CanHandle}
+use Rattle.qss_watch.specs.Moments.{KnowsArrival}
 use Rattle.qss_watch.specs.Places.{watch_at}
 use Rattle.qss_quiet.specs.Logs.{assigned_of}
 use Rattle.qss_quiet.specs.Among.{is_among, AreNumbers}
@@ -114,40 +114,40 @@ module _ (settled arrived : List Bool) (looked : List ℕ) (holds : ℕ → Bool
           ∙ ap (λ (flags : List Bool). run_clauses m tick d 0 (start None) m.clauses (due_flags flags arrived settled)) truths_on_arrival
           ∙ ap (λ (o : Option ℕ). run_clauses m tick d 0 (start o) m.clauses (due_flags (truths m x d tick) arrived settled)) (sym calm)
 
--- the same from slices of what conditions keep, where the handlers may come
-module _ (at : Changing) (all : Conditions) (due : List ℕ) (work : Values) (dues : List (Option ℕ)) (ready : CanHandle at all due work dues) (watches : List Watch) (settled arrived now : List Bool)
+-- the same from slices of what conditions keep, where the watches know the arrival
+module _ (at : Changing) (all : Conditions) (d : List ℤ) (known : KnowsArrival at all d) (watches : List Watch) (settled arrived now : List Bool)
     (of_watches : watches ≡ all.watches.items) (of_settled : settled ≡ all.settled.items) (of_arrived : arrived ≡ all.arrived.items)
     (read : IsWritten false (λ place flag. flag ≡ holds_at (watch_at watches place) at.tick) at.changed.now settled now) where
   abbrev holds_there : ℕ → Bool
   holds_there place = holds_at (watch_at watches place) at.tick
 
   many_settled : length settled ≡ length (conditions at.machine.now)
-  many_settled = ap length of_settled ∙ ready.fits.settled
+  many_settled = ap length of_settled ∙ known.fits.settled
 
   many_arrived : length arrived ≡ length settled
-  many_arrived = ap length of_arrived ∙ ready.fits.arrived ∙ sym many_settled
+  many_arrived = ap length of_arrived ∙ known.fits.arrived ∙ sym many_settled
 
-  own_truth : (place : ℕ) → place < length settled → holds_there place ≡ truth at.machine.now (condition_at at.machine.now place) (states_at at.lines.now at.tick) work.d at.tick
-  own_truth place h = ap (λ ws. holds_at (watch_at ws place) at.tick) of_watches ∙ (ready.watched place (omega (arith, h, many_settled))).2
+  own_truth : (place : ℕ) → place < length settled → holds_there place ≡ truth at.machine.now (condition_at at.machine.now place) (states_at at.lines.now at.tick) d at.tick
+  own_truth place h = ap (λ ws. holds_at (watch_at ws place) at.tick) of_watches ∙ (known.watched place (omega (arith, h, many_settled))).2
 
   other_truth : (place : ℕ) → place < length settled → is_among at.changed.now place ≡ false →
-      (truth at.machine.now (condition_at at.machine.now place) (states_at at.lines.now at.tick) work.d at.tick ≡ flag_at settled place) × (became_true arrived settled place ≡ false)
+      (truth at.machine.now (condition_at at.machine.now place) (states_at at.lines.now at.tick) d at.tick ≡ flag_at settled place) × (became_true arrived settled place ≡ false)
   other_truth place h none =
-      let is : Bool = truth at.machine.now (condition_at at.machine.now place) (states_at at.lines.now at.tick) work.d at.tick in
+      let is : Bool = truth at.machine.now (condition_at at.machine.now place) (states_at at.lines.now at.tick) d at.tick in
       subst (λ (b : List Bool). (is ≡ flag_at b place) × (became_true arrived b place ≡ false)) (sym of_settled)
-      (subst (λ (a : List Bool). (is ≡ flag_at all.settled.items place) × (became_true a all.settled.items place ≡ false)) (sym of_arrived) (ready.others place (omega (arith, h, many_settled)) none))
+      (subst (λ (a : List Bool). (is ≡ flag_at all.settled.items place) × (became_true a all.settled.items place ≡ false)) (sym of_arrived) (known.others place (omega (arith, h, many_settled)) none))
 
-  pub read_on_arrival : now ≡ truths at.machine.now (states_at at.lines.now at.tick) work.d at.tick
+  pub read_on_arrival : now ≡ truths at.machine.now (states_at at.lines.now at.tick) d at.tick
   read_on_arrival =
-      truths_on_arrival settled arrived at.changed.now holds_there now many_arrived read at.machine.now at.tick (states_at at.lines.now at.tick) work.d many_settled own_truth other_truth
+      truths_on_arrival settled arrived at.changed.now holds_there now many_arrived read at.machine.now at.tick (states_at at.lines.now at.tick) d many_settled own_truth other_truth
 
-  pub read_handling : (begun : List ℤ) (fired : List ℕ) → first_past 88 (states_at at.lines.now at.tick) ≡ None → begun ≡ work.d → fired ≡ fired_of holds_there arrived settled at.changed.now →
+  pub read_handling : (begun : List ℤ) (fired : List ℕ) → first_past 88 (states_at at.lines.now at.tick) ≡ None → begun ≡ d → fired ≡ fired_of holds_there arrived settled at.changed.now →
       handling_of_fired at.machine.now at.tick (states_at at.lines.now at.tick) begun fired
-      ≡ handling_from at.machine.now at.tick (states_at at.lines.now at.tick) work.d all.arrived.items all.settled.items
+      ≡ handling_from at.machine.now at.tick (states_at at.lines.now at.tick) d all.arrived.items all.settled.items
   read_handling begun fired calm same are =
-      fired_handling settled arrived at.changed.now holds_there now many_arrived read at.machine.now at.tick (states_at at.lines.now at.tick) work.d many_settled own_truth other_truth begun fired calm same are
-      ∙ ap (λ a. handling_from at.machine.now at.tick (states_at at.lines.now at.tick) work.d a settled) of_arrived
-      ∙ ap (handling_from at.machine.now at.tick (states_at at.lines.now at.tick) work.d all.arrived.items) of_settled
+      fired_handling settled arrived at.changed.now holds_there now many_arrived read at.machine.now at.tick (states_at at.lines.now at.tick) d many_settled own_truth other_truth begun fired calm same are
+      ∙ ap (λ a. handling_from at.machine.now at.tick (states_at at.lines.now at.tick) d a settled) of_arrived
+      ∙ ap (handling_from at.machine.now at.tick (states_at at.lines.now at.tick) d all.arrived.items) of_settled
 
 -- the branches that fired have room for their rows
 pub rows_fired : (m : Machine) (tick : ℕ) (x d : List ℤ) (fired : List ℕ) → length (handling_of_fired m tick x d fired).rows ≤ row_room m.clauses

@@ -4,12 +4,12 @@ use Rattle.mu_num.specs.Sizes.{IsWithin}
 use Rattle.qss_machine.specs.declared.system.Machine.{Machine}
 use Rattle.qss_machine.specs.Machines.{state_count, truth}
 use Rattle.qss_machine.specs.Uses.{uses_of}
-use Rattle.qss_quant.specs.Lines.{Line, state_at}
+use Rattle.qss_quant.specs.Lines.{state_at}
 use Rattle.qss_cross.specs.Crossing.{Watch, IsSmall, value_at, holds_at}
 use Rattle.qss_watch.specs.declared.conditions.Conditions.{Conditions}
 use Rattle.qss_watch.specs.declared.moment.Moment.{Moment}
 use Rattle.qss_watch.specs.declared.moment.Point.{Point}
-use Rattle.qss_lines.specs.StateLines.{line_at, states_at}
+use Rattle.qss_lines.specs.StateLines.{line_at, states_at, AreLinesUpTo, AreLinesAt}
 use Rattle.qss_watch.specs.Places.{watch_at, AreConditionsOf, HasPlaces, KnowsApart}
 use Rattle.qss_lines.specs.Variables.{AreSlopesOf, AreWithin}
 use Rattle.qss_machine.specs.Firing.{flag_at}
@@ -24,13 +24,6 @@ use Rattle.qss_watch.specs.Moves.{IsTakenFrom}
 pub record AreSmallAt (tick : ℕ) (watches : List Watch) : Type 0 where
   pub later : (place : ℕ) → place < length watches → (watch_at watches place).tick ≤ tick
   pub small : (place : ℕ) → place < length watches → IsSmall (value_at (watch_at watches place) tick)
-
--- a line of each state, not later than a tick of a run, that leads to a state within the limit there
-pub record AreLinesAt (m : Machine) (tick : ℕ) (lines : List Line) : Type 0 where
-  pub as_many : length lines ≡ state_count m
-  pub later : (j : ℕ) → j < length lines → (line_at lines j).tick ≤ tick
-  pub small : All (IsWithin 88) (states_at lines tick)
-  pub in_time : tick < 2 ^ 32
 
 -- a machine's readers, and its lines and slopes at a tick, within the limits
 pub record IsMoment (at : Moment) : Type 0 where
@@ -59,23 +52,25 @@ pub record CanSettle (at : Moment) (d : List ℤ) (all : Conditions) (due : List
   pub places : HasPlaces at.machine.now due
   pub values : AreWithin at.machine.now x d
 
--- the handlers of a tick may come, where these states are due and these conditions are looked at: the others are as they were, and the watches know the truths on arrival
-pub record CanHandle (at : Changing) (all : Conditions) (due : List ℕ) (work : Values) (dues : List (Option ℕ)) : Type 0 where
+-- a machine's conditions on arrival at a tick: the watches know the truths there, and those conditions that are not looked at are as they were
+pub record KnowsArrival (at : Changing) (all : Conditions) (d : List ℤ) : Type 0 where
   pub fits : AreConditionsOf at.machine.now all
   pub changed : AreNumbers (length (conditions at.machine.now)) at.changed.now
-  pub lines : length at.lines.now ≡ state_count at.machine.now
-  pub values : AreWithin at.machine.now work.x work.d
-  pub moved : AreNumbers (state_count at.machine.now) due
-  pub places : state_count at.machine.now ≤ length dues
-  pub later : (j : ℕ) → j < length at.lines.now → (line_at at.lines.now j).tick ≤ at.tick
-  pub in_time : at.tick < 2 ^ 32
-  pub taken : IsTakenFrom at.tick due dues
-  pub others_small : (j : ℕ) → j < state_count at.machine.now → is_among due j ≡ false → IsWithin 88 (state_at (line_at at.lines.now j) at.tick)
   pub watched : (place : ℕ) → place < length (conditions at.machine.now) →
       ((watch_at all.watches.items place).tick ≤ at.tick)
       × (All (IsWithin 88) (states_at at.lines.now at.tick) → IsSmall (value_at (watch_at all.watches.items place) at.tick))
-      × (holds_at (watch_at all.watches.items place) at.tick ≡ truth at.machine.now (condition_at at.machine.now place) (states_at at.lines.now at.tick) work.d at.tick)
+      × (holds_at (watch_at all.watches.items place) at.tick ≡ truth at.machine.now (condition_at at.machine.now place) (states_at at.lines.now at.tick) d at.tick)
   pub alike : KnowsApart all
   pub others : (place : ℕ) → place < length (conditions at.machine.now) → is_among at.changed.now place ≡ false →
-      (truth at.machine.now (condition_at at.machine.now place) (states_at at.lines.now at.tick) work.d at.tick ≡ flag_at all.settled.items place)
+      (truth at.machine.now (condition_at at.machine.now place) (states_at at.lines.now at.tick) d at.tick ≡ flag_at all.settled.items place)
       × (became_true all.arrived.items all.settled.items place ≡ false)
+
+-- the handlers of a tick may come, where these states are due and were taken out of the agenda: the others lead to states within the limit
+pub record CanHandle (at : Changing) (all : Conditions) (due : List ℕ) (work : Values) (dues : List (Option ℕ)) : Type 0 where
+  pub known : KnowsArrival at all work.d
+  pub lines : AreLinesUpTo at.machine.now at.tick at.lines.now
+  pub others_small : (j : ℕ) → j < state_count at.machine.now → is_among due j ≡ false → IsWithin 88 (state_at (line_at at.lines.now j) at.tick)
+  pub values : AreWithin at.machine.now work.x work.d
+  pub moved : AreNumbers (state_count at.machine.now) due
+  pub places : state_count at.machine.now ≤ length dues
+  pub taken : IsTakenFrom at.tick due dues

@@ -11,10 +11,9 @@ ghost use Rattle.qss_machine.specs.Handlers.{run_clauses};
 ghost use Rattle.qss_hand.specs.Works.{AreValuesOf, handling_of, values_after, overflow_of, row_room};
 ghost use Rattle.qss_watch.specs.Handlings.{flags_of, handling_of_fired, is_reinitialized};
 ghost use Rattle.qss_quiet.specs.Among.{AreNumbers};
-ghost use Rattle.qss_watch.specs.Moments.{AreLinesAt};
 ghost use Rattle.qss_lines.specs.Variables.{AreWithin};
 ghost use Rattle.qss_watch.specs.Places.{AreBranches};
-ghost use Rattle.qss_lines.specs.StateLines.{line_at, states_at};
+ghost use Rattle.qss_lines.specs.StateLines.{line_at, states_at, AreLinesAt};
 ghost use Rattle.qss_watch.specs.Reads.{action_reads, fired_reads, AreArrived};
 
 use crate::conditions::BranchPlace;

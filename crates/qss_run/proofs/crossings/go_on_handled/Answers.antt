@@ -18,10 +18,9 @@ use Rattle.qss_run.specs.declared.store.Store.{Store}
 use Rattle.qss_lines.specs.declared.shifts.RowSum.TheVariants.{Slope}
 use Rattle.qss_lines.specs.Variables.{AreAssigned, AreDiscretes}
 use Rattle.qss_watch.specs.Handlings.{AreWatchedUpTo}
-use Rattle.qss_lines.specs.StateLines.{states_with, line_at, IsTurned, states_at}
+use Rattle.qss_lines.specs.StateLines.{states_with, line_at, IsTurned, states_at, AreLinesAt}
 use Rattle.qss_quiet.specs.Among.{is_among, AreNumbers}
 use Rattle.qss_quiet.specs.Logs.{reinitialized_of}
-use Rattle.qss_watch.specs.Moments.{AreLinesAt}
 use Rattle.qss_watch.specs.Places.{watch_at, IsWatched}
 use Rattle.qss_lines.specs.Renewals.{renewals_from}
 use Rattle.qss_lines.specs.RowSums.{AreSumsBefore}
@@ -141,10 +140,12 @@ rewatch_handled-requires-clause-lines g c =
     lead_to (state_count m) s.lines.items after t s.moved.items s.work.x fits.lines many (λ j h. (c.reslope_handled.ensures.lines j h).here ∙ ap (λ xs. int_at xs j) same) in
     subst (AreLinesAt m t) (sym lines)
     (record {
-      as_many = many;
-      later = λ j h. (c.reslope_handled.ensures.lines j (omega (arith, h, many))).not_later;
+      up_to = record {
+        as_many = many;
+        later = λ j h. (c.reslope_handled.ensures.lines j (omega (arith, h, many))).not_later;
+        in_time = c.requires.in_time;
+      };
       small = subst (All (IsWithin 88)) (sym lead) c.requires.small_states;
-      in_time = c.requires.in_time;
     })
 
 pub rewatch_handled-requires-clause-slopes : goal.rewatch_handled-requires-clause-slopes

@@ -53,27 +53,31 @@ handle-over-requires-clause-ready g c =
     let taken = c.requires.taken.1 in
     let fits = taken.stands.fits in
     record {
-      fits = fits.own_conditions;
-      changed = subst (AreNumbers (length (conditions m))) (sym c.as_slice-2.ensures.value) taken.changing.numbers;
-      lines = ap length c.as_slice.ensures.value ∙ fits.lines;
+      known = record {
+        fits = fits.own_conditions;
+        changed = subst (AreNumbers (length (conditions m))) (sym c.as_slice-2.ensures.value) taken.changing.numbers;
+        watched = λ place h.
+            let watch : Watch = watch_at s.conditions.watches.items place in
+            subst (λ ls. (watch.tick ≤ t) × (All (IsWithin 88) (states_at ls t) → IsSmall (value_at watch t)) × (holds_at watch t ≡ truth m (condition_at m place) (states_at ls t) s.work.d t))
+            (sym c.as_slice.ensures.value) (watched_then m c.args.tick agenda s taken c.requires.in_time place h);
+        alike = taken.stands.alike;
+        others = λ place h none.
+            let both = rest_as_before m c.args.tick agenda s taken c.requires.in_time place h (ap (λ cs. is_among cs place) (sym c.as_slice-2.ensures.value) ∙ none) in
+            (ap (λ ls. truth m (condition_at m place) (states_at ls t) s.work.d t) c.as_slice.ensures.value ∙ both.0, both.1);
+      };
+      lines = record {
+        as_many = ap length c.as_slice.ensures.value ∙ fits.lines;
+        later = λ j h.
+            let not_later = (taken.stands.stands_for.lines j (omega (arith, h, ap length c.as_slice.ensures.value, fits.lines))).not_later in
+            omega (arith, ap (λ ls. (line_at ls j).tick) c.as_slice.ensures.value, not_later);
+        in_time = omega (arith, c.requires.in_time, m.has_units.last_tick);
+      };
+      others_small = λ j h none.
+          subst (λ ls. IsWithin 88 (state_at (line_at ls j) t)) (sym c.as_slice.ensures.value) (rest_small m c.args.tick agenda s taken c.requires.in_time j h none);
       values = record { states = fits.states; discretes = fits.discretes; small_states = fits.small_states; small_discretes = fits.small_discretes };
       moved = taken.due.numbers;
       places = omega (arith, taken.without.as_many, fits.places);
-      later = λ j h.
-          let not_later = (taken.stands.stands_for.lines j (omega (arith, h, ap length c.as_slice.ensures.value, fits.lines))).not_later in
-          omega (arith, ap (λ ls. (line_at ls j).tick) c.as_slice.ensures.value, not_later);
-      in_time = omega (arith, c.requires.in_time, m.has_units.last_tick);
       taken = record { later = later_dues m c.args.tick agenda s taken c.requires.in_time; none = taken.without.states };
-      others_small = λ j h none.
-          subst (λ ls. IsWithin 88 (state_at (line_at ls j) t)) (sym c.as_slice.ensures.value) (rest_small m c.args.tick agenda s taken c.requires.in_time j h none);
-      watched = λ place h.
-          let watch : Watch = watch_at s.conditions.watches.items place in
-          subst (λ ls. (watch.tick ≤ t) × (All (IsWithin 88) (states_at ls t) → IsSmall (value_at watch t)) × (holds_at watch t ≡ truth m (condition_at m place) (states_at ls t) s.work.d t))
-          (sym c.as_slice.ensures.value) (watched_then m c.args.tick agenda s taken c.requires.in_time place h);
-      alike = taken.stands.alike;
-      others = λ place h none.
-          let both = rest_as_before m c.args.tick agenda s taken c.requires.in_time place h (ap (λ cs. is_among cs place) (sym c.as_slice-2.ensures.value) ∙ none) in
-          (ap (λ ls. truth m (condition_at m place) (states_at ls t) s.work.d t) c.as_slice.ensures.value ∙ both.0, both.1);
     }
 
 pub returns-then-is_some-clause-stepped : goal.returns-then-is_some-clause-stepped

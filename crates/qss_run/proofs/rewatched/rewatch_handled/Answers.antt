@@ -12,14 +12,13 @@ use Rattle.qss_watch.specs.declared.conditions.Conditions.{Conditions}
 use Rattle.qss_run.specs.declared.store.Store.{Store}
 use Rattle.qss_quiet.specs.Logs.{reinitialized_of}
 use Rattle.qss_quiet.specs.Among.{is_among}
-use Rattle.qss_watch.specs.Moments.{AreLinesAt}
 use Rattle.qss_lines.specs.Variables.{AreSlopesOf}
 use Rattle.qss_watch.specs.Moves.{AreAlikeBut}
 use Rattle.qss_watch.specs.Places.{watch_at, IsWatched}
 use Rattle.qss_watch.specs.Rewatchings.{watchings_of, touched_after, one_reads}
 use Rattle.qss_quiet.specs.Sims.{condition_at}
 use Rattle.qss_watch.specs.Speeds.{AreSlopesBefore}
-use Rattle.qss_lines.specs.StateLines.{states_at}
+use Rattle.qss_lines.specs.StateLines.{states_at, AreLinesAt}
 use Rattle.qss_quiet.proofs.Flags.{truths_are}
 use Rattle.qss_watch.proofs.Apart.{alike_then}
 use Rattle.qss_watch.proofs.OwnConditions.{settled_fits, still_fits, rest_watched, same_settled}
@@ -66,10 +65,10 @@ rewatch_of-requires-clause-ready c =
             subst IsSmall (sym (there place (omega (arith, h, many))).watched.here)
             (value_small m (condition_at m place).form full s.work.d t
             (condition_bounded m s.conditions.branches.items fits.own_conditions.branches place (omega (arith, h, many, fits.own_conditions.branches.as_many))) c.requires.lines.small fits.small_discretes
-            c.requires.lines.in_time);
+            c.requires.lines.up_to.in_time);
       };
       slopes_of = subst (AreSlopesOf m) (sym c.as_slice-6.ensures.value) c.requires.slopes;
-      in_time = c.requires.lines.in_time;
+      in_time = c.requires.lines.up_to.in_time;
     }
 
 pub returns : goal.returns

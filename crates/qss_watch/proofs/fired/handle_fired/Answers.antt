@@ -33,7 +33,7 @@ run_fired-requires-clause-fits c =
     let start : Values = c.args.work.now in
     let arrived : Values = c.arrive_in_work.new.work in
     let states = states_at c.args.lines.now c.args.tick in
-    let many : length start.x ≡ length states = c.requires.values.states ∙ sym (length-states_at c.args.lines.now c.args.tick ∙ c.requires.lines.as_many) in
+    let many : length start.x ≡ length states = c.requires.values.states ∙ sym (length-states_at c.args.lines.now c.args.tick ∙ c.requires.lines.up_to.as_many) in
     let first : AreValuesOf c.args.m.now (at_first arrived.x c.args.tick start) = record {
       states = c.arrive_in_work.ensures.states.as_many ∙ c.requires.values.states;
       discretes = c.requires.values.discretes;
@@ -41,7 +41,7 @@ run_fired-requires-clause-fits c =
       small_states = arrived_small 88 _ states start.x arrived.x many c.requires.lines.small c.requires.values.small_states c.arrive_in_work.ensures.states;
       small_discretes = c.requires.values.small_discretes;
       small_before = c.requires.values.small_discretes;
-      in_time = c.requires.lines.in_time;
+      in_time = c.requires.lines.up_to.in_time;
     } in
     subst (AreValuesOf c.args.m.now) (sym (begins start arrived c.begin.new.self c.args.tick c.arrive_in_work.ensures.work c.begin.ensures)) first
 
@@ -55,7 +55,7 @@ returns-in-Ok c =
     let fired = c.args.fired.now in
     let flags : List Bool = flags_of (length c.args.branches.now) fired in
     let states = states_at c.args.lines.now tick in
-    let many : length start.x ≡ length states = c.requires.values.states ∙ sym (length-states_at c.args.lines.now tick ∙ c.requires.lines.as_many) in
+    let many : length start.x ≡ length states = c.requires.values.states ∙ sym (length-states_at c.args.lines.now tick ∙ c.requires.lines.up_to.as_many) in
     let come = c.arrive_in_work.ensures.states in
     let ideal : Handling = handling_of_fired m tick states start.d fired in
     let done : Handling = done_from m flags (at_first arrived.x tick start) in
@@ -89,7 +89,7 @@ returns-in-Err-clause-over c =
     let tick = c.args.tick in
     let fired = c.args.fired.now in
     let states = states_at c.args.lines.now tick in
-    let many : length start.x ≡ length states = c.requires.values.states ∙ sym (length-states_at c.args.lines.now tick ∙ c.requires.lines.as_many) in
+    let many : length start.x ≡ length states = c.requires.values.states ∙ sym (length-states_at c.args.lines.now tick ∙ c.requires.lines.up_to.as_many) in
     let come = c.arrive_in_work.ensures.states in
     let agree = fired_agree m c.args.branches.now fired c.requires.branches c.requires.fired tick states arrived.x start.d start.x (come.as_many ∙ many) come in
     c.in-Err.ensures.over

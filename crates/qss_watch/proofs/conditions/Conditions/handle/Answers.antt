@@ -30,11 +30,11 @@ use Rattle.qss_watch.proofs.conditions.Conditions.handle.Goals as goal
 pub arrive_moved-passed-requires-clause-moved : goal.arrive_moved-passed-requires-clause-moved
 arrive_moved-passed-requires-clause-moved c =
     let ready = c.requires.ready in
-    subst (λ n. AreNumbers n c.as_slice.result.now) (sym ready.lines) (subst (AreNumbers (state_count c.args.at.now.machine.now)) (sym c.as_slice.ensures.value) ready.moved)
+    subst (λ n. AreNumbers n c.as_slice.result.now) (sym ready.lines.as_many) (subst (AreNumbers (state_count c.args.at.now.machine.now)) (sym c.as_slice.ensures.value) ready.moved)
 
 pub arrive_moved-passed-requires-clause-others_small : goal.arrive_moved-passed-requires-clause-others_small
 arrive_moved-passed-requires-clause-others_small c j h none =
-    c.requires.ready.others_small j (omega (arith, h, c.requires.ready.lines)) (ap (λ js. is_among js j) (sym c.as_slice.ensures.value) ∙ none)
+    c.requires.ready.others_small j (omega (arith, h, c.requires.ready.lines.as_many)) (ap (λ js. is_among js j) (sym c.as_slice.ensures.value) ∙ none)
 
 pub returns-then-is_some-clause-over : goal.returns-then-is_some-clause-over
 returns-then-is_some-clause-over c =
@@ -44,24 +44,24 @@ returns-then-is_some-clause-over c =
 
 pub list_fired-requires-clause-watches : goal.list_fired-requires-clause-watches
 list_fired-requires-clause-watches c =
-    ap length c.as_slice-watches.ensures.value ∙ c.requires.ready.fits.watches ∙ sym (ap length c.as_slice-settled.ensures.value ∙ c.requires.ready.fits.settled)
+    ap length c.as_slice-watches.ensures.value ∙ c.requires.ready.known.fits.watches ∙ sym (ap length c.as_slice-settled.ensures.value ∙ c.requires.ready.known.fits.settled)
 
 pub list_fired-requires-clause-changed : goal.list_fired-requires-clause-changed
 list_fired-requires-clause-changed c =
-    subst (λ n. AreNumbers n c.args.at.now.changed.now) (sym (ap length c.as_slice-settled.ensures.value ∙ c.requires.ready.fits.settled)) c.requires.ready.changed
+    subst (λ n. AreNumbers n c.args.at.now.changed.now) (sym (ap length c.as_slice-settled.ensures.value ∙ c.requires.ready.known.fits.settled)) c.requires.ready.known.changed
 
 pub list_fired-requires-clause-arrived : goal.list_fired-requires-clause-arrived
 list_fired-requires-clause-arrived c =
-    ap length c.as_mut_slice-arrived.ensures.value ∙ c.requires.ready.fits.arrived ∙ sym (ap length c.as_slice-settled.ensures.value ∙ c.requires.ready.fits.settled)
+    ap length c.as_mut_slice-arrived.ensures.value ∙ c.requires.ready.known.fits.arrived ∙ sym (ap length c.as_slice-settled.ensures.value ∙ c.requires.ready.known.fits.settled)
 
 pub list_fired-requires-clause-room : goal.list_fired-requires-clause-room
 list_fired-requires-clause-room c =
-    omega (arith, ap length c.as_slice-settled.ensures.value, c.requires.ready.fits.settled, c.requires.fired_room)
+    omega (arith, ap length c.as_slice-settled.ensures.value, c.requires.ready.known.fits.settled, c.requires.fired_room)
 
 pub list_fired-requires-clause-later : goal.list_fired-requires-clause-later
 list_fired-requires-clause-later c place h =
     subst (λ ws. (watch_at ws place).tick ≤ c.args.at.now.tick) (sym c.as_slice-watches.ensures.value)
-    (c.requires.ready.watched place (omega (arith, h, ap length c.as_slice-settled.ensures.value, c.requires.ready.fits.settled))).0
+    (c.requires.ready.known.watched place (omega (arith, h, ap length c.as_slice-settled.ensures.value, c.requires.ready.known.fits.settled))).0
 
 pub list_fired-requires-clause-small : goal.list_fired-requires-clause-small
 list_fired-requires-clause-small c place h =
@@ -69,34 +69,34 @@ list_fired-requires-clause-small c place h =
     let x : List ℤ = states_at c.args.at.now.lines.now c.args.at.now.tick in
     let calm : first_past 88 x ≡ None = sym c.arrive_moved-passed.ensures.over ∙ not_some c.arrive_moved-passed.result (sym c.is_some.ensures ∙ c.if-is_some.false) in
     subst (λ ws. IsSmall (value_at (watch_at ws place) c.args.at.now.tick)) (sym c.as_slice-watches.ensures.value)
-    ((c.requires.ready.watched place (omega (arith, h, ap length c.as_slice-settled.ensures.value, c.requires.ready.fits.settled))).1 (all_within 88 x calm))
+    ((c.requires.ready.known.watched place (omega (arith, h, ap length c.as_slice-settled.ensures.value, c.requires.ready.known.fits.settled))).1 (all_within 88 x calm))
 
 pub read_changed-requires-clause-watches : goal.read_changed-requires-clause-watches
 read_changed-requires-clause-watches c =
-    ap length c.as_slice-watches.ensures.value ∙ c.requires.ready.fits.watches ∙ sym (ap length c.as_slice-settled.ensures.value ∙ c.requires.ready.fits.settled)
+    ap length c.as_slice-watches.ensures.value ∙ c.requires.ready.known.fits.watches ∙ sym (ap length c.as_slice-settled.ensures.value ∙ c.requires.ready.known.fits.settled)
 
 pub read_changed-requires-clause-changed : goal.read_changed-requires-clause-changed
 read_changed-requires-clause-changed c =
-    subst (λ n. AreNumbers n c.args.at.now.changed.now) (sym (ap length c.as_slice-settled.ensures.value ∙ c.requires.ready.fits.settled)) c.requires.ready.changed
+    subst (λ n. AreNumbers n c.args.at.now.changed.now) (sym (ap length c.as_slice-settled.ensures.value ∙ c.requires.ready.known.fits.settled)) c.requires.ready.known.changed
 
 pub read_changed-requires-clause-arrived : goal.read_changed-requires-clause-arrived
 read_changed-requires-clause-arrived c =
-    ap length c.as_mut_slice-arrived.ensures.value ∙ c.requires.ready.fits.arrived ∙ sym (ap length c.as_slice-settled.ensures.value ∙ c.requires.ready.fits.settled)
+    ap length c.as_mut_slice-arrived.ensures.value ∙ c.requires.ready.known.fits.arrived ∙ sym (ap length c.as_slice-settled.ensures.value ∙ c.requires.ready.known.fits.settled)
 
 pub read_changed-requires-clause-below : goal.read_changed-requires-clause-below
 read_changed-requires-clause-below c =
-    λ k d h. omega (arith, c.places-apart.ensures.below k d h, c.requires.ready.fits.apart, c.requires.ready.fits.settled, ap length c.as_slice-settled.ensures.value)
+    λ k d h. omega (arith, c.places-apart.ensures.below k d h, c.requires.ready.known.fits.apart, c.requires.ready.known.fits.settled, ap length c.as_slice-settled.ensures.value)
 
 pub read_changed-requires-clause-alike : goal.read_changed-requires-clause-alike
 read_changed-requires-clause-alike c = λ place none.
     ap (λ flags. flag_at flags place) c.as_mut_slice-arrived.ensures.value
-    ∙ c.requires.ready.alike place (ap (λ these. is_among these place) (sym c.places-apart.ensures.places) ∙ none)
+    ∙ c.requires.ready.known.alike place (ap (λ these. is_among these place) (sym c.places-apart.ensures.places) ∙ none)
     ∙ sym (ap (λ flags. flag_at flags place) c.as_slice-settled.ensures.value)
 
 pub read_changed-requires-clause-later : goal.read_changed-requires-clause-later
 read_changed-requires-clause-later c place h =
     subst (λ ws. (watch_at ws place).tick ≤ c.args.at.now.tick) (sym c.as_slice-watches.ensures.value)
-    (c.requires.ready.watched place (omega (arith, h, ap length c.as_slice-settled.ensures.value, c.requires.ready.fits.settled))).0
+    (c.requires.ready.known.watched place (omega (arith, h, ap length c.as_slice-settled.ensures.value, c.requires.ready.known.fits.settled))).0
 
 pub read_changed-requires-clause-small : goal.read_changed-requires-clause-small
 read_changed-requires-clause-small c place h =
@@ -104,26 +104,26 @@ read_changed-requires-clause-small c place h =
     let x : List ℤ = states_at c.args.at.now.lines.now c.args.at.now.tick in
     let calm : first_past 88 x ≡ None = sym c.arrive_moved-passed.ensures.over ∙ not_some c.arrive_moved-passed.result (sym c.is_some.ensures ∙ c.if-is_some.false) in
     subst (λ ws. IsSmall (value_at (watch_at ws place) c.args.at.now.tick)) (sym c.as_slice-watches.ensures.value)
-    ((c.requires.ready.watched place (omega (arith, h, ap length c.as_slice-settled.ensures.value, c.requires.ready.fits.settled))).1 (all_within 88 x calm))
+    ((c.requires.ready.known.watched place (omega (arith, h, ap length c.as_slice-settled.ensures.value, c.requires.ready.known.fits.settled))).1 (all_within 88 x calm))
 
 pub handle_fired-over-requires-clause-branches : goal.handle_fired-over-requires-clause-branches
 handle_fired-over-requires-clause-branches c =
-    subst (AreBranches c.args.at.now.machine.now) (sym c.as_slice-branches.ensures.value) c.requires.ready.fits.branches
+    subst (AreBranches c.args.at.now.machine.now) (sym c.as_slice-branches.ensures.value) c.requires.ready.known.fits.branches
 
 pub handle_fired-over-requires-clause-fired : goal.handle_fired-over-requires-clause-fired
 handle_fired-over-requires-clause-fired c =
     let count : ℕ = length c.as_slice-branches.result.now in
-    let places : count ≡ length (conditions c.args.at.now.machine.now) = ap length c.as_slice-branches.ensures.value ∙ c.requires.ready.fits.branches.as_many in
+    let places : count ≡ length (conditions c.args.at.now.machine.now) = ap length c.as_slice-branches.ensures.value ∙ c.requires.ready.known.fits.branches.as_many in
     subst (AreNumbers count) (sym (c.as_slice-2.ensures.value ∙ c.list_fired.ensures.fired))
     (fired_numbers c.as_slice-settled.result.now c.as_mut_slice-arrived.result.now c.args.at.now.changed.now (λ place. holds_at (watch_at c.as_slice-watches.result.now place) c.args.at.now.tick) count
-    (subst (λ n. AreNumbers n c.args.at.now.changed.now) (sym places) c.requires.ready.changed))
+    (subst (λ n. AreNumbers n c.args.at.now.changed.now) (sym places) c.requires.ready.known.changed))
 
 pub handle_fired-over-requires-clause-lines : goal.handle_fired-over-requires-clause-lines
 handle_fired-over-requires-clause-lines c =
     let ready = c.requires.ready in
     let x : List ℤ = states_at c.args.at.now.lines.now c.args.at.now.tick in
     let calm : first_past 88 x ≡ None = sym c.arrive_moved-passed.ensures.over ∙ not_some c.arrive_moved-passed.result (sym c.is_some.ensures ∙ c.if-is_some.false) in
-    record { as_many = ready.lines; later = ready.later; small = all_within 88 x calm; in_time = ready.in_time }
+    record { up_to = ready.lines; small = all_within 88 x calm }
 
 pub handle_fired-over-requires-clause-values : goal.handle_fired-over-requires-clause-values
 handle_fired-over-requires-clause-values c =
@@ -145,7 +145,7 @@ returns-then-is_some-2-clause-over c =
     let x : List ℤ = states_at c.args.at.now.lines.now tick in
     let calm : first_past 88 x ≡ None = sym c.arrive_moved-passed.ensures.over ∙ not_some c.arrive_moved-passed.result (sym c.is_some.ensures ∙ c.if-is_some.false) in
     let same : handling_of_fired m tick x c.arrive_moved-passed.new.work.d c.as_slice-2.result.now ≡ handling_from m tick x c.args.work.now.d all.arrived.items all.settled.items =
-    read_handling c.args.at.now all _ c.args.work.now _ ready c.as_slice-watches.result.now c.as_slice-settled.result.now c.as_mut_slice-arrived.result.now c.read_changed.new.arrived
+    read_handling c.args.at.now all c.args.work.now.d ready.known c.as_slice-watches.result.now c.as_slice-settled.result.now c.as_mut_slice-arrived.result.now c.read_changed.new.arrived
     c.as_slice-watches.ensures.value c.as_slice-settled.ensures.value c.as_mut_slice-arrived.ensures.value c.read_changed.ensures
     c.arrive_moved-passed.new.work.d c.as_slice-2.result.now calm (ap (λ (v : Values). v.d) c.arrive_moved-passed.ensures.work) (c.as_slice-2.ensures.value ∙ c.list_fired.ensures.fired) in
     c.handle_fired-over.ensures.over ∙ ap (λ (h : Handling). h.overflow) same
@@ -166,7 +166,7 @@ join_reinitialized-requires-clause-known c =
     let log : c.as_slice-log.result.now ≡ done.rows =
     c.as_slice-log.ensures.value ∙ ap (λ (v : Values). v.log) c.work.view_is ∙ ap (λ (v : Values). v.log) (c.handle_fired-over.ensures.work none) in
     λ j e. subst (λ n. j < n) (sym (ap length c.as_slice-3.ensures))
-    (known_states m tick lines c.args.moved.now.items c.as_slice-2.result.now c.args.work.now begun c.handle_fired-over.new.work ready.lines calm came j (subst (λ rows. is_reinitialized rows j ≡ true) log e))
+    (known_states m tick lines c.args.moved.now.items c.as_slice-2.result.now c.args.work.now begun c.handle_fired-over.new.work ready.lines.as_many calm came j (subst (λ rows. is_reinitialized rows j ≡ true) log e))
 
 pub list_assigned-requires : goal.list_assigned-requires
 list_assigned-requires c =
@@ -187,7 +187,7 @@ returns-clause-over c =
     let x : List ℤ = states_at c.args.at.now.lines.now tick in
     let calm : first_past 88 x ≡ None = sym c.arrive_moved-passed.ensures.over ∙ not_some c.arrive_moved-passed.result (sym c.is_some.ensures ∙ c.if-is_some.false) in
     let same : handling_of_fired m tick x c.arrive_moved-passed.new.work.d c.as_slice-2.result.now ≡ handling_from m tick x c.args.work.now.d all.arrived.items all.settled.items =
-    read_handling c.args.at.now all _ c.args.work.now _ ready c.as_slice-watches.result.now c.as_slice-settled.result.now c.as_mut_slice-arrived.result.now c.read_changed.new.arrived
+    read_handling c.args.at.now all c.args.work.now.d ready.known c.as_slice-watches.result.now c.as_slice-settled.result.now c.as_mut_slice-arrived.result.now c.read_changed.new.arrived
     c.as_slice-watches.ensures.value c.as_slice-settled.ensures.value c.as_mut_slice-arrived.ensures.value c.read_changed.ensures
     c.arrive_moved-passed.new.work.d c.as_slice-2.result.now calm (ap (λ (v : Values). v.d) c.arrive_moved-passed.ensures.work) (c.as_slice-2.ensures.value ∙ c.list_fired.ensures.fired) in
     let none : c.handle_fired-over.result ≡ None = not_some c.handle_fired-over.result (sym c.is_some-2.ensures ∙ c.if-is_some-2.false) in
@@ -203,7 +203,7 @@ returns-clause-handled c =
     let x : List ℤ = states_at lines tick in
     let calm : first_past 88 x ≡ None = sym c.arrive_moved-passed.ensures.over ∙ not_some c.arrive_moved-passed.result (sym c.is_some.ensures ∙ c.if-is_some.false) in
     let same : handling_of_fired m tick x c.arrive_moved-passed.new.work.d c.as_slice-2.result.now ≡ handling_from m tick x c.args.work.now.d all.arrived.items all.settled.items =
-    read_handling c.args.at.now all _ c.args.work.now _ ready c.as_slice-watches.result.now c.as_slice-settled.result.now c.as_mut_slice-arrived.result.now c.read_changed.new.arrived
+    read_handling c.args.at.now all c.args.work.now.d ready.known c.as_slice-watches.result.now c.as_slice-settled.result.now c.as_mut_slice-arrived.result.now c.read_changed.new.arrived
     c.as_slice-watches.ensures.value c.as_slice-settled.ensures.value c.as_mut_slice-arrived.ensures.value c.read_changed.ensures
     c.arrive_moved-passed.new.work.d c.as_slice-2.result.now calm (ap (λ (v : Values). v.d) c.arrive_moved-passed.ensures.work) (c.as_slice-2.ensures.value ∙ c.list_fired.ensures.fired) in
     let begun : Values = c.arrive_moved-passed.new.work in
@@ -216,7 +216,7 @@ returns-clause-handled c =
     let did = c.handle_fired-over.ensures in
     let listed : c.list_assigned.new.assigned.items ≡ assigned_of done.rows = c.list_assigned.ensures.assigned ∙ ap assigned_of log in
     λ e. subst (IsHandled m tick lines c.args.moved.now.items c.join_reinitialized.new.moved.items c.list_assigned.new.assigned.items c.args.work.now c.handle_fired-over.new.work) same
-    (subst (λ assigned. IsHandled m tick lines c.args.moved.now.items c.join_reinitialized.new.moved.items assigned c.args.work.now c.handle_fired-over.new.work done) (sym listed) (is_handled m tick lines c.args.moved.now.items c.as_slice-2.result.now c.args.work.now begun c.handle_fired-over.new.work ready.lines calm came
+    (subst (λ assigned. IsHandled m tick lines c.args.moved.now.items c.join_reinitialized.new.moved.items assigned c.args.work.now c.handle_fired-over.new.work done) (sym listed) (is_handled m tick lines c.args.moved.now.items c.as_slice-2.result.now c.args.work.now begun c.handle_fired-over.new.work ready.lines.as_many calm came
     c.arrive_moved-passed.ensures.work (did.work none) (did.many none) (did.arrived none) (did.reinitialized none) c.join_reinitialized.new.moved.items
     (λ j. c.join_reinitialized.ensures.each j ∙ ap (λ (rows : List Row). is_among c.args.moved.now.items j || is_reinitialized rows j) log)
     (did.fits none) (subst (λ n. AreNumbers n c.join_reinitialized.new.moved.items) (ap length c.as_slice-3.ensures) c.join_reinitialized.ensures.numbers)))
@@ -225,7 +225,7 @@ pub returns-clause-arrived : goal.returns-clause-arrived
 returns-clause-arrived c =
     let all : Conditions = c.args.self.now in
     λ e. with_items_is all.arrived c.read_changed.new.arrived (c.read_changed.auto.arrived ∙ c.as_mut_slice-arrived.ensures.len)
-    ∙ read_on_arrival c.args.at.now all _ c.args.work.now _ c.requires.ready c.as_slice-watches.result.now c.as_slice-settled.result.now c.as_mut_slice-arrived.result.now c.read_changed.new.arrived
+    ∙ read_on_arrival c.args.at.now all c.args.work.now.d c.requires.ready.known c.as_slice-watches.result.now c.as_slice-settled.result.now c.as_mut_slice-arrived.result.now c.read_changed.new.arrived
     c.as_slice-watches.ensures.value c.as_slice-settled.ensures.value c.as_mut_slice-arrived.ensures.value c.read_changed.ensures
 
 pub returns-clause-alike : goal.returns-clause-alike
@@ -242,6 +242,6 @@ returns-clause-none_apart c = λ e. ap (λ (s : PlaceList). s.places) c.clear.en
 pub returns-clause-fits : goal.returns-clause-fits
 returns-clause-fits c =
     let all : Conditions = c.args.self.now in
-    let fits = c.requires.ready.fits in
+    let fits = c.requires.ready.known.fits in
     λ e. arrived_anew c.args.at.now.machine.now all (with_items all.arrived c.read_changed.new.arrived) c.clear.new.self fits (same_length all.arrived c.read_changed.new.arrived ∙ fits.arrived)
     (ap (λ (s : PlaceList). s.count) c.clear.ensures)

@@ -18,7 +18,7 @@ settle-requires-clause-point c =
     let at = c.args.at.now in
     let ready = c.requires.ready in
     let full : List ℤ = states_at at.lines.now at.tick in
-    let many : length c.args.x.now ≡ length full = ready.values.states ∙ sym ready.moment.lines.as_many ∙ sym (length-states_at at.lines.now at.tick) in
+    let many : length c.args.x.now ≡ length full = ready.values.states ∙ sym ready.moment.lines.up_to.as_many ∙ sym (length-states_at at.lines.now at.tick) in
     record {
       values = record {
         states = c.arrive_read.ensures.as_many ∙ ready.values.states;
@@ -27,7 +27,7 @@ settle-requires-clause-point c =
         small_discretes = ready.values.small_discretes;
       };
       slopes = ready.moment.slopes;
-      in_time = ready.moment.lines.in_time;
+      in_time = ready.moment.lines.up_to.in_time;
     }
 
 pub returns : goal.returns
@@ -40,7 +40,7 @@ returns c =
     let x : List ℤ = c.arrive_read.new.x in
     let d : List ℤ = c.args.d.now in
     let own : c.condition-condition.result.now ≡ condition_at m place = c.condition-condition.ensures.value in
-    let many : length c.args.x.now ≡ length full = ready.values.states ∙ sym ready.moment.lines.as_many ∙ sym (length-states_at at.lines.now at.tick) in
+    let many : length c.args.x.now ≡ length full = ready.values.states ∙ sym ready.moment.lines.up_to.as_many ∙ sym (length-states_at at.lines.now at.tick) in
     let value : value_of m (condition_at m place).form x d d at.tick ≡ value_of m (condition_at m place).form full d d at.tick =
     value_agrees m (condition_at m place).form x full d d at.tick (c.arrive_read.ensures.as_many ∙ many)
     (λ j has. c.arrive_read.ensures.own j (ap (λ (condition : Condition). has_entry j condition.form.entries) own ∙ has)) in
