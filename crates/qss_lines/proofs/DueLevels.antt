@@ -35,6 +35,13 @@ length-states_at lines tick = length-map-range_with_len (λ j. state_at (line_at
 pub int_at-states_at : (lines : List Line) (tick j : ℕ) → j < length lines → int_at (states_at lines tick) j ≡ state_at (line_at lines j) tick
 int_at-states_at lines tick j h = int_at-tabulate (length lines) (λ j. state_at (line_at lines j) tick) j h
 
+-- a state to which a line leads is within the limit of states, and so within that of lines
+pub state_within : (lines : List Line) (tick j : ℕ) → j < length lines → All (IsWithin 88) (states_at lines tick) → IsWithin 88 (state_at (line_at lines j) tick)
+state_within lines tick j h small = subst (IsWithin 88) (int_at-states_at lines tick j h) (small j (pos 0) (omega (arith, h, length-states_at lines tick)))
+
+pub state_small : (lines : List Line) (tick j : ℕ) → j < length lines → All (IsWithin 88) (states_at lines tick) → IsWithin 89 (state_at (line_at lines j) tick)
+state_small lines tick j h small = omega (arith, state_within lines tick j h small)
+
 -- rows that are the same at each of some states
 pub same_rows : {R : Type 0} (f g : ℕ → List R) (moved : List ℕ) → ((j : ℕ) → is_among moved j ≡ true → f j ≡ g j) → flat_map f moved ≡ flat_map g moved
 same_rows f g [] same = refl

@@ -282,7 +282,7 @@ module _ (m : Machine) (tick : ℕ) (levels before discretes slopes_old slopes :
     (were : AreSumsBefore Slope m moved levels discretes slopes_old old.lines before) (are : slopes ≡ tabulate (state_count m) (λ j. slope_at m j levels discretes)) where
   -- each state goes on at its new slope, since that of one that reads no moved state is its old one
   pub all_on : (k : ℕ) → k < state_count m → k < length old.lines → (line_at old.lines k).tick ≤ tick → (line_at old.lines k).slope ≡ int_at slopes_old k →
-      ((line_at old.lines k).level ≡ int_at levels k → IsDue m tick k (line_at old.lines k) (due_at dues k)) →
+      (is_among moved k ≡ false → (line_at old.lines k).level ≡ int_at levels k → IsDue m tick k (line_at old.lines k) (due_at dues k)) →
       IsTurned m tick (state_at (line_at old.lines k) tick) (int_at levels k) (slope_at m k levels discretes) k (line_at new.lines k) (due_at new.dues k)
   all_on k h inside not_later own_slope due =
       let x : ℤ = state_at (line_at old.lines k) tick in
@@ -304,5 +304,5 @@ module _ (m : Machine) (tick : ℕ) (levels before discretes slopes_old slopes :
             let line : line_at new.lines k ≡ line_at old.lines k = on.lines k none ∙ gathered.others k none in
             subst (λ (l : Line). IsTurned m tick x (int_at levels k) (slope_at m k levels discretes) k l (due_at new.dues k)) (sym line)
             (subst (IsTurned m tick x (int_at levels k) (slope_at m k levels discretes) k (line_at old.lines k)) (sym (on.dues k none))
-            (record { not_later = not_later; here = refl; own_slope = own_slope ∙ same; own_level = own_level; is_due = due own_level }))
+            (record { not_later = not_later; here = refl; own_slope = own_slope ∙ same; own_level = own_level; is_due = due parts.0 own_level }))
       ]

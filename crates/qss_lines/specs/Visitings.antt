@@ -23,7 +23,7 @@ use Rattle.qss_lines.specs.declared.visiting.NewLevels.{NewLevels}
 use Rattle.qss_lines.specs.declared.visiting.QuietLevels.{QuietLevels}
 use Rattle.qss_lines.specs.declared.weights.Weights.{Weights}
 use Rattle.qss_lines.specs.Variables.{AreDiscretes, AreAssigned, AreSlopesOf}
-use Rattle.qss_lines.specs.StateLines.{states_with, line_at}
+use Rattle.qss_lines.specs.StateLines.{states_at, states_with, line_at, AreLinesAt}
 use Rattle.qss_lines.specs.Kept.{AreWeights, AreWeightsBefore}
 use Rattle.qss_lines.specs.RowSums.{sum_at, AreSumsBefore}
 
@@ -145,22 +145,27 @@ abbrev pub WereSlopes : QuietLevels → List ℤ → List Line → Type 0
 WereSlopes at slopes lines =
     (old : List ℤ) × AreSumsBefore Slope at.machine.now at.moved.now at.levels.now at.discretes.now slopes lines old
 
--- the moved states may go on at their new levels, and all states at their new slopes, from the slopes, the lines and the due ticks before
+-- levels within whose quanta these states are, and at which, with these discrete values, no row passes its limits
+pub record AreLevelsFor (m : Machine) (states levels discretes : List ℤ) : Type 0 where
+  pub near : (j : ℕ) → j < state_count m → IsNear (level_unit m) (int_at states j) (int_at levels j) (quantum_of m j (int_at levels j))
+  pub light : position (is_overweight m levels discretes) m.rows ≡ None
+
+-- slopes, lines and due ticks as they were at a tick before the moved states took these levels: a state that did not move and has its level still is due as the agenda says
+pub record HeldBefore (m : Machine) (tick : ℕ) (moved : List ℕ) (levels discretes slopes_old : List ℤ) (lines_old : List Line) (dues_old : List (Option ℕ)) : Type 0 where
+  pub lines : AreLinesAt m tick lines_old
+  pub slopes : length slopes_old ≡ state_count m
+  pub places : state_count m ≤ length dues_old
+  pub before : (old : List ℤ) × AreSumsBefore Slope m moved levels discretes slopes_old lines_old old
+  pub own_slope : (j : ℕ) → j < state_count m → (line_at lines_old j).slope ≡ int_at slopes_old j
+  pub due : (j : ℕ) → j < state_count m → is_among moved j ≡ false → (line_at lines_old j).level ≡ int_at levels j →
+      IsDue m tick j (line_at lines_old j) (due_at dues_old j)
+
+-- the moved states may go on at their new levels, and all states at their new slopes, from the slopes, the lines and the due ticks before, where no line was moved to the tick yet
 pub record CanReslope (at : QuietLevels) (slopes_old : List ℤ) (lines_old : List Line) (dues_old : List (Option ℕ)) : Type 0 where
   pub new : AreQuietLevels at
-  pub slopes : length slopes_old ≡ state_count at.machine.now
-  pub lines : length lines_old ≡ state_count at.machine.now
-  pub places : state_count at.machine.now ≤ length dues_old
-  pub light : position (is_overweight at.machine.now at.levels.now at.discretes.now) at.machine.now.rows ≡ None
-  pub in_time : at.tick ≤ tick_limit
+  pub levels : AreLevelsFor at.machine.now (states_at lines_old at.tick) at.levels.now at.discretes.now
+  pub held : HeldBefore at.machine.now at.tick at.moved.now at.levels.now at.discretes.now slopes_old lines_old dues_old
   pub earlier : (j : ℕ) → j < state_count at.machine.now → (line_at lines_old j).tick < at.tick
-  pub small_states : (j : ℕ) → j < state_count at.machine.now → IsWithin 88 (state_at (line_at lines_old j) at.tick)
-  pub near : (j : ℕ) → j < state_count at.machine.now →
-      IsNear (level_unit at.machine.now) (state_at (line_at lines_old j) at.tick) (int_at at.levels.now j) (quantum_of at.machine.now j (int_at at.levels.now j))
-  pub before : WereSlopes at slopes_old lines_old
-  pub own_slope : (j : ℕ) → j < state_count at.machine.now → (line_at lines_old j).slope ≡ int_at slopes_old j
-  pub due : (j : ℕ) → j < state_count at.machine.now → (line_at lines_old j).level ≡ int_at at.levels.now j →
-      IsDue at.machine.now at.tick j (line_at lines_old j) (due_at dues_old j)
 
 -- the states after handlers: the moved ones as these left them, the others where their lines lead
 abbrev pub states_left : NewLevels → Handled → List Line → List ℤ

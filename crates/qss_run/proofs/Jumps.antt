@@ -29,7 +29,7 @@ use Rattle.qss_quiet.proofs.Silence.{line_state_at, none_rises, silence, stands_
 use Rattle.qss_quiet.proofs.Silences.{quiet_worlds, quiet_leads, arrived_then}
 use Rattle.qss_quiet.proofs.Skipped.{settled_twice}
 
-pub later_of : (P : ℕ → Type 0) (from t : ℕ) (found : Option ℕ) → FirstAfter P from found → found ≡ Some t → from < t
+later_of : (P : ℕ → Type 0) (from t : ℕ) (found : Option ℕ) → FirstAfter P from found → found ≡ Some t → from < t
 later_of P from t None first e = absurd (cc)
 later_of P from t (Some u) first e = let same : u ≡ t = cc in omega (arith, first.later, same)
 

@@ -31,7 +31,7 @@ use Rattle.qss_lines.specs.Visitings.{HasLeft}
 use Rattle.qss_quiet.proofs.Quiet.{int_at-tabulate}
 use Rattle.qss_quiet.proofs.Silence.{line_state_at, still_near}
 use Rattle.qss_quiet.proofs.NextVisit.{only_due_states_pass}
-use Rattle.qss_run.proofs.Jumps.{dues_later, later_of}
+use Rattle.qss_run.proofs.Jumps.{dues_later}
 use Rattle.qss_run.proofs.QuietTick.{NoneChanges, only_moves, quiet_truths, watched_then}
 use Rattle.qss_quiet.proofs.Writes.{index_of}
 use Rattle.qss_quiet.proofs.Unread.{unread_at, unread_slope}
@@ -115,10 +115,11 @@ module _ (m : Machine) (tick : ℕ) (agenda : List (Option ℕ)) (s : Store) (ta
   -- ---- with new levels
 
   module _ (name : Option Rule) (levels : List ℤ) (allowed : AreNextLevels (IsRuled name) m (states_at s.lines.items (tick + 1)) s.levels.items levels) where
-    pub near : (j : ℕ) → j < state_count m → IsNear (level_unit m) (state_at (line_at s.lines.items j) (tick + 1)) (int_at levels j) (quantum_of m j (int_at levels j))
-    near j h =
-        subst (λ x. IsNear (level_unit m) x (int_at levels j) (quantum_of m j (int_at levels j))) (leads j h)
-        (next_is_near name m j (int_at (states_at s.lines.items (tick + 1)) j) (int_at s.levels.items j) (int_at levels j) h (allowed.each j h))
+    pub near_on_arrival : (j : ℕ) → j < state_count m → IsNear (level_unit m) (int_at (states_at s.lines.items (tick + 1)) j) (int_at levels j) (quantum_of m j (int_at levels j))
+    near_on_arrival j h = next_is_near name m j (int_at (states_at s.lines.items (tick + 1)) j) (int_at s.levels.items j) (int_at levels j) h (allowed.each j h)
+
+    near : (j : ℕ) → j < state_count m → IsNear (level_unit m) (state_at (line_at s.lines.items j) (tick + 1)) (int_at levels j) (quantum_of m j (int_at levels j))
+    near j h = subst (λ x. IsNear (level_unit m) x (int_at levels j) (quantum_of m j (int_at levels j))) (leads j h) (near_on_arrival j h)
 
     -- a moved state takes another level, since it left the quantum of the old one
     pub moved_changes : (j : ℕ) → is_among s.moved.items j ≡ true → int_at levels j ≢ int_at s.levels.items j
@@ -130,15 +131,12 @@ module _ (m : Machine) (tick : ℕ) (agenda : List (Option ℕ)) (s : Store) (ta
         subst (λ l. IsNear (level_unit m) (state_at (line_at s.lines.items j) (tick + 1)) l (quantum_of m j l)) same (near j inside) in
         omega (arith, ints, left, still)
 
-    -- a line at its level keeps its due tick, and then its state was not due
-    pub kept_due : (j : ℕ) → j < state_count m → (line_at s.lines.items j).level ≡ int_at levels j → IsDue m (tick + 1) j (line_at s.lines.items j) (due_at s.agenda j)
-    kept_due j h own =
-        let stays : IsDue m (tick + 1) j (line_at s.lines.items j) (due_at agenda j) =
-        due_stays m tick before taken.stands j (state_at (line_at s.lines.items j) (tick + 1)) (int_at levels j) h (near j h) refl own in
-        elim (cases_Bool (is_among s.moved.items j)) [
-          | inl among ↦ absurd (omega (arith, later_of _ (tick + 1) (tick + 1) (due_at agenda j) stays (taken.due.own j among)))
-          | inr not ↦ subst (IsDue m (tick + 1) j (line_at s.lines.items j)) (sym (taken.without.other_states j h not)) stays
-        ]
+    -- a line of a state that was not due keeps its due tick where its level stays
+    pub kept_due : (j : ℕ) → j < state_count m → is_among s.moved.items j ≡ false → (line_at s.lines.items j).level ≡ int_at levels j →
+        IsDue m (tick + 1) j (line_at s.lines.items j) (due_at s.agenda j)
+    kept_due j h none own =
+        subst (IsDue m (tick + 1) j (line_at s.lines.items j)) (sym (taken.without.other_states j h none))
+        (due_stays m tick before taken.stands j (state_at (line_at s.lines.items j) (tick + 1)) (int_at levels j) h (near j h) refl own)
 
   -- the slopes and the lines are those at the levels before the moved states took theirs
   pub levels_before : (levels : List ℤ) → IsOff s.moved.items s.levels.items levels → AreSumsBefore Slope m s.moved.items levels s.work.d s.slopes.items s.lines.items s.levels.items

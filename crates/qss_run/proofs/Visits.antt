@@ -242,13 +242,3 @@ late Rule m tick w next h levels (Some var) some is calm allowed e = overflows_l
 pub levels_small : (m : Machine) (tick : ℕ) (s : Store) → Stands m tick s → All (IsWithin 43) s.levels.items
 levels_small m tick s stands k z h =
     subst (IsWithin 43) (get_or_default s.levels.items k (pos 0) z h) (stands.stands_for.left.small_levels k (omega (arith, h, stands.fits.levels)))
-
--- a state at a tick is within the limit on arrival
-pub state_within : (lines : List Line) (t j : ℕ) → j < length lines → All (IsWithin 88) (states_at lines t) → IsWithin 88 (state_at (line_at lines j) t)
-state_within lines t j h small =
-    let many = length-map-range_with_len (λ i. state_at (line_at lines i) t) 0 (length lines) in
-    let here = int_at-tabulate (length lines) (λ i. state_at (line_at lines i) t) j h in
-    subst (IsWithin 88) here (small j (pos 0) (omega (arith, h, many)))
-
-pub state_small : (lines : List Line) (t j : ℕ) → j < length lines → All (IsWithin 88) (states_at lines t) → IsWithin 89 (state_at (line_at lines j) t)
-state_small lines t j h small = omega (arith, state_within lines t j h small)

@@ -1,8 +1,7 @@
 //! A tick at which nothing but states is due.
 
-ghost use Rattle.std.specs.Prelude.{◌≡◌, ℕ, ◌+◌, ◌<◌, ◌≤◌, ◌^◌, [], All, length, List, Option, None, count_by, vec_capacity};
+ghost use Rattle.std.specs.Prelude.{◌≡◌, ℕ, ◌+◌, ◌<◌, ◌≤◌, [], length, List, Option, None, count_by, vec_capacity};
 ghost use Rattle.std.specs.List.{range_with_len};
-ghost use Rattle.mu_num.specs.Sizes.{IsWithin};
 ghost use Rattle.qss_machine.specs.Numbers.{int_at};
 ghost use Rattle.qss_machine.specs.Handlers.{conditions};
 ghost use Rattle.qss_machine.specs.Machines.{state_count, slope_at};
@@ -42,8 +41,6 @@ fn go_on_moved<L: Ledger>(
     requires room { state_count at.now.machine.now ≤ vec_capacity touched.old }
     requires fits { AreConditionsOf at.now.machine.now watched.old }
     requires places { HasPlaces at.now.machine.now agenda.old }
-    requires small_states { All (IsWithin 88) (states_at lines.old at.now.tick) }
-    requires in_time { at.now.tick < 2 ^ 32 }
     requires watched { AreWatched at.now.machine.now at.now.tick
         (states_at lines.old at.now.tick) at.now.discretes.now
         slopes.old watched.old.watches.items agenda.old }

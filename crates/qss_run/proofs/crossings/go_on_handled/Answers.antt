@@ -28,9 +28,10 @@ use Rattle.qss_quiet.specs.Sims.{IsDue}
 use Rattle.qss_run.specs.Stores.{world_of, FitsMachine, Stands}
 use Rattle.qss_run.proofs.AfterHandlers.{length-states_with, same_states, same_slopes, same_worlds, lead_to, watched_up_to}
 use Rattle.qss_watch.proofs.Reinitialized.{among_reinitialized}
+use Rattle.qss_lines.proofs.DueLevels.{state_small}
 use Rattle.qss_lines.proofs.Turning.{slopes_small}
 use Rattle.qss_hand.proofs.Turns.{conditions_few}
-use Rattle.qss_run.proofs.Visits.{state_small, stands_again}
+use Rattle.qss_run.proofs.Visits.{stands_again}
 use Rattle.qss_lines.proofs.InPlace.{same_length}
 use Rattle.qss_run.proofs.crossings.go_on_handled.Goals as goal
 

@@ -30,14 +30,14 @@ rewatch_of-requires-clause-ready g c =
         small = λ place h.
             subst IsSmall (sym (c.requires.watched place (omega (arith, h, fits.watches))).here)
             (value_small m (condition_at m place).form (states_at c.args.lines.now c.args.at.now.tick) d c.args.at.now.tick
-            (condition_bounded m all.branches.items fits.branches place (omega (arith, h, fits.watches, fits.branches.as_many))) c.requires.small_states c.requires.ready.new.small_discretes
-            c.requires.in_time);
+            (condition_bounded m all.branches.items fits.branches place (omega (arith, h, fits.watches, fits.branches.as_many))) c.requires.ready.held.lines.small c.requires.ready.new.small_discretes
+            c.requires.ready.held.lines.up_to.in_time);
       };
       slopes_of = record {
-        as_many = c.reslope_of.auto.slopes ∙ c.requires.ready.slopes;
-        small = slopes_small m c.args.at.now.levels.now d d c.reslope_of.new.slopes c.requires.ready.light refl c.reslope_of.ensures.slopes;
+        as_many = c.reslope_of.auto.slopes ∙ c.requires.ready.held.slopes;
+        small = slopes_small m c.args.at.now.levels.now d d c.reslope_of.new.slopes c.requires.ready.levels.light refl c.reslope_of.ensures.slopes;
       };
-      in_time = c.requires.in_time;
+      in_time = c.requires.ready.held.lines.up_to.in_time;
     }
 
 pub returns-clause-watches : goal.returns-clause-watches
@@ -48,9 +48,9 @@ returns-clause-watches g c place h =
     let x : List ℤ = states_at c.args.lines.now t in
     let d : List ℤ = c.args.at.now.discretes.now in
     let before : AreSlopesBefore m c.args.at.now.moved.now c.args.slopes.now c.reslope_of.new.slopes place = record {
-      as_many = c.requires.ready.slopes;
+      as_many = c.requires.ready.held.slopes;
       others = λ j inside reads none.
-          slopes_stay m c.args.at.now.moved.now c.requires.ready.before.0 c.args.at.now.levels.now d c.args.slopes.now c.reslope_of.new.slopes c.requires.ready.before.1.off c.requires.ready.before.1.own_sums
+          slopes_stay m c.args.at.now.moved.now c.requires.ready.held.before.0 c.args.at.now.levels.now d c.args.slopes.now c.reslope_of.new.slopes c.requires.ready.held.before.1.off c.requires.ready.held.before.1.own_sums
           c.reslope_of.ensures.slopes j inside none;
     } in
     c.rewatch_of.ensures.watches x d c.args.slopes.now place h before

@@ -33,10 +33,10 @@ use Rattle.qss_lines.specs.Visitings.{HasLeft}
 use Rattle.qss_run.specs.Touches.{touches_at}
 use Rattle.qss_lines.proofs.DueLevels.{moved_inside}
 use Rattle.qss_watch.proofs.OwnConditions.{arrived_anew}
-use Rattle.qss_run.proofs.QuietVisits.{steps_or, leads, rest_small, rest_near, due_left, moved_changes, own_slope, levels_before, handled, arrived, near, kept_due, same_truths, watched, not_rising, rising, rows_then}
+use Rattle.qss_run.proofs.QuietVisits.{steps_or, leads, rest_small, rest_near, due_left, moved_changes, own_slope, levels_before, handled, arrived, near_on_arrival, kept_due, same_truths, watched, not_rising, rising, rows_then}
 use Rattle.qss_run.proofs.QuietTick.{none_rises_then}
 use Rattle.qss_run.proofs.Touched.{changes, reached_touched}
-use Rattle.qss_run.proofs.Visits.{stands_again, end_of, both_none, levels_small, state_within}
+use Rattle.qss_run.proofs.Visits.{stands_again, end_of, both_none, levels_small}
 use Rattle.qss_lines.proofs.InPlace.{same_length}
 use Rattle.qss_run.proofs.sparse.visit_due.Goals as goal
 
@@ -111,20 +111,6 @@ returns-then-is_some-clause-stepped g c =
     steps_or (IsRuled c.args.q.now.name) m t (world_of c.args.tick s) _ h fresh c.requantize_moved-over.result is_h allowed over
     (λ none. clash c.requantize_moved-over.result (sym c.is_some.ensures ∙ c.if-is_some.true) none)
 
-pub go_on_moved-requires-clause-small_states : goal.go_on_moved-requires-clause-small_states
-go_on_moved-requires-clause-small_states g c =
-    let m = c.args.m.now in
-    let t = c.args.tick + 1 in
-    let s : Store = c.args.s.now in
-    let calm : c.requantize_moved-over.result ≡ None = not_some c.requantize_moved-over.result (sym c.is_some.ensures ∙ c.if-is_some.false) in
-    let x : List ℤ = states_at s.lines.items t in
-    let fresh : List ℤ = c.requantize_moved-over.ensures.taken.0 in
-    let over : c.requantize_moved-over.result ≡ option_or (first_past 88 x) (option_or (first_past 43 fresh) (position (is_overweight m fresh s.work.d) m.rows)) =
-    c.requantize_moved-over.ensures.taken.1.over_is
-    ∙ ap (λ ls. option_or (first_past 88 (states_at ls t)) (option_or (first_past 43 fresh) (position (is_overweight m fresh s.work.d) m.rows))) c.as_slice.ensures.value in
-    let none_both = both_none (first_past 88 x) (option_or (first_past 43 fresh) (position (is_overweight m fresh s.work.d) m.rows)) (sym calm ∙ over) in
-    subst (λ ls. All (IsWithin 88) (states_at ls t)) (sym c.as_mut_slice-3.ensures.value) (all_within 88 x none_both.0)
-
 pub go_on_moved-requires-clause-ready : goal.go_on_moved-requires-clause-ready
 go_on_moved-requires-clause-ready g c =
     let m = c.args.m.now in
@@ -161,40 +147,49 @@ go_on_moved-requires-clause-ready g c =
         discretes = ap length of_d ∙ fits.discretes;
         small_discretes = subst (All (IsWithin 43)) (sym of_d) fits.small_discretes;
       };
-      slopes = ap length c.as_mut_slice-2.ensures.value ∙ fits.slopes;
-      lines = ap length c.as_mut_slice-3.ensures.value ∙ fits.lines;
-      places = omega (arith, taken.without.as_many, fits.places);
-      light = ap (λ l. position (is_overweight m l c.as_slice-5.result.now) m.rows) levels
-          ∙ ap (λ d. position (is_overweight m fresh d) m.rows) of_d
-          ∙ (both_none (first_past 43 fresh) (position (is_overweight m fresh s.work.d) m.rows) (sym none_both.1)).1;
-      in_time = omega (arith, c.requires.in_time, m.has_units.last_tick);
+      levels = record {
+        near = λ j inside.
+            subst (λ ls. IsNear (level_unit m) (int_at (states_at ls t) j) (int_at c.as_slice-4.result.now j) (quantum_of m j (int_at c.as_slice-4.result.now j))) (sym c.as_mut_slice-3.ensures.value)
+            (subst (λ l. IsNear (level_unit m) (int_at x j) (int_at l j) (quantum_of m j (int_at l j))) (sym levels)
+            (near_on_arrival m c.args.tick agenda s taken c.requires.in_time c.args.q.now.name fresh (allowed none_both.0) j inside));
+        light = ap (λ l. position (is_overweight m l c.as_slice-5.result.now) m.rows) levels
+            ∙ ap (λ d. position (is_overweight m fresh d) m.rows) of_d
+            ∙ (both_none (first_past 43 fresh) (position (is_overweight m fresh s.work.d) m.rows) (sym none_both.1)).1;
+      };
+      held = record {
+        lines = record {
+          up_to = record {
+            as_many = ap length c.as_mut_slice-3.ensures.value ∙ fits.lines;
+            later = λ j h.
+                let not_later = (taken.stands.stands_for.lines j (omega (arith, h, ap length c.as_mut_slice-3.ensures.value, fits.lines))).not_later in
+                omega (arith, ap (λ ls. (line_at ls j).tick) c.as_mut_slice-3.ensures.value, not_later);
+            in_time = omega (arith, c.requires.in_time, m.has_units.last_tick);
+          };
+          small = subst (λ ls. All (IsWithin 88) (states_at ls t)) (sym c.as_mut_slice-3.ensures.value) (all_within 88 x none_both.0);
+        };
+        slopes = ap length c.as_mut_slice-2.ensures.value ∙ fits.slopes;
+        places = omega (arith, taken.without.as_many, fits.places);
+        before = (
+          s.levels.items,
+          subst (λ js. AreSumsBefore Slope m js c.as_slice-4.result.now c.as_slice-5.result.now c.as_mut_slice-2.result.now c.as_mut_slice-3.result.now s.levels.items) (sym c.as_slice-3.ensures.value)
+              (subst (λ l. AreSumsBefore Slope m s.moved.items l c.as_slice-5.result.now c.as_mut_slice-2.result.now c.as_mut_slice-3.result.now s.levels.items) (sym levels)
+              (subst (λ d. AreSumsBefore Slope m s.moved.items fresh d c.as_mut_slice-2.result.now c.as_mut_slice-3.result.now s.levels.items) (sym of_d)
+              (subst (λ v. AreSumsBefore Slope m s.moved.items fresh s.work.d v c.as_mut_slice-3.result.now s.levels.items) (sym c.as_mut_slice-2.ensures.value)
+              (subst (λ ls. AreSumsBefore Slope m s.moved.items fresh s.work.d s.slopes.items ls s.levels.items) (sym c.as_mut_slice-3.ensures.value)
+              (levels_before m c.args.tick agenda s taken c.requires.in_time fresh off))))),
+        );
+        own_slope = λ j inside.
+            ap (λ ls. (line_at ls j).slope) c.as_mut_slice-3.ensures.value
+            ∙ own_slope m c.args.tick agenda s taken c.requires.in_time j inside
+            ∙ ap (λ l. int_at l j) (sym c.as_mut_slice-2.ensures.value);
+        due = λ j inside none own.
+            subst (λ ls. IsDue m t j (line_at ls j) (due_at s.agenda j)) (sym c.as_mut_slice-3.ensures.value)
+            (kept_due m c.args.tick agenda s taken c.requires.in_time c.args.q.now.name fresh (allowed none_both.0) j inside (ap (λ js. is_among js j) (sym c.as_slice-3.ensures.value) ∙ none)
+            (ap (λ ls. (line_at ls j).level) (sym c.as_mut_slice-3.ensures.value) ∙ own ∙ ap (λ l. int_at l j) levels));
+      };
       earlier = λ j inside.
           let not_later = (taken.stands.stands_for.lines j inside).not_later in
           omega (arith, ap (λ ls. (line_at ls j).tick) c.as_mut_slice-3.ensures.value, not_later);
-      small_states = λ j inside.
-          subst (λ ls. IsWithin 88 (state_at (line_at ls j) t)) (sym c.as_mut_slice-3.ensures.value)
-          (state_within s.lines.items t j (omega (arith, inside, fits.lines)) (all_within 88 x none_both.0));
-      near = λ j inside.
-          subst (λ ls. IsNear (level_unit m) (state_at (line_at ls j) t) (int_at c.as_slice-4.result.now j) (quantum_of m j (int_at c.as_slice-4.result.now j))) (sym c.as_mut_slice-3.ensures.value)
-          (subst (λ l. IsNear (level_unit m) (state_at (line_at s.lines.items j) t) (int_at l j) (quantum_of m j (int_at l j))) (sym levels)
-          (near m c.args.tick agenda s taken c.requires.in_time c.args.q.now.name fresh (allowed none_both.0) j inside));
-      before = (
-        s.levels.items,
-        subst (λ js. AreSumsBefore Slope m js c.as_slice-4.result.now c.as_slice-5.result.now c.as_mut_slice-2.result.now c.as_mut_slice-3.result.now s.levels.items) (sym c.as_slice-3.ensures.value)
-            (subst (λ l. AreSumsBefore Slope m s.moved.items l c.as_slice-5.result.now c.as_mut_slice-2.result.now c.as_mut_slice-3.result.now s.levels.items) (sym levels)
-            (subst (λ d. AreSumsBefore Slope m s.moved.items fresh d c.as_mut_slice-2.result.now c.as_mut_slice-3.result.now s.levels.items) (sym of_d)
-            (subst (λ v. AreSumsBefore Slope m s.moved.items fresh s.work.d v c.as_mut_slice-3.result.now s.levels.items) (sym c.as_mut_slice-2.ensures.value)
-            (subst (λ ls. AreSumsBefore Slope m s.moved.items fresh s.work.d s.slopes.items ls s.levels.items) (sym c.as_mut_slice-3.ensures.value)
-            (levels_before m c.args.tick agenda s taken c.requires.in_time fresh off))))),
-      );
-      own_slope = λ j inside.
-          ap (λ ls. (line_at ls j).slope) c.as_mut_slice-3.ensures.value
-          ∙ own_slope m c.args.tick agenda s taken c.requires.in_time j inside
-          ∙ ap (λ l. int_at l j) (sym c.as_mut_slice-2.ensures.value);
-      due = λ j inside own.
-          subst (λ ls. IsDue m t j (line_at ls j) (due_at s.agenda j)) (sym c.as_mut_slice-3.ensures.value)
-          (kept_due m c.args.tick agenda s taken c.requires.in_time c.args.q.now.name fresh (allowed none_both.0) j inside
-          (ap (λ ls. (line_at ls j).level) (sym c.as_mut_slice-3.ensures.value) ∙ own ∙ ap (λ l. int_at l j) levels));
     }
 
 pub go_on_moved-requires-clause-watched : goal.go_on_moved-requires-clause-watched
