@@ -175,20 +175,9 @@ states_left at left lines = states_with lines at.tick at.moved.now left.states.n
 pub record CanReseat (at : NewLevels) (left : Handled) (slopes_old : List ℤ) (lines_old : List Line) (dues_old : List (Option ℕ)) : Type 0 where
   pub new : AreNewLevels at
   pub handled : AreHandled at.machine.now left
-  pub slopes : length slopes_old ≡ state_count at.machine.now
-  pub lines : length lines_old ≡ state_count at.machine.now
-  pub places : state_count at.machine.now ≤ length dues_old
-  pub light : first_overweight at left.discretes.now ≡ None
-  pub in_time : at.tick ≤ tick_limit
   pub small_states : All (IsWithin 88) (states_left at left lines_old)
-  pub later : (j : ℕ) → j < state_count at.machine.now → (line_at lines_old j).tick ≤ at.tick
-  pub small : (j : ℕ) → j < state_count at.machine.now → IsWithin 89 (state_at (line_at lines_old j) at.tick)
-  pub near : (j : ℕ) → j < state_count at.machine.now →
-      IsNear (level_unit at.machine.now) (int_at (states_left at left lines_old) j) (int_at at.levels.now j) (quantum_of at.machine.now j (int_at at.levels.now j))
-  pub before : WereSums Slope at left.before.now slopes_old lines_old
-  pub own_slope : (j : ℕ) → j < state_count at.machine.now → (line_at lines_old j).slope ≡ int_at slopes_old j
-  pub due : (j : ℕ) → j < state_count at.machine.now → is_among at.moved.now j ≡ false → (line_at lines_old j).level ≡ int_at at.levels.now j →
-      IsDue at.machine.now at.tick j (line_at lines_old j) (due_at dues_old j)
+  pub levels : AreLevelsFor at.machine.now (states_left at left lines_old) at.levels.now left.discretes.now
+  pub held : HeldBefore at.machine.now at.tick at.moved.now at.levels.now left.before.now slopes_old lines_old dues_old
 
 -- states of which the moved ones are these, and each other one is near its level
 pub record AreMovedTo (m : Machine) (moved : List ℕ) (x levels states : List ℤ) : Type 0 where

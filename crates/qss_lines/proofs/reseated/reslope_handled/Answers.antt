@@ -10,6 +10,7 @@ use Rattle.qss_quiet.specs.Among.{is_among}
 use Rattle.qss_lines.specs.Renewals.{goes_at, renewals}
 use Rattle.qss_lines.specs.Turnings.{MayTurn, Courses}
 use Rattle.qss_lines.proofs.Courses.{may_turn_again}
+use Rattle.qss_lines.proofs.DueLevels.{state_small}
 use Rattle.qss_quiet.proofs.Quiet.{int_at-tabulate}
 use Rattle.qss_lines.proofs.Renewed.{none_left}
 use Rattle.qss_lines.proofs.Reseating.{moved_state, left_seated, may_turn_seated, renewals_seated, reseated}
@@ -22,10 +23,10 @@ pub seat_each-requires-clause-on : goal.seat_each-requires-clause-on
 seat_each-requires-clause-on g c = record {
   new = c.requires.new;
   slopes_of = record {
-    as_many = c.follow_slopes.auto.slopes ∙ c.requires.slopes;
-    small = slopes_small c.args.at.now.machine.now c.args.at.now.levels.now c.args.left.now.discretes.now c.args.left.now.discretes.now c.follow_slopes.new.slopes c.requires.light refl c.follow_slopes.ensures;
+    as_many = c.follow_slopes.auto.slopes ∙ c.requires.held.slopes;
+    small = slopes_small c.args.at.now.machine.now c.args.at.now.levels.now c.args.left.now.discretes.now c.args.left.now.discretes.now c.follow_slopes.new.slopes c.requires.levels.light refl c.follow_slopes.ensures;
   };
-  in_time = c.requires.in_time;
+  in_time = omega (arith, c.requires.held.lines.up_to.in_time);
 }
 
 pub seat_each-requires-clause-near : goal.seat_each-requires-clause-near
@@ -34,56 +35,68 @@ seat_each-requires-clause-near g c j among =
     let found = index_of c.args.at.now.moved.now j among in
     let h : j < state_count m = omega (arith, found.2, c.requires.new.moved.below found.0 0 found.1) in
     subst (λ x. IsNear (level_unit m) x (int_at c.args.at.now.levels.now j) (quantum_of m j (int_at c.args.at.now.levels.now j)))
-    (moved_state c.args.lines.now c.args.at.now.tick c.args.at.now.moved.now c.args.left.now.states.now j (omega (arith, h, c.requires.lines)) among) (c.requires.near j h)
+    (moved_state c.args.lines.now c.args.at.now.tick c.args.at.now.moved.now c.args.left.now.states.now j (omega (arith, h, c.requires.held.lines.up_to.as_many)) among) (c.requires.levels.near j h)
+
+pub seat_each-requires-clause-later : goal.seat_each-requires-clause-later
+seat_each-requires-clause-later g c j h = c.requires.held.lines.up_to.later j (omega (arith, h, c.requires.held.lines.up_to.as_many))
+
+pub seat_each-requires-clause-small : goal.seat_each-requires-clause-small
+seat_each-requires-clause-small g c j h = state_small c.args.lines.now c.args.at.now.tick j (omega (arith, h, c.requires.held.lines.up_to.as_many)) c.requires.held.lines.small
 
 pub turn_readers-requires-clause-on : goal.turn_readers-requires-clause-on
 turn_readers-requires-clause-on g c = record {
   new = c.requires.new;
   slopes_of = record {
-    as_many = c.follow_slopes.auto.slopes ∙ c.requires.slopes;
-    small = slopes_small c.args.at.now.machine.now c.args.at.now.levels.now c.args.left.now.discretes.now c.args.left.now.discretes.now c.follow_slopes.new.slopes c.requires.light refl c.follow_slopes.ensures;
+    as_many = c.follow_slopes.auto.slopes ∙ c.requires.held.slopes;
+    small = slopes_small c.args.at.now.machine.now c.args.at.now.levels.now c.args.left.now.discretes.now c.args.left.now.discretes.now c.follow_slopes.new.slopes c.requires.levels.light refl c.follow_slopes.ensures;
   };
-  in_time = c.requires.in_time;
+  in_time = omega (arith, c.requires.held.lines.up_to.in_time);
 }
 
 pub turn_readers-requires-clause-ready : goal.turn_readers-requires-clause-ready
 turn_readers-requires-clause-ready g c j h =
     let m = c.args.at.now.machine.now in
+    let held = c.requires.held in
+    let many = held.lines.up_to.as_many in
     let first : Courses = record { lines = c.args.lines.now; dues = c.args.agenda.now } in
     let between : Courses = record { lines = c.seat_each.new.lines; dues = c.seat_each.new.agenda } in
     let seats = c.seat_each.ensures in
     let are : AreSeated m c.args.at.now.tick c.args.left.now.states.now c.args.at.now.levels.now c.follow_slopes.new.slopes c.args.at.now.moved.now first between =
     record { own = seats.turned; lines = seats.lines; left = seats.kept; places = seats.places; dues = seats.dues } in
-    may_turn_seated m c.args.at.now.tick c.args.left.now.states.now c.args.at.now.levels.now c.follow_slopes.new.slopes c.args.at.now.moved.now first between are c.requires.lines c.requires.small_states j h
-    (c.requires.later j h) (c.requires.near j h) (c.requires.due j h)
+    may_turn_seated m c.args.at.now.tick c.args.left.now.states.now c.args.at.now.levels.now c.follow_slopes.new.slopes c.args.at.now.moved.now first between are many c.requires.small_states j h
+    (held.lines.up_to.later j (omega (arith, h, many))) (c.requires.levels.near j h) (held.due j h)
 
 pub turn_readers-requires-2-clause-on : goal.turn_readers-requires-2-clause-on
 turn_readers-requires-2-clause-on g c = record {
   new = c.requires.new;
   slopes_of = record {
-    as_many = c.follow_slopes.auto.slopes ∙ c.requires.slopes;
-    small = slopes_small c.args.at.now.machine.now c.args.at.now.levels.now c.args.left.now.discretes.now c.args.left.now.discretes.now c.follow_slopes.new.slopes c.requires.light refl c.follow_slopes.ensures;
+    as_many = c.follow_slopes.auto.slopes ∙ c.requires.held.slopes;
+    small = slopes_small c.args.at.now.machine.now c.args.at.now.levels.now c.args.left.now.discretes.now c.args.left.now.discretes.now c.follow_slopes.new.slopes c.requires.levels.light refl c.follow_slopes.ensures;
   };
-  in_time = c.requires.in_time;
+  in_time = omega (arith, c.requires.held.lines.up_to.in_time);
 }
 
 pub turn_readers-requires-2-clause-ready : goal.turn_readers-requires-2-clause-ready
 turn_readers-requires-2-clause-ready g c j h =
     let m = c.args.at.now.machine.now in
+    let held = c.requires.held in
+    let many = held.lines.up_to.as_many in
     let first : Courses = record { lines = c.args.lines.now; dues = c.args.agenda.now } in
     let between : Courses = record { lines = c.seat_each.new.lines; dues = c.seat_each.new.agenda } in
     let seats = c.seat_each.ensures in
     let are : AreSeated m c.args.at.now.tick c.args.left.now.states.now c.args.at.now.levels.now c.follow_slopes.new.slopes c.args.at.now.moved.now first between =
     record { own = seats.turned; lines = seats.lines; left = seats.kept; places = seats.places; dues = seats.dues } in
     let may : MayTurn m c.args.at.now.tick (int_at c.args.at.now.levels.now j) (int_at c.follow_slopes.new.slopes j) j (line_at c.seat_each.new.lines j) (due_at c.seat_each.new.agenda j) =
-    may_turn_seated m c.args.at.now.tick c.args.left.now.states.now c.args.at.now.levels.now c.follow_slopes.new.slopes c.args.at.now.moved.now first between are c.requires.lines c.requires.small_states j h
-    (c.requires.later j h) (c.requires.near j h) (c.requires.due j h) in
+    may_turn_seated m c.args.at.now.tick c.args.left.now.states.now c.args.at.now.levels.now c.follow_slopes.new.slopes c.args.at.now.moved.now first between are many c.requires.small_states j h
+    (held.lines.up_to.later j (omega (arith, h, many))) (c.requires.levels.near j h) (held.due j h) in
     may_turn_again m c.args.at.now.tick (int_at c.args.at.now.levels.now j) (int_at c.follow_slopes.new.slopes j) j (line_at c.seat_each.new.lines j) (line_at c.turn_readers.new.lines j)
     (due_at c.seat_each.new.agenda j) (due_at c.turn_readers.new.agenda j) may (c.turn_readers.ensures.turned.each j h)
 
 pub returns-clause-lines : goal.returns-clause-lines
 returns-clause-lines g c j h =
     let m = c.args.at.now.machine.now in
+    let held = c.requires.held in
+    let many = held.lines.up_to.as_many in
     let first : Courses = record { lines = c.args.lines.now; dues = c.args.agenda.now } in
     let between : Courses = record { lines = c.seat_each.new.lines; dues = c.seat_each.new.agenda } in
     let turned : Courses = record { lines = c.turn_readers.new.lines; dues = c.turn_readers.new.agenda } in
@@ -91,14 +104,15 @@ returns-clause-lines g c j h =
     let seats = c.seat_each.ensures in
     let are : AreSeated m c.args.at.now.tick c.args.left.now.states.now c.args.at.now.levels.now c.follow_slopes.new.slopes c.args.at.now.moved.now first between =
     record { own = seats.turned; lines = seats.lines; left = seats.kept; places = seats.places; dues = seats.dues } in
-    reseated m c.args.at.now.tick c.args.left.now.states.now c.args.at.now.levels.now c.follow_slopes.new.slopes c.args.at.now.moved.now first between are c.requires.lines
-    c.args.left.now.assigned.now c.requires.before.0 c.args.left.now.before.now c.args.left.now.discretes.now c.args.slopes.now turned last c.turn_readers.ensures.turned c.turn_readers-2.ensures.turned
-    c.requires.before.1 c.requires.handled.own c.follow_slopes.ensures c.requires.new.levels c.requires.handled.many_before c.requires.handled.many_discretes j h
-    (c.requires.later j h) (c.requires.own_slope j h) (c.requires.due j h)
+    reseated m c.args.at.now.tick c.args.left.now.states.now c.args.at.now.levels.now c.follow_slopes.new.slopes c.args.at.now.moved.now first between are many
+    c.args.left.now.assigned.now held.before.0 c.args.left.now.before.now c.args.left.now.discretes.now c.args.slopes.now turned last c.turn_readers.ensures.turned c.turn_readers-2.ensures.turned
+    held.before.1 c.requires.handled.own c.follow_slopes.ensures c.requires.new.levels c.requires.handled.many_before c.requires.handled.many_discretes j h
+    (held.lines.up_to.later j (omega (arith, h, many))) (held.own_slope j h) (held.due j h)
 
 pub returns-clause-kept : goal.returns-clause-kept
 returns-clause-kept g c j h so =
     let m = c.args.at.now.machine.now in
+    let many = c.requires.held.lines.up_to.as_many in
     let levels = c.args.at.now.levels.now in
     let slopes = c.follow_slopes.new.slopes in
     let first : Courses = record { lines = c.args.lines.now; dues = c.args.agenda.now } in
@@ -106,7 +120,7 @@ returns-clause-kept g c j h so =
     let seats = c.seat_each.ensures in
     let are : AreSeated m c.args.at.now.tick c.args.left.now.states.now levels slopes c.args.at.now.moved.now first between =
     record { own = seats.turned; lines = seats.lines; left = seats.kept; places = seats.places; dues = seats.dues } in
-    let seated = left_seated m c.args.at.now.tick c.args.left.now.states.now levels slopes c.args.at.now.moved.now first between are c.requires.lines j h so in
+    let seated = left_seated m c.args.at.now.tick c.args.left.now.states.now levels slopes c.args.at.now.moved.now first between are many j h so in
     let goes : Line → Bool = goes_at (int_at levels j) (int_at slopes j) in
     let at : goes (line_at c.args.lines.now j) ≡ true = (and_parts _ (goes (line_at c.args.lines.now j)) so).1 in
     let second = c.turn_readers.ensures.turned.left j h (ap goes seated ∙ at) in
@@ -121,6 +135,8 @@ returns-clause-others g c place past =
 pub returns-clause-counted : goal.returns-clause-counted
 returns-clause-counted g c =
     let m = c.args.at.now.machine.now in
+    let held = c.requires.held in
+    let many = held.lines.up_to.as_many in
     let n : ℕ = state_count m in
     let levels = c.args.at.now.levels.now in
     let slopes = c.follow_slopes.new.slopes in
@@ -132,13 +148,13 @@ returns-clause-counted g c =
     let are : AreSeated m c.args.at.now.tick c.args.left.now.states.now levels slopes c.args.at.now.moved.now first between =
     record { own = seats.turned; lines = seats.lines; left = seats.kept; places = seats.places; dues = seats.dues } in
     let none : renewals n levels slopes c.turn_readers-2.new.lines ≡ 0 = none_left n levels slopes c.turn_readers-2.new.lines (λ j h.
-    let own = reseated m c.args.at.now.tick c.args.left.now.states.now levels slopes c.args.at.now.moved.now first between are c.requires.lines
-    c.args.left.now.assigned.now c.requires.before.0 c.args.left.now.before.now c.args.left.now.discretes.now c.args.slopes.now turned last c.turn_readers.ensures.turned c.turn_readers-2.ensures.turned
-    c.requires.before.1 c.requires.handled.own c.follow_slopes.ensures c.requires.new.levels c.requires.handled.many_before c.requires.handled.many_discretes j h
-    (c.requires.later j h) (c.requires.own_slope j h) (c.requires.due j h) in
+    let own = reseated m c.args.at.now.tick c.args.left.now.states.now levels slopes c.args.at.now.moved.now first between are many
+    c.args.left.now.assigned.now held.before.0 c.args.left.now.before.now c.args.left.now.discretes.now c.args.slopes.now turned last c.turn_readers.ensures.turned c.turn_readers-2.ensures.turned
+    held.before.1 c.requires.handled.own c.follow_slopes.ensures c.requires.new.levels c.requires.handled.many_before c.requires.handled.many_discretes j h
+    (held.lines.up_to.later j (omega (arith, h, many))) (held.own_slope j h) (held.due j h) in
     (own.own_level, own.own_slope ∙ sym (ap (λ zs. int_at zs j) c.follow_slopes.ensures ∙ int_at-tabulate n (λ k. slope_at m k levels c.args.left.now.discretes.now) j h))) in
     let seated = seats.counted (states_with c.args.lines.now c.args.at.now.tick c.args.at.now.moved.now c.args.left.now.states.now) (λ j among.
     let found = index_of c.args.at.now.moved.now j among in
-    moved_state c.args.lines.now c.args.at.now.tick c.args.at.now.moved.now c.args.left.now.states.now j (omega (arith, found.2, c.requires.new.moved.below found.0 0 found.1, c.requires.lines)) among) in
-    let same = renewals_seated m c.args.at.now.tick c.args.left.now.states.now levels slopes c.args.at.now.moved.now first between are c.requires.lines in
+    moved_state c.args.lines.now c.args.at.now.tick c.args.at.now.moved.now c.args.left.now.states.now j (omega (arith, found.2, c.requires.new.moved.below found.0 0 found.1, many)) among) in
+    let same = renewals_seated m c.args.at.now.tick c.args.left.now.states.now levels slopes c.args.at.now.moved.now first between are many in
     omega (arith, none, seated, same, c.turn_readers.ensures.counted, c.turn_readers-2.ensures.counted)

@@ -10,7 +10,7 @@ use Rattle.qss_machine.specs.Handlers.{conditions, truths, due_flags}
 use Rattle.qss_machine.specs.Machines.{state_count, level_unit, slope_at, quantum_of}
 use Rattle.qss_machine.specs.Numbers.{int_at, tabulate}
 use Rattle.qss_machine.specs.Ticks.{is_overweight}
-use Rattle.qss_quant.specs.Lines.{state_at, IsNear}
+use Rattle.qss_quant.specs.Lines.{IsNear}
 use Rattle.qss_sched.specs.Ranks.{due_at}
 use Rattle.qss_hand.specs.Values.{Values}
 use Rattle.qss_watch.specs.declared.conditions.Conditions.{Conditions}
@@ -28,7 +28,6 @@ use Rattle.qss_quiet.specs.Sims.{IsDue}
 use Rattle.qss_run.specs.Stores.{world_of, FitsMachine, Stands}
 use Rattle.qss_run.proofs.AfterHandlers.{length-states_with, same_states, same_slopes, same_worlds, lead_to, watched_up_to}
 use Rattle.qss_watch.proofs.Reinitialized.{among_reinitialized}
-use Rattle.qss_lines.proofs.DueLevels.{state_small}
 use Rattle.qss_lines.proofs.Turning.{slopes_small}
 use Rattle.qss_hand.proofs.Turns.{conditions_few}
 use Rattle.qss_run.proofs.Visits.{stands_again}
@@ -71,32 +70,38 @@ reslope_handled-requires g c =
         small_before = subst (All (IsWithin 43)) (sym of_pre) c.requires.small_before;
         small_discretes = subst (All (IsWithin 43)) (sym of_d) fits.small_discretes;
       };
-      slopes = ap length of_slopes ∙ fits.slopes;
-      lines = ap length of_lines ∙ fits.lines;
-      places = omega (arith, fits.places);
-      light = ap (λ l. position (is_overweight m l c.as_slice-6.result.now) m.rows) of_levels
-          ∙ ap (λ d. position (is_overweight m s.levels.items d) m.rows) of_d ∙ c.requires.light;
-      in_time = omega (arith, c.requires.in_time);
       small_states = subst (All (IsWithin 88)) (sym same) c.requires.small_states;
-      later = λ j h. subst (λ ls. (line_at ls j).tick ≤ t) (sym of_lines) (c.requires.later j h);
-      small = λ j h.
-          subst (λ ls. IsWithin 89 (state_at (line_at ls j) t)) (sym of_lines)
-          (state_small s.lines.items t j (omega (arith, h, fits.lines)) c.requires.small);
-      near = λ j h.
-          subst (λ (xs : List ℤ). IsNear (level_unit m) (int_at xs j) (int_at c.as_slice-2.result.now j) (quantum_of m j (int_at c.as_slice-2.result.now j))) (sym same)
-          (subst (λ (l : List ℤ). IsNear (level_unit m) (int_at y j) (int_at l j) (quantum_of m j (int_at l j))) (sym of_levels) (c.requires.near j h));
-      before = (
-        c.requires.before.0,
-        subst (λ js. AreSumsBefore Slope m js c.as_slice-2.result.now c.as_slice-5.result.now c.as_mut_slice.result.now c.as_mut_slice-2.result.now c.requires.before.0) (sym of_moved)
-            (subst (λ l. AreSumsBefore Slope m s.moved.items l c.as_slice-5.result.now c.as_mut_slice.result.now c.as_mut_slice-2.result.now c.requires.before.0) (sym of_levels)
-            (subst (λ p. AreSumsBefore Slope m s.moved.items s.levels.items p c.as_mut_slice.result.now c.as_mut_slice-2.result.now c.requires.before.0) (sym of_pre)
-            (subst (λ v. AreSumsBefore Slope m s.moved.items s.levels.items s.work.pre v c.as_mut_slice-2.result.now c.requires.before.0) (sym of_slopes)
-            (subst (λ ls. AreSumsBefore Slope m s.moved.items s.levels.items s.work.pre s.slopes.items ls c.requires.before.0) (sym of_lines) c.requires.before.1)))),
-      );
-      own_slope = λ j h. ap (λ ls. (line_at ls j).slope) of_lines ∙ c.requires.own_slope j h ∙ ap (λ v. int_at v j) (sym of_slopes);
-      due = λ j h none own.
-          subst (λ ls. IsDue m t j (line_at ls j) (due_at s.agenda j)) (sym of_lines)
-          (c.requires.due j h (ap (λ js. is_among js j) (sym of_moved) ∙ none) (ap (λ ls. (line_at ls j).level) (sym of_lines) ∙ own ∙ ap (λ l. int_at l j) of_levels));
+      levels = record {
+        near = λ j h.
+            subst (λ (xs : List ℤ). IsNear (level_unit m) (int_at xs j) (int_at c.as_slice-2.result.now j) (quantum_of m j (int_at c.as_slice-2.result.now j))) (sym same)
+            (subst (λ (l : List ℤ). IsNear (level_unit m) (int_at y j) (int_at l j) (quantum_of m j (int_at l j))) (sym of_levels) (c.requires.near j h));
+        light = ap (λ l. position (is_overweight m l c.as_slice-6.result.now) m.rows) of_levels
+            ∙ ap (λ d. position (is_overweight m s.levels.items d) m.rows) of_d ∙ c.requires.light;
+      };
+      held = record {
+        lines = record {
+          up_to = record {
+            as_many = ap length of_lines ∙ fits.lines;
+            later = λ j h. subst (λ ls. (line_at ls j).tick ≤ t) (sym of_lines) (c.requires.later j (omega (arith, h, ap length of_lines, fits.lines)));
+            in_time = c.requires.in_time;
+          };
+          small = subst (λ ls. All (IsWithin 88) (states_at ls t)) (sym of_lines) c.requires.small;
+        };
+        slopes = ap length of_slopes ∙ fits.slopes;
+        places = omega (arith, fits.places);
+        before = (
+          c.requires.before.0,
+          subst (λ js. AreSumsBefore Slope m js c.as_slice-2.result.now c.as_slice-5.result.now c.as_mut_slice.result.now c.as_mut_slice-2.result.now c.requires.before.0) (sym of_moved)
+              (subst (λ l. AreSumsBefore Slope m s.moved.items l c.as_slice-5.result.now c.as_mut_slice.result.now c.as_mut_slice-2.result.now c.requires.before.0) (sym of_levels)
+              (subst (λ p. AreSumsBefore Slope m s.moved.items s.levels.items p c.as_mut_slice.result.now c.as_mut_slice-2.result.now c.requires.before.0) (sym of_pre)
+              (subst (λ v. AreSumsBefore Slope m s.moved.items s.levels.items s.work.pre v c.as_mut_slice-2.result.now c.requires.before.0) (sym of_slopes)
+              (subst (λ ls. AreSumsBefore Slope m s.moved.items s.levels.items s.work.pre s.slopes.items ls c.requires.before.0) (sym of_lines) c.requires.before.1)))),
+        );
+        own_slope = λ j h. ap (λ ls. (line_at ls j).slope) of_lines ∙ c.requires.own_slope j h ∙ ap (λ v. int_at v j) (sym of_slopes);
+        due = λ j h none own.
+            subst (λ ls. IsDue m t j (line_at ls j) (due_at s.agenda j)) (sym of_lines)
+            (c.requires.due j h (ap (λ js. is_among js j) (sym of_moved) ∙ none) (ap (λ ls. (line_at ls j).level) (sym of_lines) ∙ own ∙ ap (λ l. int_at l j) of_levels));
+      };
     }
 
 pub rewatch_handled-requires-clause-fits : goal.rewatch_handled-requires-clause-fits
