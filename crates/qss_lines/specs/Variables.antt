@@ -20,6 +20,12 @@ AreDiscretes m assigned = All (λ var. (state_count m ≤ var) × (var < state_c
 abbrev pub AreAssigned : Machine → List ℕ → List ℤ → List ℤ → Type 0
 AreAssigned m assigned old new = (g : ℕ) → g < discrete_count m → is_among assigned (state_count m + g) ≡ false → int_at new g ≡ int_at old g
 
+-- discrete variables that were assigned, by number: the others have the values that they had before, all of which were within the limit
+pub record AreAssignedFrom (m : Machine) (assigned : List ℕ) (before after : List ℤ) : Type 0 where
+  pub known : AreDiscretes m assigned
+  pub others : AreAssigned m assigned before after
+  pub small_before : All (IsWithin 43) before
+
 -- whether a state's row reads one of the moved states
 abbrev pub reads_moved : Machine → List ℕ → ℕ → Bool
 reads_moved m moved j = list_any (λ i. row_reads i (row_at m j)) moved

@@ -22,7 +22,7 @@ use Rattle.qss_lines.specs.declared.visiting.Mode.{Mode}
 use Rattle.qss_lines.specs.declared.visiting.NewLevels.{NewLevels}
 use Rattle.qss_lines.specs.declared.visiting.QuietLevels.{QuietLevels}
 use Rattle.qss_lines.specs.declared.weights.Weights.{Weights}
-use Rattle.qss_lines.specs.Variables.{AreDiscretes, AreAssigned, AreSlopesOf}
+use Rattle.qss_lines.specs.Variables.{AreAssignedFrom, AreSlopesOf}
 use Rattle.qss_lines.specs.StateLines.{states_at, states_with, line_at, AreLinesAt}
 use Rattle.qss_lines.specs.Kept.{AreWeights, AreWeightsBefore}
 use Rattle.qss_lines.specs.RowSums.{sum_at, AreSumsBefore}
@@ -68,13 +68,11 @@ WereWeights at discretes weights lines =
 
 -- values of a machine's states and discrete variables after handlers, and of these before them, within the limits: only the assigned ones are others
 pub record AreHandled (m : Machine) (left : Handled) : Type 0 where
-  pub assigned_known : AreDiscretes m left.assigned.now
-  pub own : AreAssigned m left.assigned.now left.before.now left.discretes.now
+  pub assigned : AreAssignedFrom m left.assigned.now left.before.now left.discretes.now
   pub many_states : length left.states.now ≡ state_count m
   pub many_before : length left.before.now ≡ discrete_count m
   pub many_discretes : length left.discretes.now ≡ discrete_count m
   pub small_states : All (IsWithin 88) left.states.now
-  pub small_before : All (IsWithin 43) left.before.now
   pub small_discretes : All (IsWithin 43) left.discretes.now
 
 -- a machine's readers, a line of each state, and numbers of states
@@ -112,8 +110,7 @@ pub record IsHandledArrival (at : HandledArrival) : Type 0 where
   pub uses : at.uses.now ≡ uses_of at.machine.now
   pub lines : length at.lines.now ≡ state_count at.machine.now
   pub moved : AreNumbers (state_count at.machine.now) at.moved.now
-  pub assigned_known : AreDiscretes at.machine.now at.assigned.now
-  pub own : AreAssigned at.machine.now at.assigned.now at.work.now.pre at.work.now.d
+  pub assigned : AreAssignedFrom at.machine.now at.assigned.now at.work.now.pre at.work.now.d
   pub fits : AreValuesOf at.machine.now at.work.now
 
 -- a machine's states may go on at their new levels and at these slopes

@@ -2,25 +2,22 @@
 use Rattle.std.proofs.Common.{◌≡◌, ℕ, ◌+◌, ◌<◌, Bool, false, List, length, ℤ, pos, sym, ◌∙◌, ap, arith, inl, inr}
 use Rattle.std.proofs.lemmas.Bool.{cases_Bool}
 use Rattle.std.proofs.lemmas.List.FromFn.{length-map-range_with_len}
-use Rattle.std.specs.Prelude.{Option, if◌then◌else◌}
+use Rattle.std.specs.Prelude.{if◌then◌else◌}
 use Rattle.mu_num.proofs.Tests.{if-false}
 use Rattle.qss_machine.specs.declared.parts.SlopeRow.{SlopeRow}
 use Rattle.qss_machine.specs.declared.system.Machine.{Machine}
 use Rattle.qss_machine.specs.Handlers.{conditions}
-use Rattle.qss_machine.specs.Firing.{flag_at}
-use Rattle.qss_machine.specs.Machines.{state_count, discrete_count, slope_at, row_at, truth}
+use Rattle.qss_machine.specs.Machines.{state_count, discrete_count, slope_at, row_at}
 use Rattle.qss_machine.specs.Numbers.{int_at, tabulate}
 use Rattle.qss_machine.specs.Ticks.{World}
 use Rattle.qss_machine.specs.Uses.{row_reads}
 use Rattle.qss_quant.specs.Lines.{Line, state_at}
-use Rattle.qss_cross.specs.Crossing.{Watch}
-use Rattle.qss_sched.specs.Ranks.{due_at}
 use Rattle.qss_lines.specs.Variables.{AreAssigned, reads_moved}
 use Rattle.qss_lines.specs.StateLines.{states_with, line_at, states_at}
 use Rattle.qss_watch.specs.Handlings.{AreWatchedUpTo}
+use Rattle.qss_watch.specs.Rewatchings.{Watchings, IsSettled}
 use Rattle.qss_quiet.specs.Among.{is_among, IsOff}
-use Rattle.qss_watch.specs.Places.{watch_at, IsWatched}
-use Rattle.qss_quiet.specs.Sims.{condition_at, no_row}
+use Rattle.qss_quiet.specs.Sims.{no_row}
 use Rattle.qss_lines.proofs.DueLevels.{length-states_at, int_at-states_at}
 use Rattle.qss_quiet.proofs.Quiet.{int_at-tabulate, tabulate-same}
 use Rattle.qss_quiet.proofs.SameSlopes.{slope_same}
@@ -92,16 +89,13 @@ module _ (m : Machine) (moved assigned : List ℕ) (old levels pre d before slop
       ∙ ap (λ xs. int_at xs j) (sym was)
 
   -- the conditions, watched up to now
-  pub watched_up_to : (t : ℕ) (reinitialized changed : List ℕ) (lines after : List Line) (x : List ℤ) (settled : List Bool) (watches : List Watch) (due : List (Option ℕ)) →
+  pub watched_up_to : (t : ℕ) (reinitialized changed : List ℕ) (lines after : List Line) (x : List ℤ) (now : Watchings) →
       length lines ≡ state_count m → states_at after t ≡ states_with lines t moved x →
       ((j : ℕ) → j < state_count m → is_among reinitialized j ≡ false → int_at (states_with lines t moved x) j ≡ state_at (line_at lines j) t) → length before ≡ state_count m → length slopes ≡ state_count m →
-      ((place : ℕ) → place < length (conditions m) → is_among changed place ≡ false →
-      IsWatched m t (states_at lines t) pre before place (watch_at watches place) (due_at due (state_count m + place))) →
-      ((place : ℕ) → place < length (conditions m) → is_among changed place ≡ false → flag_at settled place ≡ truth m (condition_at m place) (states_at lines t) pre t) →
-      AreWatchedUpTo m t moved reinitialized assigned changed (states_at lines t) (states_at after t) pre d before slopes settled watches due
-  watched_up_to t reinitialized changed lines after x settled watches due many lead still before_many slopes_many watched flags = record {
-    each = watched;
-    settled_so = flags;
+      ((place : ℕ) → place < length (conditions m) → is_among changed place ≡ false → IsSettled m t (states_at lines t) pre before place now) →
+      AreWatchedUpTo m t moved reinitialized assigned changed (states_at lines t) (states_at after t) pre d before slopes now
+  watched_up_to t reinitialized changed lines after x now many lead still before_many slopes_many settled = record {
+    unchanged = settled;
     other_states = λ j h none. ap (λ xs. int_at xs j) lead ∙ still j h none ∙ sym (int_at-states_at lines t j (omega (arith, h, many)));
     other_discretes = are;
     other_slopes = slopes_stay_where;

@@ -107,7 +107,7 @@ in_units unit a b g many same = elim (cases_lt g (length a)) [
 -- ---- all conditions
 
 module _ (m : Machine) (tick : ℕ) (moved reinitialized assigned changed : List ℕ) (x states pre d before slopes : List ℤ) (old new : Watchings)
-    (upto : AreWatchedUpTo m tick moved reinitialized assigned changed x states pre d before slopes old.settled old.watches old.dues)
+    (upto : AreWatchedUpTo m tick moved reinitialized assigned changed x states pre d before slopes old)
     (are : AreSettled m tick states d slopes (touched_after m reinitialized assigned changed) old new) where
   module _ (place : ℕ) (h : place < length (conditions m)) (none : is_among (touched_after m reinitialized assigned changed) place ≡ false) where
     not_before_tick : is_among (readers_before m assigned) place ≡ false
@@ -178,10 +178,10 @@ module _ (m : Machine) (tick : ℕ) (moved reinitialized assigned changed : List
         let kept = are.kept place none in
         subst (λ (w : Watch). IsWatched m tick states d before place w (due_at new.dues (state_count m + place))) (sym kept.watch)
         (subst (IsWatched m tick states d before place (watch_at old.watches place)) (sym kept.due)
-        (watched_as m tick x pre before states d before place (watch_at old.watches place) (due_at old.dues (state_count m + place)) same_value refl (upto.each place h not_changed)))
+        (watched_as m tick x pre before states d before place (watch_at old.watches place) (due_at old.dues (state_count m + place)) same_value refl (upto.unchanged place h not_changed).watched))
 
     kept_truth : flag_at new.settled place ≡ truth m (condition_at m place) states d tick
-    kept_truth = (are.kept place none).truth ∙ upto.settled_so place h not_changed ∙ ap (compares (condition_at m place).rel) same_value
+    kept_truth = (are.kept place none).truth ∙ (upto.unchanged place h not_changed).own_truth ∙ ap (compares (condition_at m place).rel) same_value
 
   -- each condition is watched at its value, and has its truth; it is at its speed where it settled
   pub each_watched : (place : ℕ) → place < length (conditions m) → IsWatchedThere m tick moved states d slopes place new

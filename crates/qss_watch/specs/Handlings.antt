@@ -1,24 +1,22 @@
 -- The handlers of a tick at which few conditions change, and what they leave.
-use Rattle.std.specs.Prelude.{◌≡◌, ℕ, ◌+◌, ◌<◌, Bool, false, ◌&&◌, ◌||◌, List, [], length, ℤ, Option, None, All, ◌==◌}
+use Rattle.std.specs.Prelude.{◌≡◌, ℕ, ◌<◌, Bool, true, false, ◌&&◌, ◌||◌, List, [], length, ℤ, Option, None, All, ◌==◌}
 use Rattle.std.specs.List.{list_any}
 use Rattle.mu_num.specs.Sizes.{IsWithin}
 use Rattle.qss_machine.specs.declared.rows.Row.{Row}
 use Rattle.qss_machine.specs.declared.system.Machine.{Machine}
 use Rattle.qss_machine.specs.Counts.{is_reinit}
 use Rattle.qss_machine.specs.Numbers.{int_at, tabulate, first_past}
-use Rattle.qss_machine.specs.Machines.{state_count, discrete_count, truth}
+use Rattle.qss_machine.specs.Machines.{state_count, discrete_count}
 use Rattle.qss_machine.specs.Handlers.{Handling, conditions, run_clauses, truths, due_flags}
-use Rattle.qss_machine.specs.Firing.{flag_at}
-use Rattle.qss_quant.specs.Lines.{Line}
-use Rattle.qss_cross.specs.Crossing.{Watch}
+use Rattle.qss_quant.specs.Lines.{Line, state_at}
 use Rattle.qss_hand.specs.Values.{Values}
 use Rattle.qss_hand.specs.Works.{AreValuesOf}
-use Rattle.qss_sched.specs.Ranks.{due_at}
 use Rattle.qss_quiet.specs.Among.{is_among, AreNumbers}
-use Rattle.qss_watch.specs.Places.{watch_at, IsWatched}
-use Rattle.qss_quiet.specs.Sims.{condition_at}
+use Rattle.qss_watch.specs.declared.conditions.Conditions.{Conditions}
+use Rattle.qss_watch.specs.Moves.{AreAlikeBut}
+use Rattle.qss_watch.specs.Rewatchings.{Watchings, watchings_of, IsSettled}
 use Rattle.qss_lines.specs.Variables.{reads_moved, AreDiscretes, AreAssigned}
-use Rattle.qss_lines.specs.StateLines.{states_with}
+use Rattle.qss_lines.specs.StateLines.{states_with, line_at}
 
 -- flags of which those at these places are set
 abbrev pub flags_of : ℕ → List ℕ → List Bool
@@ -47,12 +45,23 @@ pub record IsHandled (m : Machine) (tick : ℕ) (lines : List Line) (due moved a
   pub variables : AreDiscretes m assigned
   pub others : AreAssigned m assigned old.d h.discretes
 
+-- states after handlers, the moved ones as these left them: within the limit, and where their lines lead but for the reinitialized ones
+pub record AreStatesLeft (m : Machine) (tick : ℕ) (lines : List Line) (moved : List ℕ) (left : Values) : Type 0 where
+  pub numbers : AreNumbers (state_count m) moved
+  pub reinitialized : (j : ℕ) → is_reinitialized left.log j ≡ true → j < state_count m
+  pub still : (j : ℕ) → j < state_count m → is_reinitialized left.log j ≡ false →
+      int_at (states_with lines tick moved left.x) j ≡ state_at (line_at lines j) tick
+  pub small : All (IsWithin 88) (states_with lines tick moved left.x)
+
+-- conditions of which these were looked at on arrival at a tick: the others are settled there at these values and slopes, with their truths on arrival
+pub record AreSettledBut (m : Machine) (tick : ℕ) (x d slopes : List ℤ) (looked : List ℕ) (all : Conditions) (dues : List (Option ℕ)) : Type 0 where
+  pub numbers : AreNumbers (length (conditions m)) looked
+  pub alike : AreAlikeBut looked all.arrived.items all.settled.items
+  pub others : (place : ℕ) → place < length (conditions m) → is_among looked place ≡ false → IsSettled m tick x d slopes place (watchings_of all dues)
+
 -- conditions watched up to a tick at which these states moved, some of them by reinitialization, these discrete variables were assigned and these conditions changed
-pub record AreWatchedUpTo (m : Machine) (tick : ℕ) (moved reinitialized assigned changed : List ℕ) (x states pre d before slopes : List ℤ) (settled : List Bool) (watches : List Watch) (due : List (Option ℕ)) : Type 0 where
-  pub each : (place : ℕ) → place < length (conditions m) → is_among changed place ≡ false →
-      IsWatched m tick x pre before place (watch_at watches place) (due_at due (state_count m + place))
-  pub settled_so : (place : ℕ) → place < length (conditions m) → is_among changed place ≡ false →
-      flag_at settled place ≡ truth m (condition_at m place) x pre tick
+pub record AreWatchedUpTo (m : Machine) (tick : ℕ) (moved reinitialized assigned changed : List ℕ) (x states pre d before slopes : List ℤ) (now : Watchings) : Type 0 where
+  pub unchanged : (place : ℕ) → place < length (conditions m) → is_among changed place ≡ false → IsSettled m tick x pre before place now
   pub other_states : (j : ℕ) → j < state_count m → is_among reinitialized j ≡ false → int_at states j ≡ int_at x j
   pub other_discretes : AreAssigned m assigned pre d
   pub other_slopes : (j : ℕ) → j < state_count m → reads_moved m moved j ≡ false → reads_moved m assigned j ≡ false → int_at slopes j ≡ int_at before j

@@ -6,7 +6,7 @@ use Rattle.mu_num.specs.Sizes.{IsWithin}
 use Rattle.qss_hand.specs.Values.{Values}
 use Rattle.qss_machine.specs.Numbers.{first_past}
 use Rattle.qss_machine.specs.Ticks.{is_overweight}
-use Rattle.qss_lines.specs.Variables.{AreAssigned}
+use Rattle.qss_lines.specs.Variables.{AreAssignedFrom}
 use Rattle.qss_lines.specs.Visitings.{AreMovedTo}
 use Rattle.qss_quiet.specs.Among.{IsOff}
 use Rattle.qss_quiet.proofs.Overs.{not_some, clash}
@@ -21,14 +21,12 @@ follow_handled-requires-clause-left g c =
     let of_pre : c.as_slice-pre.result.now ≡ c.args.at.now.work.now.pre = c.as_slice-pre.ensures.value ∙ ap (λ (v : Values). v.pre) c.work.view_is in
     let of_d : c.as_slice-d.result.now ≡ c.args.at.now.work.now.d = c.as_slice-d.ensures.value ∙ ap (λ (v : Values). v.d) c.work.view_is in
     record {
-      assigned_known = c.requires.ready.assigned_known;
-      own = subst (λ (d : List ℤ). AreAssigned c.args.at.now.machine.now c.args.at.now.assigned.now c.as_slice-pre.result.now d) (sym of_d)
-          (subst (λ (p : List ℤ). AreAssigned c.args.at.now.machine.now c.args.at.now.assigned.now p c.args.at.now.work.now.d) (sym of_pre) c.requires.ready.own);
+      assigned = subst (AreAssignedFrom c.args.at.now.machine.now c.args.at.now.assigned.now c.as_slice-pre.result.now) (sym of_d)
+          (subst (λ (p : List ℤ). AreAssignedFrom c.args.at.now.machine.now c.args.at.now.assigned.now p c.args.at.now.work.now.d) (sym of_pre) c.requires.ready.assigned);
       many_states = ap length of_x ∙ fits.states;
       many_before = ap length of_pre ∙ fits.before;
       many_discretes = ap length of_d ∙ fits.discretes;
       small_states = subst (All (IsWithin 88)) (sym of_x) fits.small_states;
-      small_before = subst (All (IsWithin 43)) (sym of_pre) fits.small_before;
       small_discretes = subst (All (IsWithin 43)) (sym of_d) fits.small_discretes;
     }
 

@@ -12,7 +12,7 @@ use Rattle.qss_quiet.proofs.Among.{among_readers}
 use Rattle.qss_lines.proofs.reseated.follow_slopes.Goals as goal
 
 pub slope_readers-requires-clause-variables : goal.slope_readers-requires-clause-variables
-slope_readers-requires-clause-variables c i d h = (c.requires.left.assigned_known i d h).1
+slope_readers-requires-clause-variables c i d h = (c.requires.left.assigned.known i d h).1
 
 pub slope_readers-requires-clause-slopes : goal.slope_readers-requires-clause-slopes
 slope_readers-requires-clause-slopes c =
@@ -31,6 +31,6 @@ returns c =
           c.slope_readers.ensures.others j none
           ∙ ap (λ xs. int_at xs j) c.shift_slopes.ensures
           ∙ int_at-tabulate n (λ k. slope_at m k levels c.args.left.now.before.now) j h
-          ∙ sym (slope_stays m levels c.args.left.now.before.now c.args.left.now.discretes.now c.args.left.now.assigned.now c.requires.ready.levels c.requires.left.many_before c.requires.left.many_discretes c.requires.left.own j h
+          ∙ sym (slope_stays m levels c.args.left.now.before.now c.args.left.now.discretes.now c.args.left.now.assigned.now c.requires.ready.levels c.requires.left.many_before c.requires.left.many_discretes c.requires.left.assigned.others j h
           (sym (among_readers m j h c.args.left.now.assigned.now) ∙ none))
     ])

@@ -106,7 +106,7 @@ returns-clause-lines g c j h =
     record { own = seats.turned; lines = seats.lines; left = seats.kept; places = seats.places; dues = seats.dues } in
     reseated m c.args.at.now.tick c.args.left.now.states.now c.args.at.now.levels.now c.follow_slopes.new.slopes c.args.at.now.moved.now first between are many
     c.args.left.now.assigned.now held.before.0 c.args.left.now.before.now c.args.left.now.discretes.now c.args.slopes.now turned last c.turn_readers.ensures.turned c.turn_readers-2.ensures.turned
-    held.before.1 c.requires.handled.own c.follow_slopes.ensures c.requires.new.levels c.requires.handled.many_before c.requires.handled.many_discretes j h
+    held.before.1 c.requires.handled.assigned.others c.follow_slopes.ensures c.requires.new.levels c.requires.handled.many_before c.requires.handled.many_discretes j h
     (held.lines.up_to.later j (omega (arith, h, many))) (held.own_slope j h) (held.due j h)
 
 pub returns-clause-kept : goal.returns-clause-kept
@@ -150,7 +150,7 @@ returns-clause-counted g c =
     let none : renewals n levels slopes c.turn_readers-2.new.lines ≡ 0 = none_left n levels slopes c.turn_readers-2.new.lines (λ j h.
     let own = reseated m c.args.at.now.tick c.args.left.now.states.now levels slopes c.args.at.now.moved.now first between are many
     c.args.left.now.assigned.now held.before.0 c.args.left.now.before.now c.args.left.now.discretes.now c.args.slopes.now turned last c.turn_readers.ensures.turned c.turn_readers-2.ensures.turned
-    held.before.1 c.requires.handled.own c.follow_slopes.ensures c.requires.new.levels c.requires.handled.many_before c.requires.handled.many_discretes j h
+    held.before.1 c.requires.handled.assigned.others c.follow_slopes.ensures c.requires.new.levels c.requires.handled.many_before c.requires.handled.many_discretes j h
     (held.lines.up_to.later j (omega (arith, h, many))) (held.own_slope j h) (held.due j h) in
     (own.own_level, own.own_slope ∙ sym (ap (λ zs. int_at zs j) c.follow_slopes.ensures ∙ int_at-tabulate n (λ k. slope_at m k levels c.args.left.now.discretes.now) j h))) in
     let seated = seats.counted (states_with c.args.lines.now c.args.at.now.tick c.args.at.now.moved.now c.args.left.now.states.now) (λ j among.

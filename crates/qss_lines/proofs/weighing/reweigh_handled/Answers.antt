@@ -27,11 +27,11 @@ least_reader-least-requires-clause-rows c var h =
     (omega (
       arith,
       many_after m c.args.at.now.moved.now c.args.left.now.assigned.now c.requires.before.0 c.args.at.now.levels.now c.args.left.now.before.now c.args.left.now.discretes.now c.shift_sums.new.sums c.weigh_readers.new.weights
-          c.requires.ready.levels c.requires.left.many_before c.requires.left.many_discretes c.requires.left.own before.off before.light c.shift_sums.ensures c.weigh_readers.ensures,
+          c.requires.ready.levels c.requires.left.many_before c.requires.left.many_discretes c.requires.left.assigned.others before.off before.light c.shift_sums.ensures c.weigh_readers.ensures,
     ))
 
 pub least_reader-requires-clause-variables : goal.least_reader-requires-clause-variables
-least_reader-requires-clause-variables c k z h = omega (arith, c.requires.left.assigned_known k z h, rows_many c.args.at.now.machine.now c.args.at.now.uses.now c.requires.ready.uses)
+least_reader-requires-clause-variables c k z h = omega (arith, c.requires.left.assigned.known k z h, rows_many c.args.at.now.machine.now c.args.at.now.uses.now c.requires.ready.uses)
 
 pub least_reader-requires-clause-rows : goal.least_reader-requires-clause-rows
 least_reader-requires-clause-rows c var h =
@@ -41,7 +41,7 @@ least_reader-requires-clause-rows c var h =
     (omega (
       arith,
       many_after m c.args.at.now.moved.now c.args.left.now.assigned.now c.requires.before.0 c.args.at.now.levels.now c.args.left.now.before.now c.args.left.now.discretes.now c.shift_sums.new.sums c.weigh_readers.new.weights
-          c.requires.ready.levels c.requires.left.many_before c.requires.left.many_discretes c.requires.left.own before.off before.light c.shift_sums.ensures c.weigh_readers.ensures,
+          c.requires.ready.levels c.requires.left.many_before c.requires.left.many_discretes c.requires.left.assigned.others before.off before.light c.shift_sums.ensures c.weigh_readers.ensures,
     ))
 
 pub returns : goal.returns
@@ -56,7 +56,7 @@ returns c =
     let d : List ℤ = c.args.left.now.discretes.now in
     let after : List ℤ = c.weigh_readers.new.weights in
     let moved_known : All (λ var. var < state_count m + discrete_count m) moved = λ k z h. omega (arith, c.requires.ready.moved.below k z h) in
-    let assigned_known : All (λ var. var < state_count m + discrete_count m) assigned = λ k z h. (c.requires.left.assigned_known k z h).1 in
+    let assigned_known : All (λ var. var < state_count m + discrete_count m) assigned = λ k z h. (c.requires.left.assigned.known k z h).1 in
     let looked : List ℕ = flat_map (reading_rows m) moved ++ flat_map (reading_rows m) assigned in
     let kept_moved = rows_kept_all m c.args.at.now.uses.now c.requires.ready.uses moved moved_known in
     let kept_assigned = rows_kept_all m c.args.at.now.uses.now c.requires.ready.uses assigned assigned_known in
@@ -66,13 +66,13 @@ returns c =
     subst (λ (rows : List ℕ). IsLeastPast after (flat_map (reading_rows m) moved ++ rows) c.least_reader.result) kept_assigned (c.least_reader.ensures (flat_map (reading_rows m) moved) first) in
     let over : c.least_reader.result ≡ position (is_overweight m levels d) m.rows =
     least_is m levels d after looked
-    (many_after m moved assigned old levels pre d c.shift_sums.new.sums after c.requires.ready.levels c.requires.left.many_before c.requires.left.many_discretes c.requires.left.own before.off before.light c.shift_sums.ensures c.weigh_readers.ensures)
-    (weighed_passes m moved assigned old levels pre d c.shift_sums.new.sums after c.requires.ready.levels c.requires.left.many_before c.requires.left.many_discretes c.requires.left.own before.off before.light c.shift_sums.ensures c.weigh_readers.ensures)
-    (others_light m moved assigned old levels pre d c.shift_sums.new.sums after c.requires.ready.levels c.requires.left.many_before c.requires.left.many_discretes c.requires.left.own before.off before.light c.shift_sums.ensures c.weigh_readers.ensures)
+    (many_after m moved assigned old levels pre d c.shift_sums.new.sums after c.requires.ready.levels c.requires.left.many_before c.requires.left.many_discretes c.requires.left.assigned.others before.off before.light c.shift_sums.ensures c.weigh_readers.ensures)
+    (weighed_passes m moved assigned old levels pre d c.shift_sums.new.sums after c.requires.ready.levels c.requires.left.many_before c.requires.left.many_discretes c.requires.left.assigned.others before.off before.light c.shift_sums.ensures c.weigh_readers.ensures)
+    (others_light m moved assigned old levels pre d c.shift_sums.new.sums after c.requires.ready.levels c.requires.left.many_before c.requires.left.many_discretes c.requires.left.assigned.others before.off before.light c.shift_sums.ensures c.weigh_readers.ensures)
     c.least_reader.result both in
     record {
       over = over;
       weights = λ none.
-          all_weighed m moved assigned old levels pre d c.shift_sums.new.sums after c.requires.ready.levels c.requires.left.many_before c.requires.left.many_discretes c.requires.left.own before.off before.light c.shift_sums.ensures c.weigh_readers.ensures
+          all_weighed m moved assigned old levels pre d c.shift_sums.new.sums after c.requires.ready.levels c.requires.left.many_before c.requires.left.many_discretes c.requires.left.assigned.others before.off before.light c.shift_sums.ensures c.weigh_readers.ensures
           (sym over ∙ none);
     }

@@ -13,11 +13,11 @@ pub overflow_cast-states : goal.overflow_cast-states
 overflow_cast-states c = omega (arith, c.requires.ready.levels, c.args.at.now.machine.now.has_variables.few)
 
 pub are_up_to_at-requires-2-clause-from : goal.are_up_to_at-requires-2-clause-from
-are_up_to_at-requires-2-clause-from c k none h = omega (arith, (c.requires.left.assigned_known k none h).0, c.requires.ready.levels)
+are_up_to_at-requires-2-clause-from c k none h = omega (arith, (c.requires.left.assigned.known k none h).0, c.requires.ready.levels)
 
 pub are_up_to_at-requires-2-clause-known : goal.are_up_to_at-requires-2-clause-known
 are_up_to_at-requires-2-clause-known c k none h =
-    omega (arith, (c.requires.left.assigned_known k none h).1, c.requires.ready.levels, c.requires.left.many_discretes)
+    omega (arith, (c.requires.left.assigned.known k none h).1, c.requires.ready.levels, c.requires.left.many_discretes)
 
 pub returns-then-not-are_up_to_at : goal.returns-then-not-are_up_to_at
 returns-then-not-are_up_to_at c = (

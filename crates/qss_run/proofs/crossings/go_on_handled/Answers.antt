@@ -1,30 +1,27 @@
 -- What goes on after the handlers of a tick.
-use Rattle.std.proofs.Common.{◌≡◌, ℕ, ◌+◌, ◌<◌, ◌≤◌, List, length, ℤ, pos, refl, sym, ◌∙◌, ap, subst, arith}
+use Rattle.std.proofs.Common.{◌≡◌, ℕ, ◌+◌, ◌<◌, List, length, ℤ, pos, refl, sym, ◌∙◌, ap, subst, arith}
 use Rattle.std.proofs.lemmas.List.{with_items_is}
-use Rattle.std.specs.Prelude.{All, position}
+use Rattle.std.specs.Prelude.{All}
 use Rattle.std.specs.Vec.{with_items}
 use Rattle.mu_num.specs.Sizes.{IsWithin}
 use Rattle.std.specs.List.{list_any}
 use Rattle.qss_machine.specs.Firing.{flag_at}
 use Rattle.qss_machine.specs.Handlers.{conditions, truths, due_flags}
-use Rattle.qss_machine.specs.Machines.{state_count, level_unit, slope_at, quantum_of}
+use Rattle.qss_machine.specs.Machines.{state_count, slope_at}
 use Rattle.qss_machine.specs.Numbers.{int_at, tabulate}
-use Rattle.qss_machine.specs.Ticks.{is_overweight}
-use Rattle.qss_quant.specs.Lines.{IsNear}
 use Rattle.qss_sched.specs.Ranks.{due_at}
 use Rattle.qss_hand.specs.Values.{Values}
 use Rattle.qss_watch.specs.declared.conditions.Conditions.{Conditions}
 use Rattle.qss_run.specs.declared.store.Store.{Store}
-use Rattle.qss_lines.specs.declared.shifts.RowSum.TheVariants.{Slope}
-use Rattle.qss_lines.specs.Variables.{AreAssigned, AreDiscretes}
+use Rattle.qss_lines.specs.Variables.{AreAssignedFrom}
+use Rattle.qss_lines.specs.Visitings.{AreLevelsFor, HeldBefore}
 use Rattle.qss_watch.specs.Handlings.{AreWatchedUpTo}
+use Rattle.qss_watch.specs.Rewatchings.{watchings_of}
 use Rattle.qss_lines.specs.StateLines.{states_with, line_at, IsTurned, states_at, AreLinesAt}
-use Rattle.qss_quiet.specs.Among.{is_among, AreNumbers}
+use Rattle.qss_quiet.specs.Among.{AreNumbers}
 use Rattle.qss_quiet.specs.Logs.{reinitialized_of}
 use Rattle.qss_watch.specs.Places.{watch_at, IsWatched}
 use Rattle.qss_lines.specs.Renewals.{renewals_from}
-use Rattle.qss_lines.specs.RowSums.{AreSumsBefore}
-use Rattle.qss_quiet.specs.Sims.{IsDue}
 use Rattle.qss_run.specs.Stores.{world_of, FitsMachine, Stands}
 use Rattle.qss_run.proofs.AfterHandlers.{length-states_with, same_states, same_slopes, same_worlds, lead_to, watched_up_to}
 use Rattle.qss_watch.proofs.Reinitialized.{among_reinitialized}
@@ -54,54 +51,28 @@ reslope_handled-requires g c =
     record {
       new = record {
         uses = fits.uses;
-        moved = subst (AreNumbers (state_count m)) (sym of_moved) c.requires.moved;
+        moved = subst (AreNumbers (state_count m)) (sym of_moved) c.requires.states.numbers;
         levels = ap length of_levels ∙ fits.levels;
         small_levels = subst (All (IsWithin 43)) (sym of_levels) c.requires.small_levels;
       };
       handled = record {
-        assigned_known = subst (AreDiscretes m) (sym of_assigned) c.requires.assigned_known;
-        own = subst (λ (js : List ℕ). AreAssigned m js c.as_slice-5.result.now c.as_slice-6.result.now) (sym of_assigned)
-            (subst (λ (p : List ℤ). AreAssigned m s.assigned.items p c.as_slice-6.result.now) (sym of_pre)
-            (subst (λ (d : List ℤ). AreAssigned m s.assigned.items s.work.pre d) (sym of_d) c.requires.assigned));
+        assigned = subst (λ (js : List ℕ). AreAssignedFrom m js c.as_slice-5.result.now c.as_slice-6.result.now) (sym of_assigned)
+            (subst (λ (p : List ℤ). AreAssignedFrom m s.assigned.items p c.as_slice-6.result.now) (sym of_pre)
+            (subst (AreAssignedFrom m s.assigned.items s.work.pre) (sym of_d) c.requires.assigned));
         many_states = ap length of_x ∙ fits.states;
         many_before = ap length of_pre ∙ fits.before;
         many_discretes = ap length of_d ∙ fits.discretes;
         small_states = subst (All (IsWithin 88)) (sym of_x) fits.small_states;
-        small_before = subst (All (IsWithin 43)) (sym of_pre) c.requires.small_before;
         small_discretes = subst (All (IsWithin 43)) (sym of_d) fits.small_discretes;
       };
-      small_states = subst (All (IsWithin 88)) (sym same) c.requires.small_states;
-      levels = record {
-        near = λ j h.
-            subst (λ (xs : List ℤ). IsNear (level_unit m) (int_at xs j) (int_at c.as_slice-2.result.now j) (quantum_of m j (int_at c.as_slice-2.result.now j))) (sym same)
-            (subst (λ (l : List ℤ). IsNear (level_unit m) (int_at y j) (int_at l j) (quantum_of m j (int_at l j))) (sym of_levels) (c.requires.near j h));
-        light = ap (λ l. position (is_overweight m l c.as_slice-6.result.now) m.rows) of_levels
-            ∙ ap (λ d. position (is_overweight m s.levels.items d) m.rows) of_d ∙ c.requires.light;
-      };
-      held = record {
-        lines = record {
-          up_to = record {
-            as_many = ap length of_lines ∙ fits.lines;
-            later = λ j h. subst (λ ls. (line_at ls j).tick ≤ t) (sym of_lines) (c.requires.later j (omega (arith, h, ap length of_lines, fits.lines)));
-            in_time = c.requires.in_time;
-          };
-          small = subst (λ ls. All (IsWithin 88) (states_at ls t)) (sym of_lines) c.requires.small;
-        };
-        slopes = ap length of_slopes ∙ fits.slopes;
-        places = omega (arith, fits.places);
-        before = (
-          c.requires.before.0,
-          subst (λ js. AreSumsBefore Slope m js c.as_slice-2.result.now c.as_slice-5.result.now c.as_mut_slice.result.now c.as_mut_slice-2.result.now c.requires.before.0) (sym of_moved)
-              (subst (λ l. AreSumsBefore Slope m s.moved.items l c.as_slice-5.result.now c.as_mut_slice.result.now c.as_mut_slice-2.result.now c.requires.before.0) (sym of_levels)
-              (subst (λ p. AreSumsBefore Slope m s.moved.items s.levels.items p c.as_mut_slice.result.now c.as_mut_slice-2.result.now c.requires.before.0) (sym of_pre)
-              (subst (λ v. AreSumsBefore Slope m s.moved.items s.levels.items s.work.pre v c.as_mut_slice-2.result.now c.requires.before.0) (sym of_slopes)
-              (subst (λ ls. AreSumsBefore Slope m s.moved.items s.levels.items s.work.pre s.slopes.items ls c.requires.before.0) (sym of_lines) c.requires.before.1)))),
-        );
-        own_slope = λ j h. ap (λ ls. (line_at ls j).slope) of_lines ∙ c.requires.own_slope j h ∙ ap (λ v. int_at v j) (sym of_slopes);
-        due = λ j h none own.
-            subst (λ ls. IsDue m t j (line_at ls j) (due_at s.agenda j)) (sym of_lines)
-            (c.requires.due j h (ap (λ js. is_among js j) (sym of_moved) ∙ none) (ap (λ ls. (line_at ls j).level) (sym of_lines) ∙ own ∙ ap (λ l. int_at l j) of_levels));
-      };
+      small_states = subst (All (IsWithin 88)) (sym same) c.requires.states.small;
+      levels = subst (λ (xs : List ℤ). AreLevelsFor m xs c.as_slice-2.result.now c.as_slice-6.result.now) (sym same)
+          (subst (λ (l : List ℤ). AreLevelsFor m y l c.as_slice-6.result.now) (sym of_levels) (subst (AreLevelsFor m y s.levels.items) (sym of_d) c.requires.levels));
+      held = subst (λ js. HeldBefore m t js c.as_slice-2.result.now c.as_slice-5.result.now c.as_mut_slice.result.now c.as_mut_slice-2.result.now s.agenda) (sym of_moved)
+          (subst (λ l. HeldBefore m t s.moved.items l c.as_slice-5.result.now c.as_mut_slice.result.now c.as_mut_slice-2.result.now s.agenda) (sym of_levels)
+          (subst (λ p. HeldBefore m t s.moved.items s.levels.items p c.as_mut_slice.result.now c.as_mut_slice-2.result.now s.agenda) (sym of_pre)
+          (subst (λ v. HeldBefore m t s.moved.items s.levels.items s.work.pre v c.as_mut_slice-2.result.now s.agenda) (sym of_slopes)
+          (subst (λ ls. HeldBefore m t s.moved.items s.levels.items s.work.pre s.slopes.items ls s.agenda) (sym of_lines) c.requires.held))));
     }
 
 pub rewatch_handled-requires-clause-fits : goal.rewatch_handled-requires-clause-fits
@@ -149,9 +120,9 @@ rewatch_handled-requires-clause-lines g c =
       up_to = record {
         as_many = many;
         later = λ j h. (c.reslope_handled.ensures.lines j (omega (arith, h, many))).not_later;
-        in_time = c.requires.in_time;
+        in_time = c.requires.held.lines.up_to.in_time;
       };
-      small = subst (All (IsWithin 88)) (sym lead) c.requires.small_states;
+      small = subst (All (IsWithin 88)) (sym lead) c.requires.states.small;
     })
 
 pub rewatch_handled-requires-clause-slopes : goal.rewatch_handled-requires-clause-slopes
@@ -162,7 +133,7 @@ rewatch_handled-requires-clause-slopes g c =
     let many = c.reslope_handled.auto.slopes ∙ c.as_mut_slice.ensures.len in
     record {
       as_many = same_length s.slopes slopes ∙ c.requires.fits.slopes;
-      small = slopes_small m s.levels.items s.work.d s.work.d (with_items s.slopes slopes).items c.requires.light refl
+      small = slopes_small m s.levels.items s.work.d s.work.d (with_items s.slopes slopes).items c.requires.levels.light refl
           (with_items_is s.slopes slopes many ∙ c.reslope_handled.ensures.slopes
           ∙ same_slopes m s.levels.items c.as_slice-2.result.now s.work.d c.as_slice-6.result.now c.as_slice-2.ensures.value (c.as_slice-6.ensures.value ∙ ap (λ (v : Values). v.d) c.work.view_is));
     }
@@ -188,20 +159,23 @@ rewatch_handled-requires-clause-before g c =
     ∙ same_slopes m s.levels.items c.as_slice-2.result.now s.work.d c.as_slice-6.result.now c.as_slice-2.ensures.value (c.as_slice-6.ensures.value ∙ ap (λ (v : Values). v.d) c.work.view_is) in
     let of_slopes : (with_items s.slopes slopes).items ≡ slopes = with_items_is s.slopes slopes (c.reslope_handled.auto.slopes ∙ c.as_mut_slice.ensures.len) in
     let x : List ℤ = states_at s.lines.items t in
-    let old : List ℤ = c.requires.before.0 in
-    let before = c.requires.before.1 in
-    let all : AreWatchedUpTo m t s.moved.items (reinitialized_of s.work.log) s.assigned.items s.changed.items x (states_at after t) s.work.pre s.work.d s.slopes.items slopes s.conditions.settled.items s.conditions.watches.items due =
-    watched_up_to m s.moved.items s.assigned.items old s.levels.items s.work.pre s.work.d s.slopes.items slopes before.off c.requires.assigned
+    let old : List ℤ = c.requires.held.before.0 in
+    let before = c.requires.held.before.1 in
+    let all : AreWatchedUpTo m t s.moved.items (reinitialized_of s.work.log) s.assigned.items s.changed.items x (states_at after t) s.work.pre s.work.d s.slopes.items slopes (watchings_of s.conditions due) =
+    watched_up_to m s.moved.items s.assigned.items old s.levels.items s.work.pre s.work.d s.slopes.items slopes before.off c.requires.assigned.others
     (sym before.off.as_many ∙ fits.levels) fits.before fits.discretes before.own_sums slopes_are t (reinitialized_of s.work.log) s.changed.items s.lines.items after s.work.x
-    s.conditions.settled.items s.conditions.watches.items due fits.lines lead (λ j h none. c.requires.still j h (sym (among_reinitialized s.work.log j) ∙ none)) fits.slopes (c.reslope_handled.auto.slopes ∙ c.as_mut_slice.ensures.len ∙ s.slopes.ok.0 ∙ fits.slopes)
-    (λ place h none. subst (IsWatched m t x s.work.pre s.slopes.items place (watch_at s.conditions.watches.items place)) (sym (c.reslope_handled.ensures.others (state_count m + place) (omega arith)))
-    (c.requires.watched place h none))
-    c.requires.settled in (
+    (watchings_of s.conditions due) fits.lines lead (λ j h none. c.requires.states.still j h (sym (among_reinitialized s.work.log j) ∙ none)) fits.slopes (c.reslope_handled.auto.slopes ∙ c.as_mut_slice.ensures.len ∙ s.slopes.ok.0 ∙ fits.slopes)
+    (λ place h none.
+    let was = c.requires.settled.others place h none in
+    record {
+      watched = subst (IsWatched m t x s.work.pre s.slopes.items place (watch_at s.conditions.watches.items place)) (sym (c.reslope_handled.ensures.others (state_count m + place) (omega arith))) was.watched;
+      own_truth = was.own_truth;
+    }) in (
       x,
       s.work.pre,
       s.slopes.items,
-      subst (λ ls. AreWatchedUpTo m t s.moved.items (reinitialized_of s.work.log) s.assigned.items s.changed.items x (states_at ls t) s.work.pre s.work.d s.slopes.items (with_items s.slopes slopes).items s.conditions.settled.items s.conditions.watches.items due) (sym lines)
-          (subst (λ v. AreWatchedUpTo m t s.moved.items (reinitialized_of s.work.log) s.assigned.items s.changed.items x (states_at after t) s.work.pre s.work.d s.slopes.items v s.conditions.settled.items s.conditions.watches.items due) (sym of_slopes) all),
+      subst (λ ls. AreWatchedUpTo m t s.moved.items (reinitialized_of s.work.log) s.assigned.items s.changed.items x (states_at ls t) s.work.pre s.work.d s.slopes.items (with_items s.slopes slopes).items (watchings_of s.conditions due)) (sym lines)
+          (subst (λ v. AreWatchedUpTo m t s.moved.items (reinitialized_of s.work.log) s.assigned.items s.changed.items x (states_at after t) s.work.pre s.work.d s.slopes.items v (watchings_of s.conditions due)) (sym of_slopes) all),
     )
 
 pub note_rising-requires-clause-arrived : goal.note_rising-requires-clause-arrived
@@ -219,7 +193,7 @@ pub note_rising-requires-clause-count : goal.note_rising-requires-clause-count
 note_rising-requires-clause-count g c = let own = c.rewatch_handled.ensures.fits.own_conditions in own.apart ∙ sym own.settled
 
 pub note_rising-requires-clause-alike : goal.note_rising-requires-clause-alike
-note_rising-requires-clause-alike g c = c.rewatch_handled.ensures.alike c.requires.alike
+note_rising-requires-clause-alike g c = c.rewatch_handled.ensures.alike c.requires.settled.alike
 
 pub returns : goal.returns
 returns g c =
@@ -284,7 +258,7 @@ returns g c =
     let settled : next.conditions.settled.items ≡ truths m y s.work.d t = c.rewatch_handled.ensures.settled ∙ ap (λ v. truths m v s.work.d t) states in
     let again = stands_again m t next y (length-states_with s.lines.items t s.moved.items s.work.x ∙ fits.lines) good
     (λ j h. c.requires.small_levels j (pos 0) (omega (arith, h, fits.levels)))
-    c.requires.light
+    c.requires.levels.light
     (of_slopes ∙ slopes_are)
     c.requires.weights
     (λ j h.
@@ -302,7 +276,7 @@ returns g c =
     (c.rewatch_handled.ensures.watches place h)))
     (c.note_rising.ensures.rising ∙ ap (λ a. list_any (λ flag. flag) (due_flags left.conditions.settled.items a left.conditions.settled.items)) arrived)
     (ap (due_at next.agenda) (omega (arith, left_fits.lines, left_fits.own_conditions.branches.as_many)) ∙ c.note_rising.ensures.own)
-    (λ place out. ap (λ flags. flag_at flags place) (sym arrived) ∙ c.rewatch_handled.ensures.alike c.requires.alike place out) in
+    (λ place out. ap (λ flags. flag_at flags place) (sym arrived) ∙ c.rewatch_handled.ensures.alike c.requires.settled.alike place out) in
     let world : world_of t next ≡ record { states = y; levels = s.levels.items; discretes = s.work.d; arrived = s.conditions.arrived.items; settled = truths m y s.work.d t } =
     same_worlds (world_of t next) (record { states = y; levels = s.levels.items; discretes = s.work.d; arrived = s.conditions.arrived.items; settled = truths m y s.work.d t })
     again.0 refl refl refl settled in

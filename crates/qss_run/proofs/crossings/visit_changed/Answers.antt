@@ -21,7 +21,7 @@ use Rattle.qss_watch.specs.declared.conditions.Conditions.{Conditions}
 use Rattle.qss_run.specs.declared.store.Store.{Store}
 use Rattle.qss_lines.specs.StateLines.{states_with, line_at, states_at}
 use Rattle.qss_watch.specs.Handlings.{is_reinitialized, IsHandled, handling_from}
-use Rattle.qss_lines.specs.Variables.{AreAssigned, AreDiscretes}
+use Rattle.qss_lines.specs.Variables.{AreAssignedFrom}
 use Rattle.qss_lines.specs.Visitings.{AreMovedTo}
 use Rattle.qss_quiet.specs.Among.{is_among, AreNumbers, IsOff}
 use Rattle.qss_watch.specs.Moves.{AreAlikeBut}
@@ -36,7 +36,7 @@ use Rattle.qss_run.specs.Touches.{touches_at}
 use Rattle.qss_run.proofs.AfterHandlers.{same_worlds}
 use Rattle.qss_run.proofs.Crossed.{none_early, reinits_known, later_dues, flag_same, rest_as_before, watched_then, watched_still, moved_to, near_after, due_after, levels_before_handlers, conditions_stay}
 use Rattle.qss_lines.proofs.DueLevels.{int_at-states_at}
-use Rattle.qss_watch.proofs.Handled.{rows_handled}
+use Rattle.qss_watch.proofs.Handled.{rows_handled, assigned_from}
 use Rattle.qss_run.proofs.QuietVisits.{earlier, own_slope, rest_small}
 use Rattle.qss_run.proofs.Reinits.{kept_state}
 use Rattle.qss_run.proofs.Touched.{renewals_from_touched}
@@ -104,15 +104,11 @@ requantize_handled-over-requires-clause-ready g c =
     let new : Values = c.handle-over.new.work in
     let handled : IsHandled m t s.lines.items s.moved.items c.handle-over.new.moved.items assigned s.work new h =
     subst (λ ls. IsHandled m t ls s.moved.items c.handle-over.new.moved.items assigned s.work new h) c.as_slice.ensures.value (c.handle-over.ensures.handled calm) in
-    let of_d : new.d ≡ h.discretes = ap (λ (v : Values). v.d) handled.values in
-    let of_pre : new.pre ≡ s.work.d = ap (λ (v : Values). v.pre) handled.values in
     record {
       uses = c.requires.taken.1.stands.fits.uses;
       lines = ap length c.as_slice-3.ensures.value ∙ c.requires.taken.1.stands.fits.lines;
       moved = subst (AreNumbers (state_count m)) (sym c.as_slice-4.ensures.value) handled.numbers;
-      assigned_known = subst (AreDiscretes m) (sym c.as_slice-5.ensures.value) handled.variables;
-      own = subst (λ (js : List ℕ). AreAssigned m js new.pre new.d) (sym c.as_slice-5.ensures.value)
-          (subst (λ (p : List ℤ). AreAssigned m assigned p new.d) (sym of_pre) (subst (λ (d : List ℤ). AreAssigned m assigned s.work.d d) (sym of_d) handled.others));
+      assigned = subst (λ (js : List ℕ). AreAssignedFrom m js new.pre new.d) (sym c.as_slice-5.ensures.value) (assigned_from handled);
       fits = handled.fits;
     }
 
@@ -257,46 +253,59 @@ go_on_handled-requires g c =
         work_room = omega (arith, ap (λ (v : Values). v.room) handled.values, fits.work_room);
         row_room = omega (arith, c.requantize_handled-over.ensures.room, fits.row_room);
       };
-      moved = handled.numbers;
-      assigned_known = handled.variables;
-      assigned = subst (λ p. AreAssigned m assigned p new.d) (sym of_pre) (subst (λ d. AreAssigned m assigned s.work.d d) (sym of_d) handled.others);
-      changed = taken.changing.numbers;
-      reinitialized = λ j e. reinits_known m c.args.tick agenda s taken c.requires.in_time moved assigned new h handled j (sym (ap (λ rows. is_reinitialized rows j) of_log) ∙ e);
-      still = λ j inside none.
-          ap (λ xs. int_at xs j) (sym handled.own_states)
-          ∙ ap (λ (k : Handling). int_at k.states j) is_h
-          ∙ kept_state m t w j (sym (ap (λ rows. is_reinitialized rows j) (of_log ∙ ap (λ (k : Handling). k.rows) is_h)) ∙ none)
-          ∙ ap (λ xs. int_at xs j) (sym (arrives m c.args.tick (record s { agenda = agenda }) taken.stands))
-          ∙ int_at-states_at s.lines.items t j (omega (arith, inside, fits.lines));
-      small_before = handled.fits.small_before;
-      small_states = subst (All (IsWithin 88)) handled.own_states handled.small;
+      assigned = assigned_from handled;
+      states = record {
+        numbers = handled.numbers;
+        reinitialized = λ j e. reinits_known m c.args.tick agenda s taken c.requires.in_time moved assigned new h handled j (sym (ap (λ rows. is_reinitialized rows j) of_log) ∙ e);
+        still = λ j inside none.
+            ap (λ xs. int_at xs j) (sym handled.own_states)
+            ∙ ap (λ (k : Handling). int_at k.states j) is_h
+            ∙ kept_state m t w j (sym (ap (λ rows. is_reinitialized rows j) (of_log ∙ ap (λ (k : Handling). k.rows) is_h)) ∙ none)
+            ∙ ap (λ xs. int_at xs j) (sym (arrives m c.args.tick (record s { agenda = agenda }) taken.stands))
+            ∙ int_at-states_at s.lines.items t j (omega (arith, inside, fits.lines));
+        small = subst (All (IsWithin 88)) handled.own_states handled.small;
+      };
+      settled = record {
+        numbers = taken.changing.numbers;
+        alike = subst (λ (cs : List ℕ). AreAlikeBut cs c.handle-over.new.self.arrived.items c.handle-over.new.self.settled.items) c.as_slice-2.ensures.value (c.handle-over.ensures.alike calm);
+        others = λ place inside none. record {
+          watched = subst (λ (all : Conditions). IsWatched m t (states_at s.lines.items t) new.pre s.slopes.items place (watch_at all.watches.items place) (due_at after (state_count m + place))) (sym c.handle-over.ensures.rest)
+              (subst (λ p. IsWatched m t (states_at s.lines.items t) p s.slopes.items place (watch_at s.conditions.watches.items place) (due_at after (state_count m + place))) (sym of_pre)
+              (subst (λ found. IsWatched m t (states_at s.lines.items t) s.work.d s.slopes.items place (watch_at s.conditions.watches.items place) found)
+              (sym (conditions_stay m c.args.tick agenda s taken c.requires.in_time moved assigned new h handled after without place))
+              (watched_still m c.args.tick agenda s taken c.requires.in_time place inside none)));
+          own_truth = ap (λ (all : Conditions). flag_at all.settled.items place) c.handle-over.ensures.rest
+              ∙ sym (flag_same m c.args.tick agenda s taken c.requires.in_time place inside none)
+              ∙ ap (λ p. truth m (condition_at m place) (states_at s.lines.items t) p t) (sym of_pre);
+        };
+      };
       small_levels = subst (All (IsWithin 43)) (sym of_levels) (c.requantize_handled-over.ensures.small fine);
-      light = ap (λ l. position (is_overweight m l new.d) m.rows) are_fresh ∙ ap (λ d. position (is_overweight m fresh d) m.rows) of_d ∙ none_both.1;
+      levels = record {
+        near = near_after m c.args.tick agenda s taken c.requires.in_time moved assigned new h handled c.args.q.now.name levels allowed_now;
+        light = ap (λ l. position (is_overweight m l new.d) m.rows) are_fresh ∙ ap (λ d. position (is_overweight m fresh d) m.rows) of_d ∙ none_both.1;
+      };
       weights = subst (λ l. AreWeights m l new.d c.requantize_handled-over.new.weights) (sym of_levels) (c.requantize_handled-over.ensures.weights fine);
-      in_time = omega (arith, c.requires.in_time, m.has_units.last_tick);
-      later = λ j inside. omega (arith, earlier m c.args.tick agenda s taken c.requires.in_time j inside);
-      small = subst (λ ls. All (IsWithin 88) (states_at ls t)) c.as_slice.ensures.value
-          (all_within 88 (states_at c.as_slice.result.now t)
-          (none_early m t (states_at c.as_slice.result.now t) s.work.d s.conditions.arrived.items s.conditions.settled.items calm_h));
-      near = near_after m c.args.tick agenda s taken c.requires.in_time moved assigned new h handled c.args.q.now.name levels allowed_now;
-      before = (
-        s.levels.items,
-        subst (λ p. AreSumsBefore Slope m moved levels p s.slopes.items s.lines.items s.levels.items) (sym of_pre)
-            (levels_before_handlers m c.args.tick agenda s taken c.requires.in_time moved assigned new h handled levels off),
-      );
-      own_slope = own_slope m c.args.tick agenda s taken c.requires.in_time;
-      due = due_after m c.args.tick agenda s taken c.requires.in_time moved assigned new h handled c.args.q.now.name levels allowed_now after without;
-      watched = λ place inside none.
-          subst (λ (all : Conditions). IsWatched m t (states_at s.lines.items t) new.pre s.slopes.items place (watch_at all.watches.items place) (due_at after (state_count m + place))) (sym c.handle-over.ensures.rest)
-          (subst (λ p. IsWatched m t (states_at s.lines.items t) p s.slopes.items place (watch_at s.conditions.watches.items place) (due_at after (state_count m + place))) (sym of_pre)
-          (subst (λ found. IsWatched m t (states_at s.lines.items t) s.work.d s.slopes.items place (watch_at s.conditions.watches.items place) found)
-          (sym (conditions_stay m c.args.tick agenda s taken c.requires.in_time moved assigned new h handled after without place))
-          (watched_still m c.args.tick agenda s taken c.requires.in_time place inside none)));
-      alike = subst (λ (cs : List ℕ). AreAlikeBut cs c.handle-over.new.self.arrived.items c.handle-over.new.self.settled.items) c.as_slice-2.ensures.value (c.handle-over.ensures.alike calm);
-      settled = λ place inside none.
-          ap (λ (all : Conditions). flag_at all.settled.items place) c.handle-over.ensures.rest
-          ∙ sym (flag_same m c.args.tick agenda s taken c.requires.in_time place inside none)
-          ∙ ap (λ p. truth m (condition_at m place) (states_at s.lines.items t) p t) (sym of_pre);
+      held = record {
+        lines = record {
+          up_to = record {
+            as_many = fits.lines;
+            later = λ j h. omega (arith, earlier m c.args.tick agenda s taken c.requires.in_time j (omega (arith, h, fits.lines)));
+            in_time = omega (arith, c.requires.in_time, m.has_units.last_tick);
+          };
+          small = subst (λ ls. All (IsWithin 88) (states_at ls t)) c.as_slice.ensures.value
+              (all_within 88 (states_at c.as_slice.result.now t)
+              (none_early m t (states_at c.as_slice.result.now t) s.work.d s.conditions.arrived.items s.conditions.settled.items calm_h));
+        };
+        slopes = fits.slopes;
+        places = omega (arith, without.as_many, taken.without.as_many, fits.places);
+        before = (
+          s.levels.items,
+          subst (λ p. AreSumsBefore Slope m moved levels p s.slopes.items s.lines.items s.levels.items) (sym of_pre)
+              (levels_before_handlers m c.args.tick agenda s taken c.requires.in_time moved assigned new h handled levels off),
+        );
+        own_slope = own_slope m c.args.tick agenda s taken c.requires.in_time;
+        due = due_after m c.args.tick agenda s taken c.requires.in_time moved assigned new h handled c.args.q.now.name levels allowed_now after without;
+      };
     }
 
 pub returns : goal.returns

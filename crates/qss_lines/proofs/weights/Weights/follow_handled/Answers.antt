@@ -48,7 +48,7 @@ returns-then-are_handled_up_to c =
     let are : AreSmall m self.bound levels d = record {
       safe = were.safe;
       small_levels = levels_still self.bound c.args.at.now.moved.now old levels before.off were.small_levels within.0;
-      small_discretes = values_still m self.bound c.args.left.now.assigned.now pre d left.many_before left.many_discretes left.own were.small_discretes within.1;
+      small_discretes = values_still m self.bound c.args.left.now.assigned.now pre d left.many_before left.many_discretes left.assigned.others were.small_discretes within.1;
     } in
     record {
       over = sym (light_up_to m self.bound levels d c.requires.ready.levels left.many_discretes are);
