@@ -13,7 +13,7 @@ pub mod Assigned
 pub mod Reseating
 pub mod Weighed
 pub mod Terms
-pub mod Room
+pub mod Allowed
 pub mod Found
 pub mod Taken
 pub mod Gathering

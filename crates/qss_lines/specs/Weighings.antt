@@ -26,7 +26,7 @@ abbrev pub excess : ℕ → ℕ → Product → ℕ
 excess level_bits bound product = unsigned_abs product.coef * bound / 2 ^ level_bits + 1
 
 -- a row whose coefficients' sizes and products' excesses, of values up to a bound within their limit, add up to at most 2 ^ 44
-pub record HasRoom (level_bits bound : ℕ) (row : SlopeRow) : Type 0 where
+pub record AllowsBound (level_bits bound : ℕ) (row : SlopeRow) : Type 0 where
   pub small : bound ≤ 2 ^ 43
   pub modes : sum_by (λ entry. unsigned_abs entry.coef) row.entries + sum_by (excess level_bits bound) row.products ≤ 2 ^ 44
 
@@ -34,17 +34,17 @@ pub record HasRoom (level_bits bound : ℕ) (row : SlopeRow) : Type 0 where
 abbrev pub half_limit : ℕ → ℕ
 half_limit halvings = 2 ^ 43 / 2 ^ halvings
 
--- the first of the limit of levels and its halves, at least 1, for which all rows of a machine have room
+-- the first of the limit of levels and its halves, at least 1, that all rows of a machine allow
 pub record IsFirstHalf (m : Machine) (halvings : ℕ) : Type 0 where
   pub from_one : halvings < 44
-  pub room : All (HasRoom m.f (half_limit halvings)) m.rows
-  pub before : (fewer : ℕ) → fewer < halvings → All (HasRoom m.f (half_limit fewer)) m.rows → ⊥
+  pub allowed : All (AllowsBound m.f (half_limit halvings)) m.rows
+  pub before : (fewer : ℕ) → fewer < halvings → All (AllowsBound m.f (half_limit fewer)) m.rows → ⊥
 
--- the greatest of the limit of levels and its halves for which all rows of a machine have room, if one is
+-- the greatest of the limit of levels and its halves that all rows of a machine allow, if one is
 abbrev pub IsSafeBound : Machine → Option ℕ → Type 0
 IsSafeBound m found =
     MatchOption found
-    ((halvings : ℕ) → halvings < 44 → All (HasRoom m.f (half_limit halvings)) m.rows → ⊥)
+    ((halvings : ℕ) → halvings < 44 → All (AllowsBound m.f (half_limit halvings)) m.rows → ⊥)
     (λ bound. (halvings : ℕ) × IsFirstHalf m halvings × (bound ≡ half_limit halvings))
 
 -- levels and discrete values at most a bound in size, up to which no row passes its limits

@@ -2,7 +2,7 @@
 
 ghost use Rattle.std.specs.Prelude.{◌≡◌, ℕ, ◌+◌, ◌^◌, ◌<◌, ◌≤◌, ◌↔◌, All, IsTrue, MatchOption, None, Some, length, sum_by, unsigned_abs};
 ghost use Rattle.mu_num.specs.Sizes.{IsWithin};
-ghost use Rattle.qss_lines.specs.Weighings.{IsUpTo, AreUpToAt, HasRoom, IsSafeBound, AreSmall, excess};
+ghost use Rattle.qss_lines.specs.Weighings.{IsUpTo, AreUpToAt, AllowsBound, IsSafeBound, AreSmall, excess};
 
 use qss_machine::{Entry, Machine, Product, SlopeRow};
 
@@ -65,14 +65,14 @@ fn excess_sum(products: &[Product], level_bits: u8, bound: u64) -> Option<u128>
     Some(sum)
 }
 
-// Whether a row has room for a bound.
-fn has_room(row: &SlopeRow, level_bits: u8, bound: u64) -> bool
+// Whether a row allows a bound.
+fn allows_bound(row: &SlopeRow, level_bits: u8, bound: u64) -> bool
     requires few { length row.now.entries ≤ 4096 }
     requires small { All (λ entry. IsWithin 44 entry.coef) row.now.entries }
     requires factors { All (λ product. IsWithin 44 product.coef) row.now.products }
     requires bits { level_bits ≤ 24 }
     requires bound { bound ≤ 2 ^ 43 }
-    ensures { IsTrue result ↔ HasRoom level_bits bound row.now }
+    ensures { IsTrue result ↔ AllowsBound level_bits bound row.now }
 {
     let Some(excesses) = excess_sum(row.products.as_slice(), level_bits, bound) else {
         return false;
@@ -80,26 +80,26 @@ fn has_room(row: &SlopeRow, level_bits: u8, bound: u64) -> bool
     size_sum(row.entries.as_slice()) + excesses <= MODE_LIMIT
 }
 
-// Whether all rows have room for a bound.
-fn have_room(m: &Machine, bound: u64) -> bool
+// Whether all rows allow a bound.
+fn all_allow(m: &Machine, bound: u64) -> bool
     requires { bound ≤ 2 ^ 43 }
-    ensures { IsTrue result ↔ All (HasRoom m.now.f bound) m.now.rows }
+    ensures { IsTrue result ↔ All (AllowsBound m.now.f bound) m.now.rows }
 {
     for row in m.rows.as_slice() {
-        if !has_room(row, m.f, bound) {
+        if !allows_bound(row, m.f, bound) {
             return false;
         }
     }
     true
 }
 
-// The greatest of the limit of levels and its halves for which all rows have room, if one is.
+// The greatest of the limit of levels and its halves that all rows allow, if one is.
 fn safe_bound(m: &Machine) -> Option<u64>
     ensures { IsSafeBound m.now result }
 {
     for halvings in 0u8..44 {
         let bound = LIMIT >> halvings;
-        if have_room(m, bound) {
+        if all_allow(m, bound) {
             return Some(bound);
         }
     }
@@ -128,7 +128,7 @@ pub(crate) fn are_up_to_at(values: &[i64], places: &[u32], first: u32, bound: u6
     true
 }
 
-/// The greatest of the limit of levels and its halves for which all rows have room, so that no row passes its limits while
+/// The greatest of the limit of levels and its halves that all rows allow, so that no row passes its limits while
 /// levels and discrete values are at most that in size; none where one of these is greater, or where there is no such half.
 pub(crate) fn bound_for(m: &Machine, levels: &[i64], d: &[i64]) -> Option<u64>
     ensures found { (bound : ℕ) → result ≡ Some bound → IsSafeBound m.now (Some bound) }

@@ -2,7 +2,7 @@
 use Rattle.std.proofs.Common.{◌≡◌, ℕ, subst}
 use Rattle.std.specs.Prelude.{All, Some}
 use Rattle.qss_lines.specs.Weighings.{IsUpTo, IsSafeBound}
-use Rattle.qss_lines.proofs.Room.{one_bound, bound_safe}
+use Rattle.qss_lines.proofs.Allowed.{one_bound, bound_safe}
 use Rattle.qss_lines.proofs.bounds.bound_for.Goals as goal
 
 pub returns-then-not-are_up_to-clause-none : goal.returns-then-not-are_up_to-clause-none

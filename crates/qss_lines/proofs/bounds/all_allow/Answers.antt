@@ -1,4 +1,4 @@
--- One more row has room, or the first one that has none.
+-- One more row allows the bound, or the first one that does not.
 use Rattle.std.proofs.Common.{◌≡◌, ℕ, ◌+◌, ◌<◌, List, length, get_or, refl, sym, ap, subst, arith, inl, inr}
 use Rattle.std.proofs.lemmas.Bool.{cases_lt}
 use Rattle.std.proofs.lemmas.List.{get_or_default}
@@ -7,8 +7,8 @@ use Rattle.qss_machine.specs.declared.parts.SlopeRow.{SlopeRow}
 use Rattle.qss_machine.specs.declared.system.Machine.{Machine}
 use Rattle.qss_machine.specs.Limits.{IsRow}
 use Rattle.qss_machine.specs.Machines.{state_count, discrete_count}
-use Rattle.qss_lines.specs.Weighings.{HasRoom}
-use Rattle.qss_lines.proofs.bounds.have_room.Goals as goal
+use Rattle.qss_lines.specs.Weighings.{AllowsBound}
+use Rattle.qss_lines.proofs.bounds.all_allow.Goals as goal
 
 -- a row of a machine is within the limits
 row_is : (m : Machine) (rows : List SlopeRow) (i : ℕ) (row : SlopeRow) → rows ≡ m.rows → i < length rows → row ≡ get_or rows i row → IsRow (state_count m) (discrete_count m) row
@@ -16,49 +16,49 @@ row_is m rows i row same h is =
     subst (IsRow (state_count m) (discrete_count m)) (sym is)
     (subst (λ (all : List SlopeRow). IsRow (state_count m) (discrete_count m) (get_or all i row)) (sym same) (m.has_rows.each i row (omega (arith, h, ap length same))))
 
-pub has_room-requires-clause-few : goal.has_room-requires-clause-few
-has_room-requires-clause-few c =
+pub allows_bound-requires-clause-few : goal.allows_bound-requires-clause-few
+allows_bound-requires-clause-few c =
     let m = c.args.m.now in
     let row : SlopeRow = c.row-item.result in
     let is = row_is m c.as_slice-row-items.result.now c.loop-row.row-index row c.as_slice-row-items.ensures c.loop-row-test.true c.row-item.is in
     omega (arith, m.has_variables.few, entries_few (state_count m + discrete_count m) row.entries is.entries)
 
-pub has_room-requires-clause-small : goal.has_room-requires-clause-small
-has_room-requires-clause-small c =
+pub allows_bound-requires-clause-small : goal.allows_bound-requires-clause-small
+allows_bound-requires-clause-small c =
     (row_is c.args.m.now c.as_slice-row-items.result.now c.loop-row.row-index c.row-item.result c.as_slice-row-items.ensures c.loop-row-test.true c.row-item.is).coefficients
 
-pub has_room-requires-clause-factors : goal.has_room-requires-clause-factors
-has_room-requires-clause-factors c =
+pub allows_bound-requires-clause-factors : goal.allows_bound-requires-clause-factors
+allows_bound-requires-clause-factors c =
     (row_is c.args.m.now c.as_slice-row-items.result.now c.loop-row.row-index c.row-item.result c.as_slice-row-items.ensures c.loop-row-test.true c.row-item.is).factors
 
-pub has_room-requires-clause-bits : goal.has_room-requires-clause-bits
-has_room-requires-clause-bits c = c.args.m.now.has_units.level_bits
+pub allows_bound-requires-clause-bits : goal.allows_bound-requires-clause-bits
+allows_bound-requires-clause-bits c = c.args.m.now.has_units.level_bits
 
 pub loop-row-preserved : goal.loop-row-preserved
 loop-row-preserved c k none h =
     let m = c.args.m.now in
     let i : ℕ = c.loop-row.row-index in
     let row : SlopeRow = c.row-item.result in
-    let has : HasRoom m.f c.args.bound row = c.has_room.ensures.0 c.if-not-has_room.false in
+    let has : AllowsBound m.f c.args.bound row = c.allows_bound.ensures.0 c.if-not-allows_bound.false in
     let inside : i < length m.rows = omega (arith, c.loop-row-test.true, ap length c.as_slice-row-items.ensures) in
     let is : row ≡ get_or m.rows i row = subst (λ (all : List SlopeRow). row ≡ get_or all i row) c.as_slice-row-items.ensures c.row-item.is in
     elim (cases_lt k i) [
       | inl before ↦ c.loop-row.invariant k none before
       | inr behind ↦
           let same : i ≡ k = omega (arith, behind, h) in
-          subst (λ (at : ℕ). HasRoom m.f c.args.bound (get_or m.rows at none)) same
-          (subst (HasRoom m.f c.args.bound) (get_or_default m.rows i row none inside) (subst (HasRoom m.f c.args.bound) is has))
+          subst (λ (at : ℕ). AllowsBound m.f c.args.bound (get_or m.rows at none)) same
+          (subst (AllowsBound m.f c.args.bound) (get_or_default m.rows i row none inside) (subst (AllowsBound m.f c.args.bound) is has))
     ]
 
-pub returns-then-not-has_room : goal.returns-then-not-has_room
-returns-then-not-has_room c =
+pub returns-then-not-allows_bound : goal.returns-then-not-allows_bound
+returns-then-not-allows_bound c =
     let m = c.args.m.now in
     let i : ℕ = c.loop-row.row-index in
     let row : SlopeRow = c.row-item.result in
     let inside : i < length m.rows = omega (arith, c.loop-row-test.true, ap length c.as_slice-row-items.ensures) in
     let is : row ≡ get_or m.rows i row = subst (λ (all : List SlopeRow). row ≡ get_or all i row) c.as_slice-row-items.ensures c.row-item.is in (
       λ e. absurd (cc),
-      λ all. absurd (let yes = c.has_room.ensures.1 (subst (HasRoom m.f c.args.bound) (sym is) (all i row inside)) in let no = c.if-not-has_room.true in cc),
+      λ all. absurd (let yes = c.allows_bound.ensures.1 (subst (AllowsBound m.f c.args.bound) (sym is) (all i row inside)) in let no = c.if-not-allows_bound.true in cc),
     )
 
 pub returns : goal.returns

@@ -1,4 +1,4 @@
--- A row that has room for a bound passes no limit up to it.
+-- A row that allows a bound passes no limit up to it.
 use Rattle.std.proofs.Common.{◌≡◌, ℕ, zero, suc, ◌+◌, ◌-◌, ◌*◌, ◌^◌, ◌<◌, ◌≤◌, ◌≤ℤ◌, Bool, true, false, List, [], ◌∷◌, ◌++◌, length, map, get_or, ℤ, pos, ◌+ℤ◌, ◌-ℤ◌, ◌*ℤ◌, refl, sym, ◌∙◌, ap, subst, arith, inl, inr, ◌==◌}
 use Rattle.std.proofs.Math.IntN.{pos-*ℤ-pos, zero-*ℤ, *ℤ_comm}
 use Rattle.std.proofs.lemmas.Bool.{cases_lt}
@@ -27,7 +27,7 @@ use Rattle.qss_machine.specs.Limits.{IsRow}
 use Rattle.qss_machine.specs.Machines.{state_count, discrete_count}
 use Rattle.qss_machine.specs.Numbers.{int_at, size, sum_over, sum_below}
 use Rattle.qss_machine.specs.Slopes.{coefficient_of, products_of, mode_coefficient, mode_fits, weight_of}
-use Rattle.qss_lines.specs.Weighings.{IsUpTo, IsSafe, HasRoom, half_limit, IsFirstHalf, IsSafeBound, excess}
+use Rattle.qss_lines.specs.Weighings.{IsUpTo, IsSafe, AllowsBound, half_limit, IsFirstHalf, IsSafeBound, excess}
 use Rattle.qss_lines.proofs.Terms.{sizes_are, terms_within, up_to_at, up_to_both}
 
 -- a product's excess as an entry of its state
@@ -112,7 +112,7 @@ nearest_within z unit count some small =
       | inr not_more ↦ not_more
     ]
 
-module _ (m : Machine) (bound : ℕ) (row : SlopeRow) (is : IsRow (state_count m) (discrete_count m) row) (has : HasRoom m.f bound row) where
+module _ (m : Machine) (bound : ℕ) (row : SlopeRow) (is : IsRow (state_count m) (discrete_count m) row) (has : AllowsBound m.f bound row) where
   abbrev excesses : List Entry
   excesses = map (as_entry m.f bound) row.products
 
@@ -195,9 +195,9 @@ module _ (m : Machine) (bound : ℕ) (row : SlopeRow) (is : IsRow (state_count m
   safe levels discretes many many_d small small_d =
       ap (λ b. not b || passes 88 (weight_of m.f row levels discretes)) (modes_within discretes small_d) ∙ weight_within levels discretes small small_d
 
--- where all rows have room
-pub all_safe : (m : Machine) (bound : ℕ) → All (HasRoom m.f bound) m.rows → All (IsSafe m bound) m.rows
-all_safe m bound room k none h = safe m bound (get_or m.rows k none) (m.has_rows.each k none h) (room k none h)
+-- where all rows allow it
+pub all_safe : (m : Machine) (bound : ℕ) → All (AllowsBound m.f bound) m.rows → All (IsSafe m bound) m.rows
+all_safe m bound allow k none h = safe m bound (get_or m.rows k none) (m.has_rows.each k none h) (allow k none h)
 
 -- ---- the bound that is found
 
@@ -205,10 +205,10 @@ all_safe m bound room k none h = safe m bound (get_or m.rows k none) (m.has_rows
 first_half_is : (m : Machine) (one other : ℕ) → IsFirstHalf m one → IsFirstHalf m other → one ≡ other
 first_half_is m one other first second =
     elim (cases_lt one other) [
-      | inl less ↦ absurd (second.before one less first.room)
+      | inl less ↦ absurd (second.before one less first.allowed)
       | inr not_less ↦
           elim (cases_lt other one) [
-            | inl more ↦ absurd (first.before other more second.room)
+            | inl more ↦ absurd (first.before other more second.allowed)
             | inr not_more ↦ omega (arith, not_less, not_more)
           ]
     ]
@@ -219,4 +219,4 @@ one_bound m bound other first second = first.2 ∙ ap half_limit (first_half_is 
 
 -- up to it no row passes its limits
 pub bound_safe : (m : Machine) (bound : ℕ) → IsSafeBound m (Some bound) → All (IsSafe m bound) m.rows
-bound_safe m bound found = all_safe m bound (subst (λ (b : ℕ). All (HasRoom m.f b) m.rows) (sym found.2) found.1.room)
+bound_safe m bound found = all_safe m bound (subst (λ (b : ℕ). All (AllowsBound m.f b) m.rows) (sym found.2) found.1.allowed)

@@ -6,7 +6,7 @@ use Rattle.std.specs.List.{sum_by}
 use Rattle.qss_machine.specs.declared.parts.Entry.{Entry}
 use Rattle.qss_machine.specs.declared.parts.Product.{Product}
 use Rattle.qss_lines.specs.Weighings.{excess}
-use Rattle.qss_lines.proofs.bounds.has_room.Goals as goal
+use Rattle.qss_lines.proofs.bounds.allows_bound.Goals as goal
 
 pub excess_sum-requires-clause-small : goal.excess_sum-requires-clause-small
 excess_sum-requires-clause-small c = rw c.as_slice.ensures c.requires.factors
