@@ -11,9 +11,9 @@ use Rattle.qss_machine.specs.Numbers.{int_at}
 use Rattle.qss_quant.specs.Lines.{Line, state_at, IsNear}
 use Rattle.qss_sched.specs.Ranks.{due_at}
 use Rattle.qss_quiet.specs.Among.{is_among}
-use Rattle.qss_lines.specs.StateLines.{line_at, IsTurned}
+use Rattle.qss_lines.specs.StateLines.{line_at, GoesOnFrom}
 use Rattle.qss_lines.specs.Renewals.{goes_at}
-use Rattle.qss_lines.specs.Turnings.{MayTurn, GoesOn, Courses, AreTurned}
+use Rattle.qss_lines.specs.Reslopings.{MayReslope, GoesOn, Courses, AreResloped}
 
 -- ---- one state
 
@@ -21,51 +21,51 @@ module _ (m : Machine) (tick : ℕ) (level slope : ℤ) (j : ℕ) where
   -- a line is at one state at the tick all along
   pub same_state : {old new : Line} {due_old due_new : Option ℕ} → GoesOn m tick level slope j old new due_old due_new → state_at new tick ≡ state_at old tick
   same_state (inl kept) = ap (λ (l : Line). state_at l tick) kept.0
-  same_state (inr turned) = turned.here
+  same_state (inr goes_on) = goes_on.here
 
   -- a line that may go on may do so again
-  pub may_turn_again : (old new : Line) (due_old due_new : Option ℕ) → MayTurn m tick level slope j old due_old → GoesOn m tick level slope j old new due_old due_new →
-      MayTurn m tick level slope j new due_new
-  may_turn_again old new due_old due_new may (inl kept) =
-      subst (λ (l : Line). MayTurn m tick level slope j l due_new) (sym kept.0) (subst (MayTurn m tick level slope j old) (sym kept.1) may)
-  may_turn_again old new due_old due_new may (inr turned) = record {
-    not_later = turned.not_later;
-    small = subst (IsWithin 88) (sym turned.here) may.small;
-    near = subst (λ x. IsNear (level_unit m) x level (quantum_of m j level)) (sym turned.here) may.near;
-    due = λ e. turned.is_due;
+  pub may_reslope_again : (old new : Line) (due_old due_new : Option ℕ) → MayReslope m tick level slope j old due_old → GoesOn m tick level slope j old new due_old due_new →
+      MayReslope m tick level slope j new due_new
+  may_reslope_again old new due_old due_new may (inl kept) =
+      subst (λ (l : Line). MayReslope m tick level slope j l due_new) (sym kept.0) (subst (MayReslope m tick level slope j old) (sym kept.1) may)
+  may_reslope_again old new due_old due_new may (inr goes_on) = record {
+    not_later = goes_on.not_later;
+    small = subst (IsWithin 88) (sym goes_on.here) may.small;
+    near = subst (λ x. IsNear (level_unit m) x level (quantum_of m j level)) (sym goes_on.here) may.near;
+    due = λ e. goes_on.is_due;
   }
 
   -- a line at its new slope stays at it
-  pub still_turned : (x : ℤ) (old new : Line) (due_old due_new : Option ℕ) → state_at old tick ≡ x → IsTurned m tick x level slope j old due_old →
-      GoesOn m tick level slope j old new due_old due_new → IsTurned m tick x level slope j new due_new
-  still_turned x old new due_old due_new at turned (inl kept) =
-      subst (λ (l : Line). IsTurned m tick x level slope j l due_new) (sym kept.0) (subst (IsTurned m tick x level slope j old) (sym kept.1) turned)
-  still_turned x old new due_old due_new at turned (inr again) = subst (λ z. IsTurned m tick z level slope j new due_new) at again
+  pub still_going : (x : ℤ) (old new : Line) (due_old due_new : Option ℕ) → state_at old tick ≡ x → GoesOnFrom m tick x level slope j old due_old →
+      GoesOn m tick level slope j old new due_old due_new → GoesOnFrom m tick x level slope j new due_new
+  still_going x old new due_old due_new at goes_on (inl kept) =
+      subst (λ (l : Line). GoesOnFrom m tick x level slope j l due_new) (sym kept.0) (subst (GoesOnFrom m tick x level slope j old) (sym kept.1) goes_on)
+  still_going x old new due_old due_new at goes_on (inr again) = subst (λ z. GoesOnFrom m tick z level slope j new due_new) at again
 
   pub goes_on_on : (a b c : Line) (due_a due_b due_c : Option ℕ) → GoesOn m tick level slope j a b due_a due_b → GoesOn m tick level slope j b c due_b due_c →
       GoesOn m tick level slope j a c due_a due_c
   goes_on_on a b c due_a due_b due_c (inl first) (inl second) = inl (second.0 ∙ first.0, second.1 ∙ first.1)
-  goes_on_on a b c due_a due_b due_c (inl first) (inr second) = inr (subst (λ z. IsTurned m tick z level slope j c due_c) (ap (λ (l : Line). state_at l tick) first.0) second)
-  goes_on_on a b c due_a due_b due_c (inr first) second = inr (still_turned (state_at a tick) b c due_b due_c first.here first second)
+  goes_on_on a b c due_a due_b due_c (inl first) (inr second) = inr (subst (λ z. GoesOnFrom m tick z level slope j c due_c) (ap (λ (l : Line). state_at l tick) first.0) second)
+  goes_on_on a b c due_a due_b due_c (inr first) second = inr (still_going (state_at a tick) b c due_b due_c first.here first second)
 
 -- ---- all states
 
 module _ (m : Machine) (tick : ℕ) (levels slopes : List ℤ) where
   -- one state goes on at its slope
-  pub one_turned : (j : ℕ) (old new : Courses) → j < state_count m →
-      IsTurned m tick (state_at (line_at old.lines j) tick) (int_at levels j) (int_at slopes j) j (line_at new.lines j) (due_at new.dues j) →
+  pub one_resloped : (j : ℕ) (old new : Courses) → j < state_count m →
+      GoesOnFrom m tick (state_at (line_at old.lines j) tick) (int_at levels j) (int_at slopes j) j (line_at new.lines j) (due_at new.dues j) →
       ((k : ℕ) → (k ≡ j → ⊥) → line_at new.lines k ≡ line_at old.lines k) → length new.dues ≡ length old.dues →
       ((place : ℕ) → (place ≡ j → ⊥) → due_at new.dues place ≡ due_at old.dues place) →
-      (goes_at (int_at levels j) (int_at slopes j) (line_at old.lines j) ≡ true → line_at new.lines j ≡ line_at old.lines j) → AreTurned m tick levels slopes (j ∷ []) old new
-  one_turned j old new known turned lines places dues kept =
+      (goes_at (int_at levels j) (int_at slopes j) (line_at old.lines j) ≡ true → line_at new.lines j ≡ line_at old.lines j) → AreResloped m tick levels slopes (j ∷ []) old new
+  one_resloped j old new known goes_on lines places dues kept =
       let here = λ (k : ℕ) (same : j ≡ k).
-      subst (λ (i : ℕ). IsTurned m tick (state_at (line_at old.lines i) tick) (int_at levels i) (int_at slopes i) i (line_at new.lines i) (due_at new.dues i)) same turned in
+      subst (λ (i : ℕ). GoesOnFrom m tick (state_at (line_at old.lines i) tick) (int_at levels i) (int_at slopes i) i (line_at new.lines i) (due_at new.dues i)) same goes_on in
       record {
         each = λ k h. elim (cases_eq k j) [
           | inl same ↦ inr (here k (sym same))
           | inr other ↦ inl (lines k other, dues k other)
         ];
-        turned = λ k h among. elim (or_cases (j == k) false among) [
+        own = λ k h among. elim (or_cases (j == k) false among) [
           | inl same ↦ here k (eqb-true j k same)
           | inr none ↦ absurd (cc)
         ];
@@ -79,16 +79,16 @@ module _ (m : Machine) (tick : ℕ) (levels slopes : List ℤ) where
       }
 
   -- and then more do
-  pub turned_then : (xs ys : List ℕ) (a b c : Courses) → AreTurned m tick levels slopes xs a b → AreTurned m tick levels slopes ys b c → AreTurned m tick levels slopes (xs ++ ys) a c
-  turned_then xs ys a b c first second = record {
+  pub resloped_then : (xs ys : List ℕ) (a b c : Courses) → AreResloped m tick levels slopes xs a b → AreResloped m tick levels slopes ys b c → AreResloped m tick levels slopes (xs ++ ys) a c
+  resloped_then xs ys a b c first second = record {
     each = λ k h. goes_on_on m tick (int_at levels k) (int_at slopes k) k (line_at a.lines k) (line_at b.lines k) (line_at c.lines k)
         (due_at a.dues k) (due_at b.dues k) (due_at c.dues k) (first.each k h) (second.each k h);
-    turned = λ k h among.
+    own = λ k h among.
         let at : state_at (line_at b.lines k) tick ≡ state_at (line_at a.lines k) tick = same_state m tick (int_at levels k) (int_at slopes k) k (first.each k h) in
         elim (or_cases (is_among xs k) (is_among ys k) (sym (list_any-append (λ (i : ℕ). i == k) xs ys) ∙ among)) [
-          | inl before ↦ still_turned m tick (int_at levels k) (int_at slopes k) k (state_at (line_at a.lines k) tick) (line_at b.lines k) (line_at c.lines k)
-              (due_at b.dues k) (due_at c.dues k) at (first.turned k h before) (second.each k h)
-          | inr after ↦ subst (λ z. IsTurned m tick z (int_at levels k) (int_at slopes k) k (line_at c.lines k) (due_at c.dues k)) at (second.turned k h after)
+          | inl before ↦ still_going m tick (int_at levels k) (int_at slopes k) k (state_at (line_at a.lines k) tick) (line_at b.lines k) (line_at c.lines k)
+              (due_at b.dues k) (due_at c.dues k) at (first.own k h before) (second.each k h)
+          | inr after ↦ subst (λ z. GoesOnFrom m tick z (int_at levels k) (int_at slopes k) k (line_at c.lines k) (due_at c.dues k)) at (second.own k h after)
         ];
     left = λ k h so.
         let same = first.left k h so in

@@ -21,9 +21,9 @@ use Rattle.qss_quiet.proofs.Unread.{unread_at, unread_slope}
 use Rattle.qss_quiet.proofs.Writes.{among_push, index_of}
 use Rattle.qss_lines.specs.declared.shifts.RowSum.TheVariants.{Slope}
 use Rattle.qss_lines.specs.Gatherings.{Gathering, IsAlong, is_behind, behind, CanGather, AreGathered, reached}
-use Rattle.qss_lines.specs.StateLines.{line_at, IsTurned}
+use Rattle.qss_lines.specs.StateLines.{line_at, GoesOnFrom}
 use Rattle.qss_lines.specs.RowSums.{AreSumsBefore}
-use Rattle.qss_lines.specs.Turnings.{Courses}
+use Rattle.qss_lines.specs.Reslopings.{Courses}
 use Rattle.qss_lines.proofs.Counting.{one_if, count_few, count_less, count_one}
 use Rattle.qss_quiet.proofs.Lines.{line_here}
 
@@ -220,7 +220,7 @@ among_reached m (i ∷ moved) k =
 
 -- these states go on from a tick, at their levels and slopes, from where their lines lead; the others are left
 pub record AreOn (m : Machine) (tick : ℕ) (levels slopes : List ℤ) (states : List ℕ) (old new : Courses) : Type 0 where
-  pub own : (j : ℕ) → is_among states j ≡ true → IsTurned m tick (state_at (line_at old.lines j) tick) (int_at levels j) (int_at slopes j) j (line_at new.lines j) (due_at new.dues j)
+  pub own : (j : ℕ) → is_among states j ≡ true → GoesOnFrom m tick (state_at (line_at old.lines j) tick) (int_at levels j) (int_at slopes j) j (line_at new.lines j) (due_at new.dues j)
   pub lines : (j : ℕ) → is_among states j ≡ false → line_at new.lines j ≡ line_at old.lines j
   pub places : length new.dues ≡ length old.dues
   pub dues : (place : ℕ) → is_among states place ≡ false → due_at new.dues place ≡ due_at old.dues place
@@ -244,13 +244,13 @@ module _ (m : Machine) (tick : ℕ) (levels slopes : List ℤ) where
 
   -- one more goes on
   pub on_more : (states : List ℕ) (j : ℕ) (old between new : Courses) → AreOn m tick levels slopes states old between →
-      IsTurned m tick (state_at (line_at between.lines j) tick) (int_at levels j) (int_at slopes j) j (line_at new.lines j) (due_at new.dues j) →
+      GoesOnFrom m tick (state_at (line_at between.lines j) tick) (int_at levels j) (int_at slopes j) j (line_at new.lines j) (due_at new.dues j) →
       ((k : ℕ) → (k ≡ j → ⊥) → line_at new.lines k ≡ line_at between.lines k) → length new.dues ≡ length between.dues →
       ((place : ℕ) → (place ≡ j → ⊥) → due_at new.dues place ≡ due_at between.dues place) → AreOn m tick levels slopes (states ++ j ∷ []) old new
   on_more states j old between new first here lines places dues =
-      let Turned : ℕ → Line → Option ℕ → Type 0 = λ k line due. IsTurned m tick (state_at (line_at old.lines k) tick) (int_at levels k) (int_at slopes k) k line due in
-      let last : Turned j (line_at new.lines j) (due_at new.dues j) =
-      subst (λ (x : ℤ). IsTurned m tick x (int_at levels j) (int_at slopes j) j (line_at new.lines j) (due_at new.dues j)) (still_there states old between first j) here in
+      let Goes : ℕ → Line → Option ℕ → Type 0 = λ k line due. GoesOnFrom m tick (state_at (line_at old.lines k) tick) (int_at levels k) (int_at slopes k) k line due in
+      let last : Goes j (line_at new.lines j) (due_at new.dues j) =
+      subst (λ (x : ℤ). GoesOnFrom m tick x (int_at levels j) (int_at slopes j) j (line_at new.lines j) (due_at new.dues j)) (still_there states old between first j) here in
       let not_last : (k : ℕ) → is_among (states ++ j ∷ []) k ≡ false → k ≡ j → ⊥ = λ k none e.
       let among : is_among (states ++ j ∷ []) k ≡ true = among_push states j k ∙ or_right (is_among states k) (eqb j k || false) (or_left (eqb j k) false (eq-eqb j k (sym e))) in
       absurd (cc) in
@@ -261,9 +261,9 @@ module _ (m : Machine) (tick : ℕ) (levels slopes : List ℤ) where
       ] in
       record {
         own = λ k among. elim (cases_eq k j) [
-          | inl same ↦ subst (λ (a : ℕ). Turned a (line_at new.lines a) (due_at new.dues a)) (sym same) last
+          | inl same ↦ subst (λ (a : ℕ). Goes a (line_at new.lines a) (due_at new.dues a)) (sym same) last
           | inr other ↦ elim (or_cases (is_among states k) (eqb j k || false) (sym (among_push states j k) ∙ among)) [
-            | inl sooner ↦ subst (λ (l : Line). Turned k l (due_at new.dues k)) (sym (lines k other)) (subst (Turned k (line_at between.lines k)) (sym (dues k other)) (first.own k sooner))
+            | inl sooner ↦ subst (λ (l : Line). Goes k l (due_at new.dues k)) (sym (lines k other)) (subst (Goes k (line_at between.lines k)) (sym (dues k other)) (first.own k sooner))
             | inr later ↦ elim (or_cases (eqb j k) false later) [
               | inl same ↦ absurd (other (sym (eqb-true j k same)))
               | inr none ↦ absurd (cc)
@@ -283,14 +283,14 @@ module _ (m : Machine) (tick : ℕ) (levels before discretes slopes_old slopes :
   -- each state goes on at its new slope, since that of one that reads no moved state is its old one
   pub all_on : (k : ℕ) → k < state_count m → k < length old.lines → (line_at old.lines k).tick ≤ tick → (line_at old.lines k).slope ≡ int_at slopes_old k →
       (is_among moved k ≡ false → (line_at old.lines k).level ≡ int_at levels k → IsDue m tick k (line_at old.lines k) (due_at dues k)) →
-      IsTurned m tick (state_at (line_at old.lines k) tick) (int_at levels k) (slope_at m k levels discretes) k (line_at new.lines k) (due_at new.dues k)
+      GoesOnFrom m tick (state_at (line_at old.lines k) tick) (int_at levels k) (slope_at m k levels discretes) k (line_at new.lines k) (due_at new.dues k)
   all_on k h inside not_later own_slope due =
       let x : ℤ = state_at (line_at old.lines k) tick in
       let slope : int_at slopes k ≡ slope_at m k levels discretes = ap (λ xs. int_at xs k) are ∙ int_at-tabulate (state_count m) (λ j. slope_at m j levels discretes) k h in
       elim (cases_Bool (is_among between.touched k)) [
         | inl among ↦
-            subst (λ z. IsTurned m tick x (int_at levels k) z k (line_at new.lines k) (due_at new.dues k)) slope
-            (subst (λ z. IsTurned m tick z (int_at levels k) (int_at slopes k) k (line_at new.lines k) (due_at new.dues k)) (gathered.along k inside).here (on.own k among))
+            subst (λ z. GoesOnFrom m tick x (int_at levels k) z k (line_at new.lines k) (due_at new.dues k)) slope
+            (subst (λ z. GoesOnFrom m tick z (int_at levels k) (int_at slopes k) k (line_at new.lines k) (due_at new.dues k)) (gathered.along k inside).here (on.own k among))
         | inr none ↦
             let unreached : is_among (reached m moved) k ≡ false = elim (cases_Bool (is_among (reached m moved) k)) [
               | inl own ↦ (let listed : is_among between.touched k ≡ true = gathered.own k own in absurd (cc))
@@ -302,7 +302,7 @@ module _ (m : Machine) (tick : ℕ) (levels before discretes slopes_old slopes :
             ∙ sym (unread_slope m.f (row_at m k) moved before levels discretes (unread_at moved (row_at m k) (sym (among_readers m k h moved) ∙ parts.1)) were.off) in
             let own_level : (line_at old.lines k).level ≡ int_at levels k = were.own_levels k h ∙ sym (were.off.others k parts.0) in
             let line : line_at new.lines k ≡ line_at old.lines k = on.lines k none ∙ gathered.others k none in
-            subst (λ (l : Line). IsTurned m tick x (int_at levels k) (slope_at m k levels discretes) k l (due_at new.dues k)) (sym line)
-            (subst (IsTurned m tick x (int_at levels k) (slope_at m k levels discretes) k (line_at old.lines k)) (sym (on.dues k none))
+            subst (λ (l : Line). GoesOnFrom m tick x (int_at levels k) (slope_at m k levels discretes) k l (due_at new.dues k)) (sym line)
+            (subst (GoesOnFrom m tick x (int_at levels k) (slope_at m k levels discretes) k (line_at old.lines k)) (sym (on.dues k none))
             (record { not_later = not_later; here = refl; own_slope = own_slope ∙ same; own_level = own_level; is_due = due parts.0 own_level }))
       ]

@@ -1,7 +1,7 @@
 pub mod FirstOvers
 pub mod InPlace
 pub mod RisingNumbers
-pub mod Turning
+pub mod GoingOn
 pub mod DueLevels
 pub mod Least
 pub mod Courses

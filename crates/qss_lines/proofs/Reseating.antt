@@ -13,15 +13,15 @@ use Rattle.qss_machine.specs.Uses.{reading_rows}
 use Rattle.qss_quant.specs.Lines.{Line, state_at, IsNear}
 use Rattle.qss_sched.specs.Ranks.{due_at}
 use Rattle.qss_lines.specs.Variables.{AreAssigned}
-use Rattle.qss_lines.specs.StateLines.{states_with, line_at, IsTurned}
+use Rattle.qss_lines.specs.StateLines.{states_with, line_at, GoesOnFrom}
 use Rattle.qss_quiet.specs.Among.{is_among}
 use Rattle.qss_lines.specs.Renewals.{goes_at, goes_from, renewals, renewals_from}
 use Rattle.qss_lines.specs.RowSums.{AreSumsBefore}
 use Rattle.qss_quiet.specs.Sims.{IsDue}
-use Rattle.qss_lines.specs.Turnings.{MayTurn, Courses, AreTurned}
+use Rattle.qss_lines.specs.Reslopings.{MayReslope, Courses, AreResloped}
 use Rattle.qss_lines.proofs.Assigned.{slope_stays}
 use Rattle.qss_lines.proofs.Counting.{count_same}
-use Rattle.qss_lines.proofs.Courses.{still_turned, turned_then}
+use Rattle.qss_lines.proofs.Courses.{still_going, resloped_then}
 use Rattle.qss_quiet.proofs.Quiet.{int_at-tabulate}
 use Rattle.qss_lines.proofs.Renewed.{from_here}
 use Rattle.qss_lines.proofs.Seats.{AreSeated, still_begun}
@@ -70,11 +70,11 @@ module _ (m : Machine) (tick : ℕ) (x levels slopes : List ℤ) (moved : List �
       ]
 
   -- and may go on at another slope
-  pub may_turn_seated : All (IsWithin 88) states → (j : ℕ) → j < state_count m → (line_at first.lines j).tick ≤ tick →
+  pub may_reslope_seated : All (IsWithin 88) states → (j : ℕ) → j < state_count m → (line_at first.lines j).tick ≤ tick →
       IsNear (level_unit m) (int_at states j) (int_at levels j) (quantum_of m j (int_at levels j)) →
       (is_among moved j ≡ false → (line_at first.lines j).level ≡ int_at levels j → IsDue m tick j (line_at first.lines j) (due_at first.dues j)) →
-      MayTurn m tick (int_at levels j) (int_at slopes j) j (line_at between.lines j) (due_at between.dues j)
-  may_turn_seated small j h begun near due =
+      MayReslope m tick (int_at levels j) (int_at slopes j) j (line_at between.lines j) (due_at between.dues j)
+  may_reslope_seated small j h begun near due =
       let all : length states ≡ state_count m = length-map-range_with_len (λ k. if is_among moved k then int_at x k else state_at (line_at first.lines k) tick) 0 (length first.lines) ∙ many in
       record {
         not_later = still_begun m tick x levels slopes moved first between are j begun;
@@ -97,8 +97,8 @@ module _ (m : Machine) (tick : ℕ) (x levels slopes : List ℤ) (moved : List �
 
   -- ---- and those whose rows read a change go on at new slopes
 
-  module _ (assigned : List ℕ) (before pre d slopes_old : List ℤ) (turned last : Courses) (readers : AreTurned m tick levels slopes (flat_map (reading_rows m) moved) between turned)
-      (more : AreTurned m tick levels slopes (flat_map (reading_rows m) assigned) turned last) (were : AreSumsBefore Slope m moved levels pre slopes_old first.lines before)
+  module _ (assigned : List ℕ) (before pre d slopes_old : List ℤ) (next last : Courses) (readers : AreResloped m tick levels slopes (flat_map (reading_rows m) moved) between next)
+      (more : AreResloped m tick levels slopes (flat_map (reading_rows m) assigned) next last) (were : AreSumsBefore Slope m moved levels pre slopes_old first.lines before)
       (same : AreAssigned m assigned pre d) (slopes_new : slopes ≡ tabulate (state_count m) (λ j. slope_at m j levels d)) (many_levels : length levels ≡ state_count m)
       (many_before : length pre ≡ discrete_count m) (many_discretes : length d ≡ discrete_count m) (j : ℕ) (h : j < state_count m) where
     abbrev xs : List ℕ
@@ -107,8 +107,8 @@ module _ (m : Machine) (tick : ℕ) (x levels slopes : List ℤ) (moved : List �
     abbrev ys : List ℕ
     ys = flat_map (reading_rows m) assigned
 
-    all : AreTurned m tick levels slopes (xs ++ ys) between last
-    all = turned_then m tick levels slopes xs ys between turned last readers more
+    all : AreResloped m tick levels slopes (xs ++ ys) between last
+    all = resloped_then m tick levels slopes xs ys between next last readers more
 
     slope_new : int_at slopes j ≡ slope_at m j levels d
     slope_new = ap (λ zs. int_at zs j) slopes_new ∙ int_at-tabulate (state_count m) (λ k. slope_at m k levels d) j h
@@ -124,23 +124,23 @@ module _ (m : Machine) (tick : ℕ) (x levels slopes : List ℤ) (moved : List �
 
     pub reseated : (line_at first.lines j).tick ≤ tick → (line_at first.lines j).slope ≡ int_at slopes_old j →
         (is_among moved j ≡ false → (line_at first.lines j).level ≡ int_at levels j → IsDue m tick j (line_at first.lines j) (due_at first.dues j)) →
-        IsTurned m tick (int_at states j) (int_at levels j) (slope_at m j levels d) j (line_at last.lines j) (due_at last.dues j)
+        GoesOnFrom m tick (int_at states j) (int_at levels j) (slope_at m j levels d) j (line_at last.lines j) (due_at last.dues j)
     reseated begun own_slope due =
         let level : ℤ = int_at levels j in
         let slope : ℤ = int_at slopes j in
-        let Turned : Line → Option ℕ → Type 0 = IsTurned m tick (int_at states j) level slope j in
+        let Goes : Line → Option ℕ → Type 0 = GoesOnFrom m tick (int_at states j) level slope j in
         let inside : j < length first.lines = omega (arith, h, many) in
-        let on : Turned (line_at between.lines j) (due_at between.dues j) → Turned (line_at last.lines j) (due_at last.dues j) = λ own.
-        still_turned m tick level slope j (int_at states j) (line_at between.lines j) (line_at last.lines j) (due_at between.dues j) (due_at last.dues j) (at_state j h) own (all.each j h) in
-        subst (λ z. IsTurned m tick (int_at states j) level z j (line_at last.lines j) (due_at last.dues j)) slope_new
+        let on : Goes (line_at between.lines j) (due_at between.dues j) → Goes (line_at last.lines j) (due_at last.dues j) = λ own.
+        still_going m tick level slope j (int_at states j) (line_at between.lines j) (line_at last.lines j) (due_at between.dues j) (due_at last.dues j) (at_state j h) own (all.each j h) in
+        subst (λ z. GoesOnFrom m tick (int_at states j) level z j (line_at last.lines j) (due_at last.dues j)) slope_new
         (elim (cases_Bool (is_among (xs ++ ys) j)) [
-          | inl among ↦ subst (λ z. IsTurned m tick z level slope j (line_at last.lines j) (due_at last.dues j)) (at_state j h) (all.turned j h among)
+          | inl among ↦ subst (λ z. GoesOnFrom m tick z level slope j (line_at last.lines j) (due_at last.dues j)) (at_state j h) (all.own j h among)
           | inr unread ↦ on (elim (cases_Bool (is_among moved j)) [
-            | inl among ↦ subst (λ z. IsTurned m tick z level slope j (line_at between.lines j) (due_at between.dues j)) (sym (moved_state first.lines tick moved x j inside among)) (are.own j among)
+            | inl among ↦ subst (λ z. GoesOnFrom m tick z level slope j (line_at between.lines j) (due_at between.dues j)) (sym (moved_state first.lines tick moved x j inside among)) (are.own j among)
             | inr none ↦
                 let own_level : (line_at first.lines j).level ≡ level = were.own_levels j h ∙ sym (were.off.others j none) in
-                subst (λ (l : Line). Turned l (due_at between.dues j)) (sym (are.lines j none))
-                (subst (Turned (line_at first.lines j)) (sym (are.dues j none))
+                subst (λ (l : Line). Goes l (due_at between.dues j)) (sym (are.lines j none))
+                (subst (Goes (line_at first.lines j)) (sym (are.dues j none))
                 (record {
                   not_later = begun;
                   here = sym (other_state first.lines tick moved x j inside none);

@@ -13,10 +13,10 @@ use Rattle.qss_machine.specs.Numbers.{int_at}
 use Rattle.qss_quant.specs.Lines.{Line, state_at, IsAway}
 use Rattle.qss_sched.specs.Ranks.{due_at}
 use Rattle.qss_quiet.specs.Among.{is_among}
-use Rattle.qss_lines.specs.StateLines.{line_at, IsTurned}
+use Rattle.qss_lines.specs.StateLines.{line_at, GoesOnFrom}
 use Rattle.qss_lines.specs.Renewals.{goes_from, renewals_from}
 use Rattle.qss_quiet.specs.Sims.{IsDue, no_line}
-use Rattle.qss_lines.specs.Turnings.{Courses}
+use Rattle.qss_lines.specs.Reslopings.{Courses}
 use Rattle.qss_lines.proofs.Counting.{one_if, count_one}
 use Rattle.qss_lines.proofs.Renewed.{goes_so, from_here}
 use Rattle.qss_quiet.proofs.Writes.{among_more}
@@ -63,7 +63,7 @@ seated n j tick states levels slopes lines line before after known inside here o
 
 -- the moved states go on from a tick where they are, and the others as they did
 pub record AreSeated (m : Machine) (tick : ℕ) (x levels slopes : List ℤ) (moved : List ℕ) (old new : Courses) : Type 0 where
-  pub own : (j : ℕ) → is_among moved j ≡ true → IsTurned m tick (int_at x j) (int_at levels j) (int_at slopes j) j (line_at new.lines j) (due_at new.dues j)
+  pub own : (j : ℕ) → is_among moved j ≡ true → GoesOnFrom m tick (int_at x j) (int_at levels j) (int_at slopes j) j (line_at new.lines j) (due_at new.dues j)
   pub lines : (j : ℕ) → is_among moved j ≡ false → line_at new.lines j ≡ line_at old.lines j
   pub left : (j : ℕ) → goes_from tick (int_at x j) (int_at levels j) (int_at slopes j) (line_at old.lines j) ≡ true → line_at new.lines j ≡ line_at old.lines j
   pub places : length new.dues ≡ length old.dues
@@ -75,7 +75,7 @@ module _ (m : Machine) (tick : ℕ) (x levels slopes : List ℤ) where
 
   -- one more moved state goes on from where it is
   pub seated_more : (moved : List ℕ) (i : ℕ) (old between new : Courses) → i < length moved → AreSeated m tick x levels slopes (take i moved) old between →
-      IsTurned m tick (int_at x (get_or moved i 0)) (int_at levels (get_or moved i 0)) (int_at slopes (get_or moved i 0)) (get_or moved i 0)
+      GoesOnFrom m tick (int_at x (get_or moved i 0)) (int_at levels (get_or moved i 0)) (int_at slopes (get_or moved i 0)) (get_or moved i 0)
       (line_at new.lines (get_or moved i 0)) (due_at new.dues (get_or moved i 0)) →
       ((k : ℕ) → (k ≡ get_or moved i 0 → ⊥) → line_at new.lines k ≡ line_at between.lines k) →
       (goes_from tick (int_at x (get_or moved i 0)) (int_at levels (get_or moved i 0)) (int_at slopes (get_or moved i 0)) (line_at between.lines (get_or moved i 0)) ≡ true →
@@ -84,12 +84,12 @@ module _ (m : Machine) (tick : ℕ) (x levels slopes : List ℤ) where
       AreSeated m tick x levels slopes (take (i + 1) moved) old new
   seated_more moved i old between new h first here lines kept places dues =
       let j : ℕ = get_or moved i 0 in
-      let Turned : ℕ → Line → Option ℕ → Type 0 = λ k line due. IsTurned m tick (int_at x k) (int_at levels k) (int_at slopes k) k line due in
+      let Goes : ℕ → Line → Option ℕ → Type 0 = λ k line due. GoesOnFrom m tick (int_at x k) (int_at levels k) (int_at slopes k) k line due in
       record {
         own = λ k among. elim (cases_eq k j) [
-          | inl same ↦ subst (λ (a : ℕ). Turned a (line_at new.lines a) (due_at new.dues a)) (sym same) here
+          | inl same ↦ subst (λ (a : ℕ). Goes a (line_at new.lines a) (due_at new.dues a)) (sym same) here
           | inr other ↦ elim (or_cases (is_among (take i moved) k) (eqb j k) (sym (among_more moved i k h) ∙ among)) [
-            | inl before ↦ subst (λ (l : Line). Turned k l (due_at new.dues k)) (sym (lines k other)) (subst (Turned k (line_at between.lines k)) (sym (dues k other)) (first.own k before))
+            | inl before ↦ subst (λ (l : Line). Goes k l (due_at new.dues k)) (sym (lines k other)) (subst (Goes k (line_at between.lines k)) (sym (dues k other)) (first.own k before))
             | inr same ↦ absurd (other (sym (eqb-true j k same)))
           ]
         ];

@@ -3,7 +3,7 @@ pub mod Variables
 pub mod Overweights
 pub mod Weighings
 pub mod Kept
-pub mod Turnings
+pub mod Reslopings
 pub mod RowSums
 pub mod Renewals
 pub mod Visitings

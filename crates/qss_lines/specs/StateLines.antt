@@ -32,7 +32,7 @@ abbrev pub states_with : List Line → ℕ → List ℕ → List ℤ → List �
 states_with lines tick moved x = tabulate (length lines) (λ j. if is_among moved j then int_at x j else state_at (line_at lines j) tick)
 
 -- a state's line is at this state at a tick and goes on at this slope and level, and this is the tick at which it then leaves its quantum
-pub record IsTurned (m : Machine) (tick : ℕ) (state level slope : ℤ) (j : ℕ) (line : Line) (due : Option ℕ) : Type 0 where
+pub record GoesOnFrom (m : Machine) (tick : ℕ) (state level slope : ℤ) (j : ℕ) (line : Line) (due : Option ℕ) : Type 0 where
   pub not_later : line.tick ≤ tick
   pub here : state_at line tick ≡ state
   pub own_slope : line.slope ≡ slope

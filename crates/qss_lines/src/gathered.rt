@@ -14,7 +14,7 @@ ghost use Rattle.qss_quiet.specs.Among.{is_among};
 ghost use Rattle.qss_quiet.specs.Writes.{IsWritten};
 ghost use Rattle.qss_lines.specs.Gatherings.{CanGather, AreGathered, MayGoOn, reached};
 ghost use Rattle.qss_lines.specs.Variables.{AreSlopesOf};
-ghost use Rattle.qss_lines.specs.StateLines.{line_at, IsTurned};
+ghost use Rattle.qss_lines.specs.StateLines.{line_at, GoesOnFrom};
 ghost use Rattle.qss_lines.specs.RowSums.{HasFollowed};
 ghost use Rattle.qss_lines.specs.declared.shifts.RowSum.TheVariants as sum;
 ghost use Rattle.qss_lines.specs.Visitings.{AreQuietLevels, CanReslope, quiet_slopes, WereSlopes};
@@ -181,7 +181,7 @@ fn go_on_as(m: &Machine, j: u32, here: &Integrator, line: &mut Integrator, agend
     requires place { j < length agenda.old }
     requires near { IsNear (level_unit m.now) here.now.x here.now.level
         (quantum_of m.now j here.now.level) }
-    ensures turned { IsTurned m.now here.now.tick here.now.x here.now.level here.now.slope j
+    ensures goes_on { GoesOnFrom m.now here.now.tick here.now.x here.now.level here.now.slope j
         line.new (due_at agenda.new j) }
     ensures as_many { length agenda.new ≡ length agenda.old }
     ensures others { (place : ℕ) → (place ≡ j → ⊥)
@@ -201,7 +201,7 @@ fn go_on(at: &QuietLevels, slopes: &[i128], j: u32, lines: &mut [Integrator], ag
     requires in_time { at.now.tick ≤ tick_limit }
     requires ready { MayGoOn at.now.machine.now at.now.tick j (int_at at.now.levels.now j)
         (line_at lines.old j) }
-    ensures turned { IsTurned at.now.machine.now at.now.tick
+    ensures goes_on { GoesOnFrom at.now.machine.now at.now.tick
         (state_at (line_at lines.old j) at.now.tick)
         (int_at at.now.levels.now j) (int_at slopes.now j) j (line_at lines.new j)
         (due_at agenda.new j) }
@@ -240,8 +240,8 @@ fn go_on_each(
     requires ready { (j : ℕ) → j < state_count at.now.machine.now
         → MayGoOn at.now.machine.now at.now.tick j (int_at at.now.levels.now j)
         (line_at lines.old j) }
-    ensures turned { (j : ℕ) → is_among states.now j ≡ true
-        → IsTurned at.now.machine.now at.now.tick
+    ensures goes_on { (j : ℕ) → is_among states.now j ≡ true
+        → GoesOnFrom at.now.machine.now at.now.tick
         (state_at (line_at lines.old j) at.now.tick)
         (int_at at.now.levels.now j) (int_at slopes.now j) j (line_at lines.new j)
         (due_at agenda.new j) }
@@ -269,7 +269,7 @@ pub fn reslope_of<L: Ledger>(
     requires room { state_count at.now.machine.now ≤ vec_capacity touched.old }
     ensures slopes { slopes.new ≡ quiet_slopes at.now }
     ensures lines { (j : ℕ) → j < state_count at.now.machine.now
-        → IsTurned at.now.machine.now at.now.tick (state_at (line_at lines.old j) at.now.tick)
+        → GoesOnFrom at.now.machine.now at.now.tick (state_at (line_at lines.old j) at.now.tick)
         (int_at at.now.levels.now j)
         (slope_at at.now.machine.now j at.now.levels.now at.now.discretes.now)
         j (line_at lines.new j) (due_at agenda.new j) }

@@ -9,15 +9,15 @@ ghost use Rattle.qss_machine.specs.Uses.{reading_rows, uses_of};
 ghost use Rattle.qss_quant.specs.Lines.{state_at, IsNear};
 ghost use Rattle.qss_sched.specs.Ranks.{due_at};
 ghost use Rattle.qss_quiet.specs.Among.{is_among};
-ghost use Rattle.qss_lines.specs.StateLines.{line_at, IsTurned};
+ghost use Rattle.qss_lines.specs.StateLines.{line_at, GoesOnFrom};
 ghost use Rattle.qss_lines.specs.Renewals.{goes_from, renewals_from};
 ghost use Rattle.qss_quiet.specs.Writes.{IsWritten};
 ghost use Rattle.qss_lines.specs.declared.shifts.RowSum.TheVariants as sum;
 ghost use Rattle.qss_lines.specs.Visitings.{AreNewLevels, AreHandled, AreStatesOf, CanGoOn, CanReseat, first_overweight, new_slopes, states_left, WereSums};
 
+use crate::resloped::reslope_readers;
 use crate::shifts::shift_slopes;
 use crate::slopes::renew;
-use crate::turned::turn_readers;
 use crate::visiting::{Handled, NewLevels};
 use qss_machine::{Machine, Uses};
 use qss_quant::{Integrator, Steps};
@@ -103,7 +103,7 @@ fn reseat<L: Ledger>(
     requires small { IsWithin 89 (state_at line.old here.now.tick) }
     requires near { IsNear (level_unit m.now) here.now.x here.now.level
         (quantum_of m.now j here.now.level) }
-    ensures turned { IsTurned m.now here.now.tick here.now.x here.now.level here.now.slope j
+    ensures goes_on { GoesOnFrom m.now here.now.tick here.now.x here.now.level here.now.slope j
         line.new (due_at agenda.new j) }
     ensures as_many { length agenda.new ≡ length agenda.old }
     ensures others { (place : ℕ) → (place ≡ j → ⊥)
@@ -138,7 +138,7 @@ fn seat<L: Ledger>(
     requires near { IsNear (level_unit at.now.machine.now) (int_at x.now j)
         (int_at at.now.levels.now j)
         (quantum_of at.now.machine.now j (int_at at.now.levels.now j)) }
-    ensures turned { IsTurned at.now.machine.now at.now.tick (int_at x.now j)
+    ensures goes_on { GoesOnFrom at.now.machine.now at.now.tick (int_at x.now j)
         (int_at at.now.levels.now j)
         (int_at slopes.now j) j (line_at lines.new j) (due_at agenda.new j) }
     ensures lines { (k : ℕ) → (k ≡ j → ⊥) → line_at lines.new k ≡ line_at lines.old k }
@@ -189,8 +189,8 @@ fn seat_each<L: Ledger>(
     requires near { (j : ℕ) → is_among at.now.moved.now j ≡ true
         → IsNear (level_unit at.now.machine.now) (int_at x.now j) (int_at at.now.levels.now j)
         (quantum_of at.now.machine.now j (int_at at.now.levels.now j)) }
-    ensures turned { (j : ℕ) → is_among at.now.moved.now j ≡ true
-        → IsTurned at.now.machine.now at.now.tick (int_at x.now j) (int_at at.now.levels.now j)
+    ensures goes_on { (j : ℕ) → is_among at.now.moved.now j ≡ true
+        → GoesOnFrom at.now.machine.now at.now.tick (int_at x.now j) (int_at at.now.levels.now j)
         (int_at slopes.now j) j (line_at lines.new j) (due_at agenda.new j) }
     ensures lines { (j : ℕ) → is_among at.now.moved.now j ≡ false
         → line_at lines.new j ≡ line_at lines.old j }
@@ -229,7 +229,7 @@ pub fn reslope_handled<L: Ledger>(
     requires { CanReseat at.now left.now slopes.old lines.old agenda.old }
     ensures slopes { slopes.new ≡ new_slopes at.now left.now.discretes.now }
     ensures lines { (j : ℕ) → j < state_count at.now.machine.now
-        → IsTurned at.now.machine.now at.now.tick (int_at (states_left at.now left.now lines.old) j)
+        → GoesOnFrom at.now.machine.now at.now.tick (int_at (states_left at.now left.now lines.old) j)
         (int_at at.now.levels.now j)
         (slope_at at.now.machine.now j at.now.levels.now left.now.discretes.now)
         j (line_at lines.new j) (due_at agenda.new j) }
@@ -247,6 +247,6 @@ pub fn reslope_handled<L: Ledger>(
 {
     follow_slopes(at, left, lines, slopes);
     seat_each(at, slopes, left.states, lines, agenda, steps);
-    turn_readers(at, slopes, at.moved, lines, agenda, steps);
-    turn_readers(at, slopes, left.assigned, lines, agenda, steps);
+    reslope_readers(at, slopes, at.moved, lines, agenda, steps);
+    reslope_readers(at, slopes, left.assigned, lines, agenda, steps);
 }

@@ -20,7 +20,7 @@ use Rattle.qss_quant.specs.Lines.{Line, state_at, IsNear, IsAway}
 use Rattle.qss_sched.specs.Ranks.{due_at}
 use Rattle.qss_run.specs.declared.store.Store.{Store}
 use Rattle.qss_lines.specs.Kept.{AreWeights}
-use Rattle.qss_lines.specs.StateLines.{line_at, IsTurned, states_at}
+use Rattle.qss_lines.specs.StateLines.{line_at, GoesOnFrom, states_at}
 use Rattle.qss_watch.specs.Places.{watch_at, IsWatched}
 use Rattle.qss_quiet.specs.Sims.{slopes_of, condition_at, IsDue, IsChange, rises, StandsFor}
 use Rattle.qss_watch.specs.Handlings.{handling_from}
@@ -84,13 +84,13 @@ pub stands_again : (m : Machine) (t : ℕ) (s : Store) (x : List ℤ) → length
     position (is_overweight m s.levels.items s.work.d) m.rows ≡ None →
     s.slopes.items ≡ slopes_of m (world_of t s) →
     AreWeights m s.levels.items s.work.d s.weights →
-    ((j : ℕ) → j < state_count m → IsTurned m t (int_at x j) (int_at s.levels.items j) (slope_at m j s.levels.items s.work.d) j (line_at s.lines.items j) (due_at s.agenda j)) →
+    ((j : ℕ) → j < state_count m → GoesOnFrom m t (int_at x j) (int_at s.levels.items j) (slope_at m j s.levels.items s.work.d) j (line_at s.lines.items j) (due_at s.agenda j)) →
     s.conditions.settled.items ≡ truths m x s.work.d t →
     ((place : ℕ) → place < length (conditions m) → IsWatched m t x s.work.d s.slopes.items place (watch_at s.conditions.watches.items place) (due_at s.agenda (state_count m + place))) →
     s.rising ≡ rises (world_of t s) →
     due_at s.agenda (state_count m + length (conditions m)) ≡ (if s.rising then Some (t + 1) else None) →
     AreAlikeBut s.conditions.apart.places s.conditions.arrived.items s.conditions.settled.items → (states_at s.lines.items t ≡ x) × Stands m t s
-stands_again m t s x many fits small light slopes weights turned settled watched risen rising alike = (
+stands_again m t s x many fits small light slopes weights goes_on settled watched risen rising alike = (
   states,
   record {
     fits = fits;
@@ -105,7 +105,7 @@ stands_again m t s x many fits small light slopes weights turned settled watched
     states : states_at s.lines.items t ≡ x
     states =
         ap (λ n. tabulate n (λ j. state_at (line_at s.lines.items j) t)) fits.lines
-        ∙ tabulate-same (pos 0) (state_count m) _ (int_at x) (λ j h. (turned j h).here)
+        ∙ tabulate-same (pos 0) (state_count m) _ (int_at x) (λ j h. (goes_on j h).here)
         ∙ sym (tabulate-int_at x (state_count m) many)
 
     state : (j : ℕ) → int_at x j ≡ int_at (world_of t s).states j
@@ -123,12 +123,12 @@ stands_again m t s x many fits small light slopes weights turned settled watched
       states = length-map-range_with_len (λ j. state_at (line_at s.lines.items j) t) 0 (length s.lines.items) ∙ fits.lines;
       settled = settled ∙ ap (λ y. truths m y s.work.d t) (sym states);
       lines = λ j h. record {
-        not_later = (turned j h).not_later;
-        here = (turned j h).here ∙ state j;
-        own_slope = (turned j h).own_slope;
-        own_level = (turned j h).own_level;
+        not_later = (goes_on j h).not_later;
+        here = (goes_on j h).here ∙ state j;
+        own_slope = (goes_on j h).own_slope;
+        own_level = (goes_on j h).own_level;
       };
-      dues = λ j h. (turned j h).is_due;
+      dues = λ j h. (goes_on j h).is_due;
       watches = λ place h. record {
         not_later = (watched place h).not_later;
         here = (watched place h).here ∙ ap (λ y. value_of m (condition_at m place).form y s.work.d s.work.d t) (sym states);

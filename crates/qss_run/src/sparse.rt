@@ -12,7 +12,7 @@ ghost use Rattle.qss_sched.specs.Ranks.{due_at};
 ghost use Rattle.qss_quiet.specs.Among.{is_among};
 ghost use Rattle.qss_lines.specs.Gatherings.{reached};
 ghost use Rattle.qss_watch.specs.Places.{AreConditionsOf, AreWatched, HasPlaces};
-ghost use Rattle.qss_lines.specs.StateLines.{line_at, IsTurned, states_at};
+ghost use Rattle.qss_lines.specs.StateLines.{line_at, GoesOnFrom, states_at};
 ghost use Rattle.qss_quiet.specs.Rules.{IsRuled};
 ghost use Rattle.qss_run.specs.Stores.{world_of, Stands, IsTaken};
 ghost use Rattle.qss_run.specs.Touches.{touches_at};
@@ -46,7 +46,7 @@ fn go_on_moved<L: Ledger>(
         slopes.old watched.old.watches.items agenda.old }
     ensures slopes { slopes.new ≡ quiet_slopes at.now }
     ensures lines { (j : ℕ) → j < state_count at.now.machine.now
-        → IsTurned at.now.machine.now at.now.tick (state_at (line_at lines.old j) at.now.tick)
+        → GoesOnFrom at.now.machine.now at.now.tick (state_at (line_at lines.old j) at.now.tick)
         (int_at at.now.levels.now j)
         (slope_at at.now.machine.now j at.now.levels.now at.now.discretes.now)
         j (line_at lines.new j) (due_at agenda.new j) }

@@ -13,7 +13,7 @@ ghost use Rattle.qss_quant.specs.Lines.{IsNear};
 ghost use Rattle.qss_sched.specs.Ranks.{due_at, HasNone};
 ghost use Rattle.qss_lines.specs.Variables.{AreWithin};
 ghost use Rattle.qss_watch.specs.Places.{AreConditionsOf, AreWatched};
-ghost use Rattle.qss_lines.specs.StateLines.{line_at, IsTurned};
+ghost use Rattle.qss_lines.specs.StateLines.{line_at, GoesOnFrom};
 ghost use Rattle.qss_quiet.specs.Sims.{IsDue};
 ghost use Rattle.qss_run.specs.Stores.{world_of, Stands, IsBlank};
 
@@ -145,7 +145,7 @@ fn start_lines(
     ensures slopes { slopes.new
         ≡ tabulate (state_count m.now) (λ j. slope_at m.now j levels.now d.now) }
     ensures lines { (j : ℕ) → j < state_count m.now
-        → IsTurned m.now 0 (int_at x.now j) (int_at levels.now j)
+        → GoesOnFrom m.now 0 (int_at x.now j) (int_at levels.now j)
         (slope_at m.now j levels.now d.now) j (line_at lines.new j) (due_at agenda.new j) }
     ensures places { length agenda.new ≡ length agenda.old }
     ensures others { (place : ℕ) → state_count m.now ≤ place
@@ -179,7 +179,7 @@ fn set_out(
     ensures slopes { slopes.new
         ≡ tabulate (state_count m.now) (λ j. slope_at m.now j levels.now work.now.d) }
     ensures lines { (j : ℕ) → j < state_count m.now
-        → IsTurned m.now 0 (int_at work.now.x j) (int_at levels.now j)
+        → GoesOnFrom m.now 0 (int_at work.now.x j) (int_at levels.now j)
         (slope_at m.now j levels.now work.now.d) j (line_at lines.new j) (due_at agenda.new j) }
     ensures arrived { watched.new.arrived.items ≡ watched.new.settled.items }
     ensures settled { watched.new.settled.items ≡ truths m.now work.now.x work.now.d 0 }

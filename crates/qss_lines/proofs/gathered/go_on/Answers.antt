@@ -8,7 +8,7 @@ use Rattle.qss_machine.specs.Numbers.{int_at}
 use Rattle.qss_machine.specs.Machines.{level_unit, quantum_of}
 use Rattle.qss_quant.specs.Lines.{Line, state_at, IsNear}
 use Rattle.qss_sched.specs.Ranks.{due_at}
-use Rattle.qss_lines.specs.StateLines.{line_at, IsTurned}
+use Rattle.qss_lines.specs.StateLines.{line_at, GoesOnFrom}
 use Rattle.qss_quiet.specs.Sims.{no_line}
 use Rattle.qss_lines.proofs.gathered.go_on.Goals as goal
 use mir.Syntax.{w64, w128}
@@ -31,8 +31,8 @@ go_on_as-requires-clause-near c =
     subst (λ (z : ℤ). IsNear (level_unit m) z (to_z w64 (of_z w64 level)) (quantum_of m j (to_z w64 (of_z w64 level)))) (sym x)
     (subst (λ (l : ℤ). IsNear (level_unit m) (state_at (line_at lines j) tick) l (quantum_of m j l)) (sym (to_z-of_z w64 level of_level)) c.requires.ready.near)
 
-pub returns-clause-turned : goal.returns-clause-turned
-returns-clause-turned c =
+pub returns-clause-goes_on : goal.returns-clause-goes_on
+returns-clause-goes_on c =
     let m = c.args.at.now.machine.now in
     let j = c.args.j in
     let tick = c.args.at.now.tick in
@@ -44,13 +44,13 @@ returns-clause-turned c =
     let x : FitsSigned w128 c.value_at-x.result = record { sfits = c.value_at-x.type_inv } in
     let inside : j < length lines = omega (arith, c.requires.lines, c.requires.state) in
     let read : get_or lines j c.index-lines-j.result ≡ line_at lines j = get_or_default lines j c.index-lines-j.result no_line inside in
-    let turned = c.go_on_as.ensures.turned in
-    subst (λ (l : Line). IsTurned m tick (state_at (line_at lines j) tick) (int_at c.args.at.now.levels.now j) (int_at c.args.slopes.now j) j l (due_at c.go_on_as.new.agenda j))
+    let goes_on = c.go_on_as.ensures.goes_on in
+    subst (λ (l : Line). GoesOnFrom m tick (state_at (line_at lines j) tick) (int_at c.args.at.now.levels.now j) (int_at c.args.slopes.now j) j l (due_at c.go_on_as.new.agenda j))
     (sym (get_or-set_same lines j c.go_on_as.new.line no_line inside))
     (record {
-      not_later = turned.not_later;
-      here = turned.here ∙ to_z-of_z w128 c.value_at-x.result x ∙ c.value_at-x.ensures ∙ ap (λ (l : Line). state_at l tick) read;
-      own_slope = turned.own_slope ∙ to_z-of_z w128 (int_at c.args.slopes.now j) slope;
-      own_level = turned.own_level ∙ to_z-of_z w64 (int_at c.args.at.now.levels.now j) level;
-      is_due = turned.is_due;
+      not_later = goes_on.not_later;
+      here = goes_on.here ∙ to_z-of_z w128 c.value_at-x.result x ∙ c.value_at-x.ensures ∙ ap (λ (l : Line). state_at l tick) read;
+      own_slope = goes_on.own_slope ∙ to_z-of_z w128 (int_at c.args.slopes.now j) slope;
+      own_level = goes_on.own_level ∙ to_z-of_z w64 (int_at c.args.at.now.levels.now j) level;
+      is_due = goes_on.is_due;
     })

@@ -6,7 +6,7 @@ use Rattle.qss_machine.specs.Machines.{level_unit, quantum_of}
 use Rattle.qss_machine.specs.Numbers.{int_at}
 use Rattle.qss_quant.specs.Lines.{state_at, IsNear}
 use Rattle.qss_lines.specs.StateLines.{line_at}
-use Rattle.qss_lines.specs.Turnings.{Courses}
+use Rattle.qss_lines.specs.Reslopings.{Courses}
 use Rattle.qss_lines.proofs.Gathering.{AreOn, none_on, still_there, still_not_later, on_more}
 use Rattle.qss_lines.proofs.gathered.go_on_each.Goals as goal
 
@@ -56,7 +56,7 @@ loop-j-preserved c =
     let after : Courses = record { lines = c.go_on.new.lines; dues = c.go_on.new.agenda } in
     record {
       on = subst (λ (these : List ℕ). AreOn m tick levels slopes these first after) (sym (take_more states i 0 c.loop-j-test.true))
-          (on_more m tick levels slopes (take i states) (get_or states i 0) first before after c.loop-j.invariant.on c.go_on.ensures.turned c.go_on.ensures.lines c.go_on.ensures.places
+          (on_more m tick levels slopes (take i states) (get_or states i 0) first before after c.loop-j.invariant.on c.go_on.ensures.goes_on c.go_on.ensures.lines c.go_on.ensures.places
           c.go_on.ensures.dues);
     }
 
@@ -68,4 +68,4 @@ returns c =
     let on : AreOn m c.args.at.now.tick c.args.at.now.levels.now c.args.slopes.now c.args.states.now first last =
     subst (λ (these : List ℕ). AreOn m c.args.at.now.tick c.args.at.now.levels.now c.args.slopes.now these first last) (take_all c.loop-j.j-index c.args.states.now c.loop-j-test.false)
     c.loop-j.invariant.on in
-    record { turned = on.own; lines = on.lines; places = on.places; dues = on.dues }
+    record { goes_on = on.own; lines = on.lines; places = on.places; dues = on.dues }

@@ -8,10 +8,10 @@ use Rattle.qss_machine.specs.Numbers.{int_at}
 use Rattle.qss_quant.specs.Lines.{IsNear}
 use Rattle.qss_quiet.specs.Among.{is_among}
 use Rattle.qss_lines.specs.Gatherings.{Gathering, behind, reached}
-use Rattle.qss_lines.specs.Turnings.{Courses}
+use Rattle.qss_lines.specs.Reslopings.{Courses}
 use Rattle.qss_lines.proofs.DueLevels.{int_at-states_at, state_small}
 use Rattle.qss_lines.proofs.Gathering.{AreOn, behind_few, behind_may, not_listed, all_on}
-use Rattle.qss_lines.proofs.Turning.{slopes_small}
+use Rattle.qss_lines.proofs.GoingOn.{slopes_small}
 use Rattle.qss_lines.proofs.gathered.reslope_of.Goals as goal
 
 pub follow_levels-requires-clause-new : goal.follow_levels-requires-clause-new
@@ -83,7 +83,7 @@ returns-clause-lines g c k h =
     let between : Gathering = record { lines = c.follow_levels.new.lines; touched = c.follow_levels.new.touched.items } in
     let last : Courses = record { lines = c.go_on_each.new.lines; dues = c.go_on_each.new.agenda } in
     let on : AreOn m c.args.at.now.tick levels slopes between.touched (record { lines = between.lines; dues = c.args.agenda.now }) last = record {
-      own = λ j among. c.go_on_each.ensures.turned j (ap (λ xs. is_among xs j) c.as_slice.ensures.value ∙ among);
+      own = λ j among. c.go_on_each.ensures.goes_on j (ap (λ xs. is_among xs j) c.as_slice.ensures.value ∙ among);
       lines = λ j none. c.go_on_each.ensures.lines j (ap (λ xs. is_among xs j) c.as_slice.ensures.value ∙ none);
       places = c.go_on_each.ensures.places;
       dues = λ j none. c.go_on_each.ensures.dues j (ap (λ xs. is_among xs j) c.as_slice.ensures.value ∙ none);

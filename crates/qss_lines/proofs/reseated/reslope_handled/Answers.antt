@@ -8,14 +8,14 @@ use Rattle.qss_sched.specs.Ranks.{due_at}
 use Rattle.qss_lines.specs.StateLines.{states_with, line_at}
 use Rattle.qss_quiet.specs.Among.{is_among}
 use Rattle.qss_lines.specs.Renewals.{goes_at, renewals}
-use Rattle.qss_lines.specs.Turnings.{MayTurn, Courses}
-use Rattle.qss_lines.proofs.Courses.{may_turn_again}
+use Rattle.qss_lines.specs.Reslopings.{MayReslope, Courses}
+use Rattle.qss_lines.proofs.Courses.{may_reslope_again}
 use Rattle.qss_lines.proofs.DueLevels.{state_small}
 use Rattle.qss_quiet.proofs.Quiet.{int_at-tabulate}
 use Rattle.qss_lines.proofs.Renewed.{none_left}
-use Rattle.qss_lines.proofs.Reseating.{moved_state, left_seated, may_turn_seated, renewals_seated, reseated}
+use Rattle.qss_lines.proofs.Reseating.{moved_state, left_seated, may_reslope_seated, renewals_seated, reseated}
 use Rattle.qss_lines.proofs.Seats.{AreSeated}
-use Rattle.qss_lines.proofs.Turning.{slopes_small}
+use Rattle.qss_lines.proofs.GoingOn.{slopes_small}
 use Rattle.qss_quiet.proofs.Writes.{index_of}
 use Rattle.qss_lines.proofs.reseated.reslope_handled.Goals as goal
 
@@ -43,8 +43,8 @@ seat_each-requires-clause-later g c j h = c.requires.held.lines.up_to.later j (o
 pub seat_each-requires-clause-small : goal.seat_each-requires-clause-small
 seat_each-requires-clause-small g c j h = state_small c.args.lines.now c.args.at.now.tick j (omega (arith, h, c.requires.held.lines.up_to.as_many)) c.requires.held.lines.small
 
-pub turn_readers-requires-clause-on : goal.turn_readers-requires-clause-on
-turn_readers-requires-clause-on g c = record {
+pub reslope_readers-requires-clause-on : goal.reslope_readers-requires-clause-on
+reslope_readers-requires-clause-on g c = record {
   new = c.requires.new;
   slopes_of = record {
     as_many = c.follow_slopes.auto.slopes ∙ c.requires.held.slopes;
@@ -53,8 +53,8 @@ turn_readers-requires-clause-on g c = record {
   in_time = omega (arith, c.requires.held.lines.up_to.in_time);
 }
 
-pub turn_readers-requires-clause-ready : goal.turn_readers-requires-clause-ready
-turn_readers-requires-clause-ready g c j h =
+pub reslope_readers-requires-clause-ready : goal.reslope_readers-requires-clause-ready
+reslope_readers-requires-clause-ready g c j h =
     let m = c.args.at.now.machine.now in
     let held = c.requires.held in
     let many = held.lines.up_to.as_many in
@@ -62,12 +62,12 @@ turn_readers-requires-clause-ready g c j h =
     let between : Courses = record { lines = c.seat_each.new.lines; dues = c.seat_each.new.agenda } in
     let seats = c.seat_each.ensures in
     let are : AreSeated m c.args.at.now.tick c.args.left.now.states.now c.args.at.now.levels.now c.follow_slopes.new.slopes c.args.at.now.moved.now first between =
-    record { own = seats.turned; lines = seats.lines; left = seats.kept; places = seats.places; dues = seats.dues } in
-    may_turn_seated m c.args.at.now.tick c.args.left.now.states.now c.args.at.now.levels.now c.follow_slopes.new.slopes c.args.at.now.moved.now first between are many c.requires.small_states j h
+    record { own = seats.goes_on; lines = seats.lines; left = seats.kept; places = seats.places; dues = seats.dues } in
+    may_reslope_seated m c.args.at.now.tick c.args.left.now.states.now c.args.at.now.levels.now c.follow_slopes.new.slopes c.args.at.now.moved.now first between are many c.requires.small_states j h
     (held.lines.up_to.later j (omega (arith, h, many))) (c.requires.levels.near j h) (held.due j h)
 
-pub turn_readers-requires-2-clause-on : goal.turn_readers-requires-2-clause-on
-turn_readers-requires-2-clause-on g c = record {
+pub reslope_readers-requires-2-clause-on : goal.reslope_readers-requires-2-clause-on
+reslope_readers-requires-2-clause-on g c = record {
   new = c.requires.new;
   slopes_of = record {
     as_many = c.follow_slopes.auto.slopes ∙ c.requires.held.slopes;
@@ -76,8 +76,8 @@ turn_readers-requires-2-clause-on g c = record {
   in_time = omega (arith, c.requires.held.lines.up_to.in_time);
 }
 
-pub turn_readers-requires-2-clause-ready : goal.turn_readers-requires-2-clause-ready
-turn_readers-requires-2-clause-ready g c j h =
+pub reslope_readers-requires-2-clause-ready : goal.reslope_readers-requires-2-clause-ready
+reslope_readers-requires-2-clause-ready g c j h =
     let m = c.args.at.now.machine.now in
     let held = c.requires.held in
     let many = held.lines.up_to.as_many in
@@ -85,12 +85,12 @@ turn_readers-requires-2-clause-ready g c j h =
     let between : Courses = record { lines = c.seat_each.new.lines; dues = c.seat_each.new.agenda } in
     let seats = c.seat_each.ensures in
     let are : AreSeated m c.args.at.now.tick c.args.left.now.states.now c.args.at.now.levels.now c.follow_slopes.new.slopes c.args.at.now.moved.now first between =
-    record { own = seats.turned; lines = seats.lines; left = seats.kept; places = seats.places; dues = seats.dues } in
-    let may : MayTurn m c.args.at.now.tick (int_at c.args.at.now.levels.now j) (int_at c.follow_slopes.new.slopes j) j (line_at c.seat_each.new.lines j) (due_at c.seat_each.new.agenda j) =
-    may_turn_seated m c.args.at.now.tick c.args.left.now.states.now c.args.at.now.levels.now c.follow_slopes.new.slopes c.args.at.now.moved.now first between are many c.requires.small_states j h
+    record { own = seats.goes_on; lines = seats.lines; left = seats.kept; places = seats.places; dues = seats.dues } in
+    let may : MayReslope m c.args.at.now.tick (int_at c.args.at.now.levels.now j) (int_at c.follow_slopes.new.slopes j) j (line_at c.seat_each.new.lines j) (due_at c.seat_each.new.agenda j) =
+    may_reslope_seated m c.args.at.now.tick c.args.left.now.states.now c.args.at.now.levels.now c.follow_slopes.new.slopes c.args.at.now.moved.now first between are many c.requires.small_states j h
     (held.lines.up_to.later j (omega (arith, h, many))) (c.requires.levels.near j h) (held.due j h) in
-    may_turn_again m c.args.at.now.tick (int_at c.args.at.now.levels.now j) (int_at c.follow_slopes.new.slopes j) j (line_at c.seat_each.new.lines j) (line_at c.turn_readers.new.lines j)
-    (due_at c.seat_each.new.agenda j) (due_at c.turn_readers.new.agenda j) may (c.turn_readers.ensures.turned.each j h)
+    may_reslope_again m c.args.at.now.tick (int_at c.args.at.now.levels.now j) (int_at c.follow_slopes.new.slopes j) j (line_at c.seat_each.new.lines j) (line_at c.reslope_readers.new.lines j)
+    (due_at c.seat_each.new.agenda j) (due_at c.reslope_readers.new.agenda j) may (c.reslope_readers.ensures.resloped.each j h)
 
 pub returns-clause-lines : goal.returns-clause-lines
 returns-clause-lines g c j h =
@@ -99,13 +99,13 @@ returns-clause-lines g c j h =
     let many = held.lines.up_to.as_many in
     let first : Courses = record { lines = c.args.lines.now; dues = c.args.agenda.now } in
     let between : Courses = record { lines = c.seat_each.new.lines; dues = c.seat_each.new.agenda } in
-    let turned : Courses = record { lines = c.turn_readers.new.lines; dues = c.turn_readers.new.agenda } in
-    let last : Courses = record { lines = c.turn_readers-2.new.lines; dues = c.turn_readers-2.new.agenda } in
+    let next : Courses = record { lines = c.reslope_readers.new.lines; dues = c.reslope_readers.new.agenda } in
+    let last : Courses = record { lines = c.reslope_readers-2.new.lines; dues = c.reslope_readers-2.new.agenda } in
     let seats = c.seat_each.ensures in
     let are : AreSeated m c.args.at.now.tick c.args.left.now.states.now c.args.at.now.levels.now c.follow_slopes.new.slopes c.args.at.now.moved.now first between =
-    record { own = seats.turned; lines = seats.lines; left = seats.kept; places = seats.places; dues = seats.dues } in
+    record { own = seats.goes_on; lines = seats.lines; left = seats.kept; places = seats.places; dues = seats.dues } in
     reseated m c.args.at.now.tick c.args.left.now.states.now c.args.at.now.levels.now c.follow_slopes.new.slopes c.args.at.now.moved.now first between are many
-    c.args.left.now.assigned.now held.before.0 c.args.left.now.before.now c.args.left.now.discretes.now c.args.slopes.now turned last c.turn_readers.ensures.turned c.turn_readers-2.ensures.turned
+    c.args.left.now.assigned.now held.before.0 c.args.left.now.before.now c.args.left.now.discretes.now c.args.slopes.now next last c.reslope_readers.ensures.resloped c.reslope_readers-2.ensures.resloped
     held.before.1 c.requires.handled.assigned.others c.follow_slopes.ensures c.requires.new.levels c.requires.handled.many_before c.requires.handled.many_discretes j h
     (held.lines.up_to.later j (omega (arith, h, many))) (held.own_slope j h) (held.due j h)
 
@@ -119,18 +119,18 @@ returns-clause-kept g c j h so =
     let between : Courses = record { lines = c.seat_each.new.lines; dues = c.seat_each.new.agenda } in
     let seats = c.seat_each.ensures in
     let are : AreSeated m c.args.at.now.tick c.args.left.now.states.now levels slopes c.args.at.now.moved.now first between =
-    record { own = seats.turned; lines = seats.lines; left = seats.kept; places = seats.places; dues = seats.dues } in
+    record { own = seats.goes_on; lines = seats.lines; left = seats.kept; places = seats.places; dues = seats.dues } in
     let seated = left_seated m c.args.at.now.tick c.args.left.now.states.now levels slopes c.args.at.now.moved.now first between are many j h so in
     let goes : Line → Bool = goes_at (int_at levels j) (int_at slopes j) in
     let at : goes (line_at c.args.lines.now j) ≡ true = (and_parts _ (goes (line_at c.args.lines.now j)) so).1 in
-    let second = c.turn_readers.ensures.turned.left j h (ap goes seated ∙ at) in
-    c.turn_readers-2.ensures.turned.left j h (ap goes (second ∙ seated) ∙ at) ∙ second ∙ seated
+    let second = c.reslope_readers.ensures.resloped.left j h (ap goes seated ∙ at) in
+    c.reslope_readers-2.ensures.resloped.left j h (ap goes (second ∙ seated) ∙ at) ∙ second ∙ seated
 
 pub returns-clause-others : goal.returns-clause-others
 returns-clause-others g c place past =
     let none : is_among c.args.at.now.moved.now place ≡ false = false_from_ne_true (is_among c.args.at.now.moved.now place) (λ among.
     let found = index_of c.args.at.now.moved.now place among in omega (arith, past, found.2, c.requires.new.moved.below found.0 0 found.1)) in
-    c.turn_readers-2.ensures.turned.others place past ∙ c.turn_readers.ensures.turned.others place past ∙ c.seat_each.ensures.dues place none
+    c.reslope_readers-2.ensures.resloped.others place past ∙ c.reslope_readers.ensures.resloped.others place past ∙ c.seat_each.ensures.dues place none
 
 pub returns-clause-counted : goal.returns-clause-counted
 returns-clause-counted g c =
@@ -142,14 +142,14 @@ returns-clause-counted g c =
     let slopes = c.follow_slopes.new.slopes in
     let first : Courses = record { lines = c.args.lines.now; dues = c.args.agenda.now } in
     let between : Courses = record { lines = c.seat_each.new.lines; dues = c.seat_each.new.agenda } in
-    let turned : Courses = record { lines = c.turn_readers.new.lines; dues = c.turn_readers.new.agenda } in
-    let last : Courses = record { lines = c.turn_readers-2.new.lines; dues = c.turn_readers-2.new.agenda } in
+    let next : Courses = record { lines = c.reslope_readers.new.lines; dues = c.reslope_readers.new.agenda } in
+    let last : Courses = record { lines = c.reslope_readers-2.new.lines; dues = c.reslope_readers-2.new.agenda } in
     let seats = c.seat_each.ensures in
     let are : AreSeated m c.args.at.now.tick c.args.left.now.states.now levels slopes c.args.at.now.moved.now first between =
-    record { own = seats.turned; lines = seats.lines; left = seats.kept; places = seats.places; dues = seats.dues } in
-    let none : renewals n levels slopes c.turn_readers-2.new.lines ≡ 0 = none_left n levels slopes c.turn_readers-2.new.lines (λ j h.
+    record { own = seats.goes_on; lines = seats.lines; left = seats.kept; places = seats.places; dues = seats.dues } in
+    let none : renewals n levels slopes c.reslope_readers-2.new.lines ≡ 0 = none_left n levels slopes c.reslope_readers-2.new.lines (λ j h.
     let own = reseated m c.args.at.now.tick c.args.left.now.states.now levels slopes c.args.at.now.moved.now first between are many
-    c.args.left.now.assigned.now held.before.0 c.args.left.now.before.now c.args.left.now.discretes.now c.args.slopes.now turned last c.turn_readers.ensures.turned c.turn_readers-2.ensures.turned
+    c.args.left.now.assigned.now held.before.0 c.args.left.now.before.now c.args.left.now.discretes.now c.args.slopes.now next last c.reslope_readers.ensures.resloped c.reslope_readers-2.ensures.resloped
     held.before.1 c.requires.handled.assigned.others c.follow_slopes.ensures c.requires.new.levels c.requires.handled.many_before c.requires.handled.many_discretes j h
     (held.lines.up_to.later j (omega (arith, h, many))) (held.own_slope j h) (held.due j h) in
     (own.own_level, own.own_slope ∙ sym (ap (λ zs. int_at zs j) c.follow_slopes.ensures ∙ int_at-tabulate n (λ k. slope_at m k levels c.args.left.now.discretes.now) j h))) in
@@ -157,4 +157,4 @@ returns-clause-counted g c =
     let found = index_of c.args.at.now.moved.now j among in
     moved_state c.args.lines.now c.args.at.now.tick c.args.at.now.moved.now c.args.left.now.states.now j (omega (arith, found.2, c.requires.new.moved.below found.0 0 found.1, many)) among) in
     let same = renewals_seated m c.args.at.now.tick c.args.left.now.states.now levels slopes c.args.at.now.moved.now first between are many in
-    omega (arith, none, seated, same, c.turn_readers.ensures.counted, c.turn_readers-2.ensures.counted)
+    omega (arith, none, seated, same, c.reslope_readers.ensures.counted, c.reslope_readers-2.ensures.counted)

@@ -9,14 +9,14 @@ use Rattle.qss_machine.specs.Machines.{state_count}
 use Rattle.qss_quant.specs.Lines.{Line}
 use Rattle.qss_sched.specs.Ranks.{due_at}
 use Rattle.qss_quiet.specs.Sims.{no_line}
-use Rattle.qss_lines.specs.StateLines.{line_at, IsTurned}
+use Rattle.qss_lines.specs.StateLines.{line_at, GoesOnFrom}
 use Rattle.qss_lines.proofs.Renewed.{counted_at, left_at}
 use Rattle.qss_lines.proofs.Seats.{seated}
 use Rattle.qss_lines.proofs.reseated.seat.Goals as goal
 use mir.Syntax.{w64, w128}
 
-pub returns-clause-turned : goal.returns-clause-turned
-returns-clause-turned g c =
+pub returns-clause-goes_on : goal.returns-clause-goes_on
+returns-clause-goes_on g c =
     let m = c.args.at.now.machine.now in
     let j = c.args.j in
     let small_x : IsWithin 88 (int_at c.args.x.now j) = c.requires.states.small j (pos 0) (omega (arith, c.requires.states.as_many, c.requires.state)) in
@@ -25,15 +25,15 @@ returns-clause-turned g c =
     let level : FitsSigned w64 (int_at c.args.at.now.levels.now j) = omega (arith, ints, small_level) in
     let small_slope : IsWithin 88 (int_at c.args.slopes.now j) = c.requires.on.slopes_of.small j (pos 0) (omega (arith, c.requires.on.slopes_of.as_many, c.requires.state)) in
     let slope : FitsSigned w128 (int_at c.args.slopes.now j) = omega (arith, ints, small_slope) in
-    let turned = c.reseat.ensures.turned in
-    subst (λ (l : Line). IsTurned m c.args.at.now.tick (int_at c.args.x.now j) (int_at c.args.at.now.levels.now j) (int_at c.args.slopes.now j) j l (due_at c.reseat.new.agenda j))
+    let goes_on = c.reseat.ensures.goes_on in
+    subst (λ (l : Line). GoesOnFrom m c.args.at.now.tick (int_at c.args.x.now j) (int_at c.args.at.now.levels.now j) (int_at c.args.slopes.now j) j l (due_at c.reseat.new.agenda j))
     (sym (get_or-set_same c.args.lines.now j c.reseat.new.line no_line (omega (arith, c.requires.lines, c.requires.state))))
     (record {
-      not_later = turned.not_later;
-      here = turned.here ∙ to_z-of_z w128 (int_at c.args.x.now j) x;
-      own_slope = turned.own_slope ∙ to_z-of_z w128 (int_at c.args.slopes.now j) slope;
-      own_level = turned.own_level ∙ to_z-of_z w64 (int_at c.args.at.now.levels.now j) level;
-      is_due = turned.is_due;
+      not_later = goes_on.not_later;
+      here = goes_on.here ∙ to_z-of_z w128 (int_at c.args.x.now j) x;
+      own_slope = goes_on.own_slope ∙ to_z-of_z w128 (int_at c.args.slopes.now j) slope;
+      own_level = goes_on.own_level ∙ to_z-of_z w64 (int_at c.args.at.now.levels.now j) level;
+      is_due = goes_on.is_due;
     })
 
 pub returns-clause-kept : goal.returns-clause-kept
@@ -65,11 +65,11 @@ returns-clause-counted g c states at =
     let inside : j < length c.args.lines.now = omega (arith, c.requires.lines, c.requires.state) in
     let old : Line = get_or c.args.lines.now j c.index-lines-j.result in
     let read : old ≡ line_at c.args.lines.now j = get_or_default c.args.lines.now j c.index-lines-j.result no_line inside in
-    let turned = c.reseat.ensures.turned in
+    let goes_on = c.reseat.ensures.goes_on in
     let of_x = to_z-of_z w128 (int_at c.args.x.now j) x ∙ sym at in
     let of_level = to_z-of_z w64 (int_at c.args.at.now.levels.now j) level in
     let of_slope = to_z-of_z w128 (int_at c.args.slopes.now j) slope in
     let few = counted_at c.args.at.now.tick (int_at states j) (int_at c.args.at.now.levels.now j) (int_at c.args.slopes.now j) (line_at c.args.lines.now j) _ _ _ _ c.args.steps.now c.reseat.new.steps
     of_x of_level of_slope read c.reseat.ensures.counted in
     seated (state_count m) j c.args.at.now.tick states c.args.at.now.levels.now c.args.slopes.now c.args.lines.now c.reseat.new.line c.args.steps.now c.reseat.new.steps c.requires.state inside
-    (turned.here ∙ of_x) (turned.own_level ∙ of_level) (turned.own_slope ∙ of_slope) few
+    (goes_on.here ∙ of_x) (goes_on.own_level ∙ of_level) (goes_on.own_slope ∙ of_slope) few

@@ -4,7 +4,7 @@ use Rattle.std.proofs.lemmas.List.{take_all}
 use Rattle.mu_num.specs.Sizes.{IsWithin}
 use Rattle.qss_machine.specs.Machines.{state_count}
 use Rattle.qss_machine.specs.Numbers.{int_at}
-use Rattle.qss_lines.specs.Turnings.{Courses}
+use Rattle.qss_lines.specs.Reslopings.{Courses}
 use Rattle.qss_lines.proofs.Seats.{AreSeated, none_seated, seated_more, still_begun, still_small}
 use Rattle.qss_quiet.proofs.Writes.{among_at}
 use Rattle.qss_lines.proofs.reseated.seat_each.Goals as goal
@@ -50,7 +50,7 @@ loop-j-preserved g c =
     let after : Courses = record { lines = c.seat.new.lines; dues = c.seat.new.agenda } in
     record {
       are_seated = seated_more m c.args.at.now.tick c.args.x.now c.args.at.now.levels.now c.args.slopes.now c.args.at.now.moved.now i first before after c.loop-j-test.true inv.are_seated
-          c.seat.ensures.turned c.seat.ensures.lines c.seat.ensures.kept c.seat.ensures.places c.seat.ensures.dues;
+          c.seat.ensures.goes_on c.seat.ensures.lines c.seat.ensures.kept c.seat.ensures.places c.seat.ensures.dues;
       line_count = omega (arith, inv.line_count, c.seat.auto.lines);
       counted = λ states at.
           let own = inv.counted states at in
@@ -65,4 +65,4 @@ returns g c =
     let are : AreSeated c.args.at.now.machine.now c.args.at.now.tick c.args.x.now c.args.at.now.levels.now c.args.slopes.now c.args.at.now.moved.now first last =
     subst (λ (moved : List ℕ). AreSeated c.args.at.now.machine.now c.args.at.now.tick c.args.x.now c.args.at.now.levels.now c.args.slopes.now moved first last)
     (take_all c.loop-j.j-index c.args.at.now.moved.now c.loop-j-test.false) c.loop-j.invariant.are_seated in
-    record { turned = are.own; lines = are.lines; kept = are.left; places = are.places; dues = are.dues; counted = c.loop-j.invariant.counted }
+    record { goes_on = are.own; lines = are.lines; kept = are.left; places = are.places; dues = are.dues; counted = c.loop-j.invariant.counted }

@@ -4,7 +4,7 @@ use Rattle.std.proofs.lemmas.Int.{to_z-of_z}
 use Rattle.std.proofs.lemmas.List.{length-set}
 use Rattle.std.specs.Int.RustNames.{FitsSigned}
 use Rattle.qss_machine.specs.Machines.{state_count, slope_at}
-use Rattle.qss_lines.proofs.Turning.{is_true}
+use Rattle.qss_lines.proofs.GoingOn.{is_true}
 use Rattle.qss_quiet.proofs.Writes.{written_more, written_all}
 use Rattle.qss_quiet.proofs.LightRows.{row_is_light}
 use Rattle.qss_lines.proofs.reseated.slope_rows.Goals as goal

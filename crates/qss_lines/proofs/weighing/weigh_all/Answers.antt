@@ -3,7 +3,7 @@ use Rattle.std.proofs.Common.{◌<◌, ℕ, pos, arith}
 use Rattle.std.proofs.lemmas.List.FromFn.{fill_by_all}
 use Rattle.qss_machine.specs.Machines.{state_count, weight_at}
 use Rattle.qss_quiet.proofs.LightRows.{row_is_light}
-use Rattle.qss_lines.proofs.Turning.{is_true}
+use Rattle.qss_lines.proofs.GoingOn.{is_true}
 use Rattle.qss_lines.proofs.weighing.weigh_all.Goals as goal
 
 pub weight-requires-clause-modes : goal.weight-requires-clause-modes

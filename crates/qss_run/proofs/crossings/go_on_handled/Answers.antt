@@ -17,7 +17,7 @@ use Rattle.qss_lines.specs.Variables.{AreAssignedFrom}
 use Rattle.qss_lines.specs.Visitings.{AreLevelsFor, HeldBefore}
 use Rattle.qss_watch.specs.Handlings.{AreWatchedUpTo}
 use Rattle.qss_watch.specs.Rewatchings.{watchings_of}
-use Rattle.qss_lines.specs.StateLines.{states_with, line_at, IsTurned, states_at, AreLinesAt}
+use Rattle.qss_lines.specs.StateLines.{states_with, line_at, GoesOnFrom, states_at, AreLinesAt}
 use Rattle.qss_quiet.specs.Among.{AreNumbers}
 use Rattle.qss_quiet.specs.Logs.{reinitialized_of}
 use Rattle.qss_watch.specs.Places.{watch_at, IsWatched}
@@ -25,7 +25,7 @@ use Rattle.qss_lines.specs.Renewals.{renewals_from}
 use Rattle.qss_run.specs.Stores.{world_of, FitsMachine, Stands}
 use Rattle.qss_run.proofs.AfterHandlers.{length-states_with, same_states, same_slopes, same_worlds, lead_to, watched_up_to}
 use Rattle.qss_watch.proofs.Reinitialized.{among_reinitialized}
-use Rattle.qss_lines.proofs.Turning.{slopes_small}
+use Rattle.qss_lines.proofs.GoingOn.{slopes_small}
 use Rattle.qss_hand.proofs.Turns.{conditions_few}
 use Rattle.qss_run.proofs.Visits.{stands_again}
 use Rattle.qss_lines.proofs.InPlace.{same_length}
@@ -262,12 +262,12 @@ returns g c =
     (of_slopes ∙ slopes_are)
     c.requires.weights
     (λ j h.
-    subst (λ ls. IsTurned m t (int_at y j) (int_at s.levels.items j) (slope_at m j s.levels.items next.work.d) j (line_at ls j) (due_at next.agenda j)) (sym of_lines)
-    (subst (λ found. IsTurned m t (int_at y j) (int_at s.levels.items j) (slope_at m j s.levels.items next.work.d) j (line_at after j) found)
+    subst (λ ls. GoesOnFrom m t (int_at y j) (int_at s.levels.items j) (slope_at m j s.levels.items next.work.d) j (line_at ls j) (due_at next.agenda j)) (sym of_lines)
+    (subst (λ found. GoesOnFrom m t (int_at y j) (int_at s.levels.items j) (slope_at m j s.levels.items next.work.d) j (line_at after j) found)
     (sym (kept j (omega (arith, h)) ∙ c.rewatch_handled.ensures.others j h))
-    (subst (λ d. IsTurned m t (int_at y j) (int_at s.levels.items j) (slope_at m j s.levels.items d) j (line_at after j) (due_at c.reslope_handled.new.agenda j)) d_now
-    (subst (λ l. IsTurned m t (int_at y j) (int_at l j) (slope_at m j l c.as_slice-6.result.now) j (line_at after j) (due_at c.reslope_handled.new.agenda j)) c.as_slice-2.ensures.value
-    (subst (λ v. IsTurned m t (int_at v j) (int_at c.as_slice-2.result.now j) (slope_at m j c.as_slice-2.result.now c.as_slice-6.result.now) j (line_at after j) (due_at c.reslope_handled.new.agenda j)) here
+    (subst (λ d. GoesOnFrom m t (int_at y j) (int_at s.levels.items j) (slope_at m j s.levels.items d) j (line_at after j) (due_at c.reslope_handled.new.agenda j)) d_now
+    (subst (λ l. GoesOnFrom m t (int_at y j) (int_at l j) (slope_at m j l c.as_slice-6.result.now) j (line_at after j) (due_at c.reslope_handled.new.agenda j)) c.as_slice-2.ensures.value
+    (subst (λ v. GoesOnFrom m t (int_at v j) (int_at c.as_slice-2.result.now j) (slope_at m j c.as_slice-2.result.now c.as_slice-6.result.now) j (line_at after j) (due_at c.reslope_handled.new.agenda j)) here
     (c.reslope_handled.ensures.lines j h))))))
     settled
     (λ place h.

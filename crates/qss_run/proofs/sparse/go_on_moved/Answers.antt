@@ -10,7 +10,7 @@ use Rattle.qss_lines.specs.StateLines.{states_at}
 use Rattle.qss_watch.proofs.OwnConditions.{still_fits}
 use Rattle.qss_run.proofs.QuietTick.{value_small, condition_bounded}
 use Rattle.qss_run.proofs.QuietVisits.{slopes_stay}
-use Rattle.qss_lines.proofs.Turning.{slopes_small}
+use Rattle.qss_lines.proofs.GoingOn.{slopes_small}
 use Rattle.qss_run.proofs.sparse.go_on_moved.Goals as goal
 
 pub reslope_of-requires-clause-ready : goal.reslope_of-requires-clause-ready

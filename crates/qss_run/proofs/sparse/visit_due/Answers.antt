@@ -21,7 +21,7 @@ use Rattle.qss_watch.specs.declared.conditions.Conditions.{Conditions}
 use Rattle.qss_run.specs.declared.store.Store.{Store}
 use Rattle.qss_machine.specs.Firing.{flag_at}
 use Rattle.qss_quiet.specs.Among.{is_among, AreNumbers, IsOff}
-use Rattle.qss_lines.specs.StateLines.{line_at, IsTurned, states_at}
+use Rattle.qss_lines.specs.StateLines.{line_at, GoesOnFrom, states_at}
 use Rattle.qss_watch.specs.Places.{watch_at, IsWatched}
 use Rattle.qss_quiet.specs.Rules.{IsRuled}
 use Rattle.qss_quiet.specs.Sims.{IsDue}
@@ -304,11 +304,11 @@ returns g c =
     (subst (λ l. AreWeights m l next.work.d next.weights) (sym (own_levels ∙ levels ∙ sym (c.requantize_moved-over.ensures.taken.1.levels calm)))
     (c.requantize_moved-over.ensures.weights calm))
     (λ j inside.
-    subst (λ ls. IsTurned m t (int_at x j) (int_at next.levels.items j) (slope_at m j next.levels.items next.work.d) j (line_at ls j) (due_at next.agenda j)) (sym of_lines)
-    (subst (λ l. IsTurned m t (int_at x j) (int_at l j) (slope_at m j l next.work.d) j (line_at c.go_on_moved.new.lines j) (due_at next.agenda j)) (sym own_levels)
-    (subst (λ y. IsTurned m t y (int_at c.as_slice-4.result.now j) (slope_at m j c.as_slice-4.result.now next.work.d) j (line_at c.go_on_moved.new.lines j) (due_at next.agenda j))
+    subst (λ ls. GoesOnFrom m t (int_at x j) (int_at next.levels.items j) (slope_at m j next.levels.items next.work.d) j (line_at ls j) (due_at next.agenda j)) (sym of_lines)
+    (subst (λ l. GoesOnFrom m t (int_at x j) (int_at l j) (slope_at m j l next.work.d) j (line_at c.go_on_moved.new.lines j) (due_at next.agenda j)) (sym own_levels)
+    (subst (λ y. GoesOnFrom m t y (int_at c.as_slice-4.result.now j) (slope_at m j c.as_slice-4.result.now next.work.d) j (line_at c.go_on_moved.new.lines j) (due_at next.agenda j))
     (ap (λ ls. state_at (line_at ls j) t) c.as_mut_slice-3.ensures.value ∙ sym (leads m c.args.tick agenda s taken c.requires.in_time j inside))
-    (subst (λ d. IsTurned m t (state_at (line_at c.as_mut_slice-3.result.now j) t) (int_at c.as_slice-4.result.now j) (slope_at m j c.as_slice-4.result.now d) j (line_at c.go_on_moved.new.lines j) (due_at next.agenda j))
+    (subst (λ d. GoesOnFrom m t (state_at (line_at c.as_mut_slice-3.result.now j) t) (int_at c.as_slice-4.result.now j) (slope_at m j c.as_slice-4.result.now d) j (line_at c.go_on_moved.new.lines j) (due_at next.agenda j))
     of_d (c.go_on_moved.ensures.lines j inside)))))
     (own_settled ∙ settled)
     (λ place inside.

@@ -15,7 +15,7 @@ use Rattle.qss_machine.specs.Runs.{state_rows, discrete_rows}
 use Rattle.qss_sched.specs.Ranks.{due_at}
 use Rattle.qss_hand.specs.Values.{Values}
 use Rattle.qss_run.specs.declared.store.Store.{Store}
-use Rattle.qss_lines.specs.StateLines.{line_at, IsTurned, states_at}
+use Rattle.qss_lines.specs.StateLines.{line_at, GoesOnFrom, states_at}
 use Rattle.qss_watch.specs.Places.{watch_at, IsWatched}
 use Rattle.qss_lines.specs.Kept.{AreWeights}
 use Rattle.qss_run.specs.Stores.{FitsMachine}
@@ -92,8 +92,8 @@ returns c =
     (subst (λ d. AreWeights m s.levels.items d next.weights) of_d
     (subst (λ l. AreWeights m l c.as_slice-d.result.now next.weights) c.as_slice-2.ensures.value c.start.ensures.weights))
     (λ j inside.
-    subst (λ ls. IsTurned m 0 (int_at next.work.x j) (int_at next.levels.items j) (slope_at m j next.levels.items next.work.d) j (line_at ls j) (due_at next.agenda j)) (sym of_lines)
-    (subst (λ l. IsTurned m 0 (int_at next.work.x j) (int_at l j) (slope_at m j l next.work.d) j (line_at c.set_out.new.lines j) (due_at next.agenda j)) levels (c.set_out.ensures.lines j inside)))
+    subst (λ ls. GoesOnFrom m 0 (int_at next.work.x j) (int_at next.levels.items j) (slope_at m j next.levels.items next.work.d) j (line_at ls j) (due_at next.agenda j)) (sym of_lines)
+    (subst (λ l. GoesOnFrom m 0 (int_at next.work.x j) (int_at l j) (slope_at m j l next.work.d) j (line_at c.set_out.new.lines j) (due_at next.agenda j)) levels (c.set_out.ensures.lines j inside)))
     c.set_out.ensures.settled
     (λ place inside.
     subst (λ sl. IsWatched m 0 next.work.x next.work.d sl place (watch_at next.conditions.watches.items place) (due_at next.agenda (state_count m + place))) (sym of_slopes)

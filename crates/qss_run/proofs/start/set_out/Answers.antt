@@ -14,7 +14,7 @@ use Rattle.qss_quant.specs.Lines.{IsNear}
 use Rattle.qss_hand.specs.Values.{Values}
 use Rattle.qss_watch.specs.declared.conditions.Conditions.{Conditions}
 use Rattle.qss_watch.proofs.OwnConditions.{arrived_anew}
-use Rattle.qss_lines.proofs.Turning.{slopes_small}
+use Rattle.qss_lines.proofs.GoingOn.{slopes_small}
 use Rattle.qss_quiet.proofs.Starts.{states_start, discretes_start, levels_start, light_at, count_start}
 use Rattle.qss_lines.proofs.InPlace.{same_length}
 use Rattle.qss_run.proofs.start.set_out.Goals as goal

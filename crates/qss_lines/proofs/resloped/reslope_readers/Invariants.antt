@@ -2,13 +2,13 @@ use Rattle.std.proofs.Common.{◌≡◌, ◌+◌, length, take, flat_map}
 use Rattle.qss_machine.specs.Machines.{state_count}
 use Rattle.qss_machine.specs.Uses.{reading_rows}
 use Rattle.qss_lines.specs.Renewals.{renewals}
-use Rattle.qss_lines.specs.Turnings.{AreTurned}
-use Rattle.qss_lines.proofs.turned.turn_readers.Given as goal
+use Rattle.qss_lines.specs.Reslopings.{AreResloped}
+use Rattle.qss_lines.proofs.resloped.reslope_readers.Given as goal
 
 -- the variables so far
 abbrev pub invariant-loop-var : goal.invariant-loop-var
 invariant-loop-var g l = record {
-  turned : AreTurned l.at.machine.now l.at.tick l.at.levels.now l.slopes (flat_map (reading_rows l.at.machine.now) (take l.var-index l.variables)) (record { lines = l.fn.lines; dues = l.fn.agenda }) (record { lines = l.lines; dues = l.agenda });
+  resloped : AreResloped l.at.machine.now l.at.tick l.at.levels.now l.slopes (flat_map (reading_rows l.at.machine.now) (take l.var-index l.variables)) (record { lines = l.fn.lines; dues = l.fn.agenda }) (record { lines = l.lines; dues = l.agenda });
   line_count : length l.lines ≡ state_count l.at.machine.now;
   counted : l.steps + renewals (state_count l.at.machine.now) l.at.levels.now l.slopes l.lines ≡ l.fn.steps + renewals (state_count l.at.machine.now) l.at.levels.now l.slopes l.fn.lines;
 }

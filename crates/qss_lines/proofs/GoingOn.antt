@@ -11,7 +11,7 @@ use Rattle.qss_machine.specs.Machines.{state_count, level_unit, quantum_of, slop
 use Rattle.qss_machine.specs.Ticks.{is_overweight}
 use Rattle.qss_quant.specs.Lines.{Line, IsNear}
 use Rattle.qss_sched.specs.Ranks.{due_at}
-use Rattle.qss_lines.specs.StateLines.{line_at, IsTurned}
+use Rattle.qss_lines.specs.StateLines.{line_at, GoesOnFrom}
 use Rattle.qss_quiet.specs.Sims.{no_line}
 use Rattle.qss_quiet.proofs.LightRows.{row_is_light}
 
@@ -20,18 +20,18 @@ is_true b e = search (e)
 
 -- ---- one more line, one more level, one more watch
 
-pub turned_more : (m : Machine) (tick : ℕ) (x levels d : List ℤ) (lines : List Line) (agenda next : List (Option ℕ)) (j : ℕ) (line : Line) → j < length lines →
-    ((k : ℕ) → k < j → IsTurned m tick (int_at x k) (int_at levels k) (slope_at m k levels d) k (line_at lines k) (due_at agenda k)) →
+pub goes_on_more : (m : Machine) (tick : ℕ) (x levels d : List ℤ) (lines : List Line) (agenda next : List (Option ℕ)) (j : ℕ) (line : Line) → j < length lines →
+    ((k : ℕ) → k < j → GoesOnFrom m tick (int_at x k) (int_at levels k) (slope_at m k levels d) k (line_at lines k) (due_at agenda k)) →
     ((place : ℕ) → (place ≡ j → ⊥) → due_at next place ≡ due_at agenda place) →
-    IsTurned m tick (int_at x j) (int_at levels j) (slope_at m j levels d) j line (due_at next j) →
-    (k : ℕ) → k < j + 1 → IsTurned m tick (int_at x k) (int_at levels k) (slope_at m k levels d) k (line_at (set lines j line) k) (due_at next k)
-turned_more m tick x levels d lines agenda next j line h before others here =
-    below_more (λ k. IsTurned m tick (int_at x k) (int_at levels k) (slope_at m k levels d) k (line_at (set lines j line) k) (due_at next k)) j
+    GoesOnFrom m tick (int_at x j) (int_at levels j) (slope_at m j levels d) j line (due_at next j) →
+    (k : ℕ) → k < j + 1 → GoesOnFrom m tick (int_at x k) (int_at levels k) (slope_at m k levels d) k (line_at (set lines j line) k) (due_at next k)
+goes_on_more m tick x levels d lines agenda next j line h before others here =
+    below_more (λ k. GoesOnFrom m tick (int_at x k) (int_at levels k) (slope_at m k levels d) k (line_at (set lines j line) k) (due_at next k)) j
     (λ k below.
     let ne : k ≢ j = omega (arith, below) in
-    subst (λ l. IsTurned m tick (int_at x k) (int_at levels k) (slope_at m k levels d) k l (due_at next k)) (sym (get_or-set_other lines j k line no_line ne))
-    (subst (IsTurned m tick (int_at x k) (int_at levels k) (slope_at m k levels d) k (line_at lines k)) (sym (others k ne)) (before k below)))
-    (subst (λ l. IsTurned m tick (int_at x j) (int_at levels j) (slope_at m j levels d) j l (due_at next j)) (sym (get_or-set_same lines j line no_line h)) here)
+    subst (λ l. GoesOnFrom m tick (int_at x k) (int_at levels k) (slope_at m k levels d) k l (due_at next k)) (sym (get_or-set_other lines j k line no_line ne))
+    (subst (GoesOnFrom m tick (int_at x k) (int_at levels k) (slope_at m k levels d) k (line_at lines k)) (sym (others k ne)) (before k below)))
+    (subst (λ l. GoesOnFrom m tick (int_at x j) (int_at levels j) (slope_at m j levels d) j l (due_at next j)) (sym (get_or-set_same lines j line no_line h)) here)
 
 pub slopes_small : (m : Machine) (levels d e slopes : List ℤ) → position (is_overweight m levels d) m.rows ≡ None → e ≡ d →
     slopes ≡ tabulate (state_count m) (λ j. slope_at m j levels e) → All (IsWithin 88) slopes

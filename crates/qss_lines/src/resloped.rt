@@ -6,9 +6,9 @@ ghost use Rattle.qss_machine.specs.Machines.{state_count, discrete_count};
 ghost use Rattle.qss_machine.specs.Uses.{reading_rows};
 ghost use Rattle.qss_quant.specs.Lines.{state_at};
 ghost use Rattle.qss_sched.specs.Ranks.{due_at};
-ghost use Rattle.qss_lines.specs.StateLines.{line_at, IsTurned};
+ghost use Rattle.qss_lines.specs.StateLines.{line_at, GoesOnFrom};
 ghost use Rattle.qss_lines.specs.Renewals.{goes_at, renewals};
-ghost use Rattle.qss_lines.specs.Turnings.{MayTurn, AreTurned};
+ghost use Rattle.qss_lines.specs.Reslopings.{MayReslope, AreResloped};
 ghost use Rattle.qss_lines.specs.Visitings.{CanGoOn};
 
 use crate::slopes::reslope;
@@ -18,7 +18,7 @@ use qss_sched::Agenda;
 use std::sync::ledger::Ledger;
 
 // A state goes on from a tick at its level and its slope.
-fn turn<L: Ledger>(
+fn reslope_state<L: Ledger>(
     at: &NewLevels,
     slopes: &[i128],
     j: u32,
@@ -30,10 +30,10 @@ fn turn<L: Ledger>(
     requires on { CanGoOn at.now slopes.now }
     requires lines { length lines.old ≡ state_count at.now.machine.now }
     requires places { state_count at.now.machine.now ≤ length agenda.old }
-    requires ready { MayTurn at.now.machine.now at.now.tick (int_at at.now.levels.now j)
+    requires ready { MayReslope at.now.machine.now at.now.tick (int_at at.now.levels.now j)
         (int_at slopes.now j)
         j (line_at lines.old j) (due_at agenda.old j) }
-    ensures turned { IsTurned at.now.machine.now at.now.tick
+    ensures goes_on { GoesOnFrom at.now.machine.now at.now.tick
         (state_at (line_at lines.old j) at.now.tick)
         (int_at at.now.levels.now j) (int_at slopes.now j) j (line_at lines.new j)
         (due_at agenda.new j) }
@@ -63,7 +63,7 @@ fn turn<L: Ledger>(
 }
 
 // These states go on from a tick at their levels and slopes.
-fn turn_each<L: Ledger>(
+fn reslope_each<L: Ledger>(
     at: &NewLevels,
     slopes: &[i128],
     states: &[u32],
@@ -76,9 +76,9 @@ fn turn_each<L: Ledger>(
     requires lines { length lines.old ≡ state_count at.now.machine.now }
     requires places { state_count at.now.machine.now ≤ length agenda.old }
     requires ready { (j : ℕ) → j < state_count at.now.machine.now
-        → MayTurn at.now.machine.now at.now.tick (int_at at.now.levels.now j) (int_at slopes.now j)
+        → MayReslope at.now.machine.now at.now.tick (int_at at.now.levels.now j) (int_at slopes.now j)
         j (line_at lines.old j) (due_at agenda.old j) }
-    ensures turned { AreTurned at.now.machine.now at.now.tick at.now.levels.now slopes.now
+    ensures resloped { AreResloped at.now.machine.now at.now.tick at.now.levels.now slopes.now
         states.now
         (record { lines = lines.old; dues = agenda.old })
         (record { lines = lines.new; dues = agenda.new }) }
@@ -88,12 +88,12 @@ fn turn_each<L: Ledger>(
         (state_count at.now.machine.now) at.now.levels.now slopes.now lines.old }
 {
     for j in states {
-        turn(at, slopes, *j, lines, agenda, steps);
+        reslope_state(at, slopes, *j, lines, agenda, steps);
     }
 }
 
 /// The states whose rows read one of these variables go on from a tick at their levels and slopes.
-pub(crate) fn turn_readers<L: Ledger>(
+pub(crate) fn reslope_readers<L: Ledger>(
     at: &NewLevels,
     slopes: &[i128],
     variables: &[u32],
@@ -108,9 +108,9 @@ pub(crate) fn turn_readers<L: Ledger>(
     requires lines { length lines.old ≡ state_count at.now.machine.now }
     requires places { state_count at.now.machine.now ≤ length agenda.old }
     requires ready { (j : ℕ) → j < state_count at.now.machine.now
-        → MayTurn at.now.machine.now at.now.tick (int_at at.now.levels.now j) (int_at slopes.now j)
+        → MayReslope at.now.machine.now at.now.tick (int_at at.now.levels.now j) (int_at slopes.now j)
         j (line_at lines.old j) (due_at agenda.old j) }
-    ensures turned { AreTurned at.now.machine.now at.now.tick at.now.levels.now slopes.now
+    ensures resloped { AreResloped at.now.machine.now at.now.tick at.now.levels.now slopes.now
         (flat_map (reading_rows at.now.machine.now) variables.now)
         (record { lines = lines.old; dues = agenda.old })
         (record { lines = lines.new; dues = agenda.new }) }
@@ -121,6 +121,6 @@ pub(crate) fn turn_readers<L: Ledger>(
 {
     for var in variables {
         let readers = at.uses.rows_of(*var);
-        turn_each(at, slopes, readers, lines, agenda, steps);
+        reslope_each(at, slopes, readers, lines, agenda, steps);
     }
 }

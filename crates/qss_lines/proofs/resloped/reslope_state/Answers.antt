@@ -1,4 +1,4 @@
--- The line of one state is turned.
+-- The line of one state goes on.
 use Rattle.std.proofs.Common.{◌≡◌, ◌<◌, pos, length, get_or, ℤ, refl, ◌∙◌, sym, ap, subst, arith}
 use Rattle.std.proofs.lemmas.Int.{ints, to_z-of_z}
 use Rattle.std.proofs.lemmas.List.{get_or-set_same, get_or_default}
@@ -9,13 +9,13 @@ use Rattle.qss_machine.specs.Machines.{state_count}
 use Rattle.qss_quant.specs.Lines.{Line, state_at}
 use Rattle.qss_sched.specs.Ranks.{due_at}
 use Rattle.qss_quiet.specs.Sims.{no_line}
-use Rattle.qss_lines.specs.StateLines.{line_at, IsTurned}
+use Rattle.qss_lines.specs.StateLines.{line_at, GoesOnFrom}
 use Rattle.qss_lines.proofs.Renewed.{counted_at, from_here, left_at, renewed}
-use Rattle.qss_lines.proofs.turned.turn.Goals as goal
+use Rattle.qss_lines.proofs.resloped.reslope_state.Goals as goal
 use mir.Syntax.{w64, w128}
 
-pub returns-clause-turned : goal.returns-clause-turned
-returns-clause-turned g c =
+pub returns-clause-goes_on : goal.returns-clause-goes_on
+returns-clause-goes_on g c =
     let m = c.args.at.now.machine.now in
     let j = c.args.j in
     let small_level : IsWithin 43 (int_at c.args.at.now.levels.now j) = c.requires.on.new.small_levels j (pos 0) (omega (arith, c.requires.on.new.levels, c.requires.state)) in
@@ -26,7 +26,7 @@ returns-clause-turned g c =
     let inside : j < length c.args.lines.now = omega (arith, c.requires.lines, c.requires.state) in
     let old : Line = get_or c.args.lines.now j c.index-lines-j.result in
     let read : old ≡ line_at c.args.lines.now j = get_or_default c.args.lines.now j c.index-lines-j.result no_line inside in
-    subst (λ (l : Line). IsTurned m c.args.at.now.tick (state_at (line_at c.args.lines.now j) c.args.at.now.tick) (int_at c.args.at.now.levels.now j) (int_at c.args.slopes.now j) j l (due_at c.reslope.new.agenda j))
+    subst (λ (l : Line). GoesOnFrom m c.args.at.now.tick (state_at (line_at c.args.lines.now j) c.args.at.now.tick) (int_at c.args.at.now.levels.now j) (int_at c.args.slopes.now j) j l (due_at c.reslope.new.agenda j))
     (sym (get_or-set_same c.args.lines.now j c.reslope.new.line no_line inside))
     (record {
       not_later = c.reslope.ensures.not_later;

@@ -1,0 +1,26 @@
+-- One more state goes on.
+use Rattle.std.proofs.Common.{◌<◌, ◌∷◌, [], ℕ, List, take, get_or, sym, subst, arith}
+use Rattle.std.proofs.lemmas.List.{take_more}
+use Rattle.qss_machine.specs.Machines.{state_count}
+use Rattle.qss_lines.specs.Reslopings.{Courses, AreResloped}
+use Rattle.qss_lines.proofs.Courses.{one_resloped, resloped_then}
+use Rattle.qss_lines.proofs.resloped.reslope_each.Goals as goal
+
+pub loop-j-preserved : goal.loop-j-preserved
+loop-j-preserved g c =
+    let m = c.args.at.now.machine.now in
+    let i = c.loop-j.j-index in
+    let inv = c.loop-j.invariant in
+    let state : ℕ = get_or c.args.states.now i 0 in
+    let known : state < state_count m = c.requires.states i 0 c.loop-j-test.true in
+    let first : Courses = record { lines = c.args.lines.now; dues = c.args.agenda.now } in
+    let before : Courses = record { lines = c.loop-j.lines; dues = c.loop-j.agenda } in
+    let after : Courses = record { lines = c.reslope_state.new.lines; dues = c.reslope_state.new.agenda } in
+    let one : AreResloped m c.args.at.now.tick c.args.at.now.levels.now c.args.slopes.now (state ∷ []) before after =
+    one_resloped m c.args.at.now.tick c.args.at.now.levels.now c.args.slopes.now state before after known c.reslope_state.ensures.goes_on c.reslope_state.ensures.lines c.reslope_state.ensures.places c.reslope_state.ensures.dues c.reslope_state.ensures.kept in
+    record {
+      resloped = subst (λ (states : List ℕ). AreResloped m c.args.at.now.tick c.args.at.now.levels.now c.args.slopes.now states first after) (sym (take_more c.args.states.now i 0 c.loop-j-test.true))
+          (resloped_then m c.args.at.now.tick c.args.at.now.levels.now c.args.slopes.now (take i c.args.states.now) (state ∷ []) first before after inv.resloped one);
+      line_count = omega (arith, inv.line_count, c.reslope_state.auto.lines);
+      counted = omega (arith, inv.counted, c.reslope_state.ensures.counted);
+    }
