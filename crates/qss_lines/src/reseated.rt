@@ -229,7 +229,8 @@ pub fn reslope_handled<L: Ledger>(
     requires { CanReseat at.now left.now slopes.old lines.old agenda.old }
     ensures slopes { slopes.new ≡ new_slopes at.now left.now.discretes.now }
     ensures lines { (j : ℕ) → j < state_count at.now.machine.now
-        → GoesOnFrom at.now.machine.now at.now.tick (int_at (states_left at.now left.now lines.old) j)
+        → GoesOnFrom at.now.machine.now at.now.tick
+        (int_at (states_left at.now left.now lines.old) j)
         (int_at at.now.levels.now j)
         (slope_at at.now.machine.now j at.now.levels.now left.now.discretes.now)
         j (line_at lines.new j) (due_at agenda.new j) }

@@ -76,8 +76,8 @@ fn reslope_each<L: Ledger>(
     requires lines { length lines.old ≡ state_count at.now.machine.now }
     requires places { state_count at.now.machine.now ≤ length agenda.old }
     requires ready { (j : ℕ) → j < state_count at.now.machine.now
-        → MayReslope at.now.machine.now at.now.tick (int_at at.now.levels.now j) (int_at slopes.now j)
-        j (line_at lines.old j) (due_at agenda.old j) }
+        → MayReslope at.now.machine.now at.now.tick (int_at at.now.levels.now j)
+        (int_at slopes.now j) j (line_at lines.old j) (due_at agenda.old j) }
     ensures resloped { AreResloped at.now.machine.now at.now.tick at.now.levels.now slopes.now
         states.now
         (record { lines = lines.old; dues = agenda.old })
@@ -108,8 +108,8 @@ pub(crate) fn reslope_readers<L: Ledger>(
     requires lines { length lines.old ≡ state_count at.now.machine.now }
     requires places { state_count at.now.machine.now ≤ length agenda.old }
     requires ready { (j : ℕ) → j < state_count at.now.machine.now
-        → MayReslope at.now.machine.now at.now.tick (int_at at.now.levels.now j) (int_at slopes.now j)
-        j (line_at lines.old j) (due_at agenda.old j) }
+        → MayReslope at.now.machine.now at.now.tick (int_at at.now.levels.now j)
+        (int_at slopes.now j) j (line_at lines.old j) (due_at agenda.old j) }
     ensures resloped { AreResloped at.now.machine.now at.now.tick at.now.levels.now slopes.now
         (flat_map (reading_rows at.now.machine.now) variables.now)
         (record { lines = lines.old; dues = agenda.old })
