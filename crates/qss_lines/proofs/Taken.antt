@@ -151,7 +151,7 @@ module _ (at : Arrival) (name : Option Rule) (old kept : List ℤ) (before rows 
   states = states_at at.lines.now at.tick
 
   are : AreMovedTo at.machine.now at.moved.now states old states
-  are = arrived_at at.machine.now at.tick at.lines.now at.moved.now old ready.arrival.lines ready.others_near
+  are = arrived_at at.machine.now at.tick at.lines.now at.moved.now old ready.arrival.lines.as_many ready.others_near
 
   off : (none : first_past 88 states ≡ None) → IsOff at.moved.now old (taken none).0
   off none = written_off at.moved.now _ old old (taken none).0 refl (taken none).1.allowed

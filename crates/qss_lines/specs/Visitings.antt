@@ -1,5 +1,5 @@
 -- What the parts of a visit are given.
-use Rattle.std.specs.Prelude.{◌≡◌, ℕ, ◌<◌, ◌≤◌, ◌^◌, true, false, List, length, All, ℤ, Option, None, position}
+use Rattle.std.specs.Prelude.{◌≡◌, ℕ, ◌<◌, ◌≤◌, true, false, List, length, All, ℤ, Option, None, position}
 use Rattle.mu_num.specs.Sizes.{IsWithin}
 use Rattle.mu_num.specs.Ticks.{tick_limit}
 use Rattle.qss_machine.specs.declared.system.Machine.{Machine}
@@ -23,7 +23,7 @@ use Rattle.qss_lines.specs.declared.visiting.NewLevels.{NewLevels}
 use Rattle.qss_lines.specs.declared.visiting.QuietLevels.{QuietLevels}
 use Rattle.qss_lines.specs.declared.weights.Weights.{Weights}
 use Rattle.qss_lines.specs.Variables.{AreAssignedFrom, AreSlopesOf}
-use Rattle.qss_lines.specs.StateLines.{states_at, states_with, line_at, AreLinesAt}
+use Rattle.qss_lines.specs.StateLines.{states_at, states_with, line_at, AreLinesUpTo, AreLinesAt}
 use Rattle.qss_lines.specs.Kept.{AreWeights, AreWeightsBefore}
 use Rattle.qss_lines.specs.RowSums.{sum_at, AreSumsBefore}
 
@@ -75,10 +75,10 @@ pub record AreHandled (m : Machine) (left : Handled) : Type 0 where
   pub small_states : All (IsWithin 88) left.states.now
   pub small_discretes : All (IsWithin 43) left.discretes.now
 
--- a machine's readers, a line of each state, and numbers of states
+-- a machine's readers, its lines up to a tick, and numbers of states
 pub record IsArrival (at : Arrival) : Type 0 where
   pub uses : at.uses.now ≡ uses_of at.machine.now
-  pub lines : length at.lines.now ≡ state_count at.machine.now
+  pub lines : AreLinesUpTo at.machine.now at.tick at.lines.now
   pub moved : AreNumbers (state_count at.machine.now) at.moved.now
 
 -- a state is at least the quantum away from its level
@@ -88,8 +88,6 @@ HasLeft m j state level = IsAway (level_unit m) state level (quantum_of m j leve
 -- the moved states may arrive at a tick of a run: along their lines they leave the quanta of these levels, and the others pass no limit, and are near these levels
 pub record CanArrive (at : Arrival) (levels : List ℤ) : Type 0 where
   pub arrival : IsArrival at
-  pub later : (j : ℕ) → j < length at.lines.now → (line_at at.lines.now j).tick ≤ at.tick
-  pub in_time : at.tick < 2 ^ 32
   pub moved_away : (j : ℕ) → is_among at.moved.now j ≡ true →
       HasLeft at.machine.now j (state_at (line_at at.lines.now j) at.tick) (int_at levels j)
   pub others_small : (j : ℕ) → j < state_count at.machine.now → is_among at.moved.now j ≡ false →

@@ -42,16 +42,16 @@ pub arrival_of-value-requires-clause-known : goal.arrival_of-value-requires-clau
 arrival_of-value-requires-clause-known g c =
     let known : get_or c.args.at.now.moved.now c.loop-state.state-index 0 < state_count c.args.at.now.machine.now =
     c.requires.ready.arrival.moved.below c.loop-state.state-index 0 c.loop-state-test.true in
-    omega (arith, known, c.requires.ready.arrival.lines)
+    omega (arith, known, c.requires.ready.arrival.lines.as_many)
 
 pub arrival_of-value-requires-clause-later : goal.arrival_of-value-requires-clause-later
 arrival_of-value-requires-clause-later g c =
     let known : get_or c.args.at.now.moved.now c.loop-state.state-index 0 < state_count c.args.at.now.machine.now =
     c.requires.ready.arrival.moved.below c.loop-state.state-index 0 c.loop-state-test.true in
-    c.requires.ready.later (get_or c.args.at.now.moved.now c.loop-state.state-index 0) (omega (arith, known, c.requires.ready.arrival.lines))
+    c.requires.ready.arrival.lines.later (get_or c.args.at.now.moved.now c.loop-state.state-index 0) (omega (arith, known, c.requires.ready.arrival.lines.as_many))
 
 pub arrival_of-value-requires-clause-in_time : goal.arrival_of-value-requires-clause-in_time
-arrival_of-value-requires-clause-in_time g c = omega (arith, c.requires.ready.in_time)
+arrival_of-value-requires-clause-in_time g c = omega (arith, c.requires.ready.arrival.lines.in_time)
 
 pub returns-then-passes-clause-passed : goal.returns-then-passes-clause-passed
 returns-then-passes-clause-passed g c var e =
@@ -64,8 +64,8 @@ returns-then-passes-clause-passed g c var e =
     let past : passes 88 (state_at (line_at lines (get_or moved i 0)) tick) ≡ true =
     ap (passes 88) (sym c.arrival_of-value.ensures) ∙ sym (rw (to_z-of_z w128 value fits) at c.passes.ensures) ∙ c.if-passes.true in
     let over : Some (get_or moved i 0) ≡ first_past 88 (states_at lines tick) =
-    past_on_arrival tick lines moved (subst (λ n. AreNumbers n moved) (sym c.requires.ready.arrival.lines) c.requires.ready.arrival.moved) (Some (get_or moved i 0))
-    (λ j h none. c.requires.ready.others_small j (omega (arith, h, c.requires.ready.arrival.lines)) none)
+    past_on_arrival tick lines moved (subst (λ n. AreNumbers n moved) (sym c.requires.ready.arrival.lines.as_many) c.requires.ready.arrival.moved) (Some (get_or moved i 0))
+    (λ j h none. c.requires.ready.others_small j (omega (arith, h, c.requires.ready.arrival.lines.as_many)) none)
     (first_of (λ j. passes 88 (state_at (line_at lines j) tick)) moved i c.requires.ready.arrival.moved.rising c.loop-state-test.true c.loop-state.invariant.none_past past) in
     over ∙ e
 
@@ -80,8 +80,8 @@ returns-then-passes-clause-taken g c none =
     let past : passes 88 (state_at (line_at lines (get_or moved i 0)) tick) ≡ true =
     ap (passes 88) (sym c.arrival_of-value.ensures) ∙ sym (rw (to_z-of_z w128 value fits) at c.passes.ensures) ∙ c.if-passes.true in
     let over : Some (get_or moved i 0) ≡ first_past 88 (states_at lines tick) =
-    past_on_arrival tick lines moved (subst (λ n. AreNumbers n moved) (sym c.requires.ready.arrival.lines) c.requires.ready.arrival.moved) (Some (get_or moved i 0))
-    (λ j h none. c.requires.ready.others_small j (omega (arith, h, c.requires.ready.arrival.lines)) none)
+    past_on_arrival tick lines moved (subst (λ n. AreNumbers n moved) (sym c.requires.ready.arrival.lines.as_many) c.requires.ready.arrival.moved) (Some (get_or moved i 0))
+    (λ j h none. c.requires.ready.others_small j (omega (arith, h, c.requires.ready.arrival.lines.as_many)) none)
     (first_of (λ j. passes 88 (state_at (line_at lines j) tick)) moved i c.requires.ready.arrival.moved.rising c.loop-state-test.true c.loop-state.invariant.none_past past) in
     clash (Some (get_or moved i 0)) refl (over ∙ none)
 
@@ -132,7 +132,7 @@ loop-state-preserved g c =
     let rising = c.requires.ready.arrival.moved.rising in
     let h : i < length moved = c.loop-state-test.true in
     let inside : j < state_count m = c.requires.ready.arrival.moved.below i 0 h in
-    let known : j < length lines = omega (arith, inside, c.requires.ready.arrival.lines) in
+    let known : j < length lines = omega (arith, inside, c.requires.ready.arrival.lines.as_many) in
     let value : ℤ = c.arrival_of-value.result in
     let fits : FitsSigned w128 value = record { sfits = c.arrival_of-value.type_inv } in
     let here : value ≡ state_at (line_at lines j) tick = c.arrival_of-value.ensures in
@@ -181,8 +181,8 @@ returns-clause-passed g c var e =
     let lines = c.args.at.now.lines.now in
     let tick = c.args.at.now.tick in
     let none : None ≡ first_past 88 (states_at lines tick) =
-    past_on_arrival tick lines moved (subst (λ n. AreNumbers n moved) (sym c.requires.ready.arrival.lines) c.requires.ready.arrival.moved) None
-    (λ j h among. c.requires.ready.others_small j (omega (arith, h, c.requires.ready.arrival.lines)) among)
+    past_on_arrival tick lines moved (subst (λ n. AreNumbers n moved) (sym c.requires.ready.arrival.lines.as_many) c.requires.ready.arrival.moved) None
+    (λ j h among. c.requires.ready.others_small j (omega (arith, h, c.requires.ready.arrival.lines.as_many)) among)
     (none_of (λ j. passes 88 (state_at (line_at lines j) tick)) moved c.loop-state.state-index c.loop-state-test.false c.loop-state.invariant.none_past) in
     clash (Some var) refl (sym (none ∙ e))
 

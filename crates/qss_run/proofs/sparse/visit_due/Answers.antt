@@ -51,13 +51,15 @@ requantize_moved-over-requires-clause-ready g c =
     record {
       arrival = record {
         uses = fits.uses;
-        lines = ap length c.as_slice.ensures.value ∙ fits.lines;
+        lines = record {
+          as_many = ap length c.as_slice.ensures.value ∙ fits.lines;
+          later = λ j h.
+              let not_later = (taken.stands.stands_for.lines j (omega (arith, h, ap length c.as_slice.ensures.value, fits.lines))).not_later in
+              omega (arith, ap (λ ls. (line_at ls j).tick) c.as_slice.ensures.value, not_later);
+          in_time = omega (arith, c.requires.in_time, m.has_units.last_tick);
+        };
         moved = subst (AreNumbers (state_count m)) (sym c.as_slice-2.ensures.value) taken.due.numbers;
       };
-      later = λ j h.
-          let not_later = (taken.stands.stands_for.lines j (omega (arith, h, ap length c.as_slice.ensures.value, fits.lines))).not_later in
-          omega (arith, ap (λ ls. (line_at ls j).tick) c.as_slice.ensures.value, not_later);
-      in_time = omega (arith, c.requires.in_time, m.has_units.last_tick);
       moved_away = λ j among.
           subst (λ ls. HasLeft m j (state_at (line_at ls j) t) (int_at c.as_mut_slice.result.now j)) (sym c.as_slice.ensures.value)
           (subst (λ l. HasLeft m j (state_at (line_at s.lines.items j) t) (int_at l j)) (sym c.as_mut_slice.ensures.value)
