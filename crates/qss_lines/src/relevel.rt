@@ -154,12 +154,7 @@ pub(crate) fn requantize_states(
 
 /// The due states arrive along their lines at a tick below 2^32. It gives the state that is more than 2^88 in size there, if one
 /// is; the states that are not due are not.
-pub fn arrive_within(
-    lines: &[Integrator],
-    tick: u64,
-    moved: &[u32],
-    x: &mut [i128],
-) -> Option<u32>
+pub fn arrive_within(lines: &[Integrator], tick: u64, moved: &[u32], x: &mut [i128]) -> Option<u32>
     requires states { length x.old ≡ length lines.now }
     requires moved { AreNumbers (length lines.now) moved.now }
     requires later { (j : ℕ) → j < length lines.now → (line_at lines.now j).tick ≤ tick }
