@@ -18,8 +18,8 @@ loop-product-preserved c =
     let i : ℕ = c.loop-product.product-index in
     record { so_far = omega (arith, sum_by_more excesses products i no_product c.loop-product-test.true, c.excess_of-sum.ensures.value, c.loop-product.invariant.so_far); few = omega arith }
 
-pub returns-then-sum : goal.returns-then-sum
-returns-then-sum c =
+pub returns-then-sum-gt-MODE_LIMIT : goal.returns-then-sum-gt-MODE_LIMIT
+returns-then-sum-gt-MODE_LIMIT c =
     let excesses : Product → ℕ = excess c.args.level_bits c.args.bound in
     let products : List Product = c.args.products.now in
     let i : ℕ = c.loop-product.product-index in
