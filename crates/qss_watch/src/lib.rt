@@ -14,7 +14,7 @@ mod moment;
 mod place_set;
 mod reading;
 mod rising;
-mod settling;
+mod settled;
 mod watches;
 mod watching;
 
