@@ -66,7 +66,8 @@ impl Weights {
     }
 
     /// The weights, at these discrete values, follow where the moved states take their levels, from those of their lines. It
-    /// gives the least row past its limits, if one is; the weights are good for nothing then.
+    /// gives the least row past its limits, if one is; the weights are good for nothing then. They are kept from the first time on
+    /// at which a moved level is greater than the bound.
     pub(crate) fn follow(&mut self, at: &NewLevels, d: &[i64], lines: &[Integrator]) -> Option<u32>
         requires ready { AreNewLevels at.now }
         requires discretes { length d.now ≡ discrete_count at.now.machine.now }
@@ -76,6 +77,11 @@ impl Weights {
         ensures over { result ≡ first_overweight at.now d.now }
         ensures weights { result ≡ None
             → AreWeights at.now.machine.now at.now.levels.now d.now self.new }
+        ensures bound { self.new.bound ≡ self.old.bound }
+        ensures on { self.old.kept ≡ true → self.new.kept ≡ true }
+        ensures off { self.old.kept ≡ false
+            → AreUpToAt self.old.bound at.now.levels.now 0 at.now.moved.now
+            → self.new.kept ≡ false }
     {
         if self.kept {
             return reweigh_of(at, d, lines, self.of_rows.as_mut_slice());
@@ -88,7 +94,8 @@ impl Weights {
     }
 
     /// The weights follow where the moved states take their levels, from those of their lines, and where discrete variables
-    /// were assigned. It gives the least row past its limits, if one is; the weights are good for nothing then.
+    /// were assigned. It gives the least row past its limits, if one is; the weights are good for nothing then. They are kept from
+    /// the first time on at which a moved level or an assigned value is greater than the bound.
     pub(crate) fn follow_handled(
         &mut self,
         at: &NewLevels,
@@ -103,6 +110,13 @@ impl Weights {
         ensures weights { result ≡ None
             → AreWeights at.now.machine.now
             at.now.levels.now left.now.discretes.now self.new }
+        ensures bound { self.new.bound ≡ self.old.bound }
+        ensures on { self.old.kept ≡ true → self.new.kept ≡ true }
+        ensures off { self.old.kept ≡ false
+            → AreUpToAt self.old.bound at.now.levels.now 0 at.now.moved.now
+            → AreUpToAt self.old.bound left.now.discretes.now
+            (state_count at.now.machine.now) left.now.assigned.now
+            → self.new.kept ≡ false }
     {
         if self.kept {
             return reweigh_handled(at, left, lines, self.of_rows.as_mut_slice());

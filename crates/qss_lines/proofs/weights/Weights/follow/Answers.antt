@@ -35,6 +35,9 @@ returns-then-self c =
       weights = λ none.
           kept_anew c.args.at.now.machine.now c.args.at.now.levels.now c.args.d.now self c.reweigh_of.new.weights c.if-self.true c.requires.before.1.own.as_many
           (c.reweigh_of.auto.weights ∙ c.as_mut_slice.ensures.len) c.reweigh_of.ensures.weights;
+      bound = refl;
+      on = λ was. was;
+      off = λ was up_to. was;
     }
 
 pub returns-then-are_up_to_at : goal.returns-then-are_up_to_at
@@ -55,6 +58,9 @@ returns-then-are_up_to_at c =
     record {
       over = sym (light_up_to m self.bound levels d c.requires.ready.levels c.requires.discretes are);
       weights = λ none. not_kept m levels d self off before.own.as_many are;
+      bound = refl;
+      on = λ was. was;
+      off = λ was up_to. was;
     }
 
 pub returns : goal.returns
@@ -65,4 +71,7 @@ returns c =
       weights = λ none.
           kept_anew c.args.at.now.machine.now c.args.at.now.levels.now c.args.d.now on c.weigh_every.new.weights refl c.requires.before.1.own.as_many
           (c.weigh_every.auto.weights ∙ c.as_mut_slice-2.ensures.len) (c.weigh_every.ensures.weights none);
+      bound = refl;
+      on = λ was. refl;
+      off = λ was up_to. absurd (let yes = c.are_up_to_at.ensures.1 up_to in let no = c.if-are_up_to_at.false in cc);
     }

@@ -30,6 +30,9 @@ returns-then-self c =
       weights = λ none.
           kept_anew m c.args.at.now.levels.now c.args.left.now.discretes.now self c.reweigh_handled.new.weights c.if-self.true c.requires.before.1.own.as_many
           (c.reweigh_handled.auto.weights ∙ c.as_mut_slice.ensures.len) (c.reweigh_handled.ensures.weights none);
+      bound = refl;
+      on = λ was. was;
+      off = λ was levels_up_to values_up_to. was;
     }
 
 pub returns-then-are_handled_up_to : goal.returns-then-are_handled_up_to
@@ -53,6 +56,9 @@ returns-then-are_handled_up_to c =
     record {
       over = sym (light_up_to m self.bound levels d c.requires.ready.levels left.many_discretes are);
       weights = λ none. not_kept m levels d self off before.own.as_many are;
+      bound = refl;
+      on = λ was. was;
+      off = λ was levels_up_to values_up_to. was;
     }
 
 pub returns : goal.returns
@@ -63,4 +69,8 @@ returns c =
       weights = λ none.
           kept_anew c.args.at.now.machine.now c.args.at.now.levels.now c.args.left.now.discretes.now on c.weigh_every.new.weights refl c.requires.before.1.own.as_many
           (c.weigh_every.auto.weights ∙ c.as_mut_slice-2.ensures.len) (c.weigh_every.ensures.weights none);
+      bound = refl;
+      on = λ was. refl;
+      off = λ was levels_up_to values_up_to.
+          absurd (let yes = c.are_handled_up_to.ensures.1 (levels_up_to, values_up_to) in let no = c.if-are_handled_up_to.false in cc);
     }
