@@ -2,6 +2,8 @@
 use Rattle.std.specs.Prelude.{◌≡◌, ℕ, List, ℤ, All}
 use Rattle.mu_num.specs.Sizes.{IsWithin}
 use Rattle.qss_machine.specs.declared.system.Machine.{Machine}
+use Rattle.qss_machine.specs.Handlers.{truths}
+use Rattle.qss_machine.specs.Ticks.{World}
 use Rattle.qss_quiet.specs.Logs.{reinitialized_of}
 use Rattle.qss_lines.specs.StateLines.{states_at, states_with}
 use Rattle.qss_lines.specs.Variables.{AreAssignedFrom}
@@ -22,6 +24,18 @@ pub record CanGoOnHandled (m : Machine) (tick : ℕ) (s : Store) : Type 0 where
   pub levels : AreLevelsFor m (states_with s.lines.items tick s.moved.items s.work.x) s.levels.items s.work.d
   pub weights : AreWeights m s.levels.items s.work.d s.weights
   pub held : HeldBefore m tick s.moved.items s.levels.items s.work.pre s.slopes.items s.lines.items s.agenda
+
+-- the world that a store stands for once it has gone on from a tick after its handlers
+abbrev pub world_left : Machine → ℕ → Store → World
+world_left m tick s =
+    let states : List ℤ = states_with s.lines.items tick s.moved.items s.work.x in
+    record {
+      states = states;
+      levels = s.levels.items;
+      discretes = s.work.d;
+      arrived = s.conditions.arrived.items;
+      settled = truths m states s.work.d tick;
+    }
 
 -- the conditions of a store were watched up to a tick, at other values and slopes before
 abbrev pub WereWatched : Machine → ℕ → Store → Type 0

@@ -2,7 +2,7 @@
 
 ghost use Rattle.std.specs.Prelude.{◌≡◌, ℕ, ◌+◌, ◌<◌, ◌≤◌, ◌^◌, List, Option, None, Some, length, vec_capacity, if◌then◌else◌};
 ghost use Rattle.std.specs.List.{list_any};
-ghost use Rattle.qss_machine.specs.Handlers.{truths, due_flags};
+ghost use Rattle.qss_machine.specs.Handlers.{due_flags};
 ghost use Rattle.qss_machine.specs.Machines.{state_count, slope_at};
 ghost use Rattle.qss_machine.specs.Numbers.{tabulate};
 ghost use Rattle.qss_machine.specs.Ticks.{world_unless, Step};
@@ -14,7 +14,7 @@ ghost use Rattle.qss_lines.specs.Renewals.{renewals_from};
 ghost use Rattle.qss_quiet.specs.Rules.{IsRuled};
 ghost use Rattle.qss_run.specs.Stores.{world_of, Stands, IsTaken};
 ghost use Rattle.qss_run.specs.Touches.{touches_at};
-ghost use Rattle.qss_run.specs.Visits.{CanGoOnHandled};
+ghost use Rattle.qss_run.specs.Visits.{CanGoOnHandled, world_left};
 
 use crate::rewatched::rewatch_handled;
 use crate::store::Store;
@@ -59,16 +59,7 @@ fn note_rising(tick: u64, s: &mut Store)
 fn go_on_handled<L: Ledger>(m: &Machine, tick: u64, s: &mut Store, steps: &mut Steps<L>)
     requires { CanGoOnHandled m.now tick s.old }
     ensures stands { Stands m.now tick s.new }
-    ensures world { world_of tick s.new
-        ≡ record {
-          states = states_with s.old.lines.items tick s.old.moved.items s.old.work.x;
-          levels = s.old.levels.items;
-          discretes = s.old.work.d;
-          arrived = s.old.conditions.arrived.items;
-          settled = truths m.now
-              (states_with s.old.lines.items tick s.old.moved.items s.old.work.x) s.old.work.d
-              tick;
-        } }
+    ensures world { world_of tick s.new ≡ world_left m.now tick s.old }
     ensures rows { s.new.rows ≡ s.old.rows }
     ensures counted { steps.new
         ≡ steps.old
