@@ -256,7 +256,9 @@ fn go_on_each(
     }
 }
 
-/// The moved states, and those whose rows read one of them, go on from a tick at their new slopes, each once.
+/// The moved states, and those whose rows read one of them, go on from a tick at their new slopes and with their new due ticks,
+/// each once, and the slopes of all rows follow. `touched` is room for the numbers of these states, and `steps` counts the lines
+/// that move.
 pub fn reslope_of<L: Ledger>(
     at: &QuietLevels,
     slopes: &mut [i128],

@@ -152,8 +152,8 @@ pub(crate) fn requantize_states(
     relevel_due(at, q, x, levels, rows)
 }
 
-/// The due states arrive along their lines at a tick below 2^32. It gives the state that is more than 2^88 in size there, if one
-/// is; the states that are not due are not.
+/// The due states arrive along their lines at a tick below 2^32. It gives the least state that is more than 2^88 in size there, in
+/// units of 2^-(f+p+k), if one is; of the states that are not due none is.
 pub fn arrive_within(lines: &[Integrator], tick: u64, moved: &[u32], x: &mut [i128]) -> Option<u32>
     requires states { length x.old ≡ length lines.now }
     requires moved { AreNumbers (length lines.now) moved.now }

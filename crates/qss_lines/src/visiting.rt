@@ -22,8 +22,9 @@ pub struct NewLevels<'a> {
     pub levels: &'a [i64],
 }
 
-/// A machine at a tick at which nothing but states is due: which rows and conditions read a variable, the states that move
-/// there, the levels of all states then, and the discrete values, which stay.
+/// A machine at a tick at which nothing but states is due: which rows and conditions read a variable, the numbers of the states
+/// that move there, rising, the levels of all states then, and the discrete values, which stay; both are in units of 2^-f and at
+/// most 2^43 in size.
 #[derive(Clone, Copy)]
 pub struct QuietLevels<'a> {
     pub machine: &'a Machine,
@@ -35,8 +36,8 @@ pub struct QuietLevels<'a> {
 }
 
 /// What the handlers of a tick left: the numbers of the discrete variables that they assigned, counted behind the states; the
-/// states in units of 2^-(f+p+k), of which those are good that moved; and the discrete values before and after them, in units of
-/// 2^-f.
+/// states in units of 2^-(f+p+k) and at most 2^88 in size, of which those are good that moved; and the discrete values before and
+/// after them, in units of 2^-f and at most 2^43 in size.
 #[derive(Clone, Copy)]
 pub struct Handled<'a> {
     pub assigned: &'a [u32],
@@ -45,8 +46,8 @@ pub struct Handled<'a> {
     pub discretes: &'a [i64],
 }
 
-/// A machine at a tick at which states arrive along their lines: which rows and conditions read a variable, the lines of all
-/// states, and the numbers of the states that move there, rising.
+/// A machine at a tick, below 2^32, at which states arrive along their lines: which rows and conditions read a variable, the lines
+/// of all states, and the numbers of the states that move there, rising.
 #[derive(Clone, Copy)]
 pub struct Arrival<'a> {
     pub machine: &'a Machine,
@@ -57,7 +58,7 @@ pub struct Arrival<'a> {
 }
 
 /// An arrival after its handlers: the numbers of the discrete variables that these assigned, counted behind the states, and the
-/// values that they left.
+/// values that they left, of whose states those are good that moved.
 #[derive(Clone, Copy)]
 pub struct HandledArrival<'a> {
     pub machine: &'a Machine,

@@ -18,11 +18,11 @@ use qss_quant::Integrator;
 /// none was greater the weights are not kept.
 #[derive(Drop)]
 pub struct Weights {
-    /// The bound; it says nothing once the weights are kept.
+    /// The bound, in units of 2^-f and at most 2^43; it says nothing once the weights are kept.
     pub bound: u64,
     /// Whether the weights are kept.
     pub kept: bool,
-    /// By row its weight, where they are kept.
+    /// By row its weight, in units of 2^-(f+p+k) and at most 2^88, where they are kept.
     pub of_rows: Vec<i128>,
 }
 
@@ -42,8 +42,9 @@ fn are_handled_up_to(at: &NewLevels, left: &Handled, bound: u64) -> bool
 }
 
 impl Weights {
-    /// The weights at levels and discrete values at which no row passes its limits. They are kept only where one of these is
-    /// greater than the bound, or where there is no bound.
+    /// The weights at levels and discrete values, in units of 2^-f, at which no row passes its limits. The bound is the greatest
+    /// of the limit of levels and its halves that all rows allow by the sizes of their coefficients. Weights are kept only where
+    /// one of these values is greater in size, or where there is no bound.
     pub fn start(&mut self, m: &Machine, levels: &[i64], d: &[i64])
         requires levels { length levels.now ≡ state_count m.now }
         requires discretes { length d.now ≡ discrete_count m.now }

@@ -1,4 +1,4 @@
-//! The simulator of machines.
+//! The simulator of machines by events: what it keeps, the visit of a tick, jumps between visits, and the run.
 #![tactic(auto)]
 
 mod advance;

@@ -19,9 +19,10 @@ use crate::store::Store;
 use qss_machine::Machine;
 use qss_watch::Moment;
 
-/// After handlers the conditions go on from a tick that changed, that read a reinitialized state or an assigned variable, or
-/// that read a state whose row reads one of these; of the values that handlers work on only those of states that they read
-/// are written. Then those go on at their new speeds that read a state whose row reads a moved one; the others are left.
+/// After handlers the conditions go on from a tick that changed, that read a reinitialized state, an assigned variable or its
+/// value before the tick, or that read a state whose row reads one of these; of the values that handlers work on only those of
+/// states that they read are written. Then those go on at their new speeds that read a state whose row reads a moved one; the
+/// others are left.
 pub(crate) fn rewatch_handled(m: &Machine, tick: u64, s: &mut Store)
     requires fits { FitsMachine m.now s.old }
     requires moved { AreNumbers (state_count m.now) s.old.moved.items }

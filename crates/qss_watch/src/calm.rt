@@ -18,7 +18,8 @@ pub(crate) fn agree(apart: &[u32], settled: &[bool], arrived: &mut [bool])
     }
 }
 
-/// After a tick at which no condition changes they are on arrival as they were after the last handlers.
+/// Where `still` says that no condition changes at a tick, each is on arrival there as it was after the last handlers; else their
+/// truths on arrival stay. Only those of the places apart are after the handlers not as on arrival, before the call and after it.
 pub fn catch_up(still: bool, settled: &[bool], arrived: &mut [bool], apart: &mut PlaceSet)
     requires as_many { length arrived.old ≡ length settled.now }
     requires count { apart.old.count ≡ length settled.now }

@@ -46,8 +46,9 @@ fn arrive_moved(lines: &[Integrator], tick: u64, moved: &[u32], work: &mut Work)
 
 impl Conditions {
     /// The handlers of a tick at which these states are due, and these conditions change or became true through the handlers
-    /// before. Reinitialized states join the moved ones, all of which leave the agenda. It gives the variable that overflows,
-    /// on arrival or by an assignment, if one does.
+    /// before. `fired` is room for the due branches. Reinitialized states join the moved ones, all of which leave the agenda, and
+    /// the discrete variables that are not among the assigned ones keep their values. It gives the variable that overflows, on
+    /// arrival or by an assignment, if one does.
     pub fn handle(
         &mut self,
         at: &Changing,

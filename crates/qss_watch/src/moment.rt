@@ -14,8 +14,8 @@ pub struct Moment<'a> {
     pub slopes: &'a [i128],
 }
 
-/// The values of a tick that conditions read, the states in units of 2^-(f+p+k) and the discrete variables in units of 2^-f, and
-/// the slopes of the states.
+/// The values of a tick, below 2^32, that conditions read, the states in units of 2^-(f+p+k) and at most 2^88 in size, and the
+/// discrete variables in units of 2^-f and at most 2^43; and the slopes of the states, in their units and at most 2^88 in size.
 #[derive(Clone, Copy)]
 pub struct Point<'a> {
     pub tick: u64,

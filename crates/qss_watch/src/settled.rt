@@ -165,8 +165,9 @@ impl Conditions {
         }
     }
 
-    /// After handlers the conditions that changed settle, those that read a reinitialized state or an assigned variable, and
-    /// those that read a state whose row reads one of these. Of the values only the states that they read are written.
+    /// After handlers the conditions that changed settle, those that read a reinitialized state, an assigned variable or its
+    /// value before the tick, and those that read a state whose row reads one of these. Of the values only the states that they
+    /// read are written.
     pub fn settle_handled(
         &mut self,
         at: &Moment,
