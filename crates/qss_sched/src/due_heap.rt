@@ -46,6 +46,7 @@ impl DueHeap {
     }
 
     /// Gives a place this due tick.
+    #[inline(always)]
     pub(crate) fn set(&mut self, place: u32, due: Option<u64>)
         requires { place < length self.old }
         ensures { self.new ≡ slice_set self.old place due }
@@ -55,7 +56,8 @@ impl DueHeap {
         }
     }
 
-    // Gives a place this due tick, and moves it along one path.
+    // Gives a place this due tick, and moves it along one path. Most calls of `set` change nothing, so it is not inlined there.
+    #[inline(never)]
     fn change(&mut self, place: u32, due: Option<u64>)
         requires { place < length self.old }
         ensures { self.new ≡ slice_set self.old place due }
