@@ -256,7 +256,8 @@ fn go_on_each(
     }
 }
 
-/// The moved states, and those whose rows read one of them, go on from a tick at their new slopes, each once.
+/// The moved states, and those whose rows read one of them, go on from a tick at their new slopes, each once. The lines and
+/// due ticks of the others stay as they are.
 pub fn reslope_of<L: Ledger>(
     at: &QuietLevels,
     slopes: &mut [i128],
@@ -273,6 +274,9 @@ pub fn reslope_of<L: Ledger>(
         (int_at at.now.levels.now j)
         (slope_at at.now.machine.now j at.now.levels.now at.now.discretes.now)
         j (line_at lines.new j) (due_at agenda.new j) }
+    ensures kept { (j : ℕ) → is_among (reached at.now.machine.now at.now.moved.now) j ≡ false
+        → (line_at lines.new j ≡ line_at lines.old j)
+        × (due_at agenda.new j ≡ due_at agenda.old j) }
     ensures places { length agenda.new ≡ length agenda.old }
     ensures others { (place : ℕ) → state_count at.now.machine.now ≤ place
         → due_at agenda.new place ≡ due_at agenda.old place }
