@@ -1,5 +1,5 @@
 -- A tick at which nothing but states is due.
-use Rattle.std.proofs.Common.{◌≡◌, ℕ, ◌+◌, ◌<◌, ◌≤◌, List, Bool, [], length, count_by, ℤ, pos, sym, ◌∙◌, ap, subst, arith}
+use Rattle.std.proofs.Common.{◌≡◌, ℕ, ◌+◌, ◌<◌, ◌≤◌, List, Bool, true, false, [], length, count_by, ℤ, pos, sym, ◌∙◌, ap, subst, arith}
 use Rattle.std.proofs.lemmas.List.{with_items_is}
 use Rattle.std.proofs.lemmas.List.FromFn.{length-map-range_with_len}
 use Rattle.std.specs.List.{range_with_len}
@@ -7,6 +7,7 @@ use Rattle.std.specs.Option.{option_or}
 use Rattle.std.specs.Prelude.{Option, None, Ok, All, position}
 use Rattle.std.specs.Vec.{with_items}
 use Rattle.mu_num.specs.Sizes.{IsWithin}
+use Rattle.qss_machine.specs.Counts.{has_changed}
 use Rattle.qss_machine.specs.Numbers.{int_at, tabulate, first_past}
 use Rattle.qss_machine.specs.Machines.{state_count, level_unit, slope_at, quantum_of}
 use Rattle.qss_machine.specs.Handlers.{Handling, conditions, truths}
@@ -35,7 +36,7 @@ use Rattle.qss_lines.proofs.DueLevels.{moved_inside}
 use Rattle.qss_watch.proofs.OwnConditions.{arrived_anew}
 use Rattle.qss_run.proofs.QuietVisits.{steps_or, leads, rest_small, rest_near, due_left, moved_changes, own_slope, levels_before, handled, arrived, near_on_arrival, kept_due, same_truths, watched, not_rising, rising, rows_then}
 use Rattle.qss_run.proofs.QuietTick.{none_rises_then}
-use Rattle.qss_run.proofs.Touched.{changes, reached_touched}
+use Rattle.qss_run.proofs.Touched.{changes, unreached, reached_touched}
 use Rattle.qss_run.proofs.Visits.{stands_again, end_of, both_none, levels_small}
 use Rattle.qss_lines.proofs.InPlace.{same_length}
 use Rattle.qss_run.proofs.sparse.visit_due.Goals as goal
@@ -112,6 +113,9 @@ returns-then-is_some-clause-stepped g c =
     ∙ ap (λ ls. option_or (first_past 88 (states_at ls t)) (option_or (first_past 43 fresh) (position (is_overweight m fresh s.work.d) m.rows))) c.as_slice.ensures.value in
     steps_or (IsRuled c.args.q.now.name) m t (world_of c.args.tick s) _ h fresh c.requantize_moved-over.result is_h allowed over
     (λ none. clash c.requantize_moved-over.result (sym c.is_some.ensures ∙ c.if-is_some.true) none)
+
+pub returns-then-is_some-clause-kept : goal.returns-then-is_some-clause-kept
+returns-then-is_some-clause-kept g c none = clash c.requantize_moved-over.result (sym c.is_some.ensures ∙ c.if-is_some.true) none
 
 pub go_on_moved-requires-clause-ready : goal.go_on_moved-requires-clause-ready
 go_on_moved-requires-clause-ready g c =
@@ -332,11 +336,11 @@ returns g c =
     ∙ ap (λ (a : List Bool). record { states = x; levels = fresh; discretes = s.work.d; arrived = a; settled = next.conditions.settled.items }) (of_arrived ∙ still)
     ∙ ap (λ (b : List Bool). record { states = x; levels = fresh; discretes = s.work.d; arrived = truths m (moved_states m w) s.work.d t; settled = b })
     (own_settled ∙ same_truths m c.args.tick agenda s taken c.requires.in_time c.requires.none_changes) in
+    let changed : (j : ℕ) → is_among s.moved.items j ≡ true → has_changed m w (world_of t next) j ≡ true = λ j among.
+    changes m w (world_of t next) j (moved_inside (state_count m) s.moved.items taken.due.numbers j among) (λ same.
+    moved_changes m c.args.tick agenda s taken c.requires.in_time c.args.q.now.name fresh (allowed none_both.0) j among (ap (λ l. int_at l j) (sym new_levels) ∙ sym same)) in
     let few : count_by (is_among (reached m s.moved.items)) (range_with_len 0 (state_count m)) ≤ touches_at m t w (Ok (world_of t next)) =
-    reached_touched m t w (world_of t next) s.moved.items taken.due.numbers (λ j among.
-    let inside : j < state_count m = moved_inside (state_count m) s.moved.items taken.due.numbers j among in
-    changes m w (world_of t next) j inside (λ same.
-    moved_changes m c.args.tick agenda s taken c.requires.in_time c.args.q.now.name fresh (allowed none_both.0) j among (ap (λ l. int_at l j) (sym new_levels) ∙ sym same))) in
+    reached_touched m t w (world_of t next) s.moved.items taken.due.numbers changed in
     let counted : c.go_on_moved.new.steps ≤ c.args.steps.now + count_by (is_among (reached m s.moved.items)) (range_with_len 0 (state_count m)) =
     subst (λ js. c.go_on_moved.new.steps ≤ c.args.steps.now + count_by (is_among (reached m js)) (range_with_len 0 (state_count m))) c.as_slice-3.ensures.value c.go_on_moved.ensures.counted in
     record {
@@ -349,6 +353,10 @@ returns g c =
           ∙ ap (λ y. level_rows t s.levels.items next.levels.items y) (sym again.0)
           ∙ sym (rows_then m c.args.tick agenda s taken c.requires.in_time c.requires.none_changes (world_of t next));
       stands = λ none. again.1;
+      kept = λ none j inside untouched.
+          let left = c.go_on_moved.ensures.kept j inside
+          (ap (λ js. is_among (reached m js) j) c.as_slice-3.ensures.value ∙ unreached m t w (world_of t next) s.moved.items taken.due.numbers changed j inside untouched) in
+          (ap (λ ls. line_at ls j) of_lines ∙ left.0 ∙ ap (λ ls. line_at ls j) c.as_mut_slice-3.ensures.value, left.1);
       room = c.requantize_moved-over.ensures.room;
       counted = omega (arith, counted, few);
     }
