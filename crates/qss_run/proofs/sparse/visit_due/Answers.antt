@@ -75,10 +75,10 @@ requantize_moved-over-requires-clause-ready g c =
     }
 
 pub requantize_moved-over-requires-clause-discretes : goal.requantize_moved-over-requires-clause-discretes
-requantize_moved-over-requires-clause-discretes g c = c.requires.taken.1.stands.fits.discretes
+requantize_moved-over-requires-clause-discretes g c = c.requires.taken.1.stands.fits.values.discretes
 
 pub requantize_moved-over-requires-clause-small_discretes : goal.requantize_moved-over-requires-clause-small_discretes
-requantize_moved-over-requires-clause-small_discretes g c = c.requires.taken.1.stands.fits.small_discretes
+requantize_moved-over-requires-clause-small_discretes g c = c.requires.taken.1.stands.fits.values.small_discretes
 
 pub requantize_moved-over-requires-clause-held : goal.requantize_moved-over-requires-clause-held
 requantize_moved-over-requires-clause-held g c =
@@ -150,8 +150,8 @@ go_on_moved-requires-clause-ready g c =
         moved = subst (AreNumbers (state_count m)) (sym c.as_slice-3.ensures.value) taken.due.numbers;
         levels = ap length c.as_slice-4.ensures.value ∙ same_length s.levels c.requantize_moved-over.new.levels ∙ fits.levels;
         small_levels = subst (All (IsWithin 43)) (sym (levels ∙ sym (c.requantize_moved-over.ensures.taken.1.levels calm))) (c.requantize_moved-over.ensures.small calm);
-        discretes = ap length of_d ∙ fits.discretes;
-        small_discretes = subst (All (IsWithin 43)) (sym of_d) fits.small_discretes;
+        discretes = ap length of_d ∙ fits.values.discretes;
+        small_discretes = subst (All (IsWithin 43)) (sym of_d) fits.values.small_discretes;
       };
       levels = record {
         near = λ j inside.
@@ -212,7 +212,7 @@ go_on_moved-requires-clause-watched g c place inside =
     (watched m c.args.tick agenda s c.requires.taken.1 c.requires.in_time c.requires.none_changes place inside)))
 
 pub go_on_moved-requires-clause-room : goal.go_on_moved-requires-clause-room
-go_on_moved-requires-clause-room g c = c.requires.taken.1.stands.fits.touched_room
+go_on_moved-requires-clause-room g c = c.requires.taken.1.stands.fits.room.touched
 
 pub catch_up-requires-clause-as_many : goal.catch_up-requires-clause-as_many
 catch_up-requires-clause-as_many g c =
@@ -274,19 +274,18 @@ returns g c =
       levels = same_length s.levels c.requantize_moved-over.new.levels ∙ fits.levels;
       slopes = same_length s.slopes c.go_on_moved.new.slopes ∙ fits.slopes;
       weights = (c.requantize_moved-over.ensures.weights calm).as_many;
-      moved_room = fits.moved_room;
-      touched_room = omega (arith, c.go_on_moved.ensures.room, fits.touched_room);
-      changed_room = fits.changed_room;
-      fired_room = fits.fired_room;
-      assigned_room = fits.assigned_room;
       places = c.go_on_moved.ensures.places ∙ taken.without.as_many ∙ fits.places;
-      states = fits.states;
-      discretes = fits.discretes;
+      values = fits.values;
       before = fits.before;
-      small_states = fits.small_states;
-      small_discretes = fits.small_discretes;
-      work_room = fits.work_room;
-      row_room = omega (arith, c.requantize_moved-over.ensures.room, fits.row_room);
+      room = record {
+        moved = fits.room.moved;
+        touched = omega (arith, c.go_on_moved.ensures.room, fits.room.touched);
+        changed = fits.room.changed;
+        fired = fits.room.fired;
+        assigned = fits.room.assigned;
+        log = fits.room.log;
+        rows = omega (arith, c.requantize_moved-over.ensures.room, fits.room.rows);
+      };
     } in
     let of_slopes : next.slopes.items ≡ c.go_on_moved.new.slopes = with_items_is s.slopes c.go_on_moved.new.slopes (c.go_on_moved.auto.slopes ∙ c.as_mut_slice-2.ensures.len) in
     let of_lines : next.lines.items ≡ c.go_on_moved.new.lines = with_items_is s.lines c.go_on_moved.new.lines (c.go_on_moved.auto.lines ∙ c.as_mut_slice-3.ensures.len) in
