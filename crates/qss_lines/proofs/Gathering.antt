@@ -1,6 +1,6 @@
 -- States that are gathered one after another.
 use Rattle.std.proofs.Common.{◌≡◌, ◌≢◌, ℕ, ◌+◌, ◌<◌, ◌≤◌, Bool, true, false, not, ◌&&◌, ◌||◌, eqb, List, [], ◌∷◌, ◌++◌, length, set, ℤ, count_by, flat_map, refl, sym, ◌∙◌, ap, subst, arith, inl, inr}
-use Rattle.std.proofs.lemmas.Bool.{cases_Bool, cases_eq, eqb-true, eq-eqb, ne_eqb, or_cases, or_parts, or_left, or_right}
+use Rattle.std.proofs.lemmas.Bool.{cases_Bool, cases_eq, eqb-true, eq-eqb, ne_eqb, or_cases, or_parts, or_from, or_left, or_right}
 use Rattle.std.proofs.lemmas.List.{length-set, get_or-set_same, get_or-set_other, length-append}
 use Rattle.std.proofs.lemmas.List.Elements.{All-push}
 use Rattle.std.proofs.lemmas.List.Folds.{list_any-append}
@@ -61,6 +61,16 @@ behind_may tick n may lines many =
     let fewer : behind tick may lines ≤ count_by may (range_with_len 0 (length lines)) =
     count_less (length lines) (is_behind tick may lines) may (λ j h none. and_false (not (eqb (line_at lines j).tick tick)) (may j) none) in
     subst (λ (k : ℕ). behind tick may lines ≤ count_by may (range_with_len 0 k)) many fewer
+
+-- ---- what is listed
+
+or_none : (a b : Bool) → b ≡ false → a ≡ (a || b)
+or_none true b e = refl
+or_none false b e = sym e
+
+or_three : (a b c : Bool) → ((a || b) || c) ≡ (a || (b || c))
+or_three true b c = refl
+or_three false b c = refl
 
 -- a number past all numbers is not among them
 pub not_listed : (n : ℕ) (xs : List ℕ) (place : ℕ) → All (λ j. j < n) xs → n ≤ place → is_among xs place ≡ false
@@ -128,27 +138,21 @@ module _ (tick j : ℕ) (lines : List Line) (line : Line) (inside : j < length l
         }
 
     pub gathered_one : AreGathered tick (j ∷ []) (record { lines = lines; touched = touched }) (record { lines = set lines j line; touched = touched ++ j ∷ [] })
-    gathered_one =
-        let here : (k : ℕ) → is_among (j ∷ []) k ≡ true → j ≡ k = λ k among. elim (or_cases (eqb j k) false among) [
-          | inl same ↦ eqb-true j k same
-          | inr none ↦ absurd (cc)
-        ] in
-        record {
-          as_many = length-set lines j line;
-          along = along_set can.later;
-          own = λ k among. among_push touched j k ∙ or_right (is_among touched k) (eqb j k || false) (or_left (eqb j k) false (eq-eqb j k (here k among)));
-          kept = λ k among. among_push touched j k ∙ or_left (is_among touched k) (eqb j k || false) among;
-          others = λ k none. elim (cases_eq k j) [
-            | inl e ↦
-                let among : is_among (touched ++ j ∷ []) k ≡ true =
-                among_push touched j k ∙ or_right (is_among touched k) (eqb j k || false) (or_left (eqb j k) false (eq-eqb j k (sym e))) in
-                absurd (cc)
-            | inr ne ↦ other k ne
-          ];
-          counted = λ may may_all.
-              let first : may j ≡ true = may_all j (or_left (eqb j j) false (eq-eqb j j refl)) in
-              omega (arith, behind_less may first, length-append touched (j ∷ []));
-        }
+    gathered_one = record {
+      as_many = length-set lines j line;
+      along = along_set can.later;
+      listed = λ k. among_push touched j k;
+      others = λ k none. elim (cases_eq k j) [
+        | inl e ↦
+            let among : is_among (touched ++ j ∷ []) k ≡ true =
+            among_push touched j k ∙ or_right (is_among touched k) (eqb j k || false) (or_left (eqb j k) false (eq-eqb j k (sym e))) in
+            absurd (cc)
+        | inr ne ↦ other k ne
+      ];
+      counted = λ may may_all.
+          let first : may j ≡ true = may_all j (or_left (eqb j j) false (eq-eqb j j refl)) in
+          omega (arith, behind_less may first, length-append touched (j ∷ []));
+    }
 
 -- a state that is at the tick is listed
 pub gathered_there : (tick j : ℕ) (lines : List Line) (touched : List ℕ) (room : ℕ) → CanGather tick lines touched room → j < length lines → (line_at lines j).tick ≡ tick →
@@ -156,11 +160,12 @@ pub gathered_there : (tick j : ℕ) (lines : List Line) (touched : List ℕ) (ro
 gathered_there tick j lines touched room can inside there = record {
   as_many = refl;
   along = λ k h. along_same tick (line_at lines k) (can.later k h);
-  own = λ k among. elim (or_cases (eqb j k) false among) [
-    | inl same ↦ subst (λ (i : ℕ). is_among touched i ≡ true) (eqb-true j k same) (can.listed j inside there)
-    | inr none ↦ absurd (cc)
+  listed = λ k. elim (cases_eq k j) [
+    | inl e ↦
+        let among : is_among touched k ≡ true = subst (λ (i : ℕ). is_among touched i ≡ true) (sym e) (can.listed j inside there) in
+        among ∙ sym (or_left (is_among touched k) (eqb j k || false) among)
+    | inr ne ↦ or_none (is_among touched k) (eqb j k || false) (or_from (eqb j k) false (ne_eqb j k (λ e. ne (sym e))) refl)
   ];
-  kept = λ k among. among;
   others = λ k none. refl;
   counted = λ may may_all. refl;
 }
@@ -172,8 +177,7 @@ pub none_gathered : (tick : ℕ) (lines : List Line) (touched : List ℕ) (room 
 none_gathered tick lines touched room can = record {
   as_many = refl;
   along = λ k h. along_same tick (line_at lines k) (can.later k h);
-  own = λ k among. absurd (cc);
-  kept = λ k among. among;
+  listed = λ k. or_none (is_among touched k) false refl;
   others = λ k none. refl;
   counted = λ may may_all. refl;
 }
@@ -182,17 +186,14 @@ pub gathered_then : (tick : ℕ) (xs ys : List ℕ) (a b c : Gathering) → AreG
 gathered_then tick xs ys a b c first second = record {
   as_many = second.as_many ∙ first.as_many;
   along = λ k h. along_then tick (line_at a.lines k) (line_at b.lines k) (line_at c.lines k) (first.along k h) (second.along k (omega (arith, h, first.as_many)));
-  own = λ k among. elim (or_cases (is_among xs k) (is_among ys k) (sym (list_any-append (λ i. eqb i k) xs ys) ∙ among)) [
-    | inl sooner ↦ second.kept k (first.own k sooner)
-    | inr later ↦ second.own k later
-  ];
-  kept = λ k among. second.kept k (first.kept k among);
+  listed = λ k.
+      second.listed k
+      ∙ ap (λ (before : Bool). before || is_among ys k) (first.listed k)
+      ∙ or_three (is_among a.touched k) (is_among xs k) (is_among ys k)
+      ∙ ap (λ (these : Bool). is_among a.touched k || these) (sym (list_any-append (λ i. eqb i k) xs ys));
   others = λ k none.
-      let before : is_among b.touched k ≡ false = elim (cases_Bool (is_among b.touched k)) [
-        | inl among ↦ (let still : is_among c.touched k ≡ true = second.kept k among in absurd (cc))
-        | inr not_yet ↦ not_yet
-      ] in
-      second.others k none ∙ first.others k before;
+      let before = or_parts (is_among b.touched k) (is_among ys k) (sym (second.listed k) ∙ none) in
+      second.others k none ∙ first.others k before.0;
   counted = λ may may_all.
       let sooner = first.counted may (λ k among. may_all k (list_any-append (λ i. eqb i k) xs ys ∙ or_left (is_among xs k) (is_among ys k) among)) in
       let later = second.counted may (λ k among. may_all k (list_any-append (λ i. eqb i k) xs ys ∙ or_right (is_among xs k) (is_among ys k) among)) in
@@ -292,11 +293,8 @@ module _ (m : Machine) (tick : ℕ) (levels before discretes slopes_old slopes :
             subst (λ z. GoesOnFrom m tick x (int_at levels k) z k (line_at new.lines k) (due_at new.dues k)) slope
             (subst (λ z. GoesOnFrom m tick z (int_at levels k) (int_at slopes k) k (line_at new.lines k) (due_at new.dues k)) (gathered.along k inside).here (on.own k among))
         | inr none ↦
-            let unreached : is_among (reached m moved) k ≡ false = elim (cases_Bool (is_among (reached m moved) k)) [
-              | inl own ↦ (let listed : is_among between.touched k ≡ true = gathered.own k own in absurd (cc))
-              | inr other ↦ other
-            ] in
-            let parts = or_parts (is_among moved k) (is_among (flat_map (reading_rows m) moved) k) (sym (among_reached m moved k) ∙ unreached) in
+            let unlisted = or_parts (is_among old.touched k) (is_among (reached m moved) k) (sym (gathered.listed k) ∙ none) in
+            let parts = or_parts (is_among moved k) (is_among (flat_map (reading_rows m) moved) k) (sym (among_reached m moved k) ∙ unlisted.1) in
             let same : int_at slopes_old k ≡ slope_at m k levels discretes =
             ap (λ xs. int_at xs k) were.own_sums ∙ int_at-tabulate (state_count m) (λ j. slope_at m j before discretes) k h
             ∙ sym (unread_slope m.f (row_at m k) moved before levels discretes (unread_at moved (row_at m k) (sym (among_readers m k h moved) ∙ parts.1)) were.off) in

@@ -1,5 +1,5 @@
 -- States that a tick touches, while they are gathered: they move to it along their lines, and are listed.
-use Rattle.std.specs.Prelude.{◌≡◌, ℕ, ◌+◌, ◌<◌, ◌≤◌, Bool, true, false, not, ◌&&◌, List, ◌∷◌, length, All, ℤ, flat_map, ◌==◌, count_by}
+use Rattle.std.specs.Prelude.{◌≡◌, ℕ, ◌+◌, ◌<◌, ◌≤◌, Bool, true, false, not, ◌&&◌, ◌||◌, List, ◌∷◌, length, All, ℤ, flat_map, ◌==◌, count_by}
 use Rattle.std.specs.List.{range_with_len}
 use Rattle.mu_num.specs.Sizes.{IsWithin}
 use Rattle.mu_num.specs.Ticks.{tick_limit}
@@ -39,12 +39,11 @@ pub record CanGather (tick : ℕ) (lines : List Line) (touched : List ℕ) (room
   pub listed : (j : ℕ) → j < length lines → (line_at lines j).tick ≡ tick → is_among touched j ≡ true
   pub room_left : length touched + behind tick (λ j. true) lines ≤ room
 
--- these states are listed, and the lines of listed ones moved to a tick if they were not there; the others are as they were, and what was listed stays so
+-- these states, and no others, joined the listed ones, and the lines of listed ones moved to a tick if they were not there; the others are as they were
 pub record AreGathered (tick : ℕ) (states : List ℕ) (old new : Gathering) : Type 0 where
   pub as_many : length new.lines ≡ length old.lines
   pub along : (j : ℕ) → j < length old.lines → IsAlong tick (line_at old.lines j) (line_at new.lines j)
-  pub own : (j : ℕ) → is_among states j ≡ true → is_among new.touched j ≡ true
-  pub kept : (j : ℕ) → is_among old.touched j ≡ true → is_among new.touched j ≡ true
+  pub listed : (j : ℕ) → is_among new.touched j ≡ (is_among old.touched j || is_among states j)
   pub others : (j : ℕ) → is_among new.touched j ≡ false → line_at new.lines j ≡ line_at old.lines j
   pub counted : (may : ℕ → Bool) → ((j : ℕ) → is_among states j ≡ true → may j ≡ true) →
       length new.touched + behind tick may new.lines ≡ length old.touched + behind tick may old.lines

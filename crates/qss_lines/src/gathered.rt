@@ -258,7 +258,7 @@ fn go_on_each(
 
 /// The moved states, and those whose rows read one of them, go on from a tick at their new slopes and with their new due ticks,
 /// each once, and the slopes of all rows follow. `touched` is room for the numbers of these states, and `steps` counts the lines
-/// that move.
+/// that move. The lines and due ticks of the others stay as they are.
 pub fn reslope_of<L: Ledger>(
     at: &QuietLevels,
     slopes: &mut [i128],
@@ -275,6 +275,9 @@ pub fn reslope_of<L: Ledger>(
         (int_at at.now.levels.now j)
         (slope_at at.now.machine.now j at.now.levels.now at.now.discretes.now)
         j (line_at lines.new j) (due_at agenda.new j) }
+    ensures kept { (j : ℕ) → is_among (reached at.now.machine.now at.now.moved.now) j ≡ false
+        → (line_at lines.new j ≡ line_at lines.old j)
+        × (due_at agenda.new j ≡ due_at agenda.old j) }
     ensures places { length agenda.new ≡ length agenda.old }
     ensures others { (place : ℕ) → state_count at.now.machine.now ≤ place
         → due_at agenda.new place ≡ due_at agenda.old place }

@@ -77,9 +77,7 @@ fn want_of_memory(_error: &Error) -> AllocError {
     AllocError
 }
 
-/// Adds the record of five fields. It is inlined, as those around it are, so that the texts of a row are not handed on
-/// through the stack.
-#[inline(always)]
+/// Adds the record of five fields.
 pub(crate) fn add_fields<'a>(
     writer: &mut Writer<Vec<u8>>,
     tick: &'a [u8],
@@ -101,7 +99,6 @@ pub(crate) fn add_fields<'a>(
 }
 
 // Adds a record, and holds nothing of it back.
-#[inline(always)]
 fn add_record(writer: &mut Writer<Vec<u8>>, fields: &[&[u8]]) -> Result<(), Error>
     requires { IsBetween writer.old }
     ensures { OnOk result

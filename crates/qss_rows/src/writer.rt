@@ -38,7 +38,6 @@ impl LineWriter {
     }
 
     /// Makes the line of a row of a machine. After an error it holds no line.
-    #[inline(always)]
     pub fn write(&mut self, r: &Row, m: &Machine) -> Result<(), AllocError>
         requires { Spec.HasVariable m.now r.now }
         ensures ok { OnOk result (line_in self.new ≡ Spec.line_of m.now r.now) }

@@ -142,7 +142,7 @@ module _ (m : Machine) (tick : ℕ) (agenda : List (Option ℕ)) (s : Store) (ta
     omega (arith, (for.watches place h).not_later),
     λ small. subst IsSmall (sym (held_then place h))
         (value_small m (condition_at m place).form (states_at s.lines.items (tick + 1)) s.work.d (tick + 1)
-        (condition_bounded m s.conditions.branches.items taken.stands.fits.own_conditions.branches place (omega (arith, h, taken.stands.fits.own_conditions.branches.as_many))) small taken.stands.fits.small_discretes
+        (condition_bounded m s.conditions.branches.items taken.stands.fits.own_conditions.branches place (omega (arith, h, taken.stands.fits.own_conditions.branches.as_many))) small taken.stands.fits.values.small_discretes
         (omega (arith, in_time, m.has_units.last_tick))),
     ap (λ r. compares r (value_at (watch_at s.conditions.watches.items place) (tick + 1))) (for.watches place h).own_rel ∙ ap (compares (condition_at m place).rel) (held_then place h),
   )

@@ -105,19 +105,18 @@ fits_then m s arrived apart fits many count = record {
   levels = fits.levels;
   slopes = fits.slopes;
   weights = fits.weights;
-  moved_room = fits.moved_room;
-  touched_room = fits.touched_room;
-  changed_room = fits.changed_room;
-  fired_room = fits.fired_room;
-  assigned_room = fits.assigned_room;
   places = fits.places;
-  states = fits.states;
-  discretes = fits.discretes;
+  values = fits.values;
   before = fits.before;
-  small_states = fits.small_states;
-  small_discretes = fits.small_discretes;
-  work_room = fits.work_room;
-  row_room = fits.row_room;
+  room = record {
+    moved = fits.room.moved;
+    touched = fits.room.touched;
+    changed = fits.room.changed;
+    fired = fits.room.fired;
+    assigned = fits.room.assigned;
+    log = fits.room.log;
+    rows = fits.room.rows;
+  };
 }
 
 pub stands_then : (m : Machine) (tick ticks : ℕ) (s : Store) (arrived : Vec Bool Global) (apart : PlaceList) → Stands m tick s → tick + ticks < m.last →

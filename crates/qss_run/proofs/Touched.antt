@@ -85,7 +85,7 @@ module _ (m : Machine) (t : ℕ) (w next : World) (moved : List ℕ) (numbers : 
       list_any_at test range i 0 inside (ap test at ∙ and_from _ _ (changed i among) reads)
 
   -- a state that is not touched is not reached
-  unreached : (j : ℕ) → j < state_count m → is_touched m t w next j ≡ false → is_among (reached m moved) j ≡ false
+  pub unreached : (j : ℕ) → j < state_count m → is_touched m t w next j ≡ false → is_among (reached m moved) j ≡ false
   unreached j h none =
       let still = untouched m t w next j none in
       let own : is_among moved j ≡ false = elim (cases_Bool (is_among moved j)) [

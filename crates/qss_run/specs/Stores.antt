@@ -1,6 +1,5 @@
 -- What a simulator keeps, and the world that it stands for.
-use Rattle.std.specs.Prelude.{◌≡◌, ℕ, ◌+◌, ◌≤◌, false, List, length, map, All, Option, None, vec_capacity}
-use Rattle.mu_num.specs.Sizes.{IsWithin}
+use Rattle.std.specs.Prelude.{◌≡◌, ℕ, ◌+◌, ◌≤◌, false, List, length, map, Option, None, vec_capacity}
 use Rattle.qss_machine.specs.declared.system.Machine.{Machine}
 use Rattle.qss_machine.specs.Machines.{state_count, discrete_count, level_unit, start_states, start_discretes}
 use Rattle.qss_machine.specs.Limits.{level_below}
@@ -12,6 +11,7 @@ use Rattle.qss_sched.specs.Ranks.{due_at, HasNone}
 use Rattle.qss_quiet.specs.declared.outcome.Outcome.{Outcome}
 use Rattle.qss_run.specs.declared.store.Store.{Store}
 use Rattle.qss_lines.specs.StateLines.{line_at, states_at}
+use Rattle.qss_lines.specs.Variables.{AreWithin}
 use Rattle.qss_watch.specs.Places.{watch_at, AreConditionsOf, KnowsApart}
 use Rattle.qss_lines.specs.Kept.{AreWeights}
 use Rattle.qss_watch.specs.Moves.{AreDue, AreLookedAt, IsTakenOut}
@@ -27,7 +27,17 @@ world_of tick s = record {
   settled = s.conditions.settled.items;
 }
 
--- lists of the machine's lengths, values within the limits, and memory for all rows of a tick
+-- memory for a tick: for all states and conditions, for all that handlers assign and write, and for all rows
+pub record HasRoom (m : Machine) (s : Store) : Type 0 where
+  pub moved : state_count m ≤ vec_capacity s.moved
+  pub touched : state_count m ≤ vec_capacity s.touched
+  pub changed : length (conditions m) ≤ vec_capacity s.changed
+  pub fired : length (conditions m) ≤ vec_capacity s.fired
+  pub assigned : row_room m.clauses ≤ vec_capacity s.assigned
+  pub log : row_room m.clauses ≤ s.work.room
+  pub rows : row_room m.clauses + state_count m + discrete_count m + 1 ≤ vec_capacity s.rows
+
+-- lists of the machine's lengths, values within the limits, and memory for a tick
 pub record FitsMachine (m : Machine) (s : Store) : Type 0 where
   pub own_conditions : AreConditionsOf m s.conditions
   pub uses : s.uses ≡ uses_of m
@@ -35,19 +45,10 @@ pub record FitsMachine (m : Machine) (s : Store) : Type 0 where
   pub levels : length s.levels.items ≡ state_count m
   pub slopes : length s.slopes.items ≡ state_count m
   pub weights : length s.weights.of_rows.items ≡ state_count m
-  pub moved_room : state_count m ≤ vec_capacity s.moved
-  pub touched_room : state_count m ≤ vec_capacity s.touched
-  pub changed_room : length (conditions m) ≤ vec_capacity s.changed
-  pub fired_room : length (conditions m) ≤ vec_capacity s.fired
-  pub assigned_room : row_room m.clauses ≤ vec_capacity s.assigned
   pub places : length s.agenda ≡ state_count m + length (conditions m) + 1
-  pub states : length s.work.x ≡ state_count m
-  pub discretes : length s.work.d ≡ discrete_count m
+  pub values : AreWithin m s.work.x s.work.d
   pub before : length s.work.pre ≡ discrete_count m
-  pub small_states : All (IsWithin 88) s.work.x
-  pub small_discretes : All (IsWithin 43) s.work.d
-  pub work_room : row_room m.clauses ≤ s.work.room
-  pub row_room : row_room m.clauses + state_count m + discrete_count m + 1 ≤ vec_capacity s.rows
+  pub room : HasRoom m s
 
 -- a store stands for its world at a tick: it keeps the slopes there, the weights where they are needed, and whether a condition became true through the handlers; only conditions of the places apart are after the handlers not as on arrival
 pub record Stands (m : Machine) (tick : ℕ) (s : Store) : Type 0 where

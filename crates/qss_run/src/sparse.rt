@@ -1,8 +1,9 @@
 //! A tick at which nothing but states is due.
 
-ghost use Rattle.std.specs.Prelude.{◌≡◌, ℕ, ◌+◌, ◌<◌, ◌≤◌, [], length, List, Option, None, count_by, vec_capacity};
+ghost use Rattle.std.specs.Prelude.{◌≡◌, ℕ, ◌+◌, ◌<◌, ◌≤◌, [], false, length, List, Option, None, count_by, vec_capacity};
 ghost use Rattle.std.specs.List.{range_with_len};
 ghost use Rattle.qss_machine.specs.Numbers.{int_at};
+ghost use Rattle.qss_machine.specs.Counts.{is_touched};
 ghost use Rattle.qss_machine.specs.Handlers.{conditions};
 ghost use Rattle.qss_machine.specs.Machines.{state_count, slope_at};
 ghost use Rattle.qss_machine.specs.Ticks.{world_unless, Step};
@@ -27,7 +28,7 @@ use qss_watch::{Conditions, catch_up};
 use std::sync::ledger::Ledger;
 
 // The moved states and those whose rows read one of them go on from a tick at their new slopes, and the conditions that
-// read these at their new speeds.
+// read these at their new speeds. The lines and due ticks of the other states stay as they are.
 fn go_on_moved<L: Ledger>(
     at: &QuietLevels,
     slopes: &mut [i128],
@@ -50,6 +51,10 @@ fn go_on_moved<L: Ledger>(
         (int_at at.now.levels.now j)
         (slope_at at.now.machine.now j at.now.levels.now at.now.discretes.now)
         j (line_at lines.new j) (due_at agenda.new j) }
+    ensures kept { (j : ℕ) → j < state_count at.now.machine.now
+        → is_among (reached at.now.machine.now at.now.moved.now) j ≡ false
+        → (line_at lines.new j ≡ line_at lines.old j)
+        × (due_at agenda.new j ≡ due_at agenda.old j) }
     ensures watches { AreWatched at.now.machine.now at.now.tick
         (states_at lines.old at.now.tick) at.now.discretes.now
         slopes.new watched.new.watches.items agenda.new }
@@ -70,7 +75,7 @@ fn go_on_moved<L: Ledger>(
 
 /// One tick after the one at which the store stands, from an agenda without the states that are due there, where no condition
 /// is to be looked at. It gives the variable that overflows, if one does; the store is then good for nothing but its memory
-/// for rows.
+/// for rows. A state that the tick does not touch keeps its line and its due tick.
 pub(crate) fn visit_due<L: Ledger>(
     m: &Machine,
     q: &Quantizer,
@@ -87,6 +92,10 @@ pub(crate) fn visit_due<L: Ledger>(
         → s.new.rows.items
         ≡ tick_rows m.now (tick + 1) (world_of tick s.old) (world_of (tick + 1) s.new) }
     ensures stands { result ≡ None → Stands m.now (tick + 1) s.new }
+    ensures kept { result ≡ None → (j : ℕ) → j < state_count m.now
+        → is_touched m.now (tick + 1) (world_of tick s.old) (world_of (tick + 1) s.new) j ≡ false
+        → (line_at s.new.lines.items j ≡ line_at s.old.lines.items j)
+        × (due_at s.new.agenda j ≡ due_at s.old.agenda j) }
     ensures room { vec_capacity s.new.rows ≡ vec_capacity s.old.rows }
     ensures counted { steps.new
         ≤ steps.old

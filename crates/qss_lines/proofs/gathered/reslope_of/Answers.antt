@@ -1,5 +1,5 @@
 -- The states that go on and those that do not.
-use Rattle.std.proofs.Common.{◌<◌, ◌≤◌, true, ℕ, ℤ, List, length, count_by, refl, sym, ◌∙◌, ap, subst, arith}
+use Rattle.std.proofs.Common.{◌≡◌, ◌<◌, ◌≤◌, true, false, ◌||◌, ℕ, ℤ, List, length, count_by, refl, sym, ◌∙◌, ap, subst, arith}
 use Rattle.std.proofs.lemmas.List.Elements.{All-nil}
 use Rattle.std.specs.List.{range_with_len}
 use Rattle.std.specs.Prelude.{All}
@@ -92,6 +92,15 @@ returns-clause-lines g c k h =
     let inside : k < length c.args.lines.now = omega (arith, h, held.lines.up_to.as_many) in
     all_on m c.args.at.now.tick levels held.before.0 c.args.at.now.discretes.now c.args.slopes.now slopes c.args.at.now.moved.now first between c.args.agenda.now last
     c.follow_levels.ensures.gathered on held.before.1 c.follow_levels.ensures.slopes k h inside (held.lines.up_to.later k inside) (held.own_slope k h) (held.due k h)
+
+pub returns-clause-kept : goal.returns-clause-kept
+returns-clause-kept g c j unreached =
+    let m = c.args.at.now.machine.now in
+    let gathered = c.follow_levels.ensures.gathered in
+    let unlisted : is_among c.follow_levels.new.touched.items j ≡ false =
+    gathered.listed j ∙ ap (λ (xs : List ℕ). is_among xs j || is_among (reached m c.args.at.now.moved.now) j) c.clear.ensures.items ∙ unreached in
+    let left : is_among c.as_slice.result.now j ≡ false = ap (λ xs. is_among xs j) c.as_slice.ensures.value ∙ unlisted in
+    (c.go_on_each.ensures.lines j left ∙ gathered.others j unlisted, c.go_on_each.ensures.dues j left)
 
 pub returns-clause-others : goal.returns-clause-others
 returns-clause-others g c place past =

@@ -59,11 +59,11 @@ reslope_handled-requires g c =
         assigned = subst (λ (js : List ℕ). AreAssignedFrom m js c.as_slice-5.result.now c.as_slice-6.result.now) (sym of_assigned)
             (subst (λ (p : List ℤ). AreAssignedFrom m s.assigned.items p c.as_slice-6.result.now) (sym of_pre)
             (subst (AreAssignedFrom m s.assigned.items s.work.pre) (sym of_d) c.requires.assigned));
-        many_states = ap length of_x ∙ fits.states;
+        many_states = ap length of_x ∙ fits.values.states;
         many_before = ap length of_pre ∙ fits.before;
-        many_discretes = ap length of_d ∙ fits.discretes;
-        small_states = subst (All (IsWithin 88)) (sym of_x) fits.small_states;
-        small_discretes = subst (All (IsWithin 43)) (sym of_d) fits.small_discretes;
+        many_discretes = ap length of_d ∙ fits.values.discretes;
+        small_states = subst (All (IsWithin 88)) (sym of_x) fits.values.small_states;
+        small_discretes = subst (All (IsWithin 43)) (sym of_d) fits.values.small_discretes;
       };
       small_states = subst (All (IsWithin 88)) (sym same) c.requires.states.small;
       levels = subst (λ (xs : List ℤ). AreLevelsFor m xs c.as_slice-2.result.now c.as_slice-6.result.now) (sym same)
@@ -86,19 +86,18 @@ rewatch_handled-requires-clause-fits g c =
       levels = fits.levels;
       slopes = same_length s.slopes c.reslope_handled.new.slopes ∙ fits.slopes;
       weights = fits.weights;
-      moved_room = fits.moved_room;
-      touched_room = fits.touched_room;
-      changed_room = fits.changed_room;
-      fired_room = fits.fired_room;
-      assigned_room = fits.assigned_room;
       places = c.reslope_handled.ensures.places ∙ fits.places;
-      states = fits.states;
-      discretes = fits.discretes;
+      values = fits.values;
       before = fits.before;
-      small_states = fits.small_states;
-      small_discretes = fits.small_discretes;
-      work_room = fits.work_room;
-      row_room = fits.row_room;
+      room = record {
+        moved = fits.room.moved;
+        touched = fits.room.touched;
+        changed = fits.room.changed;
+        fired = fits.room.fired;
+        assigned = fits.room.assigned;
+        log = fits.room.log;
+        rows = fits.room.rows;
+      };
     }
 
 pub rewatch_handled-requires-clause-lines : goal.rewatch_handled-requires-clause-lines
@@ -163,7 +162,7 @@ rewatch_handled-requires-clause-before g c =
     let before = c.requires.held.before.1 in
     let all : AreWatchedUpTo m t s.moved.items (reinitialized_of s.work.log) s.assigned.items s.changed.items x (states_at after t) s.work.pre s.work.d s.slopes.items slopes (watchings_of s.conditions due) =
     watched_up_to m s.moved.items s.assigned.items old s.levels.items s.work.pre s.work.d s.slopes.items slopes before.off c.requires.assigned.others
-    (sym before.off.as_many ∙ fits.levels) fits.before fits.discretes before.own_sums slopes_are t (reinitialized_of s.work.log) s.changed.items s.lines.items after s.work.x
+    (sym before.off.as_many ∙ fits.levels) fits.before fits.values.discretes before.own_sums slopes_are t (reinitialized_of s.work.log) s.changed.items s.lines.items after s.work.x
     (watchings_of s.conditions due) fits.lines lead (λ j h none. c.requires.states.still j h (sym (among_reinitialized s.work.log j) ∙ none)) fits.slopes (c.reslope_handled.auto.slopes ∙ c.as_mut_slice.ensures.len ∙ s.slopes.ok.0 ∙ fits.slopes)
     (λ place h none.
     let was = c.requires.settled.others place h none in
@@ -234,19 +233,18 @@ returns g c =
       levels = base.levels;
       slopes = base.slopes;
       weights = base.weights;
-      moved_room = base.moved_room;
-      touched_room = base.touched_room;
-      changed_room = base.changed_room;
-      fired_room = base.fired_room;
-      assigned_room = base.assigned_room;
       places = c.note_rising.ensures.as_many ∙ base.places;
-      states = base.states;
-      discretes = base.discretes;
+      values = base.values;
       before = base.before;
-      small_states = base.small_states;
-      small_discretes = base.small_discretes;
-      work_room = base.work_room;
-      row_room = base.row_room;
+      room = record {
+        moved = base.room.moved;
+        touched = base.room.touched;
+        changed = base.room.changed;
+        fired = base.room.fired;
+        assigned = base.room.assigned;
+        log = base.room.log;
+        rows = base.room.rows;
+      };
     } in
     let of_lines : next.lines.items ≡ after = with_items_is s.lines after (c.reslope_handled.auto.lines ∙ c.as_mut_slice-2.ensures.len) in
     let of_slopes : next.slopes.items ≡ slopes = with_items_is s.slopes slopes (c.reslope_handled.auto.slopes ∙ c.as_mut_slice.ensures.len) in

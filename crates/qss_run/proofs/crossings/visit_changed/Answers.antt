@@ -74,7 +74,7 @@ handle-over-requires-clause-ready g c =
       };
       others_small = λ j h none.
           subst (λ ls. IsWithin 88 (state_at (line_at ls j) t)) (sym c.as_slice.ensures.value) (rest_small m c.args.tick agenda s taken c.requires.in_time j h none);
-      values = record { states = fits.states; discretes = fits.discretes; small_states = fits.small_states; small_discretes = fits.small_discretes };
+      values = fits.values;
       moved = taken.due.numbers;
       places = omega (arith, taken.without.as_many, fits.places);
       taken = record { later = later_dues m c.args.tick agenda s taken c.requires.in_time; none = taken.without.states };
@@ -156,7 +156,7 @@ requantize_handled-over-requires-clause-room g c =
       arith,
       ap (λ (v : Values). length v.log) handled.values,
       rows_handled m t (states_at c.as_slice.result.now t) s.work.d s.conditions.arrived.items s.conditions.settled.items,
-      c.requires.taken.1.stands.fits.row_room,
+      c.requires.taken.1.stands.fits.room.rows,
     )
 
 pub returns-then-is_some-2-clause-stepped : goal.returns-then-is_some-2-clause-stepped
@@ -239,19 +239,23 @@ go_on_handled-requires g c =
         levels = same_length s.levels c.requantize_handled-over.new.levels ∙ fits.levels;
         slopes = fits.slopes;
         weights = (c.requantize_handled-over.ensures.weights fine).as_many;
-        moved_room = omega (arith, c.handle-over.ensures.moved_room, fits.moved_room);
-        touched_room = fits.touched_room;
-        changed_room = fits.changed_room;
-        fired_room = omega (arith, c.handle-over.ensures.fired_room, fits.fired_room);
-        assigned_room = omega (arith, c.handle-over.ensures.assigned_room, fits.assigned_room);
         places = without.as_many ∙ taken.without.as_many ∙ fits.places;
-        states = handled.fits.states;
-        discretes = handled.fits.discretes;
+        values = record {
+          states = handled.fits.states;
+          discretes = handled.fits.discretes;
+          small_states = handled.fits.small_states;
+          small_discretes = handled.fits.small_discretes;
+        };
         before = handled.fits.before;
-        small_states = handled.fits.small_states;
-        small_discretes = handled.fits.small_discretes;
-        work_room = omega (arith, ap (λ (v : Values). v.room) handled.values, fits.work_room);
-        row_room = omega (arith, c.requantize_handled-over.ensures.room, fits.row_room);
+        room = record {
+          moved = omega (arith, c.handle-over.ensures.moved_room, fits.room.moved);
+          touched = fits.room.touched;
+          changed = fits.room.changed;
+          fired = omega (arith, c.handle-over.ensures.fired_room, fits.room.fired);
+          assigned = omega (arith, c.handle-over.ensures.assigned_room, fits.room.assigned);
+          log = omega (arith, ap (λ (v : Values). v.room) handled.values, fits.room.log);
+          rows = omega (arith, c.requantize_handled-over.ensures.room, fits.room.rows);
+        };
       };
       assigned = assigned_from handled;
       states = record {
@@ -362,7 +366,7 @@ returns g c =
     let slopes : List ℤ = tabulate (state_count m) (λ j. slope_at m j levels new.d) in
     let touched : renewals_from (state_count m) t x next.levels slopes s.lines.items ≤ touches_at m t w (Ok next) =
     renewals_from_touched m t w next taken.stands.stands_for.left.one_each (ap length next_levels ∙ same_length s.levels c.requantize_handled-over.new.levels ∙ fits.levels)
-    fits.discretes (ap length next_discretes ∙ handled.fits.discretes) s.lines.items slopes
+    fits.values.discretes (ap length next_discretes ∙ handled.fits.discretes) s.lines.items slopes
     (λ j inside. (taken.stands.stands_for.lines j inside).own_level) (λ j inside. (taken.stands.stands_for.lines j inside).own_slope)
     (ap (λ l. tabulate (state_count m) (λ j. slope_at m j l new.d)) (sym next_levels) ∙ ap (λ d. tabulate (state_count m) (λ j. slope_at m j next.levels d)) (sym next_discretes))
     x

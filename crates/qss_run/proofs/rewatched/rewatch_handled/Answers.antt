@@ -38,7 +38,7 @@ settle_handled-requires-clause-ready c =
       };
       fits = fits.own_conditions;
       places = omega (arith, fits.places);
-      values = record { states = fits.states; discretes = fits.discretes; small_states = fits.small_states; small_discretes = fits.small_discretes };
+      values = fits.values;
     }
 
 pub rewatch_of-requires-clause-ready : goal.rewatch_of-requires-clause-ready
@@ -64,7 +64,7 @@ rewatch_of-requires-clause-ready c =
         small = λ place h.
             subst IsSmall (sym (there place (omega (arith, h, many))).watched.here)
             (value_small m (condition_at m place).form full s.work.d t
-            (condition_bounded m s.conditions.branches.items fits.own_conditions.branches place (omega (arith, h, many, fits.own_conditions.branches.as_many))) c.requires.lines.small fits.small_discretes
+            (condition_bounded m s.conditions.branches.items fits.own_conditions.branches place (omega (arith, h, many, fits.own_conditions.branches.as_many))) c.requires.lines.small fits.values.small_discretes
             c.requires.lines.up_to.in_time);
       };
       slopes_of = subst (AreSlopesOf m) (sym c.as_slice-6.ensures.value) c.requires.slopes;
@@ -131,19 +131,23 @@ returns c =
         levels = fits.levels;
         slopes = fits.slopes;
         weights = fits.weights;
-        moved_room = fits.moved_room;
-        touched_room = fits.touched_room;
-        changed_room = fits.changed_room;
-        fired_room = fits.fired_room;
-        assigned_room = fits.assigned_room;
         places = going.places ∙ along.settled.many_dues ∙ fits.places;
-        states = along.arrived.as_many ∙ fits.states;
-        discretes = ap length of_d ∙ fits.discretes;
+        values = record {
+          states = along.arrived.as_many ∙ fits.values.states;
+          discretes = ap length of_d ∙ fits.values.discretes;
+          small_states = along.small;
+          small_discretes = subst (All (IsWithin 43)) (sym of_d) fits.values.small_discretes;
+        };
         before = ap (λ (v : Values). length v.pre) work ∙ fits.before;
-        small_states = along.small;
-        small_discretes = subst (All (IsWithin 43)) (sym of_d) fits.small_discretes;
-        work_room = omega (arith, ap (λ (v : Values). v.room) work, fits.work_room);
-        row_room = fits.row_room;
+        room = record {
+          moved = fits.room.moved;
+          touched = fits.room.touched;
+          changed = fits.room.changed;
+          fired = fits.room.fired;
+          assigned = fits.room.assigned;
+          log = omega (arith, ap (λ (v : Values). v.room) work, fits.room.log);
+          rows = fits.room.rows;
+        };
       };
       others = λ place h. going.others place h ∙ along.settled.states place h;
       beyond = λ place h. going.beyond place (omega (arith, h, many)) ∙ along.settled.beyond place (omega (arith, h, fits.own_conditions.watches));

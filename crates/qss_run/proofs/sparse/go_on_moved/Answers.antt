@@ -40,6 +40,11 @@ rewatch_of-requires-clause-ready g c =
       in_time = c.requires.ready.held.lines.up_to.in_time;
     }
 
+pub returns-clause-kept : goal.returns-clause-kept
+returns-clause-kept g c j inside unreached =
+    let left = c.reslope_of.ensures.kept j unreached in
+    (left.0, c.rewatch_of.ensures.goes_on.others j inside ∙ left.1)
+
 pub returns-clause-watches : goal.returns-clause-watches
 returns-clause-watches g c place h =
     let m = c.args.at.now.machine.now in

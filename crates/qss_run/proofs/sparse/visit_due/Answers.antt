@@ -1,5 +1,5 @@
 -- A tick at which nothing but states is due.
-use Rattle.std.proofs.Common.{◌≡◌, ℕ, ◌+◌, ◌<◌, ◌≤◌, List, Bool, [], length, count_by, ℤ, pos, sym, ◌∙◌, ap, subst, arith}
+use Rattle.std.proofs.Common.{◌≡◌, ℕ, ◌+◌, ◌<◌, ◌≤◌, List, Bool, true, false, [], length, count_by, ℤ, pos, sym, ◌∙◌, ap, subst, arith}
 use Rattle.std.proofs.lemmas.List.{with_items_is}
 use Rattle.std.proofs.lemmas.List.FromFn.{length-map-range_with_len}
 use Rattle.std.specs.List.{range_with_len}
@@ -7,6 +7,7 @@ use Rattle.std.specs.Option.{option_or}
 use Rattle.std.specs.Prelude.{Option, None, Ok, All, position}
 use Rattle.std.specs.Vec.{with_items}
 use Rattle.mu_num.specs.Sizes.{IsWithin}
+use Rattle.qss_machine.specs.Counts.{has_changed}
 use Rattle.qss_machine.specs.Numbers.{int_at, tabulate, first_past}
 use Rattle.qss_machine.specs.Machines.{state_count, level_unit, slope_at, quantum_of}
 use Rattle.qss_machine.specs.Handlers.{Handling, conditions, truths}
@@ -35,7 +36,7 @@ use Rattle.qss_lines.proofs.DueLevels.{moved_inside}
 use Rattle.qss_watch.proofs.OwnConditions.{arrived_anew}
 use Rattle.qss_run.proofs.QuietVisits.{steps_or, leads, rest_small, rest_near, due_left, moved_changes, own_slope, levels_before, handled, arrived, near_on_arrival, kept_due, same_truths, watched, not_rising, rising, rows_then}
 use Rattle.qss_run.proofs.QuietTick.{none_rises_then}
-use Rattle.qss_run.proofs.Touched.{changes, reached_touched}
+use Rattle.qss_run.proofs.Touched.{changes, unreached, reached_touched}
 use Rattle.qss_run.proofs.Visits.{stands_again, end_of, both_none, levels_small}
 use Rattle.qss_lines.proofs.InPlace.{same_length}
 use Rattle.qss_run.proofs.sparse.visit_due.Goals as goal
@@ -74,10 +75,10 @@ requantize_moved-over-requires-clause-ready g c =
     }
 
 pub requantize_moved-over-requires-clause-discretes : goal.requantize_moved-over-requires-clause-discretes
-requantize_moved-over-requires-clause-discretes g c = c.requires.taken.1.stands.fits.discretes
+requantize_moved-over-requires-clause-discretes g c = c.requires.taken.1.stands.fits.values.discretes
 
 pub requantize_moved-over-requires-clause-small_discretes : goal.requantize_moved-over-requires-clause-small_discretes
-requantize_moved-over-requires-clause-small_discretes g c = c.requires.taken.1.stands.fits.small_discretes
+requantize_moved-over-requires-clause-small_discretes g c = c.requires.taken.1.stands.fits.values.small_discretes
 
 pub requantize_moved-over-requires-clause-held : goal.requantize_moved-over-requires-clause-held
 requantize_moved-over-requires-clause-held g c =
@@ -113,6 +114,9 @@ returns-then-is_some-clause-stepped g c =
     steps_or (IsRuled c.args.q.now.name) m t (world_of c.args.tick s) _ h fresh c.requantize_moved-over.result is_h allowed over
     (λ none. clash c.requantize_moved-over.result (sym c.is_some.ensures ∙ c.if-is_some.true) none)
 
+pub returns-then-is_some-clause-kept : goal.returns-then-is_some-clause-kept
+returns-then-is_some-clause-kept g c none = clash c.requantize_moved-over.result (sym c.is_some.ensures ∙ c.if-is_some.true) none
+
 pub go_on_moved-requires-clause-ready : goal.go_on_moved-requires-clause-ready
 go_on_moved-requires-clause-ready g c =
     let m = c.args.m.now in
@@ -146,8 +150,8 @@ go_on_moved-requires-clause-ready g c =
         moved = subst (AreNumbers (state_count m)) (sym c.as_slice-3.ensures.value) taken.due.numbers;
         levels = ap length c.as_slice-4.ensures.value ∙ same_length s.levels c.requantize_moved-over.new.levels ∙ fits.levels;
         small_levels = subst (All (IsWithin 43)) (sym (levels ∙ sym (c.requantize_moved-over.ensures.taken.1.levels calm))) (c.requantize_moved-over.ensures.small calm);
-        discretes = ap length of_d ∙ fits.discretes;
-        small_discretes = subst (All (IsWithin 43)) (sym of_d) fits.small_discretes;
+        discretes = ap length of_d ∙ fits.values.discretes;
+        small_discretes = subst (All (IsWithin 43)) (sym of_d) fits.values.small_discretes;
       };
       levels = record {
         near = λ j inside.
@@ -208,7 +212,7 @@ go_on_moved-requires-clause-watched g c place inside =
     (watched m c.args.tick agenda s c.requires.taken.1 c.requires.in_time c.requires.none_changes place inside)))
 
 pub go_on_moved-requires-clause-room : goal.go_on_moved-requires-clause-room
-go_on_moved-requires-clause-room g c = c.requires.taken.1.stands.fits.touched_room
+go_on_moved-requires-clause-room g c = c.requires.taken.1.stands.fits.room.touched
 
 pub catch_up-requires-clause-as_many : goal.catch_up-requires-clause-as_many
 catch_up-requires-clause-as_many g c =
@@ -270,19 +274,18 @@ returns g c =
       levels = same_length s.levels c.requantize_moved-over.new.levels ∙ fits.levels;
       slopes = same_length s.slopes c.go_on_moved.new.slopes ∙ fits.slopes;
       weights = (c.requantize_moved-over.ensures.weights calm).as_many;
-      moved_room = fits.moved_room;
-      touched_room = omega (arith, c.go_on_moved.ensures.room, fits.touched_room);
-      changed_room = fits.changed_room;
-      fired_room = fits.fired_room;
-      assigned_room = fits.assigned_room;
       places = c.go_on_moved.ensures.places ∙ taken.without.as_many ∙ fits.places;
-      states = fits.states;
-      discretes = fits.discretes;
+      values = fits.values;
       before = fits.before;
-      small_states = fits.small_states;
-      small_discretes = fits.small_discretes;
-      work_room = fits.work_room;
-      row_room = omega (arith, c.requantize_moved-over.ensures.room, fits.row_room);
+      room = record {
+        moved = fits.room.moved;
+        touched = omega (arith, c.go_on_moved.ensures.room, fits.room.touched);
+        changed = fits.room.changed;
+        fired = fits.room.fired;
+        assigned = fits.room.assigned;
+        log = fits.room.log;
+        rows = omega (arith, c.requantize_moved-over.ensures.room, fits.room.rows);
+      };
     } in
     let of_slopes : next.slopes.items ≡ c.go_on_moved.new.slopes = with_items_is s.slopes c.go_on_moved.new.slopes (c.go_on_moved.auto.slopes ∙ c.as_mut_slice-2.ensures.len) in
     let of_lines : next.lines.items ≡ c.go_on_moved.new.lines = with_items_is s.lines c.go_on_moved.new.lines (c.go_on_moved.auto.lines ∙ c.as_mut_slice-3.ensures.len) in
@@ -332,11 +335,11 @@ returns g c =
     ∙ ap (λ (a : List Bool). record { states = x; levels = fresh; discretes = s.work.d; arrived = a; settled = next.conditions.settled.items }) (of_arrived ∙ still)
     ∙ ap (λ (b : List Bool). record { states = x; levels = fresh; discretes = s.work.d; arrived = truths m (moved_states m w) s.work.d t; settled = b })
     (own_settled ∙ same_truths m c.args.tick agenda s taken c.requires.in_time c.requires.none_changes) in
+    let changed : (j : ℕ) → is_among s.moved.items j ≡ true → has_changed m w (world_of t next) j ≡ true = λ j among.
+    changes m w (world_of t next) j (moved_inside (state_count m) s.moved.items taken.due.numbers j among) (λ same.
+    moved_changes m c.args.tick agenda s taken c.requires.in_time c.args.q.now.name fresh (allowed none_both.0) j among (ap (λ l. int_at l j) (sym new_levels) ∙ sym same)) in
     let few : count_by (is_among (reached m s.moved.items)) (range_with_len 0 (state_count m)) ≤ touches_at m t w (Ok (world_of t next)) =
-    reached_touched m t w (world_of t next) s.moved.items taken.due.numbers (λ j among.
-    let inside : j < state_count m = moved_inside (state_count m) s.moved.items taken.due.numbers j among in
-    changes m w (world_of t next) j inside (λ same.
-    moved_changes m c.args.tick agenda s taken c.requires.in_time c.args.q.now.name fresh (allowed none_both.0) j among (ap (λ l. int_at l j) (sym new_levels) ∙ sym same))) in
+    reached_touched m t w (world_of t next) s.moved.items taken.due.numbers changed in
     let counted : c.go_on_moved.new.steps ≤ c.args.steps.now + count_by (is_among (reached m s.moved.items)) (range_with_len 0 (state_count m)) =
     subst (λ js. c.go_on_moved.new.steps ≤ c.args.steps.now + count_by (is_among (reached m js)) (range_with_len 0 (state_count m))) c.as_slice-3.ensures.value c.go_on_moved.ensures.counted in
     record {
@@ -349,6 +352,10 @@ returns g c =
           ∙ ap (λ y. level_rows t s.levels.items next.levels.items y) (sym again.0)
           ∙ sym (rows_then m c.args.tick agenda s taken c.requires.in_time c.requires.none_changes (world_of t next));
       stands = λ none. again.1;
+      kept = λ none j inside untouched.
+          let left = c.go_on_moved.ensures.kept j inside
+          (ap (λ js. is_among (reached m js) j) c.as_slice-3.ensures.value ∙ unreached m t w (world_of t next) s.moved.items taken.due.numbers changed j inside untouched) in
+          (ap (λ ls. line_at ls j) of_lines ∙ left.0 ∙ ap (λ ls. line_at ls j) c.as_mut_slice-3.ensures.value, left.1);
       room = c.requantize_moved-over.ensures.room;
       counted = omega (arith, counted, few);
     }

@@ -29,14 +29,14 @@ pub start-requires-clause-levels : goal.start-requires-clause-levels
 start-requires-clause-levels c = ap length c.as_slice-2.ensures.value ∙ c.requires.fits.levels
 
 pub start-requires-clause-discretes : goal.start-requires-clause-discretes
-start-requires-clause-discretes c = ap length (c.as_slice-d.ensures.value ∙ ap (λ (v : Values). v.d) c.work.view_is) ∙ c.requires.fits.discretes
+start-requires-clause-discretes c = ap length (c.as_slice-d.ensures.value ∙ ap (λ (v : Values). v.d) c.work.view_is) ∙ c.requires.fits.values.discretes
 
 pub start-requires-clause-small_levels : goal.start-requires-clause-small_levels
 start-requires-clause-small_levels c = subst (All (IsWithin 43)) (sym (c.as_slice-2.ensures.value ∙ c.requires.levels)) (levels_start c.args.m.now)
 
 pub start-requires-clause-small_discretes : goal.start-requires-clause-small_discretes
 start-requires-clause-small_discretes c =
-    subst (All (IsWithin 43)) (sym (c.as_slice-d.ensures.value ∙ ap (λ (v : Values). v.d) c.work.view_is)) c.requires.fits.small_discretes
+    subst (All (IsWithin 43)) (sym (c.as_slice-d.ensures.value ∙ ap (λ (v : Values). v.d) c.work.view_is)) c.requires.fits.values.small_discretes
 
 pub start-requires-clause-light : goal.start-requires-clause-light
 start-requires-clause-light c =
@@ -64,19 +64,18 @@ returns c =
       levels = fits.levels;
       slopes = same_length s.slopes c.set_out.new.slopes ∙ fits.slopes;
       weights = c.start.ensures.weights.as_many;
-      moved_room = fits.moved_room;
-      touched_room = fits.touched_room;
-      changed_room = fits.changed_room;
-      fired_room = fits.fired_room;
-      assigned_room = fits.assigned_room;
       places = c.set_out.ensures.places ∙ fits.places;
-      states = fits.states;
-      discretes = fits.discretes;
+      values = fits.values;
       before = fits.before;
-      small_states = fits.small_states;
-      small_discretes = fits.small_discretes;
-      work_room = fits.work_room;
-      row_room = omega (arith, c.start_rows.ensures.room, fits.row_room);
+      room = record {
+        moved = fits.room.moved;
+        touched = fits.room.touched;
+        changed = fits.room.changed;
+        fired = fits.room.fired;
+        assigned = fits.room.assigned;
+        log = fits.room.log;
+        rows = omega (arith, c.start_rows.ensures.room, fits.room.rows);
+      };
     } in
     let levels : c.as_slice.result.now ≡ s.levels.items = c.as_slice.ensures.value in
     let levels_again : c.as_slice-3.result.now ≡ s.levels.items = c.as_slice-3.ensures.value in
@@ -85,7 +84,7 @@ returns c =
     let of_lines : next.lines.items ≡ c.set_out.new.lines = with_items_is s.lines c.set_out.new.lines (c.set_out.auto.lines ∙ c.as_mut_slice-2.ensures.len) in
     let light : position (is_overweight m next.levels.items next.work.d) m.rows ≡ None = light_at m next.levels.items next.work.d blank.levels blank.discretes in
     let same : next.conditions.arrived.items ≡ next.conditions.settled.items = c.set_out.ensures.arrived in
-    let again = stands_again m 0 next s.work.x fits.states good
+    let again = stands_again m 0 next s.work.x fits.values.states good
     (λ j inside. subst (λ l. IsWithin 43 (int_at l j)) (sym blank.levels) (levels_start m j (pos 0) (omega (arith, inside, count_start m))))
     light
     (of_slopes ∙ c.set_out.ensures.slopes ∙ ap (λ l. tabulate (state_count m) (λ j. slope_at m j l next.work.d)) levels)

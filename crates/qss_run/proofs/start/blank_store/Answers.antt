@@ -47,30 +47,34 @@ returns c =
         levels = ap length c.in_ok-levels.ensures ∙ count_start m;
         slopes = ap length c.in_ok-copies-2.ensures ∙ length-replicate _ _ ∙ states;
         weights = ap length c.in_ok-copies-3.ensures ∙ length-replicate _ _ ∙ states;
-        moved_room = omega (arith, c.in_ok-moved.ensures.0, states);
-        touched_room = omega (arith, c.in_ok-with_capacity-3.ensures.capacity, states);
-        changed_room = omega (arith, c.in_ok-moved.ensures.1, places);
-        fired_room = omega (arith, c.in_ok-moved.ensures.2, places);
-        assigned_room = omega (arith, c.in_ok-with_capacity.ensures.capacity, c.capacity.ensures, ap (λ (v : Values). v.room) c.work.view_is, room);
         places = omega (arith, c.in_ok-with_places.ensures.places, states, places);
-        states = ap length of_x ∙ length-map m.states (λ (s : StateInfo). s.x0);
-        discretes = discretes;
+        values = record {
+          states = ap length of_x ∙ length-map m.states (λ (s : StateInfo). s.x0);
+          discretes = discretes;
+          small_states = subst (All (IsWithin 88)) (sym of_x) (states_start m);
+          small_discretes = subst (All (IsWithin 43)) (sym of_d) (discretes_start m);
+        };
         before = ap length of_pre ∙ length-map m.discretes (λ (d : DiscreteInfo). d.d0);
-        small_states = subst (All (IsWithin 88)) (sym of_x) (states_start m);
-        small_discretes = subst (All (IsWithin 43)) (sym of_d) (discretes_start m);
-        work_room = omega (arith, room);
-        row_room = omega (
-          arith,
-          c.in_ok-with_capacity-2.ensures.capacity,
-          c.capacity-2.ensures,
-          c.len.ensures,
-          c.work.inside.d.ok.0,
-          ap (λ (v : Values). v.room) c.work.view_is,
-          ap (λ (v : Values). length v.d) c.work.view_is,
-          room,
-          discretes,
-          states,
-        );
+        room = record {
+          moved = omega (arith, c.in_ok-moved.ensures.0, states);
+          touched = omega (arith, c.in_ok-with_capacity-3.ensures.capacity, states);
+          changed = omega (arith, c.in_ok-moved.ensures.1, places);
+          fired = omega (arith, c.in_ok-moved.ensures.2, places);
+          assigned = omega (arith, c.in_ok-with_capacity.ensures.capacity, c.capacity.ensures, ap (λ (v : Values). v.room) c.work.view_is, room);
+          log = omega (arith, room);
+          rows = omega (
+            arith,
+            c.in_ok-with_capacity-2.ensures.capacity,
+            c.capacity-2.ensures,
+            c.len.ensures,
+            c.work.inside.d.ok.0,
+            ap (λ (v : Values). v.room) c.work.view_is,
+            ap (λ (v : Values). length v.d) c.work.view_is,
+            room,
+            discretes,
+            states,
+          );
+        };
       };
       states = of_x;
       discretes = of_d;
