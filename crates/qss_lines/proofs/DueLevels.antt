@@ -18,7 +18,7 @@ use Rattle.qss_machine.specs.Runs.{level_rows}
 use Rattle.qss_quant.specs.Lines.{Line, state_at}
 use Rattle.qss_lines.specs.Visitings.{AreMovedTo}
 use Rattle.qss_quiet.specs.Among.{is_among, AreNumbers, IsOff}
-use Rattle.qss_lines.specs.StateLines.{line_at, states_at}
+use Rattle.qss_lines.specs.StateLines.{line_at, states_at, AreLinesAt, MayMove}
 use Rattle.qss_quiet.specs.Writes.{IsFirstOf, IsWritten}
 use Rattle.qss_quiet.proofs.LevelRows.{row_of, level_row}
 use Rattle.qss_quiet.proofs.Quiet.{int_at-tabulate}
@@ -41,6 +41,14 @@ state_within lines tick j h small = subst (IsWithin 88) (int_at-states_at lines 
 
 pub state_small : (lines : List Line) (tick j : ℕ) → j < length lines → All (IsWithin 88) (states_at lines tick) → IsWithin 89 (state_at (line_at lines j) tick)
 state_small lines tick j h small = omega (arith, state_within lines tick j h small)
+
+-- lines at a tick may move to it
+pub may_move : {m : Machine} {tick : ℕ} {lines : List Line} → AreLinesAt m tick lines → MayMove tick lines
+may_move {tick = tick} {lines = lines} at = record {
+  later = at.up_to.later;
+  small = λ j h. state_small lines tick j h at.small;
+  in_time = omega (arith, at.up_to.in_time);
+}
 
 -- rows that are the same at each of some states
 pub same_rows : {R : Type 0} (f g : ℕ → List R) (moved : List ℕ) → ((j : ℕ) → is_among moved j ≡ true → f j ≡ g j) → flat_map f moved ≡ flat_map g moved

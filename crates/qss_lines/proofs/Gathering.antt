@@ -121,11 +121,13 @@ module _ (tick j : ℕ) (lines : List Line) (line : Line) (inside : j < length l
     gather_on =
         let many = length-set lines j line in
         record {
-          later = λ k h. (along_set can.later k (omega (arith, h, many))).not_later;
-          small = λ k h.
-              let known : k < length lines = omega (arith, h, many) in
-              subst (IsWithin 89) (sym (along_set can.later k known).here) (can.small k known);
-          in_time = can.in_time;
+          may_move = record {
+            later = λ k h. (along_set can.may_move.later k (omega (arith, h, many))).not_later;
+            small = λ k h.
+                let known : k < length lines = omega (arith, h, many) in
+                subst (IsWithin 89) (sym (along_set can.may_move.later k known).here) (can.may_move.small k known);
+            in_time = can.may_move.in_time;
+          };
           below = All-push (λ k. k < length (set lines j line)) touched j
               (λ i d h. let known = can.below i d h in omega (arith, known, many)) (omega (arith, inside, many));
           listed = λ k h there. elim (cases_eq k j) [
@@ -140,7 +142,7 @@ module _ (tick j : ℕ) (lines : List Line) (line : Line) (inside : j < length l
     pub gathered_one : AreGathered tick (j ∷ []) (record { lines = lines; touched = touched }) (record { lines = set lines j line; touched = touched ++ j ∷ [] })
     gathered_one = record {
       as_many = length-set lines j line;
-      along = along_set can.later;
+      along = along_set can.may_move.later;
       listed = λ k. among_push touched j k;
       others = λ k none. elim (cases_eq k j) [
         | inl e ↦
@@ -159,7 +161,7 @@ pub gathered_there : (tick j : ℕ) (lines : List Line) (touched : List ℕ) (ro
     AreGathered tick (j ∷ []) (record { lines = lines; touched = touched }) (record { lines = lines; touched = touched })
 gathered_there tick j lines touched room can inside there = record {
   as_many = refl;
-  along = λ k h. along_same tick (line_at lines k) (can.later k h);
+  along = λ k h. along_same tick (line_at lines k) (can.may_move.later k h);
   listed = λ k. elim (cases_eq k j) [
     | inl e ↦
         let among : is_among touched k ≡ true = subst (λ (i : ℕ). is_among touched i ≡ true) (sym e) (can.listed j inside there) in
@@ -176,7 +178,7 @@ pub none_gathered : (tick : ℕ) (lines : List Line) (touched : List ℕ) (room 
     AreGathered tick [] (record { lines = lines; touched = touched }) (record { lines = lines; touched = touched })
 none_gathered tick lines touched room can = record {
   as_many = refl;
-  along = λ k h. along_same tick (line_at lines k) (can.later k h);
+  along = λ k h. along_same tick (line_at lines k) (can.may_move.later k h);
   listed = λ k. or_none (is_among touched k) false refl;
   others = λ k none. refl;
   counted = λ may may_all. refl;

@@ -2,13 +2,12 @@
 use Rattle.std.specs.Prelude.{◌≡◌, ℕ, ◌+◌, ◌<◌, ◌≤◌, Bool, true, false, not, ◌&&◌, ◌||◌, List, ◌∷◌, length, All, ℤ, flat_map, ◌==◌, count_by}
 use Rattle.std.specs.List.{range_with_len}
 use Rattle.mu_num.specs.Sizes.{IsWithin}
-use Rattle.mu_num.specs.Ticks.{tick_limit}
 use Rattle.qss_machine.specs.declared.system.Machine.{Machine}
 use Rattle.qss_machine.specs.Machines.{level_unit, quantum_of}
 use Rattle.qss_machine.specs.Uses.{reading_rows}
 use Rattle.qss_quant.specs.Lines.{Line, state_at, IsNear}
 use Rattle.qss_quiet.specs.Among.{is_among}
-use Rattle.qss_lines.specs.StateLines.{line_at}
+use Rattle.qss_lines.specs.StateLines.{line_at, MayMove}
 
 -- lines of states, and the numbers of touched ones
 pub record Gathering : Type 0 where
@@ -32,9 +31,7 @@ behind tick may lines = count_by (is_behind tick may lines) (range_with_len 0 (l
 
 -- lines that may move to a tick of a run, of which those that are there are listed, and room for all others
 pub record CanGather (tick : ℕ) (lines : List Line) (touched : List ℕ) (room : ℕ) : Type 0 where
-  pub later : (j : ℕ) → j < length lines → (line_at lines j).tick ≤ tick
-  pub small : (j : ℕ) → j < length lines → IsWithin 89 (state_at (line_at lines j) tick)
-  pub in_time : tick ≤ tick_limit
+  pub may_move : MayMove tick lines
   pub below : All (λ j. j < length lines) touched
   pub listed : (j : ℕ) → j < length lines → (line_at lines j).tick ≡ tick → is_among touched j ≡ true
   pub room_left : length touched + behind tick (λ j. true) lines ≤ room

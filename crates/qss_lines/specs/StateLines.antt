@@ -1,6 +1,7 @@
 -- The lines of states, by number, and the states to which they lead.
 use Rattle.std.specs.Prelude.{ℕ, List, length, All, ℤ, if◌then◌else◌, ◌≡◌, ◌^◌, ◌<◌, ◌≤◌, Option, slice_index_or}
 use Rattle.mu_num.specs.Sizes.{IsWithin}
+use Rattle.mu_num.specs.Ticks.{tick_limit}
 use Rattle.qss_machine.specs.Machines.{state_count}
 use Rattle.qss_machine.specs.Numbers.{int_at, tabulate}
 use Rattle.qss_machine.specs.declared.system.Machine.{Machine}
@@ -26,6 +27,12 @@ pub record AreLinesUpTo (m : Machine) (tick : ℕ) (lines : List Line) : Type 0 
 pub record AreLinesAt (m : Machine) (tick : ℕ) (lines : List Line) : Type 0 where
   pub up_to : AreLinesUpTo m tick lines
   pub small : All (IsWithin 88) (states_at lines tick)
+
+-- lines that may move to a tick up to 2^32: each is there or was before, and leads there to a state within 89 bits
+pub record MayMove (tick : ℕ) (lines : List Line) : Type 0 where
+  pub later : (j : ℕ) → j < length lines → (line_at lines j).tick ≤ tick
+  pub small : (j : ℕ) → j < length lines → IsWithin 89 (state_at (line_at lines j) tick)
+  pub in_time : tick ≤ tick_limit
 
 -- the states at a tick: the moved ones are these, the others are where their lines lead
 abbrev pub states_with : List Line → ℕ → List ℕ → List ℤ → List ℤ

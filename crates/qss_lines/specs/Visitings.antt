@@ -23,7 +23,7 @@ use Rattle.qss_lines.specs.declared.visiting.NewLevels.{NewLevels}
 use Rattle.qss_lines.specs.declared.visiting.QuietLevels.{QuietLevels}
 use Rattle.qss_lines.specs.declared.weights.Weights.{Weights}
 use Rattle.qss_lines.specs.Variables.{AreAssignedFrom, AreSlopesOf}
-use Rattle.qss_lines.specs.StateLines.{states_at, states_with, line_at, AreLinesUpTo, AreLinesAt}
+use Rattle.qss_lines.specs.StateLines.{states_at, states_with, line_at, AreLinesUpTo, MayMove}
 use Rattle.qss_lines.specs.Kept.{AreWeights, AreWeightsBefore}
 use Rattle.qss_lines.specs.RowSums.{sum_at, AreSumsBefore}
 
@@ -147,7 +147,8 @@ pub record AreLevelsFor (m : Machine) (states levels discretes : List ℤ) : Typ
 
 -- slopes, lines and due ticks as they were at a tick before the moved states took these levels: a state that did not move and has its level still is due as the agenda says
 pub record HeldBefore (m : Machine) (tick : ℕ) (moved : List ℕ) (levels discretes slopes_old : List ℤ) (lines_old : List Line) (dues_old : List (Option ℕ)) : Type 0 where
-  pub lines : AreLinesAt m tick lines_old
+  pub may_move : MayMove tick lines_old
+  pub lines : length lines_old ≡ state_count m
   pub slopes : length slopes_old ≡ state_count m
   pub places : state_count m ≤ length dues_old
   pub before : (old : List ℤ) × AreSumsBefore Slope m moved levels discretes slopes_old lines_old old

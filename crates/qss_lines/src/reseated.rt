@@ -9,7 +9,7 @@ ghost use Rattle.qss_machine.specs.Uses.{reading_rows, uses_of};
 ghost use Rattle.qss_quant.specs.Lines.{state_at, IsNear};
 ghost use Rattle.qss_sched.specs.Ranks.{due_at};
 ghost use Rattle.qss_quiet.specs.Among.{is_among};
-ghost use Rattle.qss_lines.specs.StateLines.{line_at, GoesOnFrom};
+ghost use Rattle.qss_lines.specs.StateLines.{line_at, MayMove, GoesOnFrom};
 ghost use Rattle.qss_lines.specs.Renewals.{goes_from, renewals_from};
 ghost use Rattle.qss_quiet.specs.Writes.{IsWritten};
 ghost use Rattle.qss_lines.specs.declared.shifts.RowSum.TheVariants as sum;
@@ -182,10 +182,7 @@ fn seat_each<L: Ledger>(
     requires states { AreStatesOf at.now.machine.now x.now }
     requires lines { length lines.old ≡ state_count at.now.machine.now }
     requires places { state_count at.now.machine.now ≤ length agenda.old }
-    requires later { (j : ℕ) → j < state_count at.now.machine.now
-        → (line_at lines.old j).tick ≤ at.now.tick }
-    requires small { (j : ℕ) → j < state_count at.now.machine.now
-        → IsWithin 89 (state_at (line_at lines.old j) at.now.tick) }
+    requires may_move { MayMove at.now.tick lines.old }
     requires near { (j : ℕ) → is_among at.now.moved.now j ≡ true
         → IsNear (level_unit at.now.machine.now) (int_at x.now j) (int_at at.now.levels.now j)
         (quantum_of at.now.machine.now j (int_at at.now.levels.now j)) }

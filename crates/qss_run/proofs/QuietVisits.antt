@@ -21,7 +21,7 @@ use Rattle.qss_lines.specs.declared.shifts.RowSum.TheVariants.{Slope}
 use Rattle.qss_run.specs.declared.store.Store.{Store}
 use Rattle.qss_quiet.specs.Among.{is_among, IsOff}
 use Rattle.qss_quiet.specs.Skips.{NoneRises}
-use Rattle.qss_lines.specs.StateLines.{line_at, states_at}
+use Rattle.qss_lines.specs.StateLines.{line_at, states_at, AreLinesAt}
 use Rattle.qss_watch.specs.Places.{watch_at, IsWatched}
 use Rattle.qss_quiet.specs.Rules.{IsRuled}
 use Rattle.qss_quiet.specs.Sims.{IsDue, StandsFor, HasNothingBefore, became_true}
@@ -29,6 +29,7 @@ use Rattle.qss_lines.specs.Variables.{reads_moved}
 use Rattle.qss_run.specs.Stores.{world_of, IsTaken}
 use Rattle.qss_lines.specs.Visitings.{HasLeft}
 use Rattle.qss_quiet.proofs.Quiet.{int_at-tabulate}
+use Rattle.qss_quiet.proofs.Overs.{all_within}
 use Rattle.qss_quiet.proofs.Silence.{line_state_at, still_near}
 use Rattle.qss_quiet.proofs.NextVisit.{only_due_states_pass}
 use Rattle.qss_run.proofs.Jumps.{dues_later}
@@ -108,6 +109,17 @@ module _ (m : Machine) (tick : ℕ) (agenda : List (Option ℕ)) (s : Store) (ta
   own_slope j h =
       (for.lines j h).own_slope
       ∙ sym (ap (λ xs. int_at xs j) taken.stands.own_slopes ∙ int_at-tabulate (state_count m) (λ i. slope_at m i s.levels.items s.work.d) j h)
+
+  -- where no state passes its limit on arrival, the lines are at the next tick
+  pub lines_then : first_past 88 (states_at s.lines.items (tick + 1)) ≡ None → AreLinesAt m (tick + 1) s.lines.items
+  lines_then none = record {
+    up_to = record {
+      as_many = taken.stands.fits.lines;
+      later = λ j h. omega (arith, earlier j (omega (arith, h, taken.stands.fits.lines)));
+      in_time = omega (arith, in_time, m.has_units.last_tick);
+    };
+    small = all_within 88 (states_at s.lines.items (tick + 1)) none;
+  }
 
   pub arrived : states_at s.lines.items (tick + 1) ≡ moved_states m (world_of tick s)
   arrived = arrives m tick before taken.stands

@@ -1,5 +1,5 @@
 -- What a store has to be where a visit goes on after its handlers, and what it is then.
-use Rattle.std.specs.Prelude.{◌≡◌, ℕ, List, ℤ, All}
+use Rattle.std.specs.Prelude.{◌≡◌, ℕ, ◌^◌, ◌<◌, List, ℤ, All}
 use Rattle.mu_num.specs.Sizes.{IsWithin}
 use Rattle.qss_machine.specs.declared.system.Machine.{Machine}
 use Rattle.qss_machine.specs.Handlers.{truths}
@@ -17,6 +17,7 @@ use Rattle.qss_run.specs.Stores.{FitsMachine}
 -- a store may go on from a tick after its handlers: its states, discrete variables, levels and weights are those after them; its slopes, lines, due ticks and watches are those before the tick
 pub record CanGoOnHandled (m : Machine) (tick : ℕ) (s : Store) : Type 0 where
   pub fits : FitsMachine m s
+  pub in_time : tick < 2 ^ 32
   pub assigned : AreAssignedFrom m s.assigned.items s.work.pre s.work.d
   pub states : AreStatesLeft m tick s.lines.items s.moved.items s.work
   pub settled : AreSettledBut m tick (states_at s.lines.items tick) s.work.pre s.slopes.items s.changed.items s.conditions s.agenda

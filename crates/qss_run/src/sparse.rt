@@ -13,7 +13,7 @@ ghost use Rattle.qss_sched.specs.Ranks.{due_at};
 ghost use Rattle.qss_quiet.specs.Among.{is_among};
 ghost use Rattle.qss_lines.specs.Gatherings.{reached};
 ghost use Rattle.qss_watch.specs.Places.{AreConditionsOf, AreWatched, HasPlaces};
-ghost use Rattle.qss_lines.specs.StateLines.{line_at, GoesOnFrom, states_at};
+ghost use Rattle.qss_lines.specs.StateLines.{line_at, AreLinesAt, GoesOnFrom, states_at};
 ghost use Rattle.qss_quiet.specs.Rules.{IsRuled};
 ghost use Rattle.qss_run.specs.Stores.{world_of, Stands, IsTaken};
 ghost use Rattle.qss_run.specs.Touches.{touches_at};
@@ -40,6 +40,7 @@ fn go_on_moved<L: Ledger>(
 )
     requires ready { CanReslope at.now slopes.old lines.old agenda.old }
     requires room { state_count at.now.machine.now ≤ vec_capacity touched.old }
+    requires lines { AreLinesAt at.now.machine.now at.now.tick lines.old }
     requires fits { AreConditionsOf at.now.machine.now watched.old }
     requires places { HasPlaces at.now.machine.now agenda.old }
     requires watched { AreWatched at.now.machine.now at.now.tick

@@ -14,16 +14,16 @@ pub arrive_at-requires-clause-later : goal.arrive_at-requires-clause-later
 arrive_at-requires-clause-later g c =
     let lines = c.args.lines.now in
     let read : get_or lines c.args.j c.index-lines-j.result ≡ line_at lines c.args.j = get_or_default lines c.args.j c.index-lines-j.result no_line c.requires.known in
-    subst (λ (l : Line). l.tick ≤ c.args.tick) (sym read) (c.requires.can.later c.args.j c.requires.known)
+    subst (λ (l : Line). l.tick ≤ c.args.tick) (sym read) (c.requires.can.may_move.later c.args.j c.requires.known)
 
 pub arrive_at-requires-clause-in_time : goal.arrive_at-requires-clause-in_time
-arrive_at-requires-clause-in_time g c = c.requires.can.in_time
+arrive_at-requires-clause-in_time g c = c.requires.can.may_move.in_time
 
 pub arrive_at-requires-clause-small : goal.arrive_at-requires-clause-small
 arrive_at-requires-clause-small g c =
     let lines = c.args.lines.now in
     let read : get_or lines c.args.j c.index-lines-j.result ≡ line_at lines c.args.j = get_or_default lines c.args.j c.index-lines-j.result no_line c.requires.known in
-    subst (λ (l : Line). IsWithin 89 (state_at l c.args.tick)) (sym read) (c.requires.can.small c.args.j c.requires.known)
+    subst (λ (l : Line). IsWithin 89 (state_at l c.args.tick)) (sym read) (c.requires.can.may_move.small c.args.j c.requires.known)
 
 pub push_reserved-requires : goal.push_reserved-requires
 push_reserved-requires g c =

@@ -9,7 +9,7 @@ use Rattle.qss_quant.specs.Lines.{IsNear}
 use Rattle.qss_quiet.specs.Among.{is_among}
 use Rattle.qss_lines.specs.Gatherings.{Gathering, behind, reached}
 use Rattle.qss_lines.specs.Reslopings.{Courses}
-use Rattle.qss_lines.proofs.DueLevels.{int_at-states_at, state_small}
+use Rattle.qss_lines.proofs.DueLevels.{int_at-states_at}
 use Rattle.qss_lines.proofs.Gathering.{AreOn, behind_few, behind_may, not_listed, all_on}
 use Rattle.qss_lines.proofs.GoingOn.{slopes_small}
 use Rattle.qss_lines.proofs.gathered.reslope_of.Goals as goal
@@ -18,7 +18,7 @@ pub follow_levels-requires-clause-new : goal.follow_levels-requires-clause-new
 follow_levels-requires-clause-new g c = c.requires.ready.new
 
 pub follow_levels-requires-clause-lines : goal.follow_levels-requires-clause-lines
-follow_levels-requires-clause-lines g c = c.requires.ready.held.lines.up_to.as_many
+follow_levels-requires-clause-lines g c = c.requires.ready.held.lines
 
 pub follow_levels-requires-clause-before : goal.follow_levels-requires-clause-before
 follow_levels-requires-clause-before g c = c.requires.ready.held.before
@@ -26,12 +26,9 @@ follow_levels-requires-clause-before g c = c.requires.ready.held.before
 pub follow_levels-requires-clause-can : goal.follow_levels-requires-clause-can
 follow_levels-requires-clause-can g c =
     let lines = c.args.lines.now in
-    let before = c.requires.ready.held.lines in
-    let many = before.up_to.as_many in
+    let many = c.requires.ready.held.lines in
     record {
-      later = before.up_to.later;
-      small = λ j h. state_small lines c.args.at.now.tick j h before.small;
-      in_time = omega (arith, before.up_to.in_time);
+      may_move = c.requires.ready.held.may_move;
       below = subst (All (λ j. j < length lines)) (sym c.clear.ensures.items) (All-nil (λ j. j < length lines));
       listed = λ j h there. let earlier = c.requires.ready.earlier j (omega (arith, h, many)) in absurd (omega (arith, earlier, there));
       room_left = omega (arith, ap length c.clear.ensures.items, behind_few c.args.at.now.tick (λ j. true) lines, c.requires.room, many, c.clear.ensures.capacity);
@@ -50,26 +47,26 @@ go_on_each-requires-clause-slopes_of g c = record {
 pub go_on_each-requires-clause-states : goal.go_on_each-requires-clause-states
 go_on_each-requires-clause-states g c =
     subst (All (λ j. j < state_count c.args.at.now.machine.now)) (sym c.as_slice.ensures.value)
-    (λ i d h. let known = c.follow_levels.ensures.can.below i d h in omega (arith, known, c.follow_levels.auto.lines, c.requires.ready.held.lines.up_to.as_many))
+    (λ i d h. let known = c.follow_levels.ensures.can.below i d h in omega (arith, known, c.follow_levels.auto.lines, c.requires.ready.held.lines))
 
 pub go_on_each-requires-clause-lines : goal.go_on_each-requires-clause-lines
-go_on_each-requires-clause-lines g c = c.follow_levels.auto.lines ∙ c.requires.ready.held.lines.up_to.as_many
+go_on_each-requires-clause-lines g c = c.follow_levels.auto.lines ∙ c.requires.ready.held.lines
 
 pub go_on_each-requires-clause-places : goal.go_on_each-requires-clause-places
 go_on_each-requires-clause-places g c = c.requires.ready.held.places
 
 pub go_on_each-requires-clause-in_time : goal.go_on_each-requires-clause-in_time
-go_on_each-requires-clause-in_time g c = omega (arith, c.requires.ready.held.lines.up_to.in_time)
+go_on_each-requires-clause-in_time g c = c.requires.ready.held.may_move.in_time
 
 pub go_on_each-requires-clause-ready : goal.go_on_each-requires-clause-ready
 go_on_each-requires-clause-ready g c j h =
     let m = c.args.at.now.machine.now in
     let level : ℤ = int_at c.args.at.now.levels.now j in
-    let inside : j < length c.args.lines.now = omega (arith, h, c.requires.ready.held.lines.up_to.as_many) in
+    let inside : j < length c.args.lines.now = omega (arith, h, c.requires.ready.held.lines) in
     let known : j < length c.follow_levels.new.lines = omega (arith, inside, c.follow_levels.auto.lines) in
     record {
-      not_later = c.follow_levels.ensures.can.later j known;
-      small = c.follow_levels.ensures.can.small j known;
+      not_later = c.follow_levels.ensures.can.may_move.later j known;
+      small = c.follow_levels.ensures.can.may_move.small j known;
       near = subst (λ (x : ℤ). IsNear (level_unit m) x level (quantum_of m j level))
           (int_at-states_at c.args.lines.now c.args.at.now.tick j inside ∙ sym (c.follow_levels.ensures.gathered.along j inside).here) (c.requires.ready.levels.near j h);
     }
@@ -89,9 +86,9 @@ returns-clause-lines g c k h =
       dues = λ j none. c.go_on_each.ensures.dues j (ap (λ xs. is_among xs j) c.as_slice.ensures.value ∙ none);
     } in
     let held = c.requires.ready.held in
-    let inside : k < length c.args.lines.now = omega (arith, h, held.lines.up_to.as_many) in
+    let inside : k < length c.args.lines.now = omega (arith, h, held.lines) in
     all_on m c.args.at.now.tick levels held.before.0 c.args.at.now.discretes.now c.args.slopes.now slopes c.args.at.now.moved.now first between c.args.agenda.now last
-    c.follow_levels.ensures.gathered on held.before.1 c.follow_levels.ensures.slopes k h inside (held.lines.up_to.later k inside) (held.own_slope k h) (held.due k h)
+    c.follow_levels.ensures.gathered on held.before.1 c.follow_levels.ensures.slopes k h inside (held.may_move.later k inside) (held.own_slope k h) (held.due k h)
 
 pub returns-clause-kept : goal.returns-clause-kept
 returns-clause-kept g c j unreached =
@@ -106,7 +103,7 @@ pub returns-clause-others : goal.returns-clause-others
 returns-clause-others g c place past =
     let touched : List ℕ = c.follow_levels.new.touched.items in
     let below : All (λ j. j < state_count c.args.at.now.machine.now) touched = λ i d h.
-    let known = c.follow_levels.ensures.can.below i d h in omega (arith, known, c.follow_levels.auto.lines, c.requires.ready.held.lines.up_to.as_many) in
+    let known = c.follow_levels.ensures.can.below i d h in omega (arith, known, c.follow_levels.auto.lines, c.requires.ready.held.lines) in
     c.go_on_each.ensures.dues place (ap (λ xs. is_among xs place) c.as_slice.ensures.value ∙ not_listed (state_count c.args.at.now.machine.now) touched place below past)
 
 pub returns-clause-counted : goal.returns-clause-counted
@@ -115,7 +112,7 @@ returns-clause-counted g c =
     let tick = c.args.at.now.tick in
     let may = is_among (reached m c.args.at.now.moved.now) in
     let count = c.follow_levels.ensures.gathered.counted may (λ j among. among) in
-    let fewer : behind tick may c.args.lines.now ≤ count_by may (range_with_len 0 (state_count m)) = behind_may tick (state_count m) may c.args.lines.now c.requires.ready.held.lines.up_to.as_many in
+    let fewer : behind tick may c.args.lines.now ≤ count_by may (range_with_len 0 (state_count m)) = behind_may tick (state_count m) may c.args.lines.now c.requires.ready.held.lines in
     omega (arith, count, fewer, c.follow_levels.ensures.counted, ap length c.clear.ensures.items)
 
 pub returns-clause-room : goal.returns-clause-room

@@ -10,7 +10,6 @@ use Rattle.qss_quiet.specs.Among.{is_among}
 use Rattle.qss_lines.specs.Renewals.{goes_at, renewals}
 use Rattle.qss_lines.specs.Reslopings.{MayReslope, Courses}
 use Rattle.qss_lines.proofs.Courses.{may_reslope_again}
-use Rattle.qss_lines.proofs.DueLevels.{state_small}
 use Rattle.qss_quiet.proofs.Quiet.{int_at-tabulate}
 use Rattle.qss_lines.proofs.Renewed.{none_left}
 use Rattle.qss_lines.proofs.Reseating.{moved_state, left_seated, may_reslope_seated, renewals_seated, reseated}
@@ -26,7 +25,7 @@ seat_each-requires-clause-on g c = record {
     as_many = c.follow_slopes.auto.slopes ∙ c.requires.held.slopes;
     small = slopes_small c.args.at.now.machine.now c.args.at.now.levels.now c.args.left.now.discretes.now c.args.left.now.discretes.now c.follow_slopes.new.slopes c.requires.levels.light refl c.follow_slopes.ensures;
   };
-  in_time = omega (arith, c.requires.held.lines.up_to.in_time);
+  in_time = c.requires.held.may_move.in_time;
 }
 
 pub seat_each-requires-clause-near : goal.seat_each-requires-clause-near
@@ -35,13 +34,10 @@ seat_each-requires-clause-near g c j among =
     let found = index_of c.args.at.now.moved.now j among in
     let h : j < state_count m = omega (arith, found.2, c.requires.new.moved.below found.0 0 found.1) in
     subst (λ x. IsNear (level_unit m) x (int_at c.args.at.now.levels.now j) (quantum_of m j (int_at c.args.at.now.levels.now j)))
-    (moved_state c.args.lines.now c.args.at.now.tick c.args.at.now.moved.now c.args.left.now.states.now j (omega (arith, h, c.requires.held.lines.up_to.as_many)) among) (c.requires.levels.near j h)
+    (moved_state c.args.lines.now c.args.at.now.tick c.args.at.now.moved.now c.args.left.now.states.now j (omega (arith, h, c.requires.held.lines)) among) (c.requires.levels.near j h)
 
-pub seat_each-requires-clause-later : goal.seat_each-requires-clause-later
-seat_each-requires-clause-later g c j h = c.requires.held.lines.up_to.later j (omega (arith, h, c.requires.held.lines.up_to.as_many))
-
-pub seat_each-requires-clause-small : goal.seat_each-requires-clause-small
-seat_each-requires-clause-small g c j h = state_small c.args.lines.now c.args.at.now.tick j (omega (arith, h, c.requires.held.lines.up_to.as_many)) c.requires.held.lines.small
+pub seat_each-requires-clause-may_move : goal.seat_each-requires-clause-may_move
+seat_each-requires-clause-may_move g c = c.requires.held.may_move
 
 pub reslope_readers-requires-clause-on : goal.reslope_readers-requires-clause-on
 reslope_readers-requires-clause-on g c = record {
@@ -50,21 +46,21 @@ reslope_readers-requires-clause-on g c = record {
     as_many = c.follow_slopes.auto.slopes ∙ c.requires.held.slopes;
     small = slopes_small c.args.at.now.machine.now c.args.at.now.levels.now c.args.left.now.discretes.now c.args.left.now.discretes.now c.follow_slopes.new.slopes c.requires.levels.light refl c.follow_slopes.ensures;
   };
-  in_time = omega (arith, c.requires.held.lines.up_to.in_time);
+  in_time = c.requires.held.may_move.in_time;
 }
 
 pub reslope_readers-requires-clause-ready : goal.reslope_readers-requires-clause-ready
 reslope_readers-requires-clause-ready g c j h =
     let m = c.args.at.now.machine.now in
     let held = c.requires.held in
-    let many = held.lines.up_to.as_many in
+    let many = held.lines in
     let first : Courses = record { lines = c.args.lines.now; dues = c.args.agenda.now } in
     let between : Courses = record { lines = c.seat_each.new.lines; dues = c.seat_each.new.agenda } in
     let seats = c.seat_each.ensures in
     let are : AreSeated m c.args.at.now.tick c.args.left.now.states.now c.args.at.now.levels.now c.follow_slopes.new.slopes c.args.at.now.moved.now first between =
     record { own = seats.goes_on; lines = seats.lines; left = seats.kept; places = seats.places; dues = seats.dues } in
     may_reslope_seated m c.args.at.now.tick c.args.left.now.states.now c.args.at.now.levels.now c.follow_slopes.new.slopes c.args.at.now.moved.now first between are many c.requires.small_states j h
-    (held.lines.up_to.later j (omega (arith, h, many))) (c.requires.levels.near j h) (held.due j h)
+    (held.may_move.later j (omega (arith, h, many))) (c.requires.levels.near j h) (held.due j h)
 
 pub reslope_readers-requires-2-clause-on : goal.reslope_readers-requires-2-clause-on
 reslope_readers-requires-2-clause-on g c = record {
@@ -73,14 +69,14 @@ reslope_readers-requires-2-clause-on g c = record {
     as_many = c.follow_slopes.auto.slopes ∙ c.requires.held.slopes;
     small = slopes_small c.args.at.now.machine.now c.args.at.now.levels.now c.args.left.now.discretes.now c.args.left.now.discretes.now c.follow_slopes.new.slopes c.requires.levels.light refl c.follow_slopes.ensures;
   };
-  in_time = omega (arith, c.requires.held.lines.up_to.in_time);
+  in_time = c.requires.held.may_move.in_time;
 }
 
 pub reslope_readers-requires-2-clause-ready : goal.reslope_readers-requires-2-clause-ready
 reslope_readers-requires-2-clause-ready g c j h =
     let m = c.args.at.now.machine.now in
     let held = c.requires.held in
-    let many = held.lines.up_to.as_many in
+    let many = held.lines in
     let first : Courses = record { lines = c.args.lines.now; dues = c.args.agenda.now } in
     let between : Courses = record { lines = c.seat_each.new.lines; dues = c.seat_each.new.agenda } in
     let seats = c.seat_each.ensures in
@@ -88,7 +84,7 @@ reslope_readers-requires-2-clause-ready g c j h =
     record { own = seats.goes_on; lines = seats.lines; left = seats.kept; places = seats.places; dues = seats.dues } in
     let may : MayReslope m c.args.at.now.tick (int_at c.args.at.now.levels.now j) (int_at c.follow_slopes.new.slopes j) j (line_at c.seat_each.new.lines j) (due_at c.seat_each.new.agenda j) =
     may_reslope_seated m c.args.at.now.tick c.args.left.now.states.now c.args.at.now.levels.now c.follow_slopes.new.slopes c.args.at.now.moved.now first between are many c.requires.small_states j h
-    (held.lines.up_to.later j (omega (arith, h, many))) (c.requires.levels.near j h) (held.due j h) in
+    (held.may_move.later j (omega (arith, h, many))) (c.requires.levels.near j h) (held.due j h) in
     may_reslope_again m c.args.at.now.tick (int_at c.args.at.now.levels.now j) (int_at c.follow_slopes.new.slopes j) j (line_at c.seat_each.new.lines j) (line_at c.reslope_readers.new.lines j)
     (due_at c.seat_each.new.agenda j) (due_at c.reslope_readers.new.agenda j) may (c.reslope_readers.ensures.resloped.each j h)
 
@@ -96,7 +92,7 @@ pub returns-clause-lines : goal.returns-clause-lines
 returns-clause-lines g c j h =
     let m = c.args.at.now.machine.now in
     let held = c.requires.held in
-    let many = held.lines.up_to.as_many in
+    let many = held.lines in
     let first : Courses = record { lines = c.args.lines.now; dues = c.args.agenda.now } in
     let between : Courses = record { lines = c.seat_each.new.lines; dues = c.seat_each.new.agenda } in
     let next : Courses = record { lines = c.reslope_readers.new.lines; dues = c.reslope_readers.new.agenda } in
@@ -107,12 +103,12 @@ returns-clause-lines g c j h =
     reseated m c.args.at.now.tick c.args.left.now.states.now c.args.at.now.levels.now c.follow_slopes.new.slopes c.args.at.now.moved.now first between are many
     c.args.left.now.assigned.now held.before.0 c.args.left.now.before.now c.args.left.now.discretes.now c.args.slopes.now next last c.reslope_readers.ensures.resloped c.reslope_readers-2.ensures.resloped
     held.before.1 c.requires.handled.assigned.others c.follow_slopes.ensures c.requires.new.levels c.requires.handled.many_before c.requires.handled.many_discretes j h
-    (held.lines.up_to.later j (omega (arith, h, many))) (held.own_slope j h) (held.due j h)
+    (held.may_move.later j (omega (arith, h, many))) (held.own_slope j h) (held.due j h)
 
 pub returns-clause-kept : goal.returns-clause-kept
 returns-clause-kept g c j h so =
     let m = c.args.at.now.machine.now in
-    let many = c.requires.held.lines.up_to.as_many in
+    let many = c.requires.held.lines in
     let levels = c.args.at.now.levels.now in
     let slopes = c.follow_slopes.new.slopes in
     let first : Courses = record { lines = c.args.lines.now; dues = c.args.agenda.now } in
@@ -136,7 +132,7 @@ pub returns-clause-counted : goal.returns-clause-counted
 returns-clause-counted g c =
     let m = c.args.at.now.machine.now in
     let held = c.requires.held in
-    let many = held.lines.up_to.as_many in
+    let many = held.lines in
     let n : ℕ = state_count m in
     let levels = c.args.at.now.levels.now in
     let slopes = c.follow_slopes.new.slopes in
@@ -151,7 +147,7 @@ returns-clause-counted g c =
     let own = reseated m c.args.at.now.tick c.args.left.now.states.now levels slopes c.args.at.now.moved.now first between are many
     c.args.left.now.assigned.now held.before.0 c.args.left.now.before.now c.args.left.now.discretes.now c.args.slopes.now next last c.reslope_readers.ensures.resloped c.reslope_readers-2.ensures.resloped
     held.before.1 c.requires.handled.assigned.others c.follow_slopes.ensures c.requires.new.levels c.requires.handled.many_before c.requires.handled.many_discretes j h
-    (held.lines.up_to.later j (omega (arith, h, many))) (held.own_slope j h) (held.due j h) in
+    (held.may_move.later j (omega (arith, h, many))) (held.own_slope j h) (held.due j h) in
     (own.own_level, own.own_slope ∙ sym (ap (λ zs. int_at zs j) c.follow_slopes.ensures ∙ int_at-tabulate n (λ k. slope_at m k levels c.args.left.now.discretes.now) j h))) in
     let seated = seats.counted (states_with c.args.lines.now c.args.at.now.tick c.args.at.now.moved.now c.args.left.now.states.now) (λ j among.
     let found = index_of c.args.at.now.moved.now j among in

@@ -22,8 +22,9 @@ seat-requires-clause-later g c =
     let first : Courses = record { lines = c.args.lines.now; dues = c.args.agenda.now } in
     let before : Courses = record { lines = c.loop-j.lines; dues = c.loop-j.agenda } in
     let j : ℕ = get_or c.args.at.now.moved.now i 0 in
+    let known : j < state_count c.args.at.now.machine.now = c.requires.on.new.moved.below i 0 c.loop-j-test.true in
     still_begun c.args.at.now.machine.now c.args.at.now.tick c.args.x.now c.args.at.now.levels.now c.args.slopes.now (take i c.args.at.now.moved.now) first before c.loop-j.invariant.are_seated j
-    (c.requires.later j (c.requires.on.new.moved.below i 0 c.loop-j-test.true))
+    (c.requires.may_move.later j (omega (arith, known, c.requires.lines)))
 
 pub seat-requires-clause-small : goal.seat-requires-clause-small
 seat-requires-clause-small g c =
@@ -34,7 +35,7 @@ seat-requires-clause-small g c =
     let known : j < state_count c.args.at.now.machine.now = c.requires.on.new.moved.below i 0 c.loop-j-test.true in
     let small_x : IsWithin 88 (int_at c.args.x.now j) = c.requires.states.small j (pos 0) (omega (arith, known, c.requires.states.as_many)) in
     still_small c.args.at.now.machine.now c.args.at.now.tick c.args.x.now c.args.at.now.levels.now c.args.slopes.now (take i c.args.at.now.moved.now) first before c.loop-j.invariant.are_seated j small_x
-    (c.requires.small j known)
+    (c.requires.may_move.small j (omega (arith, known, c.requires.lines)))
 
 pub seat-requires-clause-near : goal.seat-requires-clause-near
 seat-requires-clause-near g c =

@@ -119,7 +119,7 @@ rewatch_handled-requires-clause-lines g c =
       up_to = record {
         as_many = many;
         later = λ j h. (c.reslope_handled.ensures.lines j (omega (arith, h, many))).not_later;
-        in_time = c.requires.held.lines.up_to.in_time;
+        in_time = c.requires.in_time;
       };
       small = subst (All (IsWithin 88)) (sym lead) c.requires.states.small;
     })

@@ -29,15 +29,15 @@ use Rattle.qss_watch.specs.Places.{watch_at, IsWatched}
 use Rattle.qss_lines.specs.Renewals.{renewals_from}
 use Rattle.qss_quiet.specs.Rules.{IsRuled}
 use Rattle.qss_quiet.specs.Sims.{condition_at}
-use Rattle.qss_quiet.proofs.Overs.{not_some, all_within}
+use Rattle.qss_quiet.proofs.Overs.{not_some}
 use Rattle.qss_lines.specs.Kept.{AreWeights}
 use Rattle.qss_run.specs.Stores.{world_of}
 use Rattle.qss_run.specs.Touches.{touches_at}
 use Rattle.qss_run.proofs.AfterHandlers.{same_worlds}
 use Rattle.qss_run.proofs.Crossed.{none_early, reinits_known, later_dues, flag_same, rest_as_before, watched_then, watched_still, moved_to, near_after, due_after, levels_before_handlers, conditions_stay}
-use Rattle.qss_lines.proofs.DueLevels.{int_at-states_at}
+use Rattle.qss_lines.proofs.DueLevels.{int_at-states_at, may_move}
 use Rattle.qss_watch.proofs.Handled.{rows_handled, assigned_from}
-use Rattle.qss_run.proofs.QuietVisits.{earlier, own_slope, rest_small}
+use Rattle.qss_run.proofs.QuietVisits.{lines_then, own_slope, rest_small}
 use Rattle.qss_run.proofs.Reinits.{kept_state}
 use Rattle.qss_run.proofs.Touched.{renewals_from_touched}
 use Rattle.qss_run.proofs.Visits.{arrives, handles_from, both_none, early, late, steps_to, end_of, levels_small}
@@ -257,6 +257,7 @@ go_on_handled-requires g c =
           rows = omega (arith, c.requantize_handled-over.ensures.room, fits.room.rows);
         };
       };
+      in_time = omega (arith, c.requires.in_time, m.has_units.last_tick);
       assigned = assigned_from handled;
       states = record {
         numbers = handled.numbers;
@@ -290,16 +291,10 @@ go_on_handled-requires g c =
       };
       weights = subst (λ l. AreWeights m l new.d c.requantize_handled-over.new.weights) (sym of_levels) (c.requantize_handled-over.ensures.weights fine);
       held = record {
-        lines = record {
-          up_to = record {
-            as_many = fits.lines;
-            later = λ j h. omega (arith, earlier m c.args.tick agenda s taken c.requires.in_time j (omega (arith, h, fits.lines)));
-            in_time = omega (arith, c.requires.in_time, m.has_units.last_tick);
-          };
-          small = subst (λ ls. All (IsWithin 88) (states_at ls t)) c.as_slice.ensures.value
-              (all_within 88 (states_at c.as_slice.result.now t)
-              (none_early m t (states_at c.as_slice.result.now t) s.work.d s.conditions.arrived.items s.conditions.settled.items calm_h));
-        };
+        may_move = may_move (lines_then m c.args.tick agenda s taken c.requires.in_time
+            (ap (λ ls. first_past 88 (states_at ls t)) (sym c.as_slice.ensures.value)
+            ∙ none_early m t (states_at c.as_slice.result.now t) s.work.d s.conditions.arrived.items s.conditions.settled.items calm_h));
+        lines = fits.lines;
         slopes = fits.slopes;
         places = omega (arith, without.as_many, taken.without.as_many, fits.places);
         before = (

@@ -22,19 +22,19 @@ use Rattle.qss_watch.specs.declared.conditions.Conditions.{Conditions}
 use Rattle.qss_run.specs.declared.store.Store.{Store}
 use Rattle.qss_machine.specs.Firing.{flag_at}
 use Rattle.qss_quiet.specs.Among.{is_among, AreNumbers, IsOff}
-use Rattle.qss_lines.specs.StateLines.{line_at, GoesOnFrom, states_at}
+use Rattle.qss_lines.specs.StateLines.{line_at, GoesOnFrom, states_at, AreLinesAt, MayMove}
 use Rattle.qss_watch.specs.Places.{watch_at, IsWatched}
 use Rattle.qss_quiet.specs.Rules.{IsRuled}
 use Rattle.qss_quiet.specs.Sims.{IsDue}
-use Rattle.qss_quiet.proofs.Overs.{not_some, clash, all_within}
+use Rattle.qss_quiet.proofs.Overs.{not_some, clash}
 use Rattle.qss_lines.specs.Gatherings.{reached}
 use Rattle.qss_lines.specs.Kept.{AreWeights}
 use Rattle.qss_run.specs.Stores.{world_of, FitsMachine}
 use Rattle.qss_lines.specs.Visitings.{HasLeft}
 use Rattle.qss_run.specs.Touches.{touches_at}
-use Rattle.qss_lines.proofs.DueLevels.{moved_inside}
+use Rattle.qss_lines.proofs.DueLevels.{moved_inside, may_move}
 use Rattle.qss_watch.proofs.OwnConditions.{arrived_anew}
-use Rattle.qss_run.proofs.QuietVisits.{steps_or, leads, rest_small, rest_near, due_left, moved_changes, own_slope, levels_before, handled, arrived, near_on_arrival, kept_due, same_truths, watched, not_rising, rising, rows_then}
+use Rattle.qss_run.proofs.QuietVisits.{steps_or, leads, lines_then, rest_small, rest_near, due_left, moved_changes, own_slope, levels_before, handled, arrived, near_on_arrival, kept_due, same_truths, watched, not_rising, rising, rows_then}
 use Rattle.qss_run.proofs.QuietTick.{none_rises_then}
 use Rattle.qss_run.proofs.Touched.{changes, unreached, reached_touched}
 use Rattle.qss_run.proofs.Visits.{stands_again, end_of, both_none, levels_small}
@@ -163,16 +163,8 @@ go_on_moved-requires-clause-ready g c =
             ∙ (both_none (first_past 43 fresh) (position (is_overweight m fresh s.work.d) m.rows) (sym none_both.1)).1;
       };
       held = record {
-        lines = record {
-          up_to = record {
-            as_many = ap length c.as_mut_slice-3.ensures.value ∙ fits.lines;
-            later = λ j h.
-                let not_later = (taken.stands.stands_for.lines j (omega (arith, h, ap length c.as_mut_slice-3.ensures.value, fits.lines))).not_later in
-                omega (arith, ap (λ ls. (line_at ls j).tick) c.as_mut_slice-3.ensures.value, not_later);
-            in_time = omega (arith, c.requires.in_time, m.has_units.last_tick);
-          };
-          small = subst (λ ls. All (IsWithin 88) (states_at ls t)) (sym c.as_mut_slice-3.ensures.value) (all_within 88 x none_both.0);
-        };
+        may_move = subst (MayMove t) (sym c.as_mut_slice-3.ensures.value) (may_move (lines_then m c.args.tick agenda s taken c.requires.in_time none_both.0));
+        lines = ap length c.as_mut_slice-3.ensures.value ∙ fits.lines;
         slopes = ap length c.as_mut_slice-2.ensures.value ∙ fits.slopes;
         places = omega (arith, taken.without.as_many, fits.places);
         before = (
@@ -197,6 +189,19 @@ go_on_moved-requires-clause-ready g c =
           let not_later = (taken.stands.stands_for.lines j inside).not_later in
           omega (arith, ap (λ ls. (line_at ls j).tick) c.as_mut_slice-3.ensures.value, not_later);
     }
+
+pub go_on_moved-requires-clause-lines : goal.go_on_moved-requires-clause-lines
+go_on_moved-requires-clause-lines g c =
+    let m = c.args.m.now in
+    let t = c.args.tick + 1 in
+    let s : Store = c.args.s.now in
+    let calm : c.requantize_moved-over.result ≡ None = not_some c.requantize_moved-over.result (sym c.is_some.ensures ∙ c.if-is_some.false) in
+    let fresh : List ℤ = c.requantize_moved-over.ensures.taken.0 in
+    let over : c.requantize_moved-over.result ≡ option_or (first_past 88 (states_at s.lines.items t)) (option_or (first_past 43 fresh) (position (is_overweight m fresh s.work.d) m.rows)) =
+    c.requantize_moved-over.ensures.taken.1.over_is
+    ∙ ap (λ ls. option_or (first_past 88 (states_at ls t)) (option_or (first_past 43 fresh) (position (is_overweight m fresh s.work.d) m.rows))) c.as_slice.ensures.value in
+    let none = both_none (first_past 88 (states_at s.lines.items t)) (option_or (first_past 43 fresh) (position (is_overweight m fresh s.work.d) m.rows)) (sym calm ∙ over) in
+    subst (AreLinesAt m t) (sym c.as_mut_slice-3.ensures.value) (lines_then m c.args.tick c.requires.taken.0 s c.requires.taken.1 c.requires.in_time none.0)
 
 pub go_on_moved-requires-clause-watched : goal.go_on_moved-requires-clause-watched
 go_on_moved-requires-clause-watched g c place inside =
