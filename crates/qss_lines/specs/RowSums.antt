@@ -29,6 +29,10 @@ pub record AreSumsBefore (kind : RowSum) (m : Machine) (moved : List ℕ) (level
   pub own_sums : sums ≡ tabulate (state_count m) (λ j. sum_at kind m j old discretes)
   pub own_levels : (j : ℕ) → j < state_count m → (line_at lines j).level ≡ int_at old j
 
+-- sums and lines of the levels before, whichever these were
+abbrev pub HadSums : RowSum → Machine → List ℕ → List ℤ → List ℤ → List ℤ → List Line → Type 0
+HadSums kind m moved levels discretes sums lines = (old : List ℤ) × AreSumsBefore kind m moved levels discretes sums lines old
+
 -- the sum of a row after a state took another level, both as the sum takes them, and how much greater its size may be
 abbrev pub HasFollowed : RowSum → Machine → ℕ → ℤ → ℤ → List ℤ → List ℤ → ℕ → ℤ → Type 0
 HasFollowed kind m state old new discretes sums j sum =

@@ -25,7 +25,7 @@ use Rattle.qss_lines.specs.declared.weights.Weights.{Weights}
 use Rattle.qss_lines.specs.Variables.{AreAssignedFrom, AreSlopesOf}
 use Rattle.qss_lines.specs.StateLines.{states_at, states_with, line_at, AreLinesUpTo, MayMove}
 use Rattle.qss_lines.specs.Kept.{AreWeights, AreWeightsBefore}
-use Rattle.qss_lines.specs.RowSums.{sum_at, AreSumsBefore}
+use Rattle.qss_lines.specs.RowSums.{sum_at, HadSums}
 
 -- discrete values of a machine within the limit, at which the mode coefficients of all rows are within theirs
 pub record IsMode (at : Mode) : Type 0 where
@@ -58,8 +58,7 @@ first_overweight at discretes =
 
 -- sums and lines of the levels before, at discrete values
 abbrev pub WereSums : RowSum → NewLevels → List ℤ → List ℤ → List Line → Type 0
-WereSums kind at discretes sums lines =
-    (old : List ℤ) × AreSumsBefore kind at.machine.now at.moved.now at.levels.now discretes sums lines old
+WereSums kind at = HadSums kind at.machine.now at.moved.now at.levels.now
 
 -- weights and lines of the levels before, at discrete values
 abbrev pub WereWeights : NewLevels → List ℤ → Weights → List Line → Type 0
@@ -122,36 +121,35 @@ pub record AreStatesOf (m : Machine) (x : List ℤ) : Type 0 where
   pub as_many : length x ≡ state_count m
   pub small : All (IsWithin 88) x
 
--- a machine's readers, numbers of its states, and a level of each state and discrete values, within the limit
+-- the new levels at a tick at which nothing but states is due
+abbrev pub new_levels : QuietLevels → NewLevels
+new_levels at = record { machine = at.machine; uses = at.uses; tick = at.tick; moved = at.moved; levels = at.levels }
+
+-- new levels, and a value of each discrete variable, within the limit
 pub record AreQuietLevels (at : QuietLevels) : Type 0 where
-  pub uses : at.uses.now ≡ uses_of at.machine.now
-  pub moved : AreNumbers (state_count at.machine.now) at.moved.now
-  pub levels : length at.levels.now ≡ state_count at.machine.now
-  pub small_levels : All (IsWithin 43) at.levels.now
+  pub taken : AreNewLevels (new_levels at)
   pub discretes : length at.discretes.now ≡ discrete_count at.machine.now
   pub small_discretes : All (IsWithin 43) at.discretes.now
 
 -- the slopes of all rows there
 abbrev pub quiet_slopes : QuietLevels → List ℤ
-quiet_slopes at = tabulate (state_count at.machine.now) (λ j. slope_at at.machine.now j at.levels.now at.discretes.now)
-
--- slopes and lines of the levels before, at the same discrete values
-abbrev pub WereSlopes : QuietLevels → List ℤ → List Line → Type 0
-WereSlopes at slopes lines =
-    (old : List ℤ) × AreSumsBefore Slope at.machine.now at.moved.now at.levels.now at.discretes.now slopes lines old
+quiet_slopes at = new_slopes (new_levels at) at.discretes.now
 
 -- levels within whose quanta these states are, and at which, with these discrete values, no row passes its limits
 pub record AreLevelsFor (m : Machine) (states levels discretes : List ℤ) : Type 0 where
   pub near : (j : ℕ) → j < state_count m → IsNear (level_unit m) (int_at states j) (int_at levels j) (quantum_of m j (int_at levels j))
   pub light : position (is_overweight m levels discretes) m.rows ≡ None
 
+-- a slope and a line of each state, and a place of each in an agenda
+pub record HasOneEach (m : Machine) (slopes_old : List ℤ) (lines_old : List Line) (dues_old : List (Option ℕ)) : Type 0 where
+  pub slopes : length slopes_old ≡ state_count m
+  pub lines : length lines_old ≡ state_count m
+  pub places : state_count m ≤ length dues_old
+
 -- slopes, lines and due ticks as they were at a tick before the moved states took these levels: a state that did not move and has its level still is due as the agenda says
 pub record HeldBefore (m : Machine) (tick : ℕ) (moved : List ℕ) (levels discretes slopes_old : List ℤ) (lines_old : List Line) (dues_old : List (Option ℕ)) : Type 0 where
   pub may_move : MayMove tick lines_old
-  pub lines : length lines_old ≡ state_count m
-  pub slopes : length slopes_old ≡ state_count m
-  pub places : state_count m ≤ length dues_old
-  pub before : (old : List ℤ) × AreSumsBefore Slope m moved levels discretes slopes_old lines_old old
+  pub before : HadSums Slope m moved levels discretes slopes_old lines_old
   pub own_slope : (j : ℕ) → j < state_count m → (line_at lines_old j).slope ≡ int_at slopes_old j
   pub due : (j : ℕ) → j < state_count m → is_among moved j ≡ false → (line_at lines_old j).level ≡ int_at levels j →
       IsDue m tick j (line_at lines_old j) (due_at dues_old j)
@@ -160,6 +158,7 @@ pub record HeldBefore (m : Machine) (tick : ℕ) (moved : List ℕ) (levels disc
 pub record CanReslope (at : QuietLevels) (slopes_old : List ℤ) (lines_old : List Line) (dues_old : List (Option ℕ)) : Type 0 where
   pub new : AreQuietLevels at
   pub levels : AreLevelsFor at.machine.now (states_at lines_old at.tick) at.levels.now at.discretes.now
+  pub one_each : HasOneEach at.machine.now slopes_old lines_old dues_old
   pub held : HeldBefore at.machine.now at.tick at.moved.now at.levels.now at.discretes.now slopes_old lines_old dues_old
   pub earlier : (j : ℕ) → j < state_count at.machine.now → (line_at lines_old j).tick < at.tick
 
@@ -173,6 +172,7 @@ pub record CanReseat (at : NewLevels) (left : Handled) (slopes_old : List ℤ) (
   pub handled : AreHandled at.machine.now left
   pub small_states : All (IsWithin 88) (states_left at left lines_old)
   pub levels : AreLevelsFor at.machine.now (states_left at left lines_old) at.levels.now left.discretes.now
+  pub one_each : HasOneEach at.machine.now slopes_old lines_old dues_old
   pub held : HeldBefore at.machine.now at.tick at.moved.now at.levels.now left.before.now slopes_old lines_old dues_old
 
 -- states of which the moved ones are these, and each other one is near its level

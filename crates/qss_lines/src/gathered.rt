@@ -17,7 +17,7 @@ ghost use Rattle.qss_lines.specs.Variables.{AreSlopesOf};
 ghost use Rattle.qss_lines.specs.StateLines.{line_at, GoesOnFrom};
 ghost use Rattle.qss_lines.specs.RowSums.{HasFollowed};
 ghost use Rattle.qss_lines.specs.declared.shifts.RowSum.TheVariants as sum;
-ghost use Rattle.qss_lines.specs.Visitings.{AreQuietLevels, CanReslope, quiet_slopes, WereSlopes};
+ghost use Rattle.qss_lines.specs.Visitings.{AreQuietLevels, CanReslope, new_levels, quiet_slopes, WereSums};
 
 use crate::shifts::{RowSum, shift_rows};
 use crate::visiting::{Mode, QuietLevels};
@@ -151,7 +151,8 @@ fn follow_levels<L: Ledger>(
 )
     requires new { AreQuietLevels at.now }
     requires lines { length lines.old ≡ state_count at.now.machine.now }
-    requires before { WereSlopes at.now slopes.old lines.old }
+    requires before { WereSums sum.Slope (new_levels at.now) at.now.discretes.now slopes.old
+        lines.old }
     requires can { CanGather at.now.tick lines.old touched.old.items
         (vec_capacity touched.old) }
     ensures slopes { slopes.new ≡ quiet_slopes at.now }

@@ -204,8 +204,14 @@ module _ (m : Machine) (tick : ℕ) (lines : List Line) (due fired : List ℕ) (
       small = small_after m tick (states_at lines tick) begun.d None (flags_of (length (conditions m)) fired) (all_within 88 (states_at lines tick) calm);
       numbers = numbers;
       moves = each;
-      variables = λ k d h.
-          subst (λ var. (state_count m ≤ var) × (var < state_count m + discrete_count m)) (get_or_default (assigned_of done.rows) k 0 d h)
-          (says.sets (get_or (assigned_of done.rows) k 0) (sym (among_assigned done.rows (get_or (assigned_of done.rows) k 0)) ∙ among_at (assigned_of done.rows) k h));
-      others = λ g inside e. says.discretes g (sym (among_assigned done.rows (state_count m + g)) ∙ e) ∙ ap (λ (v : Values). int_at v.d g) begins;
+      assigns = record {
+        known = λ k d h.
+            subst (λ var. (state_count m ≤ var) × (var < state_count m + discrete_count m)) (get_or_default (assigned_of done.rows) k 0 d h)
+            (says.sets (get_or (assigned_of done.rows) k 0) (sym (among_assigned done.rows (get_or (assigned_of done.rows) k 0)) ∙ among_at (assigned_of done.rows) k h));
+        others = λ g inside e.
+            ap (λ (v : Values). int_at v.d g) work
+            ∙ says.discretes g (sym (among_assigned done.rows (state_count m + g)) ∙ e)
+            ∙ sym (ap (λ (v : Values). int_at v.pre g) work);
+        small_before = fits.small_before;
+      };
     }

@@ -1,5 +1,5 @@
 -- What the handlers of a tick did.
-use Rattle.std.proofs.Common.{◌≡◌, ℕ, ◌≤◌, Bool, true, List, [], length, ℤ, sym, ◌∙◌, ap, subst, arith}
+use Rattle.std.proofs.Common.{◌≡◌, ℕ, ◌≤◌, Bool, true, List, [], length, ℤ, sym, ◌∙◌, ap, arith}
 use Rattle.std.specs.Prelude.{Option, Some, None, is_some}
 use Rattle.qss_machine.specs.declared.rows.Row.{Row}
 use Rattle.qss_machine.specs.declared.system.Machine.{Machine}
@@ -7,9 +7,7 @@ use Rattle.qss_machine.specs.Numbers.{first_past}
 use Rattle.qss_machine.specs.Handlers.{Handling, truths, due_flags, run_clauses}
 use Rattle.qss_hand.specs.Values.{Values}
 use Rattle.qss_hand.specs.Works.{handling_of, row_room}
-use Rattle.qss_quant.specs.Lines.{Line}
-use Rattle.qss_lines.specs.Variables.{AreAssigned, AreAssignedFrom}
-use Rattle.qss_watch.specs.Handlings.{handling_from, IsHandled}
+use Rattle.qss_watch.specs.Handlings.{handling_from}
 use Rattle.qss_hand.proofs.Turns.{clauses_stay, rows_clauses}
 
 module _ (m : Machine) (tick : ℕ) (x d : List ℤ) (arrived settled : List Bool) where
@@ -38,13 +36,3 @@ pub rows_handled : (m : Machine) (tick : ℕ) (x d : List ℤ) (arrived settled 
 rows_handled m tick x d arrived settled =
     let start : Handling = record { states = x; discretes = d; rows = []; overflow = first_past 88 x } in
     omega (arith, rows_clauses m tick d 0 start m.clauses (due_flags (truths m x d tick) arrived settled))
-
--- what handlers assigned, in the values that they left
-pub assigned_from : {m : Machine} {tick : ℕ} {lines : List Line} {due moved assigned : List ℕ} {old new : Values} {h : Handling} → IsHandled m tick lines due moved assigned old new h →
-    AreAssignedFrom m assigned new.pre new.d
-assigned_from {m = m} {assigned = assigned} {old = old} {new = new} is = record {
-  known = is.variables;
-  others = subst (λ (p : List ℤ). AreAssigned m assigned p new.d) (sym (ap (λ (v : Values). v.pre) is.values))
-      (subst (AreAssigned m assigned old.d) (sym (ap (λ (v : Values). v.d) is.values)) is.others);
-  small_before = is.fits.small_before;
-}

@@ -15,7 +15,7 @@ use Rattle.qss_quiet.specs.Among.{is_among, AreNumbers}
 use Rattle.qss_watch.specs.declared.conditions.Conditions.{Conditions}
 use Rattle.qss_watch.specs.Moves.{AreAlikeBut}
 use Rattle.qss_watch.specs.Rewatchings.{Watchings, watchings_of, IsSettled}
-use Rattle.qss_lines.specs.Variables.{reads_moved, AreDiscretes, AreAssigned}
+use Rattle.qss_lines.specs.Variables.{reads_moved, AreAssigned, AreAssignedFrom}
 use Rattle.qss_lines.specs.StateLines.{states_with, line_at}
 
 -- flags of which those at these places are set
@@ -42,8 +42,7 @@ pub record IsHandled (m : Machine) (tick : ℕ) (lines : List Line) (due moved a
   pub small : All (IsWithin 88) h.states
   pub numbers : AreNumbers (state_count m) moved
   pub moves : (j : ℕ) → is_among moved j ≡ (is_among due j || is_reinitialized h.rows j)
-  pub variables : AreDiscretes m assigned
-  pub others : AreAssigned m assigned old.d h.discretes
+  pub assigns : AreAssignedFrom m assigned new.pre new.d
 
 -- states after handlers, the moved ones as these left them: within the limit, and where their lines lead but for the reinitialized ones
 pub record AreStatesLeft (m : Machine) (tick : ℕ) (lines : List Line) (moved : List ℕ) (left : Values) : Type 0 where

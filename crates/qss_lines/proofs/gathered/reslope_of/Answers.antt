@@ -18,7 +18,7 @@ pub follow_levels-requires-clause-new : goal.follow_levels-requires-clause-new
 follow_levels-requires-clause-new g c = c.requires.ready.new
 
 pub follow_levels-requires-clause-lines : goal.follow_levels-requires-clause-lines
-follow_levels-requires-clause-lines g c = c.requires.ready.held.lines
+follow_levels-requires-clause-lines g c = c.requires.ready.one_each.lines
 
 pub follow_levels-requires-clause-before : goal.follow_levels-requires-clause-before
 follow_levels-requires-clause-before g c = c.requires.ready.held.before
@@ -26,7 +26,7 @@ follow_levels-requires-clause-before g c = c.requires.ready.held.before
 pub follow_levels-requires-clause-can : goal.follow_levels-requires-clause-can
 follow_levels-requires-clause-can g c =
     let lines = c.args.lines.now in
-    let many = c.requires.ready.held.lines in
+    let many = c.requires.ready.one_each.lines in
     record {
       may_move = c.requires.ready.held.may_move;
       below = subst (All (λ j. j < length lines)) (sym c.clear.ensures.items) (All-nil (λ j. j < length lines));
@@ -39,7 +39,7 @@ go_on_each-requires-clause-new g c = c.requires.ready.new
 
 pub go_on_each-requires-clause-slopes_of : goal.go_on_each-requires-clause-slopes_of
 go_on_each-requires-clause-slopes_of g c = record {
-  as_many = c.follow_levels.auto.slopes ∙ c.requires.ready.held.slopes;
+  as_many = c.follow_levels.auto.slopes ∙ c.requires.ready.one_each.slopes;
   small = slopes_small c.args.at.now.machine.now c.args.at.now.levels.now c.args.at.now.discretes.now c.args.at.now.discretes.now c.follow_levels.new.slopes c.requires.ready.levels.light refl
       c.follow_levels.ensures.slopes;
 }
@@ -47,13 +47,13 @@ go_on_each-requires-clause-slopes_of g c = record {
 pub go_on_each-requires-clause-states : goal.go_on_each-requires-clause-states
 go_on_each-requires-clause-states g c =
     subst (All (λ j. j < state_count c.args.at.now.machine.now)) (sym c.as_slice.ensures.value)
-    (λ i d h. let known = c.follow_levels.ensures.can.below i d h in omega (arith, known, c.follow_levels.auto.lines, c.requires.ready.held.lines))
+    (λ i d h. let known = c.follow_levels.ensures.can.below i d h in omega (arith, known, c.follow_levels.auto.lines, c.requires.ready.one_each.lines))
 
 pub go_on_each-requires-clause-lines : goal.go_on_each-requires-clause-lines
-go_on_each-requires-clause-lines g c = c.follow_levels.auto.lines ∙ c.requires.ready.held.lines
+go_on_each-requires-clause-lines g c = c.follow_levels.auto.lines ∙ c.requires.ready.one_each.lines
 
 pub go_on_each-requires-clause-places : goal.go_on_each-requires-clause-places
-go_on_each-requires-clause-places g c = c.requires.ready.held.places
+go_on_each-requires-clause-places g c = c.requires.ready.one_each.places
 
 pub go_on_each-requires-clause-in_time : goal.go_on_each-requires-clause-in_time
 go_on_each-requires-clause-in_time g c = c.requires.ready.held.may_move.in_time
@@ -62,7 +62,7 @@ pub go_on_each-requires-clause-ready : goal.go_on_each-requires-clause-ready
 go_on_each-requires-clause-ready g c j h =
     let m = c.args.at.now.machine.now in
     let level : ℤ = int_at c.args.at.now.levels.now j in
-    let inside : j < length c.args.lines.now = omega (arith, h, c.requires.ready.held.lines) in
+    let inside : j < length c.args.lines.now = omega (arith, h, c.requires.ready.one_each.lines) in
     let known : j < length c.follow_levels.new.lines = omega (arith, inside, c.follow_levels.auto.lines) in
     record {
       not_later = c.follow_levels.ensures.can.may_move.later j known;
@@ -86,7 +86,7 @@ returns-clause-lines g c k h =
       dues = λ j none. c.go_on_each.ensures.dues j (ap (λ xs. is_among xs j) c.as_slice.ensures.value ∙ none);
     } in
     let held = c.requires.ready.held in
-    let inside : k < length c.args.lines.now = omega (arith, h, held.lines) in
+    let inside : k < length c.args.lines.now = omega (arith, h, c.requires.ready.one_each.lines) in
     all_on m c.args.at.now.tick levels held.before.0 c.args.at.now.discretes.now c.args.slopes.now slopes c.args.at.now.moved.now first between c.args.agenda.now last
     c.follow_levels.ensures.gathered on held.before.1 c.follow_levels.ensures.slopes k h inside (held.may_move.later k inside) (held.own_slope k h) (held.due k h)
 
@@ -103,7 +103,7 @@ pub returns-clause-others : goal.returns-clause-others
 returns-clause-others g c place past =
     let touched : List ℕ = c.follow_levels.new.touched.items in
     let below : All (λ j. j < state_count c.args.at.now.machine.now) touched = λ i d h.
-    let known = c.follow_levels.ensures.can.below i d h in omega (arith, known, c.follow_levels.auto.lines, c.requires.ready.held.lines) in
+    let known = c.follow_levels.ensures.can.below i d h in omega (arith, known, c.follow_levels.auto.lines, c.requires.ready.one_each.lines) in
     c.go_on_each.ensures.dues place (ap (λ xs. is_among xs place) c.as_slice.ensures.value ∙ not_listed (state_count c.args.at.now.machine.now) touched place below past)
 
 pub returns-clause-counted : goal.returns-clause-counted
@@ -112,7 +112,7 @@ returns-clause-counted g c =
     let tick = c.args.at.now.tick in
     let may = is_among (reached m c.args.at.now.moved.now) in
     let count = c.follow_levels.ensures.gathered.counted may (λ j among. among) in
-    let fewer : behind tick may c.args.lines.now ≤ count_by may (range_with_len 0 (state_count m)) = behind_may tick (state_count m) may c.args.lines.now c.requires.ready.held.lines in
+    let fewer : behind tick may c.args.lines.now ≤ count_by may (range_with_len 0 (state_count m)) = behind_may tick (state_count m) may c.args.lines.now c.requires.ready.one_each.lines in
     omega (arith, count, fewer, c.follow_levels.ensures.counted, ap length c.clear.ensures.items)
 
 pub returns-clause-room : goal.returns-clause-room

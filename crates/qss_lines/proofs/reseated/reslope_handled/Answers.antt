@@ -22,7 +22,7 @@ pub seat_each-requires-clause-on : goal.seat_each-requires-clause-on
 seat_each-requires-clause-on g c = record {
   new = c.requires.new;
   slopes_of = record {
-    as_many = c.follow_slopes.auto.slopes ∙ c.requires.held.slopes;
+    as_many = c.follow_slopes.auto.slopes ∙ c.requires.one_each.slopes;
     small = slopes_small c.args.at.now.machine.now c.args.at.now.levels.now c.args.left.now.discretes.now c.args.left.now.discretes.now c.follow_slopes.new.slopes c.requires.levels.light refl c.follow_slopes.ensures;
   };
   in_time = c.requires.held.may_move.in_time;
@@ -34,7 +34,7 @@ seat_each-requires-clause-near g c j among =
     let found = index_of c.args.at.now.moved.now j among in
     let h : j < state_count m = omega (arith, found.2, c.requires.new.moved.below found.0 0 found.1) in
     subst (λ x. IsNear (level_unit m) x (int_at c.args.at.now.levels.now j) (quantum_of m j (int_at c.args.at.now.levels.now j)))
-    (moved_state c.args.lines.now c.args.at.now.tick c.args.at.now.moved.now c.args.left.now.states.now j (omega (arith, h, c.requires.held.lines)) among) (c.requires.levels.near j h)
+    (moved_state c.args.lines.now c.args.at.now.tick c.args.at.now.moved.now c.args.left.now.states.now j (omega (arith, h, c.requires.one_each.lines)) among) (c.requires.levels.near j h)
 
 pub seat_each-requires-clause-may_move : goal.seat_each-requires-clause-may_move
 seat_each-requires-clause-may_move g c = c.requires.held.may_move
@@ -43,7 +43,7 @@ pub reslope_readers-requires-clause-on : goal.reslope_readers-requires-clause-on
 reslope_readers-requires-clause-on g c = record {
   new = c.requires.new;
   slopes_of = record {
-    as_many = c.follow_slopes.auto.slopes ∙ c.requires.held.slopes;
+    as_many = c.follow_slopes.auto.slopes ∙ c.requires.one_each.slopes;
     small = slopes_small c.args.at.now.machine.now c.args.at.now.levels.now c.args.left.now.discretes.now c.args.left.now.discretes.now c.follow_slopes.new.slopes c.requires.levels.light refl c.follow_slopes.ensures;
   };
   in_time = c.requires.held.may_move.in_time;
@@ -53,7 +53,7 @@ pub reslope_readers-requires-clause-ready : goal.reslope_readers-requires-clause
 reslope_readers-requires-clause-ready g c j h =
     let m = c.args.at.now.machine.now in
     let held = c.requires.held in
-    let many = held.lines in
+    let many = c.requires.one_each.lines in
     let first : Courses = record { lines = c.args.lines.now; dues = c.args.agenda.now } in
     let between : Courses = record { lines = c.seat_each.new.lines; dues = c.seat_each.new.agenda } in
     let seats = c.seat_each.ensures in
@@ -66,7 +66,7 @@ pub reslope_readers-requires-2-clause-on : goal.reslope_readers-requires-2-claus
 reslope_readers-requires-2-clause-on g c = record {
   new = c.requires.new;
   slopes_of = record {
-    as_many = c.follow_slopes.auto.slopes ∙ c.requires.held.slopes;
+    as_many = c.follow_slopes.auto.slopes ∙ c.requires.one_each.slopes;
     small = slopes_small c.args.at.now.machine.now c.args.at.now.levels.now c.args.left.now.discretes.now c.args.left.now.discretes.now c.follow_slopes.new.slopes c.requires.levels.light refl c.follow_slopes.ensures;
   };
   in_time = c.requires.held.may_move.in_time;
@@ -76,7 +76,7 @@ pub reslope_readers-requires-2-clause-ready : goal.reslope_readers-requires-2-cl
 reslope_readers-requires-2-clause-ready g c j h =
     let m = c.args.at.now.machine.now in
     let held = c.requires.held in
-    let many = held.lines in
+    let many = c.requires.one_each.lines in
     let first : Courses = record { lines = c.args.lines.now; dues = c.args.agenda.now } in
     let between : Courses = record { lines = c.seat_each.new.lines; dues = c.seat_each.new.agenda } in
     let seats = c.seat_each.ensures in
@@ -92,7 +92,7 @@ pub returns-clause-lines : goal.returns-clause-lines
 returns-clause-lines g c j h =
     let m = c.args.at.now.machine.now in
     let held = c.requires.held in
-    let many = held.lines in
+    let many = c.requires.one_each.lines in
     let first : Courses = record { lines = c.args.lines.now; dues = c.args.agenda.now } in
     let between : Courses = record { lines = c.seat_each.new.lines; dues = c.seat_each.new.agenda } in
     let next : Courses = record { lines = c.reslope_readers.new.lines; dues = c.reslope_readers.new.agenda } in
@@ -108,7 +108,7 @@ returns-clause-lines g c j h =
 pub returns-clause-kept : goal.returns-clause-kept
 returns-clause-kept g c j h so =
     let m = c.args.at.now.machine.now in
-    let many = c.requires.held.lines in
+    let many = c.requires.one_each.lines in
     let levels = c.args.at.now.levels.now in
     let slopes = c.follow_slopes.new.slopes in
     let first : Courses = record { lines = c.args.lines.now; dues = c.args.agenda.now } in
@@ -132,7 +132,7 @@ pub returns-clause-counted : goal.returns-clause-counted
 returns-clause-counted g c =
     let m = c.args.at.now.machine.now in
     let held = c.requires.held in
-    let many = held.lines in
+    let many = c.requires.one_each.lines in
     let n : ℕ = state_count m in
     let levels = c.args.at.now.levels.now in
     let slopes = c.follow_slopes.new.slopes in

@@ -68,6 +68,7 @@ reslope_handled-requires g c =
       small_states = subst (All (IsWithin 88)) (sym same) c.requires.states.small;
       levels = subst (λ (xs : List ℤ). AreLevelsFor m xs c.as_slice-2.result.now c.as_slice-6.result.now) (sym same)
           (subst (λ (l : List ℤ). AreLevelsFor m y l c.as_slice-6.result.now) (sym of_levels) (subst (AreLevelsFor m y s.levels.items) (sym of_d) c.requires.levels));
+      one_each = record { slopes = ap length of_slopes ∙ fits.slopes; lines = ap length of_lines ∙ fits.lines; places = omega (arith, fits.places) };
       held = subst (λ js. HeldBefore m t js c.as_slice-2.result.now c.as_slice-5.result.now c.as_mut_slice.result.now c.as_mut_slice-2.result.now s.agenda) (sym of_moved)
           (subst (λ l. HeldBefore m t s.moved.items l c.as_slice-5.result.now c.as_mut_slice.result.now c.as_mut_slice-2.result.now s.agenda) (sym of_levels)
           (subst (λ p. HeldBefore m t s.moved.items s.levels.items p c.as_mut_slice.result.now c.as_mut_slice-2.result.now s.agenda) (sym of_pre)

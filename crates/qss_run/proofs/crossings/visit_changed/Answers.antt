@@ -36,7 +36,7 @@ use Rattle.qss_run.specs.Touches.{touches_at}
 use Rattle.qss_run.proofs.AfterHandlers.{same_worlds}
 use Rattle.qss_run.proofs.Crossed.{none_early, reinits_known, later_dues, flag_same, rest_as_before, watched_then, watched_still, moved_to, near_after, due_after, levels_before_handlers, conditions_stay}
 use Rattle.qss_lines.proofs.DueLevels.{int_at-states_at, may_move}
-use Rattle.qss_watch.proofs.Handled.{rows_handled, assigned_from}
+use Rattle.qss_watch.proofs.Handled.{rows_handled}
 use Rattle.qss_run.proofs.QuietVisits.{lines_then, own_slope, rest_small}
 use Rattle.qss_run.proofs.Reinits.{kept_state}
 use Rattle.qss_run.proofs.Touched.{renewals_from_touched}
@@ -108,7 +108,7 @@ requantize_handled-over-requires-clause-ready g c =
       uses = c.requires.taken.1.stands.fits.uses;
       lines = ap length c.as_slice-3.ensures.value ∙ c.requires.taken.1.stands.fits.lines;
       moved = subst (AreNumbers (state_count m)) (sym c.as_slice-4.ensures.value) handled.numbers;
-      assigned = subst (λ (js : List ℕ). AreAssignedFrom m js new.pre new.d) (sym c.as_slice-5.ensures.value) (assigned_from handled);
+      assigned = subst (λ (js : List ℕ). AreAssignedFrom m js new.pre new.d) (sym c.as_slice-5.ensures.value) handled.assigns;
       fits = handled.fits;
     }
 
@@ -258,7 +258,7 @@ go_on_handled-requires g c =
         };
       };
       in_time = omega (arith, c.requires.in_time, m.has_units.last_tick);
-      assigned = assigned_from handled;
+      assigned = handled.assigns;
       states = record {
         numbers = handled.numbers;
         reinitialized = λ j e. reinits_known m c.args.tick agenda s taken c.requires.in_time moved assigned new h handled j (sym (ap (λ rows. is_reinitialized rows j) of_log) ∙ e);
@@ -294,9 +294,6 @@ go_on_handled-requires g c =
         may_move = may_move (lines_then m c.args.tick agenda s taken c.requires.in_time
             (ap (λ ls. first_past 88 (states_at ls t)) (sym c.as_slice.ensures.value)
             ∙ none_early m t (states_at c.as_slice.result.now t) s.work.d s.conditions.arrived.items s.conditions.settled.items calm_h));
-        lines = fits.lines;
-        slopes = fits.slopes;
-        places = omega (arith, without.as_many, taken.without.as_many, fits.places);
         before = (
           s.levels.items,
           subst (λ p. AreSumsBefore Slope m moved levels p s.slopes.items s.lines.items s.levels.items) (sym of_pre)

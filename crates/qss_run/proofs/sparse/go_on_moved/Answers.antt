@@ -34,7 +34,7 @@ rewatch_of-requires-clause-ready g c =
             c.requires.lines.up_to.in_time);
       };
       slopes_of = record {
-        as_many = c.reslope_of.auto.slopes ∙ c.requires.ready.held.slopes;
+        as_many = c.reslope_of.auto.slopes ∙ c.requires.ready.one_each.slopes;
         small = slopes_small m c.args.at.now.levels.now d d c.reslope_of.new.slopes c.requires.ready.levels.light refl c.reslope_of.ensures.slopes;
       };
       in_time = c.requires.lines.up_to.in_time;
@@ -53,7 +53,7 @@ returns-clause-watches g c place h =
     let x : List ℤ = states_at c.args.lines.now t in
     let d : List ℤ = c.args.at.now.discretes.now in
     let before : AreSlopesBefore m c.args.at.now.moved.now c.args.slopes.now c.reslope_of.new.slopes place = record {
-      as_many = c.requires.ready.held.slopes;
+      as_many = c.requires.ready.one_each.slopes;
       others = λ j inside reads none.
           slopes_stay m c.args.at.now.moved.now c.requires.ready.held.before.0 c.args.at.now.levels.now d c.args.slopes.now c.reslope_of.new.slopes c.requires.ready.held.before.1.off c.requires.ready.held.before.1.own_sums
           c.reslope_of.ensures.slopes j inside none;

@@ -146,10 +146,12 @@ go_on_moved-requires-clause-ready g c =
     let fits = taken.stands.fits in
     record {
       new = record {
-        uses = fits.uses;
-        moved = subst (AreNumbers (state_count m)) (sym c.as_slice-3.ensures.value) taken.due.numbers;
-        levels = ap length c.as_slice-4.ensures.value ∙ same_length s.levels c.requantize_moved-over.new.levels ∙ fits.levels;
-        small_levels = subst (All (IsWithin 43)) (sym (levels ∙ sym (c.requantize_moved-over.ensures.taken.1.levels calm))) (c.requantize_moved-over.ensures.small calm);
+        taken = record {
+          uses = fits.uses;
+          moved = subst (AreNumbers (state_count m)) (sym c.as_slice-3.ensures.value) taken.due.numbers;
+          levels = ap length c.as_slice-4.ensures.value ∙ same_length s.levels c.requantize_moved-over.new.levels ∙ fits.levels;
+          small_levels = subst (All (IsWithin 43)) (sym (levels ∙ sym (c.requantize_moved-over.ensures.taken.1.levels calm))) (c.requantize_moved-over.ensures.small calm);
+        };
         discretes = ap length of_d ∙ fits.values.discretes;
         small_discretes = subst (All (IsWithin 43)) (sym of_d) fits.values.small_discretes;
       };
@@ -162,11 +164,13 @@ go_on_moved-requires-clause-ready g c =
             ∙ ap (λ d. position (is_overweight m fresh d) m.rows) of_d
             ∙ (both_none (first_past 43 fresh) (position (is_overweight m fresh s.work.d) m.rows) (sym none_both.1)).1;
       };
+      one_each = record {
+        slopes = ap length c.as_mut_slice-2.ensures.value ∙ fits.slopes;
+        lines = ap length c.as_mut_slice-3.ensures.value ∙ fits.lines;
+        places = omega (arith, taken.without.as_many, fits.places);
+      };
       held = record {
         may_move = subst (MayMove t) (sym c.as_mut_slice-3.ensures.value) (may_move (lines_then m c.args.tick agenda s taken c.requires.in_time none_both.0));
-        lines = ap length c.as_mut_slice-3.ensures.value ∙ fits.lines;
-        slopes = ap length c.as_mut_slice-2.ensures.value ∙ fits.slopes;
-        places = omega (arith, taken.without.as_many, fits.places);
         before = (
           s.levels.items,
           subst (λ js. AreSumsBefore Slope m js c.as_slice-4.result.now c.as_slice-5.result.now c.as_mut_slice-2.result.now c.as_mut_slice-3.result.now s.levels.items) (sym c.as_slice-3.ensures.value)
