@@ -299,8 +299,8 @@ module _ (m : Machine) (tick : ℕ) (levels before discretes slopes_old slopes :
             let parts = or_parts (is_among moved k) (is_among (flat_map (reading_rows m) moved) k) (sym (among_reached m moved k) ∙ unlisted.1) in
             let same : int_at slopes_old k ≡ slope_at m k levels discretes =
             ap (λ xs. int_at xs k) were.own_sums ∙ int_at-tabulate (state_count m) (λ j. slope_at m j before discretes) k h
-            ∙ sym (unread_slope m.f (row_at m k) moved before levels discretes (unread_at moved (row_at m k) (sym (among_readers m k h moved) ∙ parts.1)) were.off) in
-            let own_level : (line_at old.lines k).level ≡ int_at levels k = were.own_levels k h ∙ sym (were.off.others k parts.0) in
+            ∙ sym (unread_slope m.f (row_at m k) moved before levels discretes (unread_at moved (row_at m k) (sym (among_readers m k h moved) ∙ parts.1)) were.levels.off) in
+            let own_level : (line_at old.lines k).level ≡ int_at levels k = were.levels.own_levels k h ∙ sym (were.levels.off.others k parts.0) in
             let line : line_at new.lines k ≡ line_at old.lines k = on.lines k none ∙ gathered.others k none in
             subst (λ (l : Line). GoesOnFrom m tick x (int_at levels k) (slope_at m k levels discretes) k l (due_at new.dues k)) (sym line)
             (subst (GoesOnFrom m tick x (int_at levels k) (slope_at m k levels discretes) k (line_at old.lines k)) (sym (on.dues k none))

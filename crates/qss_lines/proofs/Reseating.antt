@@ -118,7 +118,7 @@ module _ (m : Machine) (tick : ℕ) (x levels slopes : List ℤ) (moved : List �
     slope_kept none =
         let parts = or_parts (is_among xs j) (is_among ys j) (sym (list_any-append (λ (i : ℕ). i == j) xs ys) ∙ none) in
         ap (λ zs. int_at zs j) were.own_sums ∙ int_at-tabulate (state_count m) (λ k. slope_at m k before pre) j h
-        ∙ sym (unread_slope m.f (row_at m j) moved before levels pre (unread_at moved (row_at m j) (sym (among_readers m j h moved) ∙ parts.0)) were.off)
+        ∙ sym (unread_slope m.f (row_at m j) moved before levels pre (unread_at moved (row_at m j) (sym (among_readers m j h moved) ∙ parts.0)) were.levels.off)
         ∙ sym (slope_stays m levels pre d assigned many_levels many_before many_discretes same j h (sym (among_readers m j h assigned) ∙ parts.1))
         ∙ sym slope_new
 
@@ -138,7 +138,7 @@ module _ (m : Machine) (tick : ℕ) (x levels slopes : List ℤ) (moved : List �
           | inr unread ↦ on (elim (cases_Bool (is_among moved j)) [
             | inl among ↦ subst (λ z. GoesOnFrom m tick z level slope j (line_at between.lines j) (due_at between.dues j)) (sym (moved_state first.lines tick moved x j inside among)) (are.own j among)
             | inr none ↦
-                let own_level : (line_at first.lines j).level ≡ level = were.own_levels j h ∙ sym (were.off.others j none) in
+                let own_level : (line_at first.lines j).level ≡ level = were.levels.own_levels j h ∙ sym (were.levels.off.others j none) in
                 subst (λ (l : Line). Goes l (due_at between.dues j)) (sym (are.lines j none))
                 (subst (Goes (line_at first.lines j)) (sym (are.dues j none))
                 (record {

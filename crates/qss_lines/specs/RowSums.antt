@@ -21,13 +21,17 @@ abbrev pub sum_at : RowSum → Machine → ℕ → List ℤ → List ℤ → ℤ
 sum_at Slope m j levels discretes = slope_at m j levels discretes
 sum_at Weight m j levels discretes = weight_at m j levels discretes
 
--- the levels before those of the moved states changed: within their limit, no row past its limits there, and the sums and the lines are theirs
-pub record AreSumsBefore (kind : RowSum) (m : Machine) (moved : List ℕ) (levels discretes sums : List ℤ) (lines : List Line) (old : List ℤ) : Type 0 where
-  pub off : IsOff moved old levels
+-- the levels before those of the moved states changed: within their limit, no row past its limits there, and the lines have them
+pub record AreLevelsBefore (m : Machine) (moved : List ℕ) (new discretes : List ℤ) (lines : List Line) (old : List ℤ) : Type 0 where
+  pub off : IsOff moved old new
   pub small : All (IsWithin 43) old
   pub light : position (is_overweight m old discretes) m.rows ≡ None
-  pub own_sums : sums ≡ tabulate (state_count m) (λ j. sum_at kind m j old discretes)
   pub own_levels : (j : ℕ) → j < state_count m → (line_at lines j).level ≡ int_at old j
+
+-- the levels before, and the sums of all rows there
+pub record AreSumsBefore (kind : RowSum) (m : Machine) (moved : List ℕ) (new discretes sums : List ℤ) (lines : List Line) (old : List ℤ) : Type 0 where
+  pub levels : AreLevelsBefore m moved new discretes lines old
+  pub own_sums : sums ≡ tabulate (state_count m) (λ j. sum_at kind m j old discretes)
 
 -- sums and lines of the levels before, whichever these were
 abbrev pub HadSums : RowSum → Machine → List ℕ → List ℤ → List ℤ → List ℤ → List Line → Type 0

@@ -37,6 +37,13 @@ pub record AreWithin (m : Machine) (x d : List ℤ) : Type 0 where
   pub small_states : All (IsWithin 88) x
   pub small_discretes : All (IsWithin 43) d
 
+-- a level of each state and a value of each discrete variable, within the limit
+pub record AreLevelsOf (m : Machine) (l d : List ℤ) : Type 0 where
+  pub levels : length l ≡ state_count m
+  pub discretes : length d ≡ discrete_count m
+  pub small_levels : All (IsWithin 43) l
+  pub small_discretes : All (IsWithin 43) d
+
 -- a slope of each state, within the limit
 pub record AreSlopesOf (m : Machine) (slopes : List ℤ) : Type 0 where
   pub as_many : length slopes ≡ state_count m

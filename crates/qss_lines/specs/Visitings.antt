@@ -94,6 +94,14 @@ pub record CanArrive (at : Arrival) (levels : List ℤ) : Type 0 where
   pub others_near : (j : ℕ) → j < state_count at.machine.now → is_among at.moved.now j ≡ false →
       is_near at.machine.now j (state_at (line_at at.lines.now j) at.tick) (int_at levels j) ≡ true
 
+-- the moved states may take new levels, from a level of each state, at these values of states: of the moved ones within the limit, and so all levels
+pub record CanRequantize (at : Arrival) (x levels_old : List ℤ) : Type 0 where
+  pub states : length x ≡ state_count at.machine.now
+  pub levels : length levels_old ≡ state_count at.machine.now
+  pub moved : AreNumbers (state_count at.machine.now) at.moved.now
+  pub small_states : (j : ℕ) → is_among at.moved.now j ≡ true → IsWithin 88 (int_at x j)
+  pub small_levels : All (IsWithin 43) levels_old
+
 -- levels of a machine's states that the lines have, within their limit, and the weights of all rows there and at discrete values, none past its limit
 pub record HoldsLevels (m : Machine) (lines : List Line) (d levels_old : List ℤ) (weights_old : Weights) : Type 0 where
   pub levels : length levels_old ≡ state_count m

@@ -13,11 +13,10 @@ ghost use Rattle.qss_sched.specs.Ranks.{due_at};
 ghost use Rattle.qss_quiet.specs.Among.{is_among};
 ghost use Rattle.qss_quiet.specs.Writes.{IsWritten};
 ghost use Rattle.qss_lines.specs.Gatherings.{CanGather, AreGathered, MayGoOn, reached};
-ghost use Rattle.qss_lines.specs.Variables.{AreSlopesOf};
 ghost use Rattle.qss_lines.specs.StateLines.{line_at, GoesOnFrom};
 ghost use Rattle.qss_lines.specs.RowSums.{HasFollowed};
 ghost use Rattle.qss_lines.specs.declared.shifts.RowSum.TheVariants as sum;
-ghost use Rattle.qss_lines.specs.Visitings.{AreQuietLevels, CanReslope, new_levels, quiet_slopes, WereSums};
+ghost use Rattle.qss_lines.specs.Visitings.{AreQuietLevels, CanGoOn, CanReslope, new_levels, quiet_slopes, WereSums};
 
 use crate::shifts::{RowSum, shift_rows};
 use crate::visiting::{Mode, QuietLevels};
@@ -194,12 +193,10 @@ fn go_on_as(m: &Machine, j: u32, here: &Integrator, line: &mut Integrator, agend
 
 // A state goes on from a tick at its level and its slope, from where its line leads.
 fn go_on(at: &QuietLevels, slopes: &[i128], j: u32, lines: &mut [Integrator], agenda: &mut Agenda)
-    requires new { AreQuietLevels at.now }
-    requires slopes_of { AreSlopesOf at.now.machine.now slopes.now }
+    requires on { CanGoOn (new_levels at.now) slopes.now }
     requires state { j < state_count at.now.machine.now }
     requires lines { length lines.old ≡ state_count at.now.machine.now }
     requires places { state_count at.now.machine.now ≤ length agenda.old }
-    requires in_time { at.now.tick ≤ tick_limit }
     requires ready { MayGoOn at.now.machine.now at.now.tick j (int_at at.now.levels.now j)
         (line_at lines.old j) }
     ensures goes_on { GoesOnFrom at.now.machine.now at.now.tick
@@ -232,12 +229,10 @@ fn go_on_each(
     lines: &mut [Integrator],
     agenda: &mut Agenda,
 )
-    requires new { AreQuietLevels at.now }
-    requires slopes_of { AreSlopesOf at.now.machine.now slopes.now }
+    requires on { CanGoOn (new_levels at.now) slopes.now }
     requires states { All (λ j. j < state_count at.now.machine.now) states.now }
     requires lines { length lines.old ≡ state_count at.now.machine.now }
     requires places { state_count at.now.machine.now ≤ length agenda.old }
-    requires in_time { at.now.tick ≤ tick_limit }
     requires ready { (j : ℕ) → j < state_count at.now.machine.now
         → MayGoOn at.now.machine.now at.now.tick j (int_at at.now.levels.now j)
         (line_at lines.old j) }

@@ -8,7 +8,7 @@ ghost use Rattle.qss_machine.specs.Numbers.{int_at, first_past};
 ghost use Rattle.qss_machine.specs.Machines.{state_count};
 ghost use Rattle.qss_machine.specs.Runs.{level_rows};
 ghost use Rattle.qss_quant.specs.Lines.{state_at};
-ghost use Rattle.qss_lines.specs.Visitings.{AreMovedTo, CanArrive};
+ghost use Rattle.qss_lines.specs.Visitings.{AreMovedTo, CanArrive, CanRequantize};
 ghost use Rattle.qss_quiet.specs.Among.{is_among, AreNumbers};
 ghost use Rattle.qss_lines.specs.Levels.{AreRequantized, AreRequantizedOnArrival, AreRequantizedAt};
 ghost use Rattle.qss_lines.specs.StateLines.{line_at, states_at};
@@ -103,12 +103,7 @@ fn relevel_due(
     levels: &mut [i64],
     rows: &mut Vec<Row>,
 ) -> Option<u32>
-    requires states { length x.now ≡ state_count at.now.machine.now }
-    requires levels { length levels.old ≡ state_count at.now.machine.now }
-    requires moved { AreNumbers (state_count at.now.machine.now) at.now.moved.now }
-    requires small_states { (j : ℕ) → is_among at.now.moved.now j ≡ true
-        → IsWithin 88 (int_at x.now j) }
-    requires small_levels { All (IsWithin 43) levels.old }
+    requires ready { CanRequantize at.now x.now levels.old }
     requires room { vec_len rows.old + state_count at.now.machine.now ≤ vec_capacity rows.old }
     ensures taken { (new : List ℤ) × AreRequantized at.now.machine.now q.now.name at.now.tick x.now
         at.now.moved.now levels.old levels.new new rows.old.items rows.new.items result }
@@ -134,12 +129,7 @@ pub(crate) fn requantize_states(
     levels: &mut [i64],
     rows: &mut Vec<Row>,
 ) -> Option<u32>
-    requires states { length x.now ≡ state_count at.now.machine.now }
-    requires levels { length levels.old ≡ state_count at.now.machine.now }
-    requires moved { AreNumbers (state_count at.now.machine.now) at.now.moved.now }
-    requires small_states { (j : ℕ) → is_among at.now.moved.now j ≡ true
-        → IsWithin 88 (int_at x.now j) }
-    requires small_levels { All (IsWithin 43) levels.old }
+    requires ready { CanRequantize at.now x.now levels.old }
     requires room { vec_len rows.old + state_count at.now.machine.now ≤ vec_capacity rows.old }
     ensures taken { (new : List ℤ) × AreRequantizedAt at.now.machine.now q.now.name
         at.now.moved.now x.now levels.old levels.new new (first_past 43 new) result }

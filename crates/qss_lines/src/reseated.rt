@@ -9,6 +9,7 @@ ghost use Rattle.qss_machine.specs.Uses.{reading_rows, uses_of};
 ghost use Rattle.qss_quant.specs.Lines.{state_at, IsNear};
 ghost use Rattle.qss_sched.specs.Ranks.{due_at};
 ghost use Rattle.qss_quiet.specs.Among.{is_among};
+ghost use Rattle.qss_lines.specs.Variables.{AreLevelsOf};
 ghost use Rattle.qss_lines.specs.StateLines.{line_at, MayMove, GoesOnFrom};
 ghost use Rattle.qss_lines.specs.Renewals.{goes_from, renewals_from};
 ghost use Rattle.qss_quiet.specs.Writes.{IsWritten};
@@ -28,11 +29,8 @@ use std::sync::ledger::Ledger;
 // The slopes of these rows are added up anew.
 fn slope_rows(m: &Machine, rows: &[u32], levels: &[i64], d: &[i64], slopes: &mut [i128])
     requires rows { All (λ row. row < state_count m.now) rows.now }
-    requires levels { length levels.now ≡ state_count m.now }
-    requires discretes { length d.now ≡ discrete_count m.now }
+    requires levels { AreLevelsOf m.now levels.now d.now }
     requires slopes { length slopes.old ≡ state_count m.now }
-    requires small_levels { All (IsWithin 43) levels.now }
-    requires small_discretes { All (IsWithin 43) d.now }
     requires light { position (is_overweight m.now levels.now d.now) m.now.rows ≡ None }
     ensures { IsWritten (pos 0) (λ j slope. slope ≡ slope_at m.now j levels.now d.now) rows.now
         slopes.old slopes.new }
@@ -53,11 +51,8 @@ fn slope_readers(
 )
     requires uses { uses.now ≡ uses_of m.now }
     requires variables { All (λ var. var < state_count m.now + discrete_count m.now) variables.now }
-    requires levels { length levels.now ≡ state_count m.now }
-    requires discretes { length d.now ≡ discrete_count m.now }
+    requires levels { AreLevelsOf m.now levels.now d.now }
     requires slopes { length slopes.old ≡ state_count m.now }
-    requires small_levels { All (IsWithin 43) levels.now }
-    requires small_discretes { All (IsWithin 43) d.now }
     requires light { position (is_overweight m.now levels.now d.now) m.now.rows ≡ None }
     ensures { IsWritten (pos 0) (λ j slope. slope ≡ slope_at m.now j levels.now d.now)
         (flat_map (reading_rows m.now) variables.now) slopes.old slopes.new }

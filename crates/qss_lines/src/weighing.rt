@@ -5,7 +5,7 @@ ghost use Rattle.mu_num.specs.Sizes.{IsWithin};
 ghost use Rattle.qss_machine.specs.Machines.{state_count, discrete_count};
 ghost use Rattle.qss_machine.specs.Ticks.{is_overweight};
 ghost use Rattle.qss_machine.specs.Uses.{reading_rows, uses_of};
-ghost use Rattle.qss_lines.specs.Variables.{AreDiscretes};
+ghost use Rattle.qss_lines.specs.Variables.{AreDiscretes, AreLevelsOf};
 ghost use Rattle.qss_lines.specs.Overweights.{IsWeighed};
 ghost use Rattle.qss_quiet.specs.Sims.{weights_at};
 ghost use Rattle.qss_lines.specs.declared.shifts.RowSum.TheVariants as sum;
@@ -42,10 +42,7 @@ pub(crate) fn reweigh_of(
 // The weight of a row, or where its mode coefficients pass their limit a number that is past that of weights.
 fn weigh_row(m: &Machine, row: u32, levels: &[i64], d: &[i64]) -> i128
     requires row { row < state_count m.now }
-    requires levels { length levels.now ≡ state_count m.now }
-    requires discretes { length d.now ≡ discrete_count m.now }
-    requires small_levels { All (IsWithin 43) levels.now }
-    requires small_discretes { All (IsWithin 43) d.now }
+    requires levels { AreLevelsOf m.now levels.now d.now }
     ensures { IsWeighed m.now levels.now d.now row result }
 {
     if m.mode_fits(row, d) {
@@ -58,11 +55,8 @@ fn weigh_row(m: &Machine, row: u32, levels: &[i64], d: &[i64]) -> i128
 // The weights of these rows are added up anew.
 fn weigh_rows(m: &Machine, rows: &[u32], levels: &[i64], d: &[i64], weights: &mut [i128])
     requires rows { All (λ row. row < state_count m.now) rows.now }
-    requires levels { length levels.now ≡ state_count m.now }
-    requires discretes { length d.now ≡ discrete_count m.now }
+    requires levels { AreLevelsOf m.now levels.now d.now }
     requires weights { length weights.old ≡ state_count m.now }
-    requires small_levels { All (IsWithin 43) levels.now }
-    requires small_discretes { All (IsWithin 43) d.now }
     ensures { IsWritten (pos 0) (IsWeighed m.now levels.now d.now) rows.now weights.old
         weights.new }
 {
@@ -82,11 +76,8 @@ fn weigh_readers(
 )
     requires uses { uses.now ≡ uses_of m.now }
     requires assigned { AreDiscretes m.now assigned.now }
-    requires levels { length levels.now ≡ state_count m.now }
-    requires discretes { length d.now ≡ discrete_count m.now }
+    requires levels { AreLevelsOf m.now levels.now d.now }
     requires weights { length weights.old ≡ state_count m.now }
-    requires small_levels { All (IsWithin 43) levels.now }
-    requires small_discretes { All (IsWithin 43) d.now }
     ensures { IsWritten (pos 0) (IsWeighed m.now levels.now d.now)
         (flat_map (reading_rows m.now) assigned.now) weights.old weights.new }
 {
@@ -132,11 +123,8 @@ pub(crate) fn weigh_every(
     d: &[i64],
     weights: &mut [i128],
 ) -> Option<u32>
-    requires levels { length levels.now ≡ state_count m.now }
-    requires discretes { length d.now ≡ discrete_count m.now }
+    requires levels { AreLevelsOf m.now levels.now d.now }
     requires weights { length weights.old ≡ state_count m.now }
-    requires small_levels { All (IsWithin 43) levels.now }
-    requires small_discretes { All (IsWithin 43) d.now }
     ensures over { result ≡ position (is_overweight m.now levels.now d.now) m.now.rows }
     ensures weights { result ≡ None → weights.new ≡ weights_at m.now levels.now d.now }
 {
@@ -152,11 +140,8 @@ pub(crate) fn weigh_every(
 
 /// The weights of all rows, none past its limits.
 pub(crate) fn weigh_all(m: &Machine, levels: &[i64], d: &[i64], weights: &mut [i128])
-    requires levels { length levels.now ≡ state_count m.now }
-    requires discretes { length d.now ≡ discrete_count m.now }
+    requires levels { AreLevelsOf m.now levels.now d.now }
     requires weights { length weights.old ≡ state_count m.now }
-    requires small_levels { All (IsWithin 43) levels.now }
-    requires small_discretes { All (IsWithin 43) d.now }
     requires light { position (is_overweight m.now levels.now d.now) m.now.rows ≡ None }
     ensures { weights.new ≡ weights_at m.now levels.now d.now }
 {

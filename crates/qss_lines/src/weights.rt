@@ -4,6 +4,7 @@ ghost use Rattle.std.specs.Prelude.{◌≡◌, ◌↔◌, ℕ, All, IsTrue, None
 ghost use Rattle.mu_num.specs.Sizes.{IsWithin};
 ghost use Rattle.qss_machine.specs.Machines.{state_count, discrete_count};
 ghost use Rattle.qss_machine.specs.Ticks.{is_overweight};
+ghost use Rattle.qss_lines.specs.Variables.{AreLevelsOf};
 ghost use Rattle.qss_lines.specs.Kept.{AreWeights};
 ghost use Rattle.qss_lines.specs.Visitings.{AreNewLevels, AreHandled, first_overweight, WereWeights};
 ghost use Rattle.qss_lines.specs.Weighings.{IsUpTo, AreUpToAt, IsSafeBound};
@@ -46,11 +47,8 @@ impl Weights {
     /// of the limit of levels and its halves that all rows allow by the sizes of their coefficients. Weights are kept only where
     /// one of these values is greater in size, or where there is no bound.
     pub fn start(&mut self, m: &Machine, levels: &[i64], d: &[i64])
-        requires levels { length levels.now ≡ state_count m.now }
-        requires discretes { length d.now ≡ discrete_count m.now }
+        requires levels { AreLevelsOf m.now levels.now d.now }
         requires weights { length self.old.of_rows.items ≡ state_count m.now }
-        requires small_levels { All (IsWithin 43) levels.now }
-        requires small_discretes { All (IsWithin 43) d.now }
         requires light { position (is_overweight m.now levels.now d.now) m.now.rows ≡ None }
         ensures weights { AreWeights m.now levels.now d.now self.new }
         ensures bound { self.new.kept ≡ false → IsSafeBound m.now (Some self.new.bound) }

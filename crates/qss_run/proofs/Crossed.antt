@@ -1,7 +1,7 @@
 -- A tick at which few states are due and few conditions change.
 use Rattle.std.proofs.Common.{◌≡◌, ◌≢◌, ℕ, ◌+◌, ◌-◌, ◌≤◌, ◌<◌, Bool, true, false, not, List, length, ℤ, pos, refl, sym, ◌∙◌, ap, subst, arith, inl, inr}
 use Rattle.std.proofs.lemmas.Bool.{cases_Bool, cases_lt, or_parts, or_right}
-use Rattle.std.proofs.lemmas.List.{get_or_default, get_or_past}
+use Rattle.std.proofs.lemmas.List.{get_or_past}
 use Rattle.std.specs.Prelude.{Option, Some, None, All}
 use Rattle.mu_num.proofs.Tests.{if-true}
 use Rattle.mu_num.specs.Sizes.{IsWithin}
@@ -17,13 +17,11 @@ use Rattle.qss_quant.specs.Lines.{state_at, IsNear}
 use Rattle.qss_cross.specs.Crossing.{IsSmall, value_at, holds_at}
 use Rattle.qss_hand.specs.Values.{Values}
 use Rattle.qss_sched.specs.Ranks.{due_at}
-use Rattle.qss_lines.specs.RowSums.{AreSumsBefore}
-use Rattle.qss_lines.specs.declared.shifts.RowSum.TheVariants.{Slope}
 use Rattle.qss_run.specs.declared.store.Store.{Store}
 use Rattle.qss_lines.specs.StateLines.{states_with, line_at, states_at}
 use Rattle.qss_watch.specs.Handlings.{is_reinitialized, IsHandled, handling_from}
 use Rattle.qss_lines.specs.Visitings.{AreMovedTo}
-use Rattle.qss_quiet.specs.Among.{is_among, IsOff}
+use Rattle.qss_quiet.specs.Among.{is_among}
 use Rattle.qss_watch.specs.Moves.{IsWithout}
 use Rattle.qss_watch.specs.Places.{watch_at, IsWatched}
 use Rattle.qss_quiet.specs.Rules.{IsRuled}
@@ -210,15 +208,6 @@ module _ (m : Machine) (tick : ℕ) (agenda : List (Option ℕ)) (s : Store) (ta
           (subst (λ x. IsNear (level_unit m) x (int_at levels j) (quantum_of m j (int_at levels j))) (other_state s.lines.items (tick + 1) moved new.x j (line_known j inside) none)
           (near_after j inside))
           refl own)
-
-    pub levels_before_handlers : (levels : List ℤ) → IsOff moved s.levels.items levels → AreSumsBefore Slope m moved levels s.work.d s.slopes.items s.lines.items s.levels.items
-    levels_before_handlers levels off = record {
-      off = off;
-      small = λ k d inside. subst (IsWithin 43) (get_or_default s.levels.items k (pos 0) d inside) (for.left.small_levels k (omega (arith, inside, taken.stands.fits.levels)));
-      light = for.left.light;
-      own_sums = taken.stands.own_slopes;
-      own_levels = λ j inside. (for.lines j inside).own_level;
-    }
 
     -- the places of conditions stay in the agenda
     pub conditions_stay : (after : List (Option ℕ)) → IsWithout moved s.agenda after → (place : ℕ) → due_at after (state_count m + place) ≡ due_at s.agenda (state_count m + place)

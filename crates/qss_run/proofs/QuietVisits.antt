@@ -151,15 +151,17 @@ module _ (m : Machine) (tick : ℕ) (agenda : List (Option ℕ)) (s : Store) (ta
         (due_stays m tick before taken.stands j (state_at (line_at s.lines.items j) (tick + 1)) (int_at levels j) h (near j h) refl own)
 
   -- the slopes and the lines are those at the levels before the moved states took theirs
-  pub levels_before : (levels : List ℤ) → IsOff s.moved.items s.levels.items levels → AreSumsBefore Slope m s.moved.items levels s.work.d s.slopes.items s.lines.items s.levels.items
-  levels_before levels off = record {
-    off = off;
-    small = λ k d h.
-        let inside : k < state_count m = omega (arith, h, taken.stands.fits.levels) in
-        subst (IsWithin 43) (get_or_default s.levels.items k (pos 0) d h) (for.left.small_levels k inside);
-    light = for.left.light;
+  pub levels_before : (moved : List ℕ) (levels : List ℤ) → IsOff moved s.levels.items levels → AreSumsBefore Slope m moved levels s.work.d s.slopes.items s.lines.items s.levels.items
+  levels_before moved levels off = record {
+    levels = record {
+      off = off;
+      small = λ k d h.
+          let inside : k < state_count m = omega (arith, h, taken.stands.fits.levels) in
+          subst (IsWithin 43) (get_or_default s.levels.items k (pos 0) d h) (for.left.small_levels k inside);
+      light = for.left.light;
+      own_levels = λ j h. (for.lines j h).own_level;
+    };
     own_sums = taken.stands.own_slopes;
-    own_levels = λ j h. (for.lines j h).own_level;
   }
 
   -- ---- where no condition changes

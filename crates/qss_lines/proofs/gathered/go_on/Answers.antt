@@ -21,7 +21,7 @@ go_on_as-requires-clause-near c =
     let tick = c.args.at.now.tick in
     let lines = c.args.lines.now in
     let level : ℤ = int_at c.args.at.now.levels.now j in
-    let small_level : IsWithin 43 level = c.requires.new.taken.small_levels j (pos 0) (omega (arith, c.requires.new.taken.levels, c.requires.state)) in
+    let small_level : IsWithin 43 level = c.requires.on.new.small_levels j (pos 0) (omega (arith, c.requires.on.new.levels, c.requires.state)) in
     let of_level : FitsSigned w64 level = omega (arith, ints, small_level) in
     let of_x : FitsSigned w128 c.value_at-x.result = record { sfits = c.value_at-x.type_inv } in
     let inside : j < length lines = omega (arith, c.requires.lines, c.requires.state) in
@@ -37,9 +37,9 @@ returns-clause-goes_on c =
     let j = c.args.j in
     let tick = c.args.at.now.tick in
     let lines = c.args.lines.now in
-    let small_level : IsWithin 43 (int_at c.args.at.now.levels.now j) = c.requires.new.taken.small_levels j (pos 0) (omega (arith, c.requires.new.taken.levels, c.requires.state)) in
+    let small_level : IsWithin 43 (int_at c.args.at.now.levels.now j) = c.requires.on.new.small_levels j (pos 0) (omega (arith, c.requires.on.new.levels, c.requires.state)) in
     let level : FitsSigned w64 (int_at c.args.at.now.levels.now j) = omega (arith, ints, small_level) in
-    let small_slope : IsWithin 88 (int_at c.args.slopes.now j) = c.requires.slopes_of.small j (pos 0) (omega (arith, c.requires.slopes_of.as_many, c.requires.state)) in
+    let small_slope : IsWithin 88 (int_at c.args.slopes.now j) = c.requires.on.slopes_of.small j (pos 0) (omega (arith, c.requires.on.slopes_of.as_many, c.requires.state)) in
     let slope : FitsSigned w128 (int_at c.args.slopes.now j) = omega (arith, ints, small_slope) in
     let x : FitsSigned w128 c.value_at-x.result = record { sfits = c.value_at-x.type_inv } in
     let inside : j < length lines = omega (arith, c.requires.lines, c.requires.state) in

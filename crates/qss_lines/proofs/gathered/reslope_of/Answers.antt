@@ -34,14 +34,15 @@ follow_levels-requires-clause-can g c =
       room_left = omega (arith, ap length c.clear.ensures.items, behind_few c.args.at.now.tick (λ j. true) lines, c.requires.room, many, c.clear.ensures.capacity);
     }
 
-pub go_on_each-requires-clause-new : goal.go_on_each-requires-clause-new
-go_on_each-requires-clause-new g c = c.requires.ready.new
-
-pub go_on_each-requires-clause-slopes_of : goal.go_on_each-requires-clause-slopes_of
-go_on_each-requires-clause-slopes_of g c = record {
-  as_many = c.follow_levels.auto.slopes ∙ c.requires.ready.one_each.slopes;
-  small = slopes_small c.args.at.now.machine.now c.args.at.now.levels.now c.args.at.now.discretes.now c.args.at.now.discretes.now c.follow_levels.new.slopes c.requires.ready.levels.light refl
-      c.follow_levels.ensures.slopes;
+pub go_on_each-requires-clause-on : goal.go_on_each-requires-clause-on
+go_on_each-requires-clause-on g c = record {
+  new = c.requires.ready.new.taken;
+  slopes_of = record {
+    as_many = c.follow_levels.auto.slopes ∙ c.requires.ready.one_each.slopes;
+    small = slopes_small c.args.at.now.machine.now c.args.at.now.levels.now c.args.at.now.discretes.now c.args.at.now.discretes.now c.follow_levels.new.slopes c.requires.ready.levels.light refl
+        c.follow_levels.ensures.slopes;
+  };
+  in_time = c.requires.ready.held.may_move.in_time;
 }
 
 pub go_on_each-requires-clause-states : goal.go_on_each-requires-clause-states
@@ -54,9 +55,6 @@ go_on_each-requires-clause-lines g c = c.follow_levels.auto.lines ∙ c.requires
 
 pub go_on_each-requires-clause-places : goal.go_on_each-requires-clause-places
 go_on_each-requires-clause-places g c = c.requires.ready.one_each.places
-
-pub go_on_each-requires-clause-in_time : goal.go_on_each-requires-clause-in_time
-go_on_each-requires-clause-in_time g c = c.requires.ready.held.may_move.in_time
 
 pub go_on_each-requires-clause-ready : goal.go_on_each-requires-clause-ready
 go_on_each-requires-clause-ready g c j h =

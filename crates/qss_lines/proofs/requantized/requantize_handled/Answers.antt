@@ -1,18 +1,36 @@
 -- The weights are those at the levels before.
-use Rattle.std.proofs.Common.{◌≡◌, List, length, ℤ, sym, ◌∙◌, ap, subst}
+use Rattle.std.proofs.Common.{◌≡◌, ℕ, List, length, ℤ, pos, sym, ◌∙◌, ap, subst, arith}
 use Rattle.std.specs.List.{position}
 use Rattle.std.specs.Prelude.{None, All}
 use Rattle.mu_num.specs.Sizes.{IsWithin}
 use Rattle.qss_hand.specs.Values.{Values}
-use Rattle.qss_machine.specs.Numbers.{first_past}
+use Rattle.qss_machine.specs.Machines.{state_count}
+use Rattle.qss_machine.specs.Numbers.{int_at, first_past}
 use Rattle.qss_machine.specs.Ticks.{is_overweight}
 use Rattle.qss_lines.specs.Variables.{AreAssignedFrom}
 use Rattle.qss_lines.specs.Visitings.{AreMovedTo}
 use Rattle.qss_quiet.specs.Among.{IsOff}
 use Rattle.qss_quiet.proofs.Overs.{not_some, clash}
 use Rattle.qss_lines.specs.Kept.{AreWeights}
+use Rattle.qss_lines.proofs.DueLevels.{moved_inside}
 use Rattle.qss_lines.proofs.FirstOvers.{over_first, over_second}
 use Rattle.qss_lines.proofs.requantized.requantize_handled.Goals as goal
+
+pub requantize_states-over-requires-clause-ready : goal.requantize_states-over-requires-clause-ready
+requantize_states-over-requires-clause-ready g c =
+    let fits = c.requires.ready.fits in
+    let n : ℕ = state_count c.args.at.now.machine.now in
+    let moved : List ℕ = c.args.at.now.moved.now in
+    let of_x : c.as_slice-x.result.now ≡ c.args.at.now.work.now.x = c.as_slice-x.ensures.value ∙ ap (λ (v : Values). v.x) c.work.view_is in
+    record {
+      states = ap length of_x ∙ fits.states;
+      levels = c.requires.held.levels;
+      moved = c.requires.ready.moved;
+      small_states = λ j among.
+          subst (λ (xs : List ℤ). IsWithin 88 (int_at xs j)) (sym of_x)
+          (fits.small_states j (pos 0) (omega (arith, moved_inside n moved c.requires.ready.moved j among, fits.states)));
+      small_levels = c.requires.held.small_levels;
+    }
 
 pub follow_handled-requires-clause-left : goal.follow_handled-requires-clause-left
 follow_handled-requires-clause-left g c =
@@ -38,11 +56,13 @@ follow_handled-requires-clause-before g c =
     let pre : c.as_slice-pre.result.now ≡ c.args.at.now.work.now.pre = c.as_slice-pre.ensures.value ∙ ap (λ (v : Values). v.pre) c.work.view_is in (
       old,
       record {
-        off = subst (IsOff c.args.at.now.moved.now old) (sym (c.requantize_states-over.ensures.taken.1.levels none)) c.requantize_states-over.ensures.taken.1.others;
-        small = c.requires.held.small_levels;
-        light = subst (λ (d : List ℤ). position (is_overweight m old d) m.rows ≡ None) (sym pre) c.requires.held.light;
+        levels = record {
+          off = subst (IsOff c.args.at.now.moved.now old) (sym (c.requantize_states-over.ensures.taken.1.levels none)) c.requantize_states-over.ensures.taken.1.others;
+          small = c.requires.held.small_levels;
+          light = subst (λ (d : List ℤ). position (is_overweight m old d) m.rows ≡ None) (sym pre) c.requires.held.light;
+          own_levels = c.requires.held.own_levels;
+        };
         own = subst (λ (d : List ℤ). AreWeights m old d c.args.weights.now) (sym pre) c.requires.held.weights;
-        own_levels = c.requires.held.own_levels;
       },
     )
 

@@ -20,11 +20,13 @@ follow-requires-clause-before g c =
     c.as_slice-d.ensures.value ∙ ap (λ (v : Values). v.d) c.work.view_is in (
       old,
       record {
-        off = subst (IsOff c.args.at.now.moved.now old) (sym (c.requantize_due-over.ensures.taken.1.levels none)) c.requantize_due-over.ensures.taken.1.others;
-        small = c.requires.held.small_levels;
-        light = subst (λ (d : List ℤ). position (is_overweight m old d) m.rows ≡ None) (sym of_d) c.requires.held.light;
+        levels = record {
+          off = subst (IsOff c.args.at.now.moved.now old) (sym (c.requantize_due-over.ensures.taken.1.levels none)) c.requantize_due-over.ensures.taken.1.others;
+          small = c.requires.held.small_levels;
+          light = subst (λ (d : List ℤ). position (is_overweight m old d) m.rows ≡ None) (sym of_d) c.requires.held.light;
+          own_levels = c.requires.held.own_levels;
+        };
         own = subst (λ (d : List ℤ). AreWeights m old d c.args.weights.now) (sym of_d) c.requires.held.weights;
-        own_levels = c.requires.held.own_levels;
       },
     )
 

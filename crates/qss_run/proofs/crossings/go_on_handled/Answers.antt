@@ -162,8 +162,8 @@ rewatch_handled-requires-clause-before g c =
     let old : List ℤ = c.requires.held.before.0 in
     let before = c.requires.held.before.1 in
     let all : AreWatchedUpTo m t s.moved.items (reinitialized_of s.work.log) s.assigned.items s.changed.items x (states_at after t) s.work.pre s.work.d s.slopes.items slopes (watchings_of s.conditions due) =
-    watched_up_to m s.moved.items s.assigned.items old s.levels.items s.work.pre s.work.d s.slopes.items slopes before.off c.requires.assigned.others
-    (sym before.off.as_many ∙ fits.levels) fits.before fits.values.discretes before.own_sums slopes_are t (reinitialized_of s.work.log) s.changed.items s.lines.items after s.work.x
+    watched_up_to m s.moved.items s.assigned.items old s.levels.items s.work.pre s.work.d s.slopes.items slopes before.levels.off c.requires.assigned.others
+    (sym before.levels.off.as_many ∙ fits.levels) fits.before fits.values.discretes before.own_sums slopes_are t (reinitialized_of s.work.log) s.changed.items s.lines.items after s.work.x
     (watchings_of s.conditions due) fits.lines lead (λ j h none. c.requires.states.still j h (sym (among_reinitialized s.work.log j) ∙ none)) fits.slopes (c.reslope_handled.auto.slopes ∙ c.as_mut_slice.ensures.len ∙ s.slopes.ok.0 ∙ fits.slopes)
     (λ place h none.
     let was = c.requires.settled.others place h none in

@@ -34,10 +34,10 @@ use Rattle.qss_lines.specs.Kept.{AreWeights}
 use Rattle.qss_run.specs.Stores.{world_of}
 use Rattle.qss_run.specs.Touches.{touches_at}
 use Rattle.qss_run.proofs.AfterHandlers.{same_worlds}
-use Rattle.qss_run.proofs.Crossed.{none_early, reinits_known, later_dues, flag_same, rest_as_before, watched_then, watched_still, moved_to, near_after, due_after, levels_before_handlers, conditions_stay}
+use Rattle.qss_run.proofs.Crossed.{none_early, reinits_known, later_dues, flag_same, rest_as_before, watched_then, watched_still, moved_to, near_after, due_after, conditions_stay}
 use Rattle.qss_lines.proofs.DueLevels.{int_at-states_at, may_move}
 use Rattle.qss_watch.proofs.Handled.{rows_handled}
-use Rattle.qss_run.proofs.QuietVisits.{lines_then, own_slope, rest_small}
+use Rattle.qss_run.proofs.QuietVisits.{levels_before, lines_then, own_slope, rest_small}
 use Rattle.qss_run.proofs.Reinits.{kept_state}
 use Rattle.qss_run.proofs.Touched.{renewals_from_touched}
 use Rattle.qss_run.proofs.Visits.{arrives, handles_from, both_none, early, late, steps_to, end_of, levels_small}
@@ -297,7 +297,7 @@ go_on_handled-requires g c =
         before = (
           s.levels.items,
           subst (λ p. AreSumsBefore Slope m moved levels p s.slopes.items s.lines.items s.levels.items) (sym of_pre)
-              (levels_before_handlers m c.args.tick agenda s taken c.requires.in_time moved assigned new h handled levels off),
+              (levels_before m c.args.tick agenda s taken c.requires.in_time moved levels off),
         );
         own_slope = own_slope m c.args.tick agenda s taken c.requires.in_time;
         due = due_after m c.args.tick agenda s taken c.requires.in_time moved assigned new h handled c.args.q.now.name levels allowed_now after without;

@@ -55,7 +55,7 @@ returns-clause-watches g c place h =
     let before : AreSlopesBefore m c.args.at.now.moved.now c.args.slopes.now c.reslope_of.new.slopes place = record {
       as_many = c.requires.ready.one_each.slopes;
       others = λ j inside reads none.
-          slopes_stay m c.args.at.now.moved.now c.requires.ready.held.before.0 c.args.at.now.levels.now d c.args.slopes.now c.reslope_of.new.slopes c.requires.ready.held.before.1.off c.requires.ready.held.before.1.own_sums
+          slopes_stay m c.args.at.now.moved.now c.requires.ready.held.before.0 c.args.at.now.levels.now d c.args.slopes.now c.reslope_of.new.slopes c.requires.ready.held.before.1.levels.off c.requires.ready.held.before.1.own_sums
           c.reslope_of.ensures.slopes j inside none;
     } in
     c.rewatch_of.ensures.watches x d c.args.slopes.now place h before

@@ -178,7 +178,7 @@ go_on_moved-requires-clause-ready g c =
               (subst (λ d. AreSumsBefore Slope m s.moved.items fresh d c.as_mut_slice-2.result.now c.as_mut_slice-3.result.now s.levels.items) (sym of_d)
               (subst (λ v. AreSumsBefore Slope m s.moved.items fresh s.work.d v c.as_mut_slice-3.result.now s.levels.items) (sym c.as_mut_slice-2.ensures.value)
               (subst (λ ls. AreSumsBefore Slope m s.moved.items fresh s.work.d s.slopes.items ls s.levels.items) (sym c.as_mut_slice-3.ensures.value)
-              (levels_before m c.args.tick agenda s taken c.requires.in_time fresh off))))),
+              (levels_before m c.args.tick agenda s taken c.requires.in_time s.moved.items fresh off))))),
         );
         own_slope = λ j inside.
             ap (λ ls. (line_at ls j).slope) c.as_mut_slice-3.ensures.value

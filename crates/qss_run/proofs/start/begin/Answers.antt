@@ -26,17 +26,12 @@ use Rattle.qss_run.proofs.Visits.{stands_again}
 use Rattle.qss_run.proofs.start.begin.Goals as goal
 
 pub start-requires-clause-levels : goal.start-requires-clause-levels
-start-requires-clause-levels c = ap length c.as_slice-2.ensures.value ∙ c.requires.fits.levels
-
-pub start-requires-clause-discretes : goal.start-requires-clause-discretes
-start-requires-clause-discretes c = ap length (c.as_slice-d.ensures.value ∙ ap (λ (v : Values). v.d) c.work.view_is) ∙ c.requires.fits.values.discretes
-
-pub start-requires-clause-small_levels : goal.start-requires-clause-small_levels
-start-requires-clause-small_levels c = subst (All (IsWithin 43)) (sym (c.as_slice-2.ensures.value ∙ c.requires.levels)) (levels_start c.args.m.now)
-
-pub start-requires-clause-small_discretes : goal.start-requires-clause-small_discretes
-start-requires-clause-small_discretes c =
-    subst (All (IsWithin 43)) (sym (c.as_slice-d.ensures.value ∙ ap (λ (v : Values). v.d) c.work.view_is)) c.requires.fits.values.small_discretes
+start-requires-clause-levels c = record {
+  levels = ap length c.as_slice-2.ensures.value ∙ c.requires.fits.levels;
+  discretes = ap length (c.as_slice-d.ensures.value ∙ ap (λ (v : Values). v.d) c.work.view_is) ∙ c.requires.fits.values.discretes;
+  small_levels = subst (All (IsWithin 43)) (sym (c.as_slice-2.ensures.value ∙ c.requires.levels)) (levels_start c.args.m.now);
+  small_discretes = subst (All (IsWithin 43)) (sym (c.as_slice-d.ensures.value ∙ ap (λ (v : Values). v.d) c.work.view_is)) c.requires.fits.values.small_discretes;
+}
 
 pub start-requires-clause-light : goal.start-requires-clause-light
 start-requires-clause-light c =

@@ -10,11 +10,8 @@ reweigh_of-requires-clause-before c =
     let before = c.requires.before.1 in (
       c.requires.before.0,
       record {
-        off = before.off;
-        small = before.small;
-        light = before.light;
+        levels = before.levels;
         own_sums = c.as_mut_slice.ensures.value ∙ before.own.own c.if-self.true;
-        own_levels = before.own_levels;
       },
     )
 
@@ -23,6 +20,14 @@ are_up_to_at-requires-clause-from c k none h = omega arith
 
 pub are_up_to_at-requires-clause-known : goal.are_up_to_at-requires-clause-known
 are_up_to_at-requires-clause-known c k none h = omega (arith, c.requires.ready.moved.below k none h, c.requires.ready.levels)
+
+pub weigh_every-requires-clause-levels : goal.weigh_every-requires-clause-levels
+weigh_every-requires-clause-levels c = record {
+  levels = c.requires.ready.levels;
+  discretes = c.requires.discretes;
+  small_levels = c.requires.ready.small_levels;
+  small_discretes = c.requires.small_discretes;
+}
 
 pub weigh_every-requires-clause-weights : goal.weigh_every-requires-clause-weights
 weigh_every-requires-clause-weights c = ap length c.as_mut_slice-2.ensures.value ∙ c.requires.before.1.own.as_many
@@ -52,7 +57,7 @@ returns-then-are_up_to_at c =
     let were = before.own.small off in
     let are : AreSmall m self.bound levels d = record {
       safe = were.safe;
-      small_levels = levels_still self.bound c.args.at.now.moved.now old levels before.off were.small_levels (c.are_up_to_at.ensures.0 c.if-are_up_to_at.true);
+      small_levels = levels_still self.bound c.args.at.now.moved.now old levels before.levels.off were.small_levels (c.are_up_to_at.ensures.0 c.if-are_up_to_at.true);
       small_discretes = were.small_discretes;
     } in
     record {

@@ -10,13 +10,18 @@ reweigh_handled-requires-clause-before c =
     let before = c.requires.before.1 in (
       c.requires.before.0,
       record {
-        off = before.off;
-        small = before.small;
-        light = before.light;
+        levels = before.levels;
         own_sums = c.as_mut_slice.ensures.value ∙ before.own.own c.if-self.true;
-        own_levels = before.own_levels;
       },
     )
+
+pub weigh_every-requires-clause-levels : goal.weigh_every-requires-clause-levels
+weigh_every-requires-clause-levels c = record {
+  levels = c.requires.ready.levels;
+  discretes = c.requires.left.many_discretes;
+  small_levels = c.requires.ready.small_levels;
+  small_discretes = c.requires.left.small_discretes;
+}
 
 pub weigh_every-requires-clause-weights : goal.weigh_every-requires-clause-weights
 weigh_every-requires-clause-weights c = ap length c.as_mut_slice-2.ensures.value ∙ c.requires.before.1.own.as_many
@@ -50,7 +55,7 @@ returns-then-are_handled_up_to c =
     let within = c.are_handled_up_to.ensures.0 c.if-are_handled_up_to.true in
     let are : AreSmall m self.bound levels d = record {
       safe = were.safe;
-      small_levels = levels_still self.bound c.args.at.now.moved.now old levels before.off were.small_levels within.0;
+      small_levels = levels_still self.bound c.args.at.now.moved.now old levels before.levels.off were.small_levels within.0;
       small_discretes = values_still m self.bound c.args.left.now.assigned.now pre d left.many_before left.many_discretes left.assigned.others were.small_discretes within.1;
     } in
     record {
