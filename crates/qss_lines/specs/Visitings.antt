@@ -20,6 +20,7 @@ use Rattle.qss_lines.specs.declared.visiting.Handled.{Handled}
 use Rattle.qss_lines.specs.declared.visiting.HandledArrival.{HandledArrival}
 use Rattle.qss_lines.specs.declared.visiting.Mode.{Mode}
 use Rattle.qss_lines.specs.declared.visiting.NewLevels.{NewLevels}
+use Rattle.qss_lines.specs.declared.visiting.NewSlopes.{NewSlopes}
 use Rattle.qss_lines.specs.declared.visiting.QuietLevels.{QuietLevels}
 use Rattle.qss_lines.specs.declared.weights.Weights.{Weights}
 use Rattle.qss_lines.specs.Variables.{AreAssignedFrom, AreSlopesOf}
@@ -118,10 +119,14 @@ pub record IsHandledArrival (at : HandledArrival) : Type 0 where
   pub assigned : AreAssignedFrom at.machine.now at.assigned.now at.work.now.pre at.work.now.d
   pub fits : AreValuesOf at.machine.now at.work.now
 
--- a machine's states may go on at their new levels and at these slopes
-pub record CanGoOn (at : NewLevels) (slopes : List ℤ) : Type 0 where
-  pub new : AreNewLevels at
-  pub slopes_of : AreSlopesOf at.machine.now slopes
+-- the new levels that go with new slopes
+abbrev pub levels_with : NewSlopes → NewLevels
+levels_with at = record { machine = at.machine; uses = at.uses; tick = at.tick; moved = at.moved; levels = at.levels }
+
+-- a machine's states may go on at their new levels and slopes
+pub record CanGoOn (at : NewSlopes) : Type 0 where
+  pub new : AreNewLevels (levels_with at)
+  pub slopes_of : AreSlopesOf at.machine.now at.slopes.now
   pub in_time : at.tick ≤ tick_limit
 
 -- a value of each state, within the limit

@@ -19,7 +19,7 @@ ghost use Rattle.qss_lines.specs.declared.shifts.RowSum.TheVariants as sum;
 ghost use Rattle.qss_lines.specs.Visitings.{AreQuietLevels, CanGoOn, CanReslope, new_levels, quiet_slopes, WereSums};
 
 use crate::shifts::{RowSum, shift_rows};
-use crate::visiting::{Mode, QuietLevels};
+use crate::visiting::{Mode, NewSlopes, QuietLevels};
 use qss_machine::Machine;
 use qss_quant::{Integrator, Steps};
 use qss_quiet::leaving;
@@ -192,8 +192,8 @@ fn go_on_as(m: &Machine, j: u32, here: &Integrator, line: &mut Integrator, agend
 }
 
 // A state goes on from a tick at its level and its slope, from where its line leads.
-fn go_on(at: &QuietLevels, slopes: &[i128], j: u32, lines: &mut [Integrator], agenda: &mut Agenda)
-    requires on { CanGoOn (new_levels at.now) slopes.now }
+fn go_on(at: &NewSlopes, j: u32, lines: &mut [Integrator], agenda: &mut Agenda)
+    requires on { CanGoOn at.now }
     requires state { j < state_count at.now.machine.now }
     requires lines { length lines.old ≡ state_count at.now.machine.now }
     requires places { state_count at.now.machine.now ≤ length agenda.old }
@@ -201,14 +201,14 @@ fn go_on(at: &QuietLevels, slopes: &[i128], j: u32, lines: &mut [Integrator], ag
         (line_at lines.old j) }
     ensures goes_on { GoesOnFrom at.now.machine.now at.now.tick
         (state_at (line_at lines.old j) at.now.tick)
-        (int_at at.now.levels.now j) (int_at slopes.now j) j (line_at lines.new j)
+        (int_at at.now.levels.now j) (int_at at.now.slopes.now j) j (line_at lines.new j)
         (due_at agenda.new j) }
     ensures lines { (k : ℕ) → (k ≡ j → ⊥) → line_at lines.new k ≡ line_at lines.old k }
     ensures places { length agenda.new ≡ length agenda.old }
     ensures dues { (place : ℕ) → (place ≡ j → ⊥)
         → due_at agenda.new place ≡ due_at agenda.old place }
 {
-    let slope = slopes[j as usize];
+    let slope = at.slopes[j as usize];
     let level = at.levels[j as usize];
     let line = &mut lines[j as usize];
     let x = line.value_at(at.tick);
@@ -223,13 +223,12 @@ fn go_on(at: &QuietLevels, slopes: &[i128], j: u32, lines: &mut [Integrator], ag
 
 // These states go on from a tick at their levels and slopes, from where their lines lead.
 fn go_on_each(
-    at: &QuietLevels,
-    slopes: &[i128],
+    at: &NewSlopes,
     states: &[u32],
     lines: &mut [Integrator],
     agenda: &mut Agenda,
 )
-    requires on { CanGoOn (new_levels at.now) slopes.now }
+    requires on { CanGoOn at.now }
     requires states { All (λ j. j < state_count at.now.machine.now) states.now }
     requires lines { length lines.old ≡ state_count at.now.machine.now }
     requires places { state_count at.now.machine.now ≤ length agenda.old }
@@ -239,7 +238,7 @@ fn go_on_each(
     ensures goes_on { (j : ℕ) → is_among states.now j ≡ true
         → GoesOnFrom at.now.machine.now at.now.tick
         (state_at (line_at lines.old j) at.now.tick)
-        (int_at at.now.levels.now j) (int_at slopes.now j) j (line_at lines.new j)
+        (int_at at.now.levels.now j) (int_at at.now.slopes.now j) j (line_at lines.new j)
         (due_at agenda.new j) }
     ensures lines { (j : ℕ) → is_among states.now j ≡ false
         → line_at lines.new j ≡ line_at lines.old j }
@@ -248,7 +247,7 @@ fn go_on_each(
         → due_at agenda.new place ≡ due_at agenda.old place }
 {
     for j in states {
-        go_on(at, slopes, *j, lines, agenda);
+        go_on(at, *j, lines, agenda);
     }
 }
 
@@ -284,5 +283,13 @@ pub fn reslope_of<L: Ledger>(
 {
     touched.clear();
     follow_levels(at, slopes, lines, touched, steps);
-    go_on_each(at, slopes, touched.as_slice(), lines, agenda);
+    let on = NewSlopes {
+        machine: at.machine,
+        uses: at.uses,
+        tick: at.tick,
+        moved: at.moved,
+        levels: at.levels,
+        slopes,
+    };
+    go_on_each(&on, touched.as_slice(), lines, agenda);
 }

@@ -19,7 +19,7 @@ ghost use Rattle.qss_lines.specs.Visitings.{AreNewLevels, AreHandled, AreStatesO
 use crate::resloped::reslope_readers;
 use crate::shifts::shift_slopes;
 use crate::slopes::renew;
-use crate::visiting::{Handled, NewLevels};
+use crate::visiting::{Handled, NewLevels, NewSlopes};
 use qss_machine::{Machine, Uses};
 use qss_quant::{Integrator, Steps};
 use qss_quiet::leaving;
@@ -115,8 +115,7 @@ fn reseat<L: Ledger>(
 
 // A moved state goes on from a tick where it is, at its level and its slope.
 fn seat<L: Ledger>(
-    at: &NewLevels,
-    slopes: &[i128],
+    at: &NewSlopes,
     j: u32,
     x: &[i128],
     lines: &mut [Integrator],
@@ -124,7 +123,7 @@ fn seat<L: Ledger>(
     steps: &mut Steps<L>,
 )
     requires state { j < state_count at.now.machine.now }
-    requires on { CanGoOn at.now slopes.now }
+    requires on { CanGoOn at.now }
     requires states { AreStatesOf at.now.machine.now x.now }
     requires lines { length lines.old ≡ state_count at.now.machine.now }
     requires places { state_count at.now.machine.now ≤ length agenda.old }
@@ -135,10 +134,10 @@ fn seat<L: Ledger>(
         (quantum_of at.now.machine.now j (int_at at.now.levels.now j)) }
     ensures goes_on { GoesOnFrom at.now.machine.now at.now.tick (int_at x.now j)
         (int_at at.now.levels.now j)
-        (int_at slopes.now j) j (line_at lines.new j) (due_at agenda.new j) }
+        (int_at at.now.slopes.now j) j (line_at lines.new j) (due_at agenda.new j) }
     ensures lines { (k : ℕ) → (k ≡ j → ⊥) → line_at lines.new k ≡ line_at lines.old k }
     ensures kept { goes_from at.now.tick (int_at x.now j) (int_at at.now.levels.now j)
-        (int_at slopes.now j)
+        (int_at at.now.slopes.now j)
         (line_at lines.old j) ≡ true
         → line_at lines.new j ≡ line_at lines.old j }
     ensures places { length agenda.new ≡ length agenda.old }
@@ -146,13 +145,13 @@ fn seat<L: Ledger>(
         → due_at agenda.new place ≡ due_at agenda.old place }
     ensures counted { (states : List ℤ) → int_at states j ≡ int_at x.now j
         → steps.new + renewals_from
-        (state_count at.now.machine.now) at.now.tick states at.now.levels.now slopes.now
+        (state_count at.now.machine.now) at.now.tick states at.now.levels.now at.now.slopes.now
         lines.new
         ≡ steps.old + renewals_from
-        (state_count at.now.machine.now) at.now.tick states at.now.levels.now slopes.now
+        (state_count at.now.machine.now) at.now.tick states at.now.levels.now at.now.slopes.now
         lines.old }
 {
-    let slope = slopes[j as usize];
+    let slope = at.slopes[j as usize];
     let level = at.levels[j as usize];
     let here = Integrator {
         tick: at.tick,
@@ -166,14 +165,13 @@ fn seat<L: Ledger>(
 
 // The moved states go on from a tick where they are.
 fn seat_each<L: Ledger>(
-    at: &NewLevels,
-    slopes: &[i128],
+    at: &NewSlopes,
     x: &[i128],
     lines: &mut [Integrator],
     agenda: &mut Agenda,
     steps: &mut Steps<L>,
 )
-    requires on { CanGoOn at.now slopes.now }
+    requires on { CanGoOn at.now }
     requires states { AreStatesOf at.now.machine.now x.now }
     requires lines { length lines.old ≡ state_count at.now.machine.now }
     requires places { state_count at.now.machine.now ≤ length agenda.old }
@@ -183,11 +181,11 @@ fn seat_each<L: Ledger>(
         (quantum_of at.now.machine.now j (int_at at.now.levels.now j)) }
     ensures goes_on { (j : ℕ) → is_among at.now.moved.now j ≡ true
         → GoesOnFrom at.now.machine.now at.now.tick (int_at x.now j) (int_at at.now.levels.now j)
-        (int_at slopes.now j) j (line_at lines.new j) (due_at agenda.new j) }
+        (int_at at.now.slopes.now j) j (line_at lines.new j) (due_at agenda.new j) }
     ensures lines { (j : ℕ) → is_among at.now.moved.now j ≡ false
         → line_at lines.new j ≡ line_at lines.old j }
     ensures kept { (j : ℕ)
-        → goes_from at.now.tick (int_at x.now j) (int_at at.now.levels.now j) (int_at slopes.now j)
+        → goes_from at.now.tick (int_at x.now j) (int_at at.now.levels.now j) (int_at at.now.slopes.now j)
         (line_at lines.old j) ≡ true
         → line_at lines.new j ≡ line_at lines.old j }
     ensures places { length agenda.new ≡ length agenda.old }
@@ -196,14 +194,14 @@ fn seat_each<L: Ledger>(
     ensures counted { (states : List ℤ)
         → ((j : ℕ) → is_among at.now.moved.now j ≡ true → int_at states j ≡ int_at x.now j)
         → steps.new + renewals_from
-        (state_count at.now.machine.now) at.now.tick states at.now.levels.now slopes.now
+        (state_count at.now.machine.now) at.now.tick states at.now.levels.now at.now.slopes.now
         lines.new
         ≡ steps.old + renewals_from
-        (state_count at.now.machine.now) at.now.tick states at.now.levels.now slopes.now
+        (state_count at.now.machine.now) at.now.tick states at.now.levels.now at.now.slopes.now
         lines.old }
 {
     for j in at.moved {
-        seat(at, slopes, *j, x, lines, agenda, steps);
+        seat(at, *j, x, lines, agenda, steps);
     }
 }
 
@@ -239,7 +237,15 @@ pub fn reslope_handled<L: Ledger>(
         (states_left at.now left.now lines.old) at.now.levels.now slopes.new lines.old }
 {
     follow_slopes(at, left, lines, slopes);
-    seat_each(at, slopes, left.states, lines, agenda, steps);
-    reslope_readers(at, slopes, at.moved, lines, agenda, steps);
-    reslope_readers(at, slopes, left.assigned, lines, agenda, steps);
+    let on = NewSlopes {
+        machine: at.machine,
+        uses: at.uses,
+        tick: at.tick,
+        moved: at.moved,
+        levels: at.levels,
+        slopes,
+    };
+    seat_each(&on, left.states, lines, agenda, steps);
+    reslope_readers(&on, at.moved, lines, agenda, steps);
+    reslope_readers(&on, left.assigned, lines, agenda, steps);
 }

@@ -12,44 +12,43 @@ ghost use Rattle.qss_lines.specs.Reslopings.{MayReslope, AreResloped};
 ghost use Rattle.qss_lines.specs.Visitings.{CanGoOn};
 
 use crate::slopes::reslope;
-use crate::visiting::NewLevels;
+use crate::visiting::NewSlopes;
 use qss_quant::{Integrator, Steps};
 use qss_sched::Agenda;
 use std::sync::ledger::Ledger;
 
 // A state goes on from a tick at its level and its slope.
 fn reslope_state<L: Ledger>(
-    at: &NewLevels,
-    slopes: &[i128],
+    at: &NewSlopes,
     j: u32,
     lines: &mut [Integrator],
     agenda: &mut Agenda,
     steps: &mut Steps<L>,
 )
     requires state { j < state_count at.now.machine.now }
-    requires on { CanGoOn at.now slopes.now }
+    requires on { CanGoOn at.now }
     requires lines { length lines.old ≡ state_count at.now.machine.now }
     requires places { state_count at.now.machine.now ≤ length agenda.old }
     requires ready { MayReslope at.now.machine.now at.now.tick (int_at at.now.levels.now j)
-        (int_at slopes.now j)
+        (int_at at.now.slopes.now j)
         j (line_at lines.old j) (due_at agenda.old j) }
     ensures goes_on { GoesOnFrom at.now.machine.now at.now.tick
         (state_at (line_at lines.old j) at.now.tick)
-        (int_at at.now.levels.now j) (int_at slopes.now j) j (line_at lines.new j)
+        (int_at at.now.levels.now j) (int_at at.now.slopes.now j) j (line_at lines.new j)
         (due_at agenda.new j) }
     ensures lines { (k : ℕ) → (k ≡ j → ⊥) → line_at lines.new k ≡ line_at lines.old k }
-    ensures kept { goes_at (int_at at.now.levels.now j) (int_at slopes.now j) (line_at lines.old j)
+    ensures kept { goes_at (int_at at.now.levels.now j) (int_at at.now.slopes.now j) (line_at lines.old j)
         ≡ true
         → line_at lines.new j ≡ line_at lines.old j }
     ensures places { length agenda.new ≡ length agenda.old }
     ensures dues { (place : ℕ) → (place ≡ j → ⊥)
         → due_at agenda.new place ≡ due_at agenda.old place }
     ensures counted { steps.new
-        + renewals (state_count at.now.machine.now) at.now.levels.now slopes.now lines.new
+        + renewals (state_count at.now.machine.now) at.now.levels.now at.now.slopes.now lines.new
         ≡ steps.old + renewals
-        (state_count at.now.machine.now) at.now.levels.now slopes.now lines.old }
+        (state_count at.now.machine.now) at.now.levels.now at.now.slopes.now lines.old }
 {
-    let slope = slopes[j as usize];
+    let slope = at.slopes[j as usize];
     let level = at.levels[j as usize];
     let line = &mut lines[j as usize];
     let x = line.value_at(at.tick);
@@ -64,38 +63,36 @@ fn reslope_state<L: Ledger>(
 
 // These states go on from a tick at their levels and slopes.
 fn reslope_each<L: Ledger>(
-    at: &NewLevels,
-    slopes: &[i128],
+    at: &NewSlopes,
     states: &[u32],
     lines: &mut [Integrator],
     agenda: &mut Agenda,
     steps: &mut Steps<L>,
 )
     requires states { All (λ j. j < state_count at.now.machine.now) states.now }
-    requires on { CanGoOn at.now slopes.now }
+    requires on { CanGoOn at.now }
     requires lines { length lines.old ≡ state_count at.now.machine.now }
     requires places { state_count at.now.machine.now ≤ length agenda.old }
     requires ready { (j : ℕ) → j < state_count at.now.machine.now
         → MayReslope at.now.machine.now at.now.tick (int_at at.now.levels.now j)
-        (int_at slopes.now j) j (line_at lines.old j) (due_at agenda.old j) }
-    ensures resloped { AreResloped at.now.machine.now at.now.tick at.now.levels.now slopes.now
+        (int_at at.now.slopes.now j) j (line_at lines.old j) (due_at agenda.old j) }
+    ensures resloped { AreResloped at.now.machine.now at.now.tick at.now.levels.now at.now.slopes.now
         states.now
         (record { lines = lines.old; dues = agenda.old })
         (record { lines = lines.new; dues = agenda.new }) }
     ensures counted { steps.new
-        + renewals (state_count at.now.machine.now) at.now.levels.now slopes.now lines.new
+        + renewals (state_count at.now.machine.now) at.now.levels.now at.now.slopes.now lines.new
         ≡ steps.old + renewals
-        (state_count at.now.machine.now) at.now.levels.now slopes.now lines.old }
+        (state_count at.now.machine.now) at.now.levels.now at.now.slopes.now lines.old }
 {
     for j in states {
-        reslope_state(at, slopes, *j, lines, agenda, steps);
+        reslope_state(at, *j, lines, agenda, steps);
     }
 }
 
 /// The states whose rows read one of these variables go on from a tick at their levels and slopes.
 pub(crate) fn reslope_readers<L: Ledger>(
-    at: &NewLevels,
-    slopes: &[i128],
+    at: &NewSlopes,
     variables: &[u32],
     lines: &mut [Integrator],
     agenda: &mut Agenda,
@@ -104,23 +101,23 @@ pub(crate) fn reslope_readers<L: Ledger>(
     requires variables { All
         (λ var. var < state_count at.now.machine.now
         + discrete_count at.now.machine.now) variables.now }
-    requires on { CanGoOn at.now slopes.now }
+    requires on { CanGoOn at.now }
     requires lines { length lines.old ≡ state_count at.now.machine.now }
     requires places { state_count at.now.machine.now ≤ length agenda.old }
     requires ready { (j : ℕ) → j < state_count at.now.machine.now
         → MayReslope at.now.machine.now at.now.tick (int_at at.now.levels.now j)
-        (int_at slopes.now j) j (line_at lines.old j) (due_at agenda.old j) }
-    ensures resloped { AreResloped at.now.machine.now at.now.tick at.now.levels.now slopes.now
+        (int_at at.now.slopes.now j) j (line_at lines.old j) (due_at agenda.old j) }
+    ensures resloped { AreResloped at.now.machine.now at.now.tick at.now.levels.now at.now.slopes.now
         (flat_map (reading_rows at.now.machine.now) variables.now)
         (record { lines = lines.old; dues = agenda.old })
         (record { lines = lines.new; dues = agenda.new }) }
     ensures counted { steps.new
-        + renewals (state_count at.now.machine.now) at.now.levels.now slopes.now lines.new
+        + renewals (state_count at.now.machine.now) at.now.levels.now at.now.slopes.now lines.new
         ≡ steps.old + renewals
-        (state_count at.now.machine.now) at.now.levels.now slopes.now lines.old }
+        (state_count at.now.machine.now) at.now.levels.now at.now.slopes.now lines.old }
 {
     for var in variables {
         let readers = at.uses.rows_of(*var);
-        reslope_each(at, slopes, readers, lines, agenda, steps);
+        reslope_each(at, readers, lines, agenda, steps);
     }
 }

@@ -20,7 +20,7 @@ use Rattle.qss_lines.proofs.reseated.reslope_handled.Goals as goal
 
 pub seat_each-requires-clause-on : goal.seat_each-requires-clause-on
 seat_each-requires-clause-on g c = record {
-  new = c.requires.new;
+  new = record { uses = c.requires.new.uses; moved = c.requires.new.moved; levels = c.requires.new.levels; small_levels = c.requires.new.small_levels };
   slopes_of = record {
     as_many = c.follow_slopes.auto.slopes ∙ c.requires.one_each.slopes;
     small = slopes_small c.args.at.now.machine.now c.args.at.now.levels.now c.args.left.now.discretes.now c.args.left.now.discretes.now c.follow_slopes.new.slopes c.requires.levels.light refl c.follow_slopes.ensures;
@@ -41,7 +41,7 @@ seat_each-requires-clause-may_move g c = c.requires.held.may_move
 
 pub reslope_readers-requires-clause-on : goal.reslope_readers-requires-clause-on
 reslope_readers-requires-clause-on g c = record {
-  new = c.requires.new;
+  new = record { uses = c.requires.new.uses; moved = c.requires.new.moved; levels = c.requires.new.levels; small_levels = c.requires.new.small_levels };
   slopes_of = record {
     as_many = c.follow_slopes.auto.slopes ∙ c.requires.one_each.slopes;
     small = slopes_small c.args.at.now.machine.now c.args.at.now.levels.now c.args.left.now.discretes.now c.args.left.now.discretes.now c.follow_slopes.new.slopes c.requires.levels.light refl c.follow_slopes.ensures;
@@ -64,7 +64,7 @@ reslope_readers-requires-clause-ready g c j h =
 
 pub reslope_readers-requires-2-clause-on : goal.reslope_readers-requires-2-clause-on
 reslope_readers-requires-2-clause-on g c = record {
-  new = c.requires.new;
+  new = record { uses = c.requires.new.uses; moved = c.requires.new.moved; levels = c.requires.new.levels; small_levels = c.requires.new.small_levels };
   slopes_of = record {
     as_many = c.follow_slopes.auto.slopes ∙ c.requires.one_each.slopes;
     small = slopes_small c.args.at.now.machine.now c.args.at.now.levels.now c.args.left.now.discretes.now c.args.left.now.discretes.now c.follow_slopes.new.slopes c.requires.levels.light refl c.follow_slopes.ensures;

@@ -11,7 +11,7 @@ use Rattle.qss_lines.proofs.reseated.seat_each.Goals as goal
 
 pub loop-j-init : goal.loop-j-init
 loop-j-init g c = record {
-  are_seated = none_seated c.args.at.now.machine.now c.args.at.now.tick c.args.x.now c.args.at.now.levels.now c.args.slopes.now (record { lines = c.args.lines.now; dues = c.args.agenda.now });
+  are_seated = none_seated c.args.at.now.machine.now c.args.at.now.tick c.args.x.now c.args.at.now.levels.now c.args.at.now.slopes.now (record { lines = c.args.lines.now; dues = c.args.agenda.now });
   line_count = c.requires.lines;
   counted = λ states at. refl;
 }
@@ -23,7 +23,7 @@ seat-requires-clause-later g c =
     let before : Courses = record { lines = c.loop-j.lines; dues = c.loop-j.agenda } in
     let j : ℕ = get_or c.args.at.now.moved.now i 0 in
     let known : j < state_count c.args.at.now.machine.now = c.requires.on.new.moved.below i 0 c.loop-j-test.true in
-    still_begun c.args.at.now.machine.now c.args.at.now.tick c.args.x.now c.args.at.now.levels.now c.args.slopes.now (take i c.args.at.now.moved.now) first before c.loop-j.invariant.are_seated j
+    still_begun c.args.at.now.machine.now c.args.at.now.tick c.args.x.now c.args.at.now.levels.now c.args.at.now.slopes.now (take i c.args.at.now.moved.now) first before c.loop-j.invariant.are_seated j
     (c.requires.may_move.later j (omega (arith, known, c.requires.lines)))
 
 pub seat-requires-clause-small : goal.seat-requires-clause-small
@@ -34,7 +34,7 @@ seat-requires-clause-small g c =
     let j : ℕ = get_or c.args.at.now.moved.now i 0 in
     let known : j < state_count c.args.at.now.machine.now = c.requires.on.new.moved.below i 0 c.loop-j-test.true in
     let small_x : IsWithin 88 (int_at c.args.x.now j) = c.requires.states.small j (pos 0) (omega (arith, known, c.requires.states.as_many)) in
-    still_small c.args.at.now.machine.now c.args.at.now.tick c.args.x.now c.args.at.now.levels.now c.args.slopes.now (take i c.args.at.now.moved.now) first before c.loop-j.invariant.are_seated j small_x
+    still_small c.args.at.now.machine.now c.args.at.now.tick c.args.x.now c.args.at.now.levels.now c.args.at.now.slopes.now (take i c.args.at.now.moved.now) first before c.loop-j.invariant.are_seated j small_x
     (c.requires.may_move.small j (omega (arith, known, c.requires.lines)))
 
 pub seat-requires-clause-near : goal.seat-requires-clause-near
@@ -50,7 +50,7 @@ loop-j-preserved g c =
     let before : Courses = record { lines = c.loop-j.lines; dues = c.loop-j.agenda } in
     let after : Courses = record { lines = c.seat.new.lines; dues = c.seat.new.agenda } in
     record {
-      are_seated = seated_more m c.args.at.now.tick c.args.x.now c.args.at.now.levels.now c.args.slopes.now c.args.at.now.moved.now i first before after c.loop-j-test.true inv.are_seated
+      are_seated = seated_more m c.args.at.now.tick c.args.x.now c.args.at.now.levels.now c.args.at.now.slopes.now c.args.at.now.moved.now i first before after c.loop-j-test.true inv.are_seated
           c.seat.ensures.goes_on c.seat.ensures.lines c.seat.ensures.kept c.seat.ensures.places c.seat.ensures.dues;
       line_count = omega (arith, inv.line_count, c.seat.auto.lines);
       counted = λ states at.
@@ -63,7 +63,7 @@ pub returns : goal.returns
 returns g c =
     let first : Courses = record { lines = c.args.lines.now; dues = c.args.agenda.now } in
     let last : Courses = record { lines = c.loop-j.lines; dues = c.loop-j.agenda } in
-    let are : AreSeated c.args.at.now.machine.now c.args.at.now.tick c.args.x.now c.args.at.now.levels.now c.args.slopes.now c.args.at.now.moved.now first last =
-    subst (λ (moved : List ℕ). AreSeated c.args.at.now.machine.now c.args.at.now.tick c.args.x.now c.args.at.now.levels.now c.args.slopes.now moved first last)
+    let are : AreSeated c.args.at.now.machine.now c.args.at.now.tick c.args.x.now c.args.at.now.levels.now c.args.at.now.slopes.now c.args.at.now.moved.now first last =
+    subst (λ (moved : List ℕ). AreSeated c.args.at.now.machine.now c.args.at.now.tick c.args.x.now c.args.at.now.levels.now c.args.at.now.slopes.now moved first last)
     (take_all c.loop-j.j-index c.args.at.now.moved.now c.loop-j-test.false) c.loop-j.invariant.are_seated in
     record { goes_on = are.own; lines = are.lines; kept = are.left; places = are.places; dues = are.dues; counted = c.loop-j.invariant.counted }
