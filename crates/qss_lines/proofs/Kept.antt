@@ -11,7 +11,7 @@ use Rattle.qss_machine.specs.Machines.{state_count, discrete_count}
 use Rattle.qss_machine.specs.Numbers.{int_at}
 use Rattle.qss_machine.specs.Ticks.{is_overweight}
 use Rattle.qss_quiet.specs.Among.{is_among, IsOff}
-use Rattle.qss_quiet.specs.Sims.{weights_at}
+use Rattle.qss_quiet.specs.Sims.{weights_at, no_row}
 use Rattle.qss_lines.specs.declared.weights.Weights.{Weights}
 use Rattle.qss_lines.specs.Variables.{AreAssigned}
 use Rattle.qss_lines.specs.Kept.{AreWeights}
@@ -54,8 +54,7 @@ values_still m bound assigned old new many_old many_new own small here k none h 
 pub light_up_to : (m : Machine) (bound : ℕ) (levels discretes : List ℤ) → length levels ≡ state_count m → length discretes ≡ discrete_count m → AreSmall m bound levels discretes →
     position (is_overweight m levels discretes) m.rows ≡ None
 light_up_to m bound levels discretes many many_d small =
-    let none : SlopeRow = record { entries = []; products = []; beta = pos 0 } in
-    position-none none (is_overweight m levels discretes) m.rows (λ k h. small.safe k none h levels discretes many many_d small.small_levels small.small_discretes)
+    position-none no_row (is_overweight m levels discretes) m.rows (λ k h. small.safe k no_row h levels discretes many many_d small.small_levels small.small_discretes)
 
 -- weights that are not kept are as they were
 pub not_kept : (m : Machine) (levels discretes : List ℤ) (weights : Weights) → weights.kept ≡ false → length weights.of_rows.items ≡ state_count m → AreSmall m weights.bound levels discretes →

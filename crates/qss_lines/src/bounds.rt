@@ -4,13 +4,14 @@ ghost use Rattle.std.specs.Prelude.{◌≡◌, ℕ, ◌+◌, ◌^◌, ◌<◌, �
 ghost use Rattle.mu_num.specs.Sizes.{IsWithin};
 ghost use Rattle.qss_lines.specs.Weighings.{IsUpTo, AreUpToAt, AllowsBound, IsSafeBound, AreSmall, excess};
 
+use crate::limits::{LEVEL_BITS, MODE_BITS};
 use qss_machine::{Entry, Machine, Product, SlopeRow};
 
 // The limit of levels and of discrete values.
-const LIMIT: u64 = 1 << 43;
+const LIMIT: u64 = 1 << LEVEL_BITS;
 
 // The limit of mode coefficients.
-const MODE_LIMIT: u128 = 1 << 44;
+const MODE_LIMIT: u128 = 1 << MODE_BITS;
 
 // A coefficient without its sign.
 fn entry_size(entry: &Entry) -> u128

@@ -5,6 +5,7 @@ ghost use Rattle.mu_num.specs.Sizes.{IsWithin, passes};
 ghost use Rattle.std.specs.Ordering.{int_eq};
 ghost use Rattle.qss_machine.specs.declared.rows.RowKind.TheVariants as kind;
 
+use crate::limits::LEVEL_BITS;
 use mu_num::passes;
 use qss_machine::{Row, RowKind};
 
@@ -66,7 +67,7 @@ pub(crate) fn take_within(
     ensures few { vec_len rows.new ≤ vec_len rows.old + 1 }
     ensures room { vec_capacity rows.new ≡ vec_capacity rows.old }
 {
-    if passes(fresh, 43) {
+    if passes(fresh, LEVEL_BITS) {
         return true;
     }
     take_level(rows, tick, var, level, fresh, state);

@@ -5,6 +5,7 @@
 mod bounds;
 mod gathered;
 mod levels;
+mod limits;
 mod readers;
 mod relevel;
 mod requantized;

@@ -3,6 +3,7 @@
 ghost use Rattle.std.specs.Prelude.{◌≡◌, ℕ, ◌<◌, ◌∷◌, ◌++◌, [], List, All, length, flat_map, slice_index_or};
 ghost use Rattle.qss_lines.specs.Overweights.{comes_before, IsLeastPast};
 
+use crate::limits::WEIGHT_BITS;
 use mu_num::passes;
 use qss_machine::Uses;
 
@@ -25,7 +26,7 @@ fn lesser_row(weights: &[i128], row: u32, found: Option<u32>) -> Option<u32>
     if !comes_before(found, row) {
         return found;
     }
-    if passes(weights[row as usize], 88) {
+    if passes(weights[row as usize], WEIGHT_BITS) {
         return Some(row);
     }
     found

@@ -15,6 +15,7 @@ ghost use Rattle.qss_lines.specs.StateLines.{line_at, states_at};
 ghost use Rattle.qss_quiet.specs.Writes.{IsFirstOf, IsWritten};
 
 use crate::levels::take_within;
+use crate::limits::STATE_BITS;
 use crate::visiting::Arrival;
 use mu_num::passes;
 use qss_machine::Row;
@@ -57,7 +58,7 @@ fn arrive_due(lines: &[Integrator], tick: u64, moved: &[u32], x: &mut [i128]) ->
     for state in moved {
         let j = *state as usize;
         let value = arrival_of(lines, tick, *state);
-        first = found_or(first, *state, passes(value, 88));
+        first = found_or(first, *state, passes(value, STATE_BITS));
         x[j] = value;
     }
     first
@@ -84,7 +85,7 @@ fn leave_due(at: &Arrival, q: &Quantizer, levels: &mut [i64], rows: &mut Vec<Row
     for state in at.moved {
         let j = *state as usize;
         let value = arrival_of(at.lines, at.tick, *state);
-        if passes(value, 88) {
+        if passes(value, STATE_BITS) {
             return Some(*state);
         }
         let fresh = q.answer(value, levels[j], unit);

@@ -12,6 +12,7 @@ ghost use Rattle.qss_lines.specs.declared.shifts.RowSum.TheVariants as sum;
 ghost use Rattle.qss_quiet.specs.Writes.{IsWritten};
 ghost use Rattle.qss_lines.specs.Visitings.{AreNewLevels, AreHandled, first_overweight, WereSums};
 
+use crate::limits::WEIGHT_BITS;
 use crate::readers::least_reader;
 use crate::shifts::{RowSum, shift_sums};
 use crate::visiting::{Handled, NewLevels};
@@ -130,7 +131,7 @@ pub(crate) fn weigh_every(
 {
     for row in 0..weights.len() {
         let weight = weigh_row(m, row as u32, levels, d);
-        if passes(weight, 88) {
+        if passes(weight, WEIGHT_BITS) {
             return Some(row as u32);
         }
         weights[row] = weight;

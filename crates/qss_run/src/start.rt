@@ -23,7 +23,7 @@ use qss_hand::Work;
 use qss_lines::Weights;
 use qss_machine::{Machine, Row, RowKind, Uses};
 use qss_quant::Integrator;
-use qss_quiet::start_levels;
+use qss_quiet::{leaving, start_levels};
 use qss_sched::Agenda;
 use qss_watch::{Conditions, Point, blank_conditions, copies};
 use std::alloc::{AllocError, Global};
@@ -112,14 +112,14 @@ fn start_line(
         → due_at agenda.new place ≡ due_at agenda.old place }
     ensures due { IsDue m.now 0 j line.new (due_at agenda.new j) }
 {
-    *line = Integrator {
+    let here = Integrator {
         tick: 0,
         x,
         slope,
         level,
     };
-    let quantum = m.quantum_at(j, level);
-    agenda.set(j, line.due(quantum, m.level_unit()));
+    *line = here;
+    agenda.set(j, leaving(m, j, &here));
 }
 
 // All states go on from tick 0 at the slopes of these levels and discrete values.

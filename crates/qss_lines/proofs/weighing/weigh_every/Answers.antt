@@ -1,15 +1,15 @@
 -- One more row that passes no limit, or the first one that does.
-use Rattle.std.proofs.Common.{◌≡◌, ℕ, ◌<◌, true, false, [], length, ℤ, pos, sym, ◌∙◌, arith, set, below_more, to_z, of_z}
+use Rattle.std.proofs.Common.{◌≡◌, ℕ, ◌<◌, true, false, length, ℤ, pos, sym, ◌∙◌, arith, set, below_more, to_z, of_z}
 use Rattle.std.proofs.lemmas.Int.{to_z-of_z}
 use Rattle.std.proofs.lemmas.List.{length-set, get_or-set_same, get_or-set_other}
 use Rattle.std.proofs.lemmas.List.FromFn.{fill_by_all}
 use Rattle.std.specs.Int.RustNames.{FitsSigned}
 use Rattle.mu_num.specs.Sizes.{passes}
-use Rattle.qss_machine.specs.declared.parts.SlopeRow.{SlopeRow}
 use Rattle.qss_machine.specs.Machines.{state_count, row_at, weight_at}
 use Rattle.qss_machine.specs.Numbers.{int_at}
 use Rattle.qss_machine.specs.Slopes.{mode_fits}
 use Rattle.qss_machine.specs.Ticks.{is_overweight}
+use Rattle.qss_quiet.specs.Sims.{no_row}
 use Rattle.qss_quiet.proofs.Firsts.{first_is}
 use Rattle.qss_quiet.proofs.Ranges.{position-none}
 use Rattle.qss_lines.proofs.Weighed.{by_modes, weight_kept}
@@ -19,7 +19,6 @@ use mir.Syntax.{w128}
 pub returns-then-passes : goal.returns-then-passes
 returns-then-passes c =
     let m = c.args.m.now in
-    let none : SlopeRow = record { entries = []; products = []; beta = pos 0 } in
     let row : ℕ = c.loop-row.row in
     let levels = c.args.levels.now in
     let d = c.args.d.now in
@@ -30,7 +29,7 @@ returns-then-passes c =
     let here : is_overweight m levels d (row_at m row) ≡ true =
     sym (by_modes (mode_fits m.f (state_count m) (row_at m row) d) c.weigh_row-weight.result (weight_at m row levels d) c.weigh_row-weight.ensures) ∙ sym past ∙ c.if-passes.true in
     record {
-      over = sym (first_is none (is_overweight m levels d) m.rows row inside c.loop-row.invariant.light here);
+      over = sym (first_is no_row (is_overweight m levels d) m.rows row inside c.loop-row.invariant.light here);
       weights = λ e. absurd (cc);
     }
 
@@ -59,10 +58,9 @@ loop-row-preserved c =
 pub returns : goal.returns
 returns c =
     let m = c.args.m.now in
-    let none : SlopeRow = record { entries = []; products = []; beta = pos 0 } in
     let all : state_count m ≡ c.loop-row.row = omega (arith, c.loop-row-test.false, c.loop-row.invariant.as_many) in
     record {
-      over = sym (position-none none (is_overweight m c.args.levels.now c.args.d.now) m.rows
+      over = sym (position-none no_row (is_overweight m c.args.levels.now c.args.d.now) m.rows
           (λ k h. c.loop-row.invariant.light k (omega (arith, h, c.loop-row-test.false, c.loop-row.invariant.as_many, m.has_rows.one_each))));
       weights = λ e.
           fill_by_all (λ j. weight_at m j c.args.levels.now c.args.d.now) c.loop-row.weights (state_count m) (pos 0) c.loop-row.invariant.as_many
