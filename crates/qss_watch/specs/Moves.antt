@@ -1,5 +1,5 @@
 -- States that are due at one tick, and what else has to be looked at then.
-use Rattle.std.specs.Prelude.{◌≡◌, ℕ, ◌+◌, ◌<◌, ◌⊎◌, Bool, true, false, not, List, length, Option, Some, None}
+use Rattle.std.specs.Prelude.{◌≡◌, ℕ, ◌+◌, ◌<◌, ◌⊎◌, Bool, true, false, not, List, length, All, Option, Some, None}
 use Rattle.qss_machine.specs.Firing.{flag_at}
 use Rattle.qss_machine.specs.Ticks.{World}
 use Rattle.qss_sched.specs.Ranks.{due_at}
@@ -32,6 +32,12 @@ pub record AreChanging (n conditions tick : ℕ) (due : List (Option ℕ)) (chan
 -- flags that are alike but for those of these places
 abbrev pub AreAlikeBut : List ℕ → List Bool → List Bool → Type 0
 AreAlikeBut places one other = (place : ℕ) → is_among places place ≡ false → flag_at one place ≡ flag_at other place
+
+-- truths on arrival and after the handlers, as many, that differ at most at these places
+pub record AreApartAt (apart : List ℕ) (arrived settled : List Bool) : Type 0 where
+  pub as_many : length arrived ≡ length settled
+  pub below : All (λ place. place < length settled) apart
+  pub alike : AreAlikeBut apart arrived settled
 
 -- whether two flags differ
 abbrev pub differ : Bool → Bool → Bool

@@ -1,15 +1,13 @@
 //! Conditions on arrival after ticks at which they do not change.
 
-ghost use Rattle.std.specs.Prelude.{◌≡◌, ◌<◌, All, length, if◌then◌else◌};
-ghost use Rattle.qss_watch.specs.Moves.{AreAlikeBut};
+ghost use Rattle.std.specs.Prelude.{◌≡◌, length, if◌then◌else◌};
+ghost use Rattle.qss_watch.specs.Moves.{AreAlikeBut, AreApartAt};
 
 use crate::place_set::PlaceSet;
 
 /// Each condition is on arrival as it was after the last handlers. Before, only those of these places were not.
 pub(crate) fn agree(apart: &[u32], settled: &[bool], arrived: &mut [bool])
-    requires as_many { length arrived.old ≡ length settled.now }
-    requires below { All (λ place. place < length settled.now) apart.now }
-    requires alike { AreAlikeBut apart.now arrived.old settled.now }
+    requires { AreApartAt apart.now arrived.old settled.now }
     ensures { arrived.new ≡ settled.now }
 {
     for condition in apart {

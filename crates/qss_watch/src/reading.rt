@@ -1,12 +1,12 @@
 //! Conditions on arrival at a tick, of which few are looked at.
 
-ghost use Rattle.std.specs.Prelude.{◌≡◌, ℕ, ◌<◌, ◌≤◌, not, ◌&&◌, All, length, false, vec_capacity};
+ghost use Rattle.std.specs.Prelude.{◌≡◌, ℕ, ◌<◌, ◌≤◌, not, ◌&&◌, length, false, vec_capacity};
 ghost use Rattle.std.specs.List.{filter};
 ghost use Rattle.mu_num.specs.Ticks.{tick_limit};
 ghost use Rattle.qss_machine.specs.Firing.{flag_at};
 ghost use Rattle.qss_cross.specs.Crossing.{IsSmall, value_at, holds_at};
 ghost use Rattle.qss_quiet.specs.Among.{AreNumbers};
-ghost use Rattle.qss_watch.specs.Moves.{AreAlikeBut};
+ghost use Rattle.qss_watch.specs.Moves.{AreApartAt};
 ghost use Rattle.qss_watch.specs.Places.{watch_at};
 ghost use Rattle.qss_quiet.specs.Writes.{IsWritten};
 
@@ -37,9 +37,7 @@ pub(crate) fn read_changed(
 )
     requires watches { length watches.now ≡ length settled.now }
     requires changed { AreNumbers (length settled.now) changed.now }
-    requires arrived { length arrived.old ≡ length settled.now }
-    requires below { All (λ place. place < length settled.now) apart.now }
-    requires alike { AreAlikeBut apart.now arrived.old settled.now }
+    requires apart { AreApartAt apart.now arrived.old settled.now }
     requires later { (place : ℕ) → place < length settled.now
         → (watch_at watches.now place).tick ≤ tick }
     requires in_time { tick ≤ tick_limit }

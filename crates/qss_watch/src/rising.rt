@@ -1,11 +1,11 @@
 //! Conditions that became true through the handlers of a tick.
 
-ghost use Rattle.std.specs.Prelude.{◌≡◌, ℕ, ◌+◌, ◌<◌, ◌^◌, All, length, None, Some, false, slice_set, if◌then◌else◌};
+ghost use Rattle.std.specs.Prelude.{◌≡◌, ℕ, ◌+◌, ◌<◌, ◌^◌, length, None, Some, false, slice_set, if◌then◌else◌};
 ghost use Rattle.std.specs.List.{list_any};
 ghost use Rattle.qss_machine.specs.Handlers.{due_flags};
 ghost use Rattle.qss_sched.specs.Ranks.{due_at};
 ghost use Rattle.qss_quiet.specs.Sims.{became_true};
-ghost use Rattle.qss_watch.specs.Moves.{AreAlikeBut, IsCalled};
+ghost use Rattle.qss_watch.specs.Moves.{AreApartAt, IsCalled};
 
 use qss_sched::Agenda;
 
@@ -21,9 +21,7 @@ fn became_true(arrived: &[bool], settled: &[bool], place: u32) -> bool
 
 // Whether a condition became true through the handlers. Only those of these places are after them not as on arrival.
 fn rises(apart: &[u32], arrived: &[bool], settled: &[bool]) -> bool
-    requires arrived { length arrived.now ≡ length settled.now }
-    requires below { All (λ place. place < length settled.now) apart.now }
-    requires alike { AreAlikeBut apart.now arrived.now settled.now }
+    requires apart { AreApartAt apart.now arrived.now settled.now }
     ensures { result ≡ list_any (λ flag. flag) (due_flags settled.now arrived.now settled.now) }
 {
     for condition in apart {
@@ -44,9 +42,7 @@ pub fn rise(
     place: u32,
     agenda: &mut Agenda,
 ) -> bool
-    requires arrived { length arrived.now ≡ length settled.now }
-    requires below { All (λ place. place < length settled.now) apart.now }
-    requires alike { AreAlikeBut apart.now arrived.now settled.now }
+    requires apart { AreApartAt apart.now arrived.now settled.now }
     requires place { place < length agenda.old }
     requires in_time { tick < 2 ^ 32 }
     ensures rises { result
@@ -82,9 +78,7 @@ fn call(
     arrived: &[bool],
     settled: &[bool],
 )
-    requires as_many { length arrived.now ≡ length settled.now }
-    requires below { All (λ place. place < length settled.now) apart.now }
-    requires alike { AreAlikeBut apart.now arrived.now settled.now }
+    requires apart { AreApartAt apart.now arrived.now settled.now }
     requires places { states + length settled.now < length agenda.old }
     requires few { states + length settled.now < 2 ^ 32 }
     ensures { IsCalled states tick arrived.now settled.now agenda.old agenda.new }
@@ -107,9 +101,7 @@ pub fn call_risen(
     arrived: &[bool],
     settled: &[bool],
 )
-    requires as_many { length arrived.now ≡ length settled.now }
-    requires below { All (λ place. place < length settled.now) apart.now }
-    requires alike { AreAlikeBut apart.now arrived.now settled.now }
+    requires apart { AreApartAt apart.now arrived.now settled.now }
     requires places { states + length settled.now < length agenda.old }
     requires few { states + length settled.now < 2 ^ 32 }
     requires none_risen { rising ≡ false

@@ -22,16 +22,17 @@ call_risen-requires-clause-few g c =
     let fits = c.requires.stands.fits in
     omega (arith, c.len-states.ensures, s.lines.ok.0, fits.lines, m.has_variables.few, ap length c.as_slice-settled.ensures.value, fits.own_conditions.settled, conditions_few m)
 
-pub call_risen-requires-clause-below : goal.call_risen-requires-clause-below
-call_risen-requires-clause-below g c =
+pub call_risen-requires-clause-apart : goal.call_risen-requires-clause-apart
+call_risen-requires-clause-apart g c =
     let own = c.requires.stands.fits.own_conditions in
-    λ k d h. omega (arith, c.places-apart.ensures.below k d h, own.apart, own.settled, ap length c.as_slice-settled.ensures.value)
-
-pub call_risen-requires-clause-alike : goal.call_risen-requires-clause-alike
-call_risen-requires-clause-alike g c = λ place none.
-    ap (λ flags. flag_at flags place) c.as_slice-arrived.ensures.value
-    ∙ c.requires.stands.alike place (ap (λ these. is_among these place) (sym c.places-apart.ensures.places) ∙ none)
-    ∙ sym (ap (λ flags. flag_at flags place) c.as_slice-settled.ensures.value)
+    record {
+      as_many = ap length c.as_slice-arrived.ensures.value ∙ own.arrived ∙ sym (ap length c.as_slice-settled.ensures.value ∙ own.settled);
+      below = λ k d h. omega (arith, c.places-apart.ensures.below k d h, own.apart, own.settled, ap length c.as_slice-settled.ensures.value);
+      alike = λ place none.
+          ap (λ flags. flag_at flags place) c.as_slice-arrived.ensures.value
+          ∙ c.requires.stands.alike place (ap (λ these. is_among these place) (sym c.places-apart.ensures.places) ∙ none)
+          ∙ sym (ap (λ flags. flag_at flags place) c.as_slice-settled.ensures.value);
+    }
 
 pub call_risen-requires-clause-none_risen : goal.call_risen-requires-clause-none_risen
 call_risen-requires-clause-none_risen g c calm place h =

@@ -6,11 +6,12 @@ use Rattle.qss_quiet.specs.Among.{is_among}
 use Rattle.qss_watch.specs.PlaceSets.{PlaceList}
 use Rattle.qss_watch.proofs.calm.catch_up.Goals as goal
 
-pub agree-requires-clause-below : goal.agree-requires-clause-below
-agree-requires-clause-below c = λ k d h. omega (arith, c.places.ensures.below k d h, c.requires.count)
-
-pub agree-requires-clause-alike : goal.agree-requires-clause-alike
-agree-requires-clause-alike c = λ place none. c.requires.alike place (ap (λ these. is_among these place) (sym c.places.ensures.places) ∙ none)
+pub agree-requires : goal.agree-requires
+agree-requires c = record {
+  as_many = c.requires.as_many;
+  below = λ k d h. omega (arith, c.places.ensures.below k d h, c.requires.count);
+  alike = λ place none. c.requires.alike place (ap (λ these. is_among these place) (sym c.places.ensures.places) ∙ none);
+}
 
 pub returns-then-still-clause-arrived : goal.returns-then-still-clause-arrived
 returns-then-still-clause-arrived c = c.agree.ensures ∙ ap (λ (b : Bool). if b then c.args.settled.now else c.args.arrived.now) (sym c.if-still.true)

@@ -11,10 +11,10 @@ pub loop-condition-init : goal.loop-condition-init
 loop-condition-init c = none_called c.args.states c.args.tick c.args.arrived.now c.args.settled.now c.args.agenda.now
 
 pub became_true-risen-requires-clause-place : goal.became_true-risen-requires-clause-place
-became_true-risen-requires-clause-place c = c.requires.below c.loop-condition.condition-index 0 c.loop-condition-test.true
+became_true-risen-requires-clause-place c = c.requires.apart.below c.loop-condition.condition-index 0 c.loop-condition-test.true
 
 pub call_at-requires : goal.call_at-requires
-call_at-requires c = omega (arith, c.requires.below c.loop-condition.condition-index 0 c.loop-condition-test.true, c.loop-condition.invariant.as_many, c.requires.places)
+call_at-requires c = omega (arith, c.requires.apart.below c.loop-condition.condition-index 0 c.loop-condition-test.true, c.loop-condition.invariant.as_many, c.requires.places)
 
 pub loop-condition-preserved : goal.loop-condition-preserved
 loop-condition-preserved c =
@@ -29,7 +29,7 @@ loop-condition-preserved c =
     let now : List (Option ℕ) = c.loop-condition.agenda in
     let inv = c.loop-condition.invariant in
     let h : i < length apart = c.loop-condition-test.true in
-    let below : at < length settled = c.requires.below i 0 h in
+    let below : at < length settled = c.requires.apart.below i 0 h in
     let within : n + at < length now = omega (arith, below, inv.as_many, c.requires.places) in
     let risen : Bool = c.became_true-risen.result in
     let is : risen ≡ became_true arrived settled at = c.became_true-risen.ensures in
@@ -47,4 +47,4 @@ pub returns : goal.returns
 returns c =
     subst (IsCalled c.args.states c.args.tick c.args.arrived.now c.args.settled.now c.args.agenda.now) (sym c.set.ensures)
     (called_all c.args.states c.args.tick c.args.apart.now c.loop-condition.condition-index c.args.arrived.now c.args.settled.now c.args.agenda.now c.loop-condition.agenda c.loop-condition-test.false
-    c.requires.alike c.loop-condition.invariant (omega (arith, c.loop-condition.invariant.as_many, c.requires.places)))
+    c.requires.apart.alike c.loop-condition.invariant (omega (arith, c.loop-condition.invariant.as_many, c.requires.places)))

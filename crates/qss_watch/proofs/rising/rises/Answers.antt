@@ -6,11 +6,11 @@ use Rattle.qss_watch.proofs.Called.{none_but_these}
 use Rattle.qss_watch.proofs.rising.rises.Goals as goal
 
 pub became_true-requires-clause-place : goal.became_true-requires-clause-place
-became_true-requires-clause-place c = c.requires.below c.loop-condition.condition-index 0 c.loop-condition-test.true
+became_true-requires-clause-place c = c.requires.apart.below c.loop-condition.condition-index 0 c.loop-condition-test.true
 
 pub returns-then-became_true : goal.returns-then-became_true
 returns-then-became_true c =
-    sym (some_due c.args.arrived.now c.args.settled.now c.requires.arrived (get_or c.args.apart.now c.loop-condition.condition-index 0) (sym c.became_true.ensures ∙ c.if-became_true.true))
+    sym (some_due c.args.arrived.now c.args.settled.now c.requires.apart.as_many (get_or c.args.apart.now c.loop-condition.condition-index 0) (sym c.became_true.ensures ∙ c.if-became_true.true))
 
 pub loop-condition-preserved : goal.loop-condition-preserved
 loop-condition-preserved c =
@@ -19,6 +19,6 @@ loop-condition-preserved c =
 
 pub returns : goal.returns
 returns c =
-    sym (none_due c.args.arrived.now c.args.settled.now c.requires.arrived
-    (λ place h. none_but_these c.args.apart.now c.args.arrived.now c.args.settled.now c.requires.alike
+    sym (none_due c.args.arrived.now c.args.settled.now c.requires.apart.as_many
+    (λ place h. none_but_these c.args.apart.now c.args.arrived.now c.args.settled.now c.requires.apart.alike
     (λ k inside. c.loop-condition.invariant k (omega (arith, inside, c.loop-condition-test.false))) place))

@@ -79,19 +79,17 @@ pub read_changed-requires-clause-changed : goal.read_changed-requires-clause-cha
 read_changed-requires-clause-changed c =
     subst (λ n. AreNumbers n c.args.at.now.changed.now) (sym (ap length c.as_slice-settled.ensures.value ∙ c.requires.ready.known.fits.settled)) c.requires.ready.known.changed
 
-pub read_changed-requires-clause-arrived : goal.read_changed-requires-clause-arrived
-read_changed-requires-clause-arrived c =
-    ap length c.as_mut_slice-arrived.ensures.value ∙ c.requires.ready.known.fits.arrived ∙ sym (ap length c.as_slice-settled.ensures.value ∙ c.requires.ready.known.fits.settled)
-
-pub read_changed-requires-clause-below : goal.read_changed-requires-clause-below
-read_changed-requires-clause-below c =
-    λ k d h. omega (arith, c.places-apart.ensures.below k d h, c.requires.ready.known.fits.apart, c.requires.ready.known.fits.settled, ap length c.as_slice-settled.ensures.value)
-
-pub read_changed-requires-clause-alike : goal.read_changed-requires-clause-alike
-read_changed-requires-clause-alike c = λ place none.
-    ap (λ flags. flag_at flags place) c.as_mut_slice-arrived.ensures.value
-    ∙ c.requires.ready.known.alike place (ap (λ these. is_among these place) (sym c.places-apart.ensures.places) ∙ none)
-    ∙ sym (ap (λ flags. flag_at flags place) c.as_slice-settled.ensures.value)
+pub read_changed-requires-clause-apart : goal.read_changed-requires-clause-apart
+read_changed-requires-clause-apart c =
+    let fits = c.requires.ready.known.fits in
+    record {
+      as_many = ap length c.as_mut_slice-arrived.ensures.value ∙ fits.arrived ∙ sym (ap length c.as_slice-settled.ensures.value ∙ fits.settled);
+      below = λ k d h. omega (arith, c.places-apart.ensures.below k d h, fits.apart, fits.settled, ap length c.as_slice-settled.ensures.value);
+      alike = λ place none.
+          ap (λ flags. flag_at flags place) c.as_mut_slice-arrived.ensures.value
+          ∙ c.requires.ready.known.alike place (ap (λ these. is_among these place) (sym c.places-apart.ensures.places) ∙ none)
+          ∙ sym (ap (λ flags. flag_at flags place) c.as_slice-settled.ensures.value);
+    }
 
 pub read_changed-requires-clause-later : goal.read_changed-requires-clause-later
 read_changed-requires-clause-later c place h =
