@@ -18,7 +18,7 @@ use Rattle.qss_machine.specs.Runs.{level_rows}
 use Rattle.qss_quant.specs.Lines.{Line, state_at}
 use Rattle.qss_lines.specs.Visitings.{AreMovedTo}
 use Rattle.qss_quiet.specs.Among.{is_among, AreNumbers, IsOff}
-use Rattle.qss_lines.specs.StateLines.{line_at, states_at, AreLinesAt, MayMove}
+use Rattle.qss_lines.specs.StateLines.{line_at, states_at, AreLinesUpTo, AreLinesAt, MayMove, MayArrive}
 use Rattle.qss_quiet.specs.Writes.{IsFirstOf, IsWritten}
 use Rattle.qss_quiet.proofs.LevelRows.{row_of, level_row}
 use Rattle.qss_quiet.proofs.Quiet.{int_at-tabulate}
@@ -49,6 +49,10 @@ may_move {tick = tick} {lines = lines} at = record {
   small = λ j h. state_small lines tick j h at.small;
   in_time = omega (arith, at.up_to.in_time);
 }
+
+-- and numbers of the states may arrive along lines up to a tick
+pub may_arrive : {m : Machine} {tick : ℕ} {lines : List Line} {x : List ℤ} → length x ≡ state_count m → AreLinesUpTo m tick lines → MayArrive tick lines x
+may_arrive many up_to = record { as_many = many ∙ sym up_to.as_many; later = up_to.later; in_time = omega (arith, up_to.in_time) }
 
 -- rows that are the same at each of some states
 pub same_rows : {R : Type 0} (f g : ℕ → List R) (moved : List ℕ) → ((j : ℕ) → is_among moved j ≡ true → f j ≡ g j) → flat_map f moved ≡ flat_map g moved

@@ -34,6 +34,12 @@ pub record MayMove (tick : ℕ) (lines : List Line) : Type 0 where
   pub small : (j : ℕ) → j < length lines → IsWithin 89 (state_at (line_at lines j) tick)
   pub in_time : tick ≤ tick_limit
 
+-- a number for each line, which may take the state to which the line leads at a tick up to 2^32: no line is later
+pub record MayArrive (tick : ℕ) (lines : List Line) (x : List ℤ) : Type 0 where
+  pub as_many : length x ≡ length lines
+  pub later : (j : ℕ) → j < length lines → (line_at lines j).tick ≤ tick
+  pub in_time : tick ≤ tick_limit
+
 -- the states at a tick: the moved ones are these, the others are where their lines lead
 abbrev pub states_with : List Line → ℕ → List ℕ → List ℤ → List ℤ
 states_with lines tick moved x = tabulate (length lines) (λ j. if is_among moved j then int_at x j else state_at (line_at lines j) tick)

@@ -11,7 +11,7 @@ ghost use Rattle.qss_quant.specs.Lines.{state_at};
 ghost use Rattle.qss_lines.specs.Visitings.{AreMovedTo, CanArrive, CanRequantize};
 ghost use Rattle.qss_quiet.specs.Among.{is_among, AreNumbers};
 ghost use Rattle.qss_lines.specs.Levels.{AreRequantized, AreRequantizedOnArrival, AreRequantizedAt};
-ghost use Rattle.qss_lines.specs.StateLines.{line_at, states_at};
+ghost use Rattle.qss_lines.specs.StateLines.{line_at, states_at, MayArrive};
 ghost use Rattle.qss_quiet.specs.Writes.{IsFirstOf, IsWritten};
 
 use crate::levels::take_within;
@@ -45,10 +45,8 @@ fn arrival_of(lines: &[Integrator], tick: u64, state: u32) -> i128
 
 // The moved states at a tick, along their lines. It gives the least of them that is past the limit of states, if one is.
 fn arrive_due(lines: &[Integrator], tick: u64, moved: &[u32], x: &mut [i128]) -> Option<u32>
-    requires as_many { length x.old ≡ length lines.now }
+    requires may_arrive { MayArrive tick lines.now x.old }
     requires moved { AreNumbers (length lines.now) moved.now }
-    requires later { (j : ℕ) → j < length lines.now → (line_at lines.now j).tick ≤ tick }
-    requires in_time { tick ≤ tick_limit }
     ensures first { IsFirstOf (λ j. passes 88 (state_at (line_at lines.now j) tick)) moved.now
         result }
     ensures arrived { IsWritten (pos 0)

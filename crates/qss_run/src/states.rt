@@ -1,19 +1,16 @@
 //! States on arrival at a tick.
 
 ghost use Rattle.std.specs.Prelude.{◌≡◌, ℕ, ◌<◌, ◌≤◌, ◌^◌, length};
-ghost use Rattle.mu_num.specs.Ticks.{tick_limit};
 ghost use Rattle.qss_machine.specs.Numbers.{tabulate};
 ghost use Rattle.qss_quant.specs.Lines.{state_at};
-ghost use Rattle.qss_lines.specs.StateLines.{line_at, states_at};
+ghost use Rattle.qss_lines.specs.StateLines.{line_at, states_at, MayArrive};
 
 use qss_hand::Work;
 use qss_quant::Integrator;
 
 // The states at a tick, along their lines.
 fn arrive(lines: &[Integrator], tick: u64, x: &mut [i128])
-    requires as_many { length x.old ≡ length lines.now }
-    requires not_later { (j : ℕ) → j < length lines.now → (line_at lines.now j).tick ≤ tick }
-    requires in_time { tick ≤ tick_limit }
+    requires { MayArrive tick lines.now x.old }
     ensures { x.new ≡ tabulate (length lines.now) (λ j. state_at (line_at lines.now j) tick) }
 {
     for j in 0..lines.len() {

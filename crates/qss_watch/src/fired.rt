@@ -2,7 +2,6 @@
 
 ghost use Rattle.std.specs.Prelude.{◌≡◌, ℕ, ◌+◌, ◌<◌, ◌≤◌, None, length, true, false};
 ghost use Rattle.std.specs.List.{list_any};
-ghost use Rattle.mu_num.specs.Ticks.{tick_limit};
 ghost use Rattle.qss_machine.specs.Limits.{form_of};
 ghost use Rattle.qss_machine.specs.Uses.{has_entry};
 ghost use Rattle.qss_machine.specs.Numbers.{int_at};
@@ -13,7 +12,7 @@ ghost use Rattle.qss_watch.specs.Handlings.{flags_of, handling_of_fired, is_rein
 ghost use Rattle.qss_quiet.specs.Among.{AreNumbers};
 ghost use Rattle.qss_lines.specs.Variables.{AreWithin};
 ghost use Rattle.qss_watch.specs.Places.{AreBranches};
-ghost use Rattle.qss_lines.specs.StateLines.{line_at, states_at, AreLinesAt};
+ghost use Rattle.qss_lines.specs.StateLines.{states_at, AreLinesAt, MayArrive};
 ghost use Rattle.qss_watch.specs.Reads.{action_reads, fired_reads, AreArrived};
 
 use crate::conditions::BranchPlace;
@@ -55,9 +54,7 @@ pub(crate) fn run_fired(
 
 /// The states of which a form has an entry arrive, along their lines.
 pub(crate) fn arrive_read(form: &Form, tick: u64, lines: &[Integrator], x: &mut [i128])
-    requires as_many { length x.old ≡ length lines.now }
-    requires later { (j : ℕ) → j < length lines.now → (line_at lines.now j).tick ≤ tick }
-    requires in_time { tick ≤ tick_limit }
+    requires { MayArrive tick lines.now x.old }
     ensures { AreArrived (λ j. has_entry j form.now.entries) (states_at lines.now tick) x.old
         x.new }
 {
@@ -81,9 +78,7 @@ fn form_of(action: &Action) -> &Form
 
 // The states that statements read arrive.
 fn arrive_read_by(actions: &[Action], tick: u64, lines: &[Integrator], x: &mut [i128])
-    requires as_many { length x.old ≡ length lines.now }
-    requires later { (j : ℕ) → j < length lines.now → (line_at lines.now j).tick ≤ tick }
-    requires in_time { tick ≤ tick_limit }
+    requires { MayArrive tick lines.now x.old }
     ensures { AreArrived (λ j. list_any (action_reads j) actions.now) (states_at lines.now tick)
         x.old x.new }
 {
@@ -103,9 +98,7 @@ fn arrive_for(
 )
     requires branches { AreBranches m.now branches.now }
     requires fired { AreNumbers (length branches.now) fired.now }
-    requires as_many { length x.old ≡ length lines.now }
-    requires later { (j : ℕ) → j < length lines.now → (line_at lines.now j).tick ≤ tick }
-    requires in_time { tick ≤ tick_limit }
+    requires may_arrive { MayArrive tick lines.now x.old }
     ensures { AreArrived (λ j. fired_reads j m.now branches.now fired.now)
         (states_at lines.now tick) x.old x.new }
 {
@@ -128,9 +121,7 @@ fn arrive_in_work(
 )
     requires branches { AreBranches m.now branches.now }
     requires fired { AreNumbers (length branches.now) fired.now }
-    requires as_many { length work.old.x ≡ length lines.now }
-    requires later { (j : ℕ) → j < length lines.now → (line_at lines.now j).tick ≤ tick }
-    requires in_time { tick ≤ tick_limit }
+    requires may_arrive { MayArrive tick lines.now work.old.x }
     ensures work { work.new ≡ record work.old { x = work.new.x } }
     ensures states { AreArrived (λ j. fired_reads j m.now branches.now fired.now)
         (states_at lines.now tick) work.old.x work.new.x }

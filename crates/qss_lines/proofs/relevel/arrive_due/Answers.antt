@@ -22,7 +22,7 @@ arrival_of-value-requires-clause-known c = c.requires.moved.below c.loop-state.s
 
 pub arrival_of-value-requires-clause-later : goal.arrival_of-value-requires-clause-later
 arrival_of-value-requires-clause-later c =
-    c.requires.later (get_or c.args.moved.now c.loop-state.state-index 0) (c.requires.moved.below c.loop-state.state-index 0 c.loop-state-test.true)
+    c.requires.may_arrive.later (get_or c.args.moved.now c.loop-state.state-index 0) (c.requires.moved.below c.loop-state.state-index 0 c.loop-state-test.true)
 
 pub loop-state-preserved : goal.loop-state-preserved
 loop-state-preserved c =
@@ -33,7 +33,7 @@ loop-state-preserved c =
     let j : ℕ = get_or moved i 0 in
     let h : i < length moved = c.loop-state-test.true in
     let inside : j < length lines = c.requires.moved.below i 0 h in
-    let within : j < length c.loop-state.x = omega (arith, inside, c.loop-state.invariant.written.as_many, c.requires.as_many) in
+    let within : j < length c.loop-state.x = omega (arith, inside, c.loop-state.invariant.written.as_many, c.requires.may_arrive.as_many) in
     let value : ℤ = c.arrival_of-value.result in
     let fits : FitsSigned w128 value = record { sfits = c.arrival_of-value.type_inv } in
     let here : value ≡ state_at (line_at lines j) tick = c.arrival_of-value.ensures in

@@ -1,9 +1,12 @@
 -- The first moved state past its limit is the first of all.
-use Rattle.std.proofs.Common.{◌≡◌, sym, ◌∙◌}
+use Rattle.std.proofs.Common.{◌≡◌, sym, ◌∙◌, arith}
 use Rattle.qss_machine.specs.Numbers.{first_past}
 use Rattle.qss_lines.specs.StateLines.{states_at}
 use Rattle.qss_lines.proofs.DueLevels.{past_on_arrival, arrived_within}
 use Rattle.qss_lines.proofs.relevel.arrive_within.Goals as goal
+
+pub arrive_due-requires-clause-may_arrive : goal.arrive_due-requires-clause-may_arrive
+arrive_due-requires-clause-may_arrive c = record { as_many = c.requires.states; later = c.requires.later; in_time = omega (arith, c.requires.in_time) }
 
 pub returns-clause-over : goal.returns-clause-over
 returns-clause-over c = past_on_arrival c.args.tick c.args.lines.now c.args.moved.now c.requires.moved c.arrive_due.result c.requires.others_small c.arrive_due.ensures.first

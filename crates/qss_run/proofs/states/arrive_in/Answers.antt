@@ -1,5 +1,5 @@
 -- The states are written in place.
-use Rattle.std.proofs.Common.{◌≡◌, List, length, ℤ, sym, ◌∙◌, ap}
+use Rattle.std.proofs.Common.{◌≡◌, List, length, ℤ, sym, ◌∙◌, ap, arith}
 use Rattle.std.proofs.lemmas.List.{with_items_is}
 use Rattle.std.proofs.lemmas.List.FromFn.{length-map-range_with_len}
 use Rattle.std.specs.Prelude.{vec_capacity}
@@ -8,6 +8,13 @@ use Rattle.qss_quant.specs.Lines.{state_at}
 use Rattle.qss_hand.specs.Values.{Values}
 use Rattle.qss_lines.specs.StateLines.{line_at, states_at}
 use Rattle.qss_run.proofs.states.arrive_in.Goals as goal
+
+pub arrive-requires : goal.arrive-requires
+arrive-requires c = record {
+  as_many = ap length (c.as_mut_slice.ensures.value ∙ ap (λ (v : Values). v.x) c.work.view_is) ∙ c.requires.as_many;
+  later = c.requires.not_later;
+  in_time = omega (arith, c.requires.in_time);
+}
 
 pub returns : goal.returns
 returns c =

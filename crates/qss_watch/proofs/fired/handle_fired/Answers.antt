@@ -13,7 +13,7 @@ use Rattle.qss_watch.specs.Reads.{fired_reads}
 use Rattle.qss_lines.specs.StateLines.{states_at}
 use Rattle.qss_watch.proofs.Agreeing.{Agree, fired_agree}
 use Rattle.qss_watch.proofs.Arrived.{arrived_small}
-use Rattle.qss_lines.proofs.DueLevels.{length-states_at}
+use Rattle.qss_lines.proofs.DueLevels.{length-states_at, may_arrive}
 use Rattle.qss_watch.proofs.Reported.{logged}
 use Rattle.qss_watch.proofs.fired.handle_fired.Goals as goal
 
@@ -27,6 +27,9 @@ begins start arrived begun tick come begin = begin ∙ ap (at_first arrived.x ti
 -- what the handlers do from there
 abbrev done_from : Machine → List Bool → Values → Handling
 done_from m flags w = run_clauses m w.tick w.pre 0 (handling_of w) m.clauses flags
+
+pub arrive_in_work-requires-clause-may_arrive : goal.arrive_in_work-requires-clause-may_arrive
+arrive_in_work-requires-clause-may_arrive c = may_arrive c.requires.values.states c.requires.lines.up_to
 
 pub run_fired-requires-clause-fits : goal.run_fired-requires-clause-fits
 run_fired-requires-clause-fits c =

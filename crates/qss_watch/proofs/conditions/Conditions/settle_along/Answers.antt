@@ -8,10 +8,13 @@ use Rattle.qss_quiet.specs.Sims.{condition_at}
 use Rattle.qss_lines.specs.StateLines.{states_at}
 use Rattle.qss_watch.proofs.Agreeing.{value_agrees}
 use Rattle.qss_watch.proofs.Arrived.{arrived_small}
-use Rattle.qss_lines.proofs.DueLevels.{length-states_at}
+use Rattle.qss_lines.proofs.DueLevels.{length-states_at, may_arrive}
 use Rattle.qss_watch.proofs.Rewatching.{settled_at}
 use Rattle.qss_watch.proofs.Settling.{arrived_of}
 use Rattle.qss_watch.proofs.conditions.Conditions.settle_along.Goals as goal
+
+pub arrive_read-requires : goal.arrive_read-requires
+arrive_read-requires c = may_arrive c.requires.ready.values.states c.requires.ready.moment.lines.up_to
 
 pub settle-requires-clause-point : goal.settle-requires-clause-point
 settle-requires-clause-point c =
