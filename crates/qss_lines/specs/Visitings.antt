@@ -59,7 +59,7 @@ first_overweight at discretes =
 
 -- sums and lines of the levels before, at discrete values
 abbrev pub WereSums : RowSum → NewLevels → List ℤ → List ℤ → List Line → Type 0
-WereSums kind at = HadSums kind at.machine.now at.moved.now at.levels.now
+WereSums kind at discretes sums lines = HadSums kind at.machine.now at.moved.now at.levels.now discretes sums lines
 
 -- weights and lines of the levels before, at discrete values
 abbrev pub WereWeights : NewLevels → List ℤ → Weights → List Line → Type 0

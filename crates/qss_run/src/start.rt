@@ -112,14 +112,13 @@ fn start_line(
         → due_at agenda.new place ≡ due_at agenda.old place }
     ensures due { IsDue m.now 0 j line.new (due_at agenda.new j) }
 {
-    let here = Integrator {
+    *line = Integrator {
         tick: 0,
         x,
         slope,
         level,
     };
-    *line = here;
-    agenda.set(j, leaving(m, j, &here));
+    agenda.set(j, leaving(m, j, line));
 }
 
 // All states go on from tick 0 at the slopes of these levels and discrete values.
