@@ -185,7 +185,8 @@ fn seat_each<L: Ledger>(
     ensures lines { (j : ℕ) → is_among at.now.moved.now j ≡ false
         → line_at lines.new j ≡ line_at lines.old j }
     ensures kept { (j : ℕ)
-        → goes_from at.now.tick (int_at x.now j) (int_at at.now.levels.now j) (int_at at.now.slopes.now j)
+        → goes_from at.now.tick (int_at x.now j) (int_at at.now.levels.now j)
+        (int_at at.now.slopes.now j)
         (line_at lines.old j) ≡ true
         → line_at lines.new j ≡ line_at lines.old j }
     ensures places { length agenda.new ≡ length agenda.old }

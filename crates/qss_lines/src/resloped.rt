@@ -37,7 +37,8 @@ fn reslope_state<L: Ledger>(
         (int_at at.now.levels.now j) (int_at at.now.slopes.now j) j (line_at lines.new j)
         (due_at agenda.new j) }
     ensures lines { (k : ℕ) → (k ≡ j → ⊥) → line_at lines.new k ≡ line_at lines.old k }
-    ensures kept { goes_at (int_at at.now.levels.now j) (int_at at.now.slopes.now j) (line_at lines.old j)
+    ensures kept { goes_at (int_at at.now.levels.now j) (int_at at.now.slopes.now j)
+        (line_at lines.old j)
         ≡ true
         → line_at lines.new j ≡ line_at lines.old j }
     ensures places { length agenda.new ≡ length agenda.old }
@@ -76,7 +77,8 @@ fn reslope_each<L: Ledger>(
     requires ready { (j : ℕ) → j < state_count at.now.machine.now
         → MayReslope at.now.machine.now at.now.tick (int_at at.now.levels.now j)
         (int_at at.now.slopes.now j) j (line_at lines.old j) (due_at agenda.old j) }
-    ensures resloped { AreResloped at.now.machine.now at.now.tick at.now.levels.now at.now.slopes.now
+    ensures resloped { AreResloped at.now.machine.now at.now.tick
+        at.now.levels.now at.now.slopes.now
         states.now
         (record { lines = lines.old; dues = agenda.old })
         (record { lines = lines.new; dues = agenda.new }) }
@@ -107,7 +109,8 @@ pub(crate) fn reslope_readers<L: Ledger>(
     requires ready { (j : ℕ) → j < state_count at.now.machine.now
         → MayReslope at.now.machine.now at.now.tick (int_at at.now.levels.now j)
         (int_at at.now.slopes.now j) j (line_at lines.old j) (due_at agenda.old j) }
-    ensures resloped { AreResloped at.now.machine.now at.now.tick at.now.levels.now at.now.slopes.now
+    ensures resloped { AreResloped at.now.machine.now at.now.tick
+        at.now.levels.now at.now.slopes.now
         (flat_map (reading_rows at.now.machine.now) variables.now)
         (record { lines = lines.old; dues = agenda.old })
         (record { lines = lines.new; dues = agenda.new }) }
