@@ -7,7 +7,8 @@ use Rattle.std.proofs.lemmas.List.FromFn.{length-map-range_with_len, get_or-map-
 use Rattle.std.proofs.lemmas.List.Kept.{IsStrictlyIncreasing-filter}
 use Rattle.std.proofs.lemmas.Map.Views.{any-filter_same}
 use Rattle.std.specs.List.{filter}
-use Rattle.std.specs.Prelude.{not, Option, None, if◌then◌else◌}
+use Rattle.std.specs.Prelude.{not, Option, None, All, if◌then◌else◌}
+use Rattle.mu_num.specs.Sizes.{IsWithin}
 use Rattle.qss_machine.specs.declared.system.Machine.{Machine}
 use Rattle.qss_machine.specs.Firing.{flag_at}
 use Rattle.qss_machine.specs.Handlers.{Handling, conditions, truths, due_flags, run_clauses}
@@ -21,7 +22,7 @@ use Rattle.qss_watch.specs.declared.conditions.Conditions.{Conditions}
 use Rattle.qss_watch.specs.declared.moment.Changing.{Changing}
 use Rattle.qss_watch.specs.Handlings.{flags_of, handling_of_fired, is_reinitialized, IsHandled, handling_from}
 use Rattle.qss_lines.specs.StateLines.{states_with, line_at, states_at}
-use Rattle.qss_watch.specs.Moments.{KnowsArrival}
+use Rattle.qss_watch.specs.Moments.{AreSmallAt, KnowsArrival}
 use Rattle.qss_watch.specs.Places.{watch_at}
 use Rattle.qss_quiet.specs.Logs.{assigned_of}
 use Rattle.qss_quiet.specs.Among.{is_among, AreNumbers}
@@ -113,6 +114,13 @@ module _ (settled arrived : List Bool) (looked : List ℕ) (holds : ℕ → Bool
           ∙ ap (run_clauses m tick d 0 (start None) m.clauses) fired_flags
           ∙ ap (λ (flags : List Bool). run_clauses m tick d 0 (start None) m.clauses (due_flags flags arrived settled)) truths_on_arrival
           ∙ ap (λ (o : Option ℕ). run_clauses m tick d 0 (start o) m.clauses (due_flags (truths m x d tick) arrived settled)) (sym calm)
+
+-- where no state passes its limit on arrival, watches that know it are small there
+pub small_then : (at : Changing) (all : Conditions) (d : List ℤ) → KnowsArrival at all d → All (IsWithin 88) (states_at at.lines.now at.tick) → AreSmallAt at.tick all.watches.items
+small_then at all d known small = record {
+  later = λ place h. (known.watched place (omega (arith, h, known.fits.watches))).0;
+  small = λ place h. (known.watched place (omega (arith, h, known.fits.watches))).1 small;
+}
 
 -- the same from slices of what conditions keep, where the watches know the arrival
 module _ (at : Changing) (all : Conditions) (d : List ℤ) (known : KnowsArrival at all d) (watches : List Watch) (settled arrived now : List Bool)

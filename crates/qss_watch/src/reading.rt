@@ -6,6 +6,7 @@ ghost use Rattle.mu_num.specs.Ticks.{tick_limit};
 ghost use Rattle.qss_machine.specs.Firing.{flag_at};
 ghost use Rattle.qss_cross.specs.Crossing.{IsSmall, value_at, holds_at};
 ghost use Rattle.qss_quiet.specs.Among.{AreNumbers};
+ghost use Rattle.qss_watch.specs.Moments.{AreSmallAt};
 ghost use Rattle.qss_watch.specs.Moves.{AreApartAt};
 ghost use Rattle.qss_watch.specs.Places.{watch_at};
 ghost use Rattle.qss_quiet.specs.Writes.{IsWritten};
@@ -38,11 +39,8 @@ pub(crate) fn read_changed(
     requires watches { length watches.now ≡ length settled.now }
     requires changed { AreNumbers (length settled.now) changed.now }
     requires apart { AreApartAt apart.now arrived.old settled.now }
-    requires later { (place : ℕ) → place < length settled.now
-        → (watch_at watches.now place).tick ≤ tick }
+    requires small { AreSmallAt tick watches.now }
     requires in_time { tick ≤ tick_limit }
-    requires small { (place : ℕ) → place < length settled.now
-        → IsSmall (value_at (watch_at watches.now place) tick) }
     ensures { IsWritten false (λ place flag. flag ≡ holds_at (watch_at watches.now place) tick)
         changed.now settled.now arrived.new }
 {
@@ -67,11 +65,8 @@ pub(crate) fn list_fired(
     requires changed { AreNumbers (length settled.now) changed.now }
     requires arrived { length arrived.now ≡ length settled.now }
     requires room { length settled.now ≤ vec_capacity fired.old }
-    requires later { (place : ℕ) → place < length settled.now
-        → (watch_at watches.now place).tick ≤ tick }
+    requires small { AreSmallAt tick watches.now }
     requires in_time { tick ≤ tick_limit }
-    requires small { (place : ℕ) → place < length settled.now
-        → IsSmall (value_at (watch_at watches.now place) tick) }
     ensures fired { fired.new.items
         ≡ filter
         (λ place. holds_at (watch_at watches.now place) tick

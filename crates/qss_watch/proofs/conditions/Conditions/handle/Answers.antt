@@ -10,18 +10,19 @@ use Rattle.qss_machine.specs.Handlers.{Handling, conditions}
 use Rattle.qss_machine.specs.Machines.{state_count}
 use Rattle.qss_machine.specs.Numbers.{first_past}
 use Rattle.qss_quant.specs.Lines.{state_at}
-use Rattle.qss_cross.specs.Crossing.{IsSmall, value_at, holds_at}
+use Rattle.qss_cross.specs.Crossing.{holds_at}
 use Rattle.qss_hand.specs.Values.{Values}
 use Rattle.qss_watch.specs.declared.conditions.Conditions.{Conditions}
 use Rattle.qss_watch.specs.Handlings.{handling_of_fired, is_reinitialized, IsHandled, handling_from}
 use Rattle.qss_quiet.specs.Logs.{assigned_of}
 use Rattle.qss_quiet.specs.Among.{is_among, AreNumbers}
+use Rattle.qss_watch.specs.Moments.{AreSmallAt}
 use Rattle.qss_watch.specs.Places.{AreBranches, watch_at}
 use Rattle.qss_lines.specs.StateLines.{line_at, states_at}
 use Rattle.qss_watch.specs.PlaceSets.{PlaceList}
 use Rattle.qss_quiet.specs.Writes.{IsWritten}
 use Rattle.qss_quiet.proofs.Overs.{all_within, not_some}
-use Rattle.qss_watch.proofs.Arrivals.{fired_numbers, read_on_arrival, read_handling, rows_fired, known_states, is_handled}
+use Rattle.qss_watch.proofs.Arrivals.{small_then, fired_numbers, read_on_arrival, read_handling, rows_fired, known_states, is_handled}
 use Rattle.qss_watch.proofs.Handled.{over_early}
 use Rattle.qss_watch.proofs.OwnConditions.{arrived_anew}
 use Rattle.qss_lines.proofs.InPlace.{same_length}
@@ -58,18 +59,11 @@ pub list_fired-requires-clause-room : goal.list_fired-requires-clause-room
 list_fired-requires-clause-room c =
     omega (arith, ap length c.as_slice-settled.ensures.value, c.requires.ready.known.fits.settled, c.requires.fired_room)
 
-pub list_fired-requires-clause-later : goal.list_fired-requires-clause-later
-list_fired-requires-clause-later c place h =
-    subst (λ ws. (watch_at ws place).tick ≤ c.args.at.now.tick) (sym c.as_slice-watches.ensures.value)
-    (c.requires.ready.known.watched place (omega (arith, h, ap length c.as_slice-settled.ensures.value, c.requires.ready.known.fits.settled))).0
-
 pub list_fired-requires-clause-small : goal.list_fired-requires-clause-small
-list_fired-requires-clause-small c place h =
-    let m = c.args.at.now.machine.now in
+list_fired-requires-clause-small c =
     let x : List ℤ = states_at c.args.at.now.lines.now c.args.at.now.tick in
     let calm : first_past 88 x ≡ None = sym c.arrive_moved-passed.ensures.over ∙ not_some c.arrive_moved-passed.result (sym c.is_some.ensures ∙ c.if-is_some.false) in
-    subst (λ ws. IsSmall (value_at (watch_at ws place) c.args.at.now.tick)) (sym c.as_slice-watches.ensures.value)
-    ((c.requires.ready.known.watched place (omega (arith, h, ap length c.as_slice-settled.ensures.value, c.requires.ready.known.fits.settled))).1 (all_within 88 x calm))
+    subst (AreSmallAt c.args.at.now.tick) (sym c.as_slice-watches.ensures.value) (small_then c.args.at.now c.args.self.now c.args.work.now.d c.requires.ready.known (all_within 88 x calm))
 
 pub read_changed-requires-clause-watches : goal.read_changed-requires-clause-watches
 read_changed-requires-clause-watches c =
@@ -91,18 +85,11 @@ read_changed-requires-clause-apart c =
           ∙ sym (ap (λ flags. flag_at flags place) c.as_slice-settled.ensures.value);
     }
 
-pub read_changed-requires-clause-later : goal.read_changed-requires-clause-later
-read_changed-requires-clause-later c place h =
-    subst (λ ws. (watch_at ws place).tick ≤ c.args.at.now.tick) (sym c.as_slice-watches.ensures.value)
-    (c.requires.ready.known.watched place (omega (arith, h, ap length c.as_slice-settled.ensures.value, c.requires.ready.known.fits.settled))).0
-
 pub read_changed-requires-clause-small : goal.read_changed-requires-clause-small
-read_changed-requires-clause-small c place h =
-    let m = c.args.at.now.machine.now in
+read_changed-requires-clause-small c =
     let x : List ℤ = states_at c.args.at.now.lines.now c.args.at.now.tick in
     let calm : first_past 88 x ≡ None = sym c.arrive_moved-passed.ensures.over ∙ not_some c.arrive_moved-passed.result (sym c.is_some.ensures ∙ c.if-is_some.false) in
-    subst (λ ws. IsSmall (value_at (watch_at ws place) c.args.at.now.tick)) (sym c.as_slice-watches.ensures.value)
-    ((c.requires.ready.known.watched place (omega (arith, h, ap length c.as_slice-settled.ensures.value, c.requires.ready.known.fits.settled))).1 (all_within 88 x calm))
+    subst (AreSmallAt c.args.at.now.tick) (sym c.as_slice-watches.ensures.value) (small_then c.args.at.now c.args.self.now c.args.work.now.d c.requires.ready.known (all_within 88 x calm))
 
 pub handle_fired-over-requires-clause-branches : goal.handle_fired-over-requires-clause-branches
 handle_fired-over-requires-clause-branches c =
