@@ -222,12 +222,7 @@ fn go_on(at: &NewSlopes, j: u32, lines: &mut [Integrator], agenda: &mut Agenda)
 }
 
 // These states go on from a tick at their levels and slopes, from where their lines lead.
-fn go_on_each(
-    at: &NewSlopes,
-    states: &[u32],
-    lines: &mut [Integrator],
-    agenda: &mut Agenda,
-)
+fn go_on_each(at: &NewSlopes, states: &[u32], lines: &mut [Integrator], agenda: &mut Agenda)
     requires on { CanGoOn at.now }
     requires states { All (λ j. j < state_count at.now.machine.now) states.now }
     requires lines { length lines.old ≡ state_count at.now.machine.now }
