@@ -1,10 +1,10 @@
 //! New levels of the states that are due at one tick.
 
-ghost use Rattle.std.specs.Prelude.{◌≡◌, ℕ, ◌+◌, ◌<◌, ◌≤◌, ◌^◌, ◌++◌, List, ℤ, All, None, Some, length, pos, true, false, vec_len, vec_capacity, if◌then◌else◌};
+ghost use Rattle.std.specs.Prelude.{◌≡◌, ℕ, ◌+◌, ◌<◌, ◌≤◌, ◌^◌, ◌++◌, List, ℤ, All, None, Some, length, pos, false, vec_len, vec_capacity, if◌then◌else◌};
 ghost use Rattle.std.specs.Option.{option_or};
 ghost use Rattle.mu_num.specs.Sizes.{IsWithin, passes};
 ghost use Rattle.mu_num.specs.Ticks.{tick_limit};
-ghost use Rattle.qss_machine.specs.Numbers.{int_at, first_past};
+ghost use Rattle.qss_machine.specs.Numbers.{first_past};
 ghost use Rattle.qss_machine.specs.Machines.{state_count};
 ghost use Rattle.qss_machine.specs.Runs.{level_rows};
 ghost use Rattle.qss_quant.specs.Lines.{state_at};

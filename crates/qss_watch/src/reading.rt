@@ -1,6 +1,6 @@
 //! Conditions on arrival at a tick, of which few are looked at.
 
-ghost use Rattle.std.specs.Prelude.{◌≡◌, ℕ, ◌<◌, ◌≤◌, not, ◌&&◌, length, false, vec_capacity};
+ghost use Rattle.std.specs.Prelude.{◌≡◌, ◌≤◌, not, ◌&&◌, length, false, vec_capacity};
 ghost use Rattle.std.specs.List.{filter};
 ghost use Rattle.mu_num.specs.Ticks.{tick_limit};
 ghost use Rattle.qss_machine.specs.Firing.{flag_at};
