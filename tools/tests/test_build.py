@@ -1,4 +1,4 @@
-"""The first build shows its way, a newer source is built again, and a build that fails says why."""
+"""The first build shows its way, what changed is built again, and a build that fails says why."""
 import os
 import shutil
 import subprocess
@@ -7,24 +7,32 @@ from support import ROOT, InFolder
 
 CRATES = "# lowest first\nlow:\nmiddle: low itoa\nupper: middle\nhigh: upper\nqss: high low\nlow_tests: low\n"
 
-# A stand-in for rt: it proves a library of the folder that it is called in, and builds a program that prints its words, or
-# fails as FAILS asks. It takes one job alone.
+# Stand-ins for rt, which tells where its kit is, and for the kit's prover and linker: the prover notes a crate and its jobs, wants
+# what is below a crate, and fails as FAILS asks; the linker makes a program that prints its words.
 RT = """#!/bin/sh
-name=$(basename "$PWD")
-[ "$2 $3" = "--jobs 1" ] || { echo "jobs"; exit 1; }
-if [ "$1" = lib ]; then
-    [ "$FAILS" = early ] && { echo "src/lib.rt:1:1: error"; exit 1; }
-    [ "$FAILS$name" = proofmiddle ] && { seq 30; exit 1; }
-    for it in $(sed -n "s/^$name: *//p" ../../crates.txt); do
-        [ "$it" = itoa ] || [ -d "../$it/out/rlib" ] || { echo "no $it"; exit 1; }
-    done
-    mkdir -p out/rlib; echo "logic=proved"
-    exit 0
-fi
-echo "rt: waiting for another rt to finish in a folder" >&2
-[ "$FAILS" = link ] && { echo "rt: no linker"; exit 2; }
-mkdir -p out && printf '#!/bin/sh\\necho ran "$@"\\nexit 5\\n' > out/qss && chmod +x out/qss
-echo "rows of the stored model"
+case $1 in
+doc) echo "$KIT/START-HERE.md" ;;
+version) cat "$KIT/version" ;;
+esac
+"""
+RATTLE = """#!/bin/sh
+name=$3
+while [ $# -gt 0 ]; do
+    case $1 in
+    --extern) [ -d "${2#*=}" ] || { echo "no $2"; exit 1; } ;;
+    --jobs) echo "$name $2" >> "$KIT/log" ;;
+    -o) out=$2 ;;
+    esac
+    shift
+done
+[ "$FAILS" = early ] && { echo "src/lib.rt:1:1: error"; exit 1; }
+[ "$FAILS$name" = proofmiddle ] && { seq 30; exit 1; }
+if [ "$name" = qss ]; then echo object > "$out"; else mkdir -p "$out"; fi
+"""
+LINK = """#!/bin/sh
+[ "$FAILS" = link ] && { echo "no linker"; exit 2; }
+while [ "$1" != -o ]; do shift; done
+printf '#!/bin/sh\\necho ran "$@"\\nexit 5\\n' > "$2" && chmod +x "$2"
 """
 
 
@@ -38,28 +46,43 @@ class Builds(InFolder):
         os.makedirs(f"{self.folder}/tools")
         shutil.copy(f"{ROOT}/qss", self.folder)
         shutil.copy(f"{ROOT}/tools/build-program", f"{self.folder}/tools")
-        os.makedirs(f"{self.folder}/bin")
-        os.chmod(self.file("bin/rt", RT), 0o755)
+        self.kit = f"{self.folder}/kit"
+        for it in ("bin", "rlibs/std.rlib", "rlibs/itoa.rlib"):
+            os.makedirs(f"{self.kit}/{it}")
+        for name, text in (("rt", RT), ("rattle", RATTLE), ("rattle-link", LINK)):
+            os.chmod(self.file(f"kit/bin/{name}", text), 0o755)
+        self.file("kit/version", "a kit\n")
 
     def run_it(self, fails="", jobs="2"):
         """Runs the front; its status, its output and its lines on standard error."""
-        environment = {**os.environ, "PATH": f"{self.folder}/bin:{os.environ['PATH']}", "FAILS": fails, "QSS_JOBS": jobs}
+        environment = {**os.environ, "PATH": f"{self.kit}/bin:{os.environ['PATH']}", "KIT": self.kit, "FAILS": fails, "QSS_JOBS": jobs}
         done = subprocess.run([f"{self.folder}/qss", "run", "a.mo"], env=environment, stdout=subprocess.PIPE, stderr=subprocess.PIPE)
         return done.returncode, done.stdout.decode(), done.stderr.decode().splitlines()
 
-    def age(self, name, seconds):
-        """Gives a file a time that lies this many seconds ahead."""
-        ahead = os.stat(f"{self.folder}/{name}").st_mtime + seconds
+    def change(self, name, text):
+        """Gives a file another text, and a time that lies ahead."""
+        self.file(name, text)
+        ahead = os.stat(f"{self.folder}/{name}").st_mtime + 100
         os.utime(f"{self.folder}/{name}", (ahead, ahead))
+
+    def built(self, lines):
+        """The crates that were built, in their order."""
+        return [it.partition(", after")[0].split()[-1] for it in lines if " of " in it]
 
     def test_first_build(self):
         status, out, err = self.run_it()
         self.assertEqual((status, out), (5, "ran run a.mo\n"))
         self.assertEqual(err[0], "qss: proving and building 5 crates, 2 at a time")
-        self.assertIn("rt: waiting for another rt to finish in a folder", err)
         steps = [it.partition(", after")[0] for it in err if " of 5: " in it]
-        self.assertEqual(steps, ["qss: 1 of 5: low", "qss: 2 of 5: middle", "qss: 3 of 5: upper", "qss: 4 of 5: high"])
+        self.assertEqual(steps, [f"qss: {k + 1} of 5: {it}" for k, it in enumerate(("low", "middle", "upper", "high", "qss"))])
+        self.assertTrue(err[-1].startswith("qss: built after "))
         self.assertEqual(self.run_it(), (5, "ran run a.mo\n", []))
+
+    def test_processors(self):
+        self.file("crates.txt", "low:\nmiddle: low\nupper: low\nhigh: middle upper\nqss: high\n")
+        self.run_it(jobs="4")
+        with open(f"{self.kit}/log", encoding="utf-8") as file:
+            self.assertEqual(sorted(file.read().splitlines()), ["high 4", "low 4", "middle 2", "qss 4", "upper 2"])
 
     def test_order(self):
         self.file("crates.txt", "early:\nlow:\nmiddle: low\nlate:\nhigh: early late middle\nqss: high\n")
@@ -69,42 +92,40 @@ class Builds(InFolder):
         # (of late, three lines have a proof that is written)
         os.makedirs(f"{self.folder}/crates/late/proofs")
         self.file("crates/late/proofs/Lib.antt", "--\n" * 3)
-        steps = [it.partition(", after")[0].split()[-1] for it in self.run_it(jobs="1")[2] if " of 6: " in it]
-        self.assertEqual(steps, ["low", "middle", "early", "late", "high"])
+        self.assertEqual(self.built(self.run_it(jobs="1")[2]), ["low", "middle", "early", "late", "high", "qss"])
 
-    def test_newer_sources(self):
-        for name, first, building in (
-            ("crates/upper/src/lib.rt", "qss: building what has changed", ["upper", "high", "qss"]),
-            ("crates.txt", "qss: building what has changed", ["qss"]),
-            ("crates/low/src/lib.rt", "qss: proving and building 5 crates, 2 at a time", ["qss"]),
+    def test_what_changed(self):
+        self.run_it()
+        for name, text, first, again in (
+            ("crates/upper/src/lib.rt", "//\n", "qss: proving and building 3 crates, 2 at a time", ["upper", "high", "qss"]),
+            ("crates/low/src/lib.rt", "//\n", "qss: proving and building 5 crates, 2 at a time", ["low", "middle", "upper", "high", "qss"]),
+            ("crates.txt", CRATES.replace("itoa", "std"), "qss: proving and building 4 crates, 2 at a time", ["middle", "upper", "high", "qss"]),
         ):
-            self.run_it()
-            self.age(name, 100)
+            self.change(name, text)
             status, out, err = self.run_it()
-            self.assertEqual((status, out), (5, "ran run a.mo\n"))
-            self.assertEqual(err[0], first, name)
-            self.assertEqual([it.split()[2].rstrip(",") for it in err if it.startswith("qss: building ") and ", after" in it], building)
-            self.age(name, -200)
-        self.run_it()
-        self.age("crates/low_tests/src/lib.rt", 100)
-        self.assertEqual(self.run_it()[2], [])
-
-    def test_failure_in_turn(self):
-        self.run_it()
-        self.age("crates/middle/src/lib.rt", 100)
-        status, out, err = self.run_it("proof")
-        self.assertEqual((status, out, err[0], err[-1]), (9, "", "qss: building what has changed", "30"))
-        self.assertIn("qss: middle is not proved; the last lines of why:", err)
+            self.assertEqual((status, out, err[0]), (5, "ran run a.mo\n", first))
+            self.assertEqual(self.built(err), again)
+        # (what is newer and the same is not built again)
+        for name, text in (("crates/low/src/lib.rt", "//\n"), ("crates.txt", "#\n" + CRATES.replace("itoa", "std")), ("crates/low_tests/src/lib.rt", "//\n")):
+            self.change(name, text)
+            self.assertEqual(self.run_it(), (5, "ran run a.mo\n", []))
+        self.file("kit/version", "another kit\n")
+        self.assertEqual(len(self.built(self.run_it()[2])), 5)
 
     def test_failures(self):
         for fails, why, last in (
             ("proof", "qss: middle is not proved; the last lines of why:", "30"),
             ("early", "qss: low is not proved; the last lines of why:", "src/lib.rt:1:1: error"),
-            ("link", "qss: the program could not be built; the last lines of why:", "rt: no linker"),
+            ("link", "qss: the program could not be built; the last lines of why:", "no linker"),
         ):
-            shutil.rmtree(f"{self.folder}/crates/low/out", ignore_errors=True)
+            for name in ("low", "middle"):
+                shutil.rmtree(f"{self.folder}/crates/{name}/out", ignore_errors=True)
             status, out, err = self.run_it(fails)
             self.assertEqual((status, out), (9, ""))
             self.assertIn(why, err)
             self.assertEqual(err[-1], last)
             self.assertLessEqual(len(err) - err.index(why), 21)
+
+    def test_goes_on(self):
+        self.run_it("proof")
+        self.assertEqual(self.built(self.run_it()[2]), ["middle", "upper", "high", "qss"])
