@@ -78,7 +78,9 @@ impl Conditions {
         }
     }
 
-    // The conditions that read one of these states go on from a tick at their speeds.
+    // The conditions that read one of these states go on from a tick at their speeds. A call of its own, so that a visit of a
+    // machine without conditions pays for one test in `rewatch_of`.
+    #[inline(never)]
     fn rewatch_states(
         &mut self,
         m: &Machine,
@@ -107,6 +109,7 @@ impl Conditions {
 
     /// The conditions that read a state whose row reads a moved one go on from a tick at their speeds. Those that were watched at
     /// the slopes before are watched, and the agenda has the ticks of their first changes.
+    #[inline(always)]
     pub fn rewatch_of(
         &mut self,
         m: &Machine,
