@@ -41,7 +41,8 @@ impl TickText {
 
     /// Makes the digits of this tick, where they are not there.
     pub(crate) fn set(&mut self, tick: u64)
-        ensures { self.new.tick ≡ tick }
+        ensures tick { self.new.tick ≡ tick }
+        ensures kept { self.old.tick ≡ tick → self.new ≡ self.old }
     {
         if tick == self.tick {
             return;

@@ -1,6 +1,6 @@
 //! Conditions on arrival after ticks at which they do not change.
 
-ghost use Rattle.std.specs.Prelude.{◌≡◌, length, if◌then◌else◌};
+ghost use Rattle.std.specs.Prelude.{◌≡◌, [], true, false, length, if◌then◌else◌};
 ghost use Rattle.qss_watch.specs.Moves.{AreAlikeBut, AreApartAt};
 
 use crate::place_set::PlaceSet;
@@ -25,6 +25,8 @@ pub fn catch_up(still: bool, settled: &[bool], arrived: &mut [bool], apart: &mut
     ensures arrived { arrived.new ≡ (if still then settled.now else arrived.old) }
     ensures count { apart.new.count ≡ apart.old.count }
     ensures alike { AreAlikeBut apart.new.places arrived.new settled.now }
+    ensures cleared { still ≡ true → apart.new.places ≡ [] }
+    ensures stays { still ≡ false → apart.new ≡ apart.old }
 {
     if still {
         agree(apart.places(), settled, arrived);
