@@ -1,7 +1,11 @@
 """The first build shows its way, what changed is built again, and a build that fails says why."""
+import fcntl
 import os
+import re
 import shutil
 import subprocess
+import threading
+import time
 
 from support import ROOT, InFolder
 
@@ -27,6 +31,8 @@ while [ $# -gt 0 ]; do
 done
 [ "$FAILS" = early ] && { echo "src/lib.rt:1:1: error"; exit 1; }
 [ "$FAILS$name" = proofmiddle ] && { seq 30; exit 1; }
+[ "$FAILS$name" = killmiddle ] && kill -KILL $$
+[ "$FAILS$name" = endmiddle ] && { kill -TERM $PPID; sleep 20; }
 if [ "$name" = qss ]; then echo object > "$out"; else mkdir -p "$out"; fi
 """
 LINK = """#!/bin/sh
@@ -67,7 +73,7 @@ class Builds(InFolder):
 
     def built(self, lines):
         """The crates that were built, in their order."""
-        return [it.partition(", after")[0].split()[-1] for it in lines if " of " in it]
+        return [found[1] for found in (re.match(r"qss: \d+ of \d+: (\w+), after", it) for it in lines) if found]
 
     def test_first_build(self):
         status, out, err = self.run_it()
@@ -116,6 +122,7 @@ class Builds(InFolder):
         for fails, why, last in (
             ("proof", "qss: middle is not proved; the last lines of why:", "30"),
             ("early", "qss: low is not proved; the last lines of why:", "src/lib.rt:1:1: error"),
+            ("kill", "qss: middle is not proved; the last lines of why:", "it was ended by SIGKILL"),
             ("link", "qss: the program could not be built; the last lines of why:", "no linker"),
         ):
             for name in ("low", "middle"):
@@ -129,3 +136,33 @@ class Builds(InFolder):
     def test_goes_on(self):
         self.run_it("proof")
         self.assertEqual(self.built(self.run_it()[2]), ["middle", "upper", "high", "qss"])
+
+    def test_ended(self):
+        began = time.monotonic()
+        status, out, err = self.run_it("end")
+        self.assertEqual((status, out, self.built(err)), (9, "", ["low"]))
+        self.assertLess(time.monotonic() - began, 10)
+        self.assertEqual(self.built(self.run_it()[2]), ["middle", "upper", "high", "qss"])
+
+    def test_text_that_comes_back(self):
+        self.run_it()
+        self.change("crates/low/src/lib.rt", "//\n")
+        self.assertEqual(self.built(self.run_it("proof")[2]), ["low"])
+        self.change("crates/low/src/lib.rt", "")
+        self.assertEqual(len(self.built(self.run_it()[2])), 5)
+
+    def test_program_of_others(self):
+        self.run_it()
+        self.file("crates/qss/out/qss", "#!/bin/sh\n")
+        self.change("crates/low/src/lib.rt", "")
+        status, out, err = self.run_it()
+        self.assertEqual((status, out, self.built(err)), (5, "ran run a.mo\n", ["qss"]))
+
+    def test_waits(self):
+        os.makedirs(f"{self.folder}/crates/qss/out/statements")
+        with open(f"{self.folder}/crates/qss/out/statements/lock", "w", encoding="ascii") as lock:
+            fcntl.flock(lock, fcntl.LOCK_EX)
+            threading.Timer(1, fcntl.flock, (lock, fcntl.LOCK_UN)).start()
+            err = self.run_it()[2]
+        self.assertEqual(err[0], "qss: waiting for another build")
+        self.assertEqual(len(self.built(err)), 5)
