@@ -8,10 +8,10 @@ use Rattle.std.specs.List.{range_with_len}
 use Rattle.std.specs.Prelude.{Option, All}
 use Rattle.mu_num.specs.Sizes.{IsWithin}
 use Rattle.qss_machine.specs.declared.system.Machine.{Machine}
-use Rattle.qss_machine.specs.Machines.{state_count, row_at, slope_at}
+use Rattle.qss_machine.specs.Machines.{state_count, level_unit, row_at, slope_at, quantum_of}
 use Rattle.qss_machine.specs.Numbers.{int_at, tabulate}
 use Rattle.qss_machine.specs.Uses.{reading_rows}
-use Rattle.qss_quant.specs.Lines.{Line, state_at}
+use Rattle.qss_quant.specs.Lines.{Line, state_at, IsNear}
 use Rattle.qss_sched.specs.Ranks.{due_at}
 use Rattle.qss_quiet.specs.Among.{is_among}
 use Rattle.qss_quiet.specs.Sims.{IsDue, no_line}
@@ -79,6 +79,16 @@ not_listed n xs place below past = elim (cases_Bool (is_among xs place)) [
   | inr none ↦ none
 ]
 
+-- a number that is listed after one more is that one, or was listed before
+listed_before : (touched : List ℕ) (j k : ℕ) → k ≢ j → is_among (touched ++ j ∷ []) k ≡ true → is_among touched k ≡ true
+listed_before touched j k other among = elim (or_cases (is_among touched k) (eqb j k || false) (sym (among_push touched j k) ∙ among)) [
+  | inl sooner ↦ sooner
+  | inr later ↦ elim (or_cases (eqb j k) false later) [
+    | inl same ↦ absurd (other (sym (eqb-true j k same)))
+    | inr none ↦ absurd (cc)
+  ]
+]
+
 -- ---- all lines, where one moves
 
 module _ (tick j : ℕ) (lines : List Line) (line : Line) (inside : j < length lines) (away : (line_at lines j).tick ≢ tick) (is : line ≡ record (line_at lines j) { tick = tick; x = state_at (line_at lines j) tick }) where
@@ -135,6 +145,10 @@ module _ (tick j : ℕ) (lines : List Line) (line : Line) (inside : j < length l
             | inr ne ↦
                 among_push touched j k
                 ∙ or_left (is_among touched k) (eqb j k || false) (can.listed k (omega (arith, h, many)) (ap (λ (l : Line). l.tick) (sym (other k ne)) ∙ there))
+          ];
+          arrived = λ k among. elim (cases_eq k j) [
+            | inl e ↦ subst (λ (i : ℕ). (line_at (set lines j line) i).tick ≡ tick) (sym e) (ap (λ (l : Line). l.tick) own ∙ at_tick)
+            | inr ne ↦ ap (λ (l : Line). l.tick) (other k ne) ∙ can.arrived k (listed_before touched j k ne among)
           ];
           room_left = omega (arith, can.room_left, behind_less (λ k. true) refl, length-append touched (j ∷ []));
         }
@@ -219,7 +233,48 @@ among_reached m (i ∷ moved) k =
     ∙ or_swap (eqb i k) (is_among (reading_rows m i) k) (is_among moved k) (is_among (flat_map (reading_rows m) moved) k)
     ∙ ap (λ (b : Bool). (eqb i k || is_among moved k) || b) (sym (list_any-append (λ (j : ℕ). eqb j k) (reading_rows m i) (flat_map (reading_rows m) moved)))
 
+-- ---- one touched state goes on
+
+-- a line at its tick
+own_state : (tick : ℕ) (line : Line) → line.tick ≡ tick → state_at line tick ≡ line.x
+own_state tick line here = subst (λ (t : ℕ). state_at line t ≡ line.x) here (line_here line.tick line.x line.slope line.level)
+
+-- a line at a slope and a level, which are these
+pub line_with : (line old new : Line) (slope level s l : ℤ) → old ≡ line → s ≡ slope → l ≡ level → new ≡ record old { slope = s; level = l } → new ≡ record line { slope = slope; level = level }
+line_with line old new slope level s l of_line of_slope of_level is =
+    is ∙ ap (λ (i : Line). record i { slope = s; level = l }) of_line ∙ ap (λ (z : ℤ). record line { slope = z; level = l }) of_slope
+    ∙ ap (λ (z : ℤ). record line { slope = slope; level = z }) of_level
+
+module _ (m : Machine) (tick j : ℕ) (slope level : ℤ) (line new : Line) (here : line.tick ≡ tick) (is : new ≡ record line { slope = slope; level = level }) where
+  -- it is near its level
+  pub near_on : IsNear (level_unit m) (state_at line tick) level (quantum_of m j level) → IsNear (level_unit m) new.x new.level (quantum_of m j new.level)
+  near_on near =
+      subst (λ (l : Line). IsNear (level_unit m) l.x l.level (quantum_of m j l.level)) (sym is)
+      (subst (λ (x : ℤ). IsNear (level_unit m) x level (quantum_of m j level)) (own_state tick line here) near)
+
+  -- and goes on with its due tick
+  pub goes_on_from : (due : Option ℕ) → IsDue m new.tick j new due → GoesOnFrom m tick (state_at line tick) level slope j new due
+  goes_on_from due found =
+      let after : Line = record line { slope = slope; level = level } in
+      let from_own : IsDue m line.tick j after due = subst (λ (l : Line). IsDue m l.tick j l due) is found in
+      subst (λ (l : Line). GoesOnFrom m tick (state_at line tick) level slope j l due) (sym is)
+      (record {
+        not_later = omega (arith, here);
+        here = own_state tick after here ∙ sym (own_state tick line here);
+        own_slope = refl;
+        own_level = refl;
+        is_due = subst (λ (t : ℕ). IsDue m t j after due) here from_own;
+      })
+
 -- ---- the touched states go on
+
+-- lines that have kept their ticks have them still where one more does
+pub same_tick_on : (j : ℕ) (first before after : List Line) → ((k : ℕ) → (line_at before k).tick ≡ (line_at first k).tick) → (line_at after j).tick ≡ (line_at before j).tick →
+    ((k : ℕ) → (k ≡ j → ⊥) → line_at after k ≡ line_at before k) → (k : ℕ) → (line_at after k).tick ≡ (line_at first k).tick
+same_tick_on j first before after so_far here others k = elim (cases_eq k j) [
+  | inl same ↦ subst (λ (i : ℕ). (line_at after i).tick ≡ (line_at before i).tick) (sym same) here ∙ so_far k
+  | inr other ↦ ap (λ (l : Line). l.tick) (others k other) ∙ so_far k
+]
 
 -- these states go on from a tick, at their levels and slopes, from where their lines lead; the others are left
 pub record AreOn (m : Machine) (tick : ℕ) (levels slopes : List ℤ) (states : List ℕ) (old new : Courses) : Type 0 where
@@ -237,12 +292,6 @@ module _ (m : Machine) (tick : ℕ) (levels slopes : List ℤ) where
   still_there states old new on j = elim (cases_Bool (is_among states j)) [
     | inl among ↦ (on.own j among).here
     | inr none ↦ ap (λ (l : Line). state_at l tick) (on.lines j none)
-  ]
-
-  pub still_not_later : (states : List ℕ) (old new : Courses) → AreOn m tick levels slopes states old new → (j : ℕ) → (line_at old.lines j).tick ≤ tick → (line_at new.lines j).tick ≤ tick
-  still_not_later states old new on j not_later = elim (cases_Bool (is_among states j)) [
-    | inl among ↦ (on.own j among).not_later
-    | inr none ↦ omega (arith, not_later, ap (λ (l : Line). l.tick) (on.lines j none))
   ]
 
   -- one more goes on
@@ -265,13 +314,9 @@ module _ (m : Machine) (tick : ℕ) (levels slopes : List ℤ) where
       record {
         own = λ k among. elim (cases_eq k j) [
           | inl same ↦ subst (λ (a : ℕ). Goes a (line_at new.lines a) (due_at new.dues a)) (sym same) last
-          | inr other ↦ elim (or_cases (is_among states k) (eqb j k || false) (sym (among_push states j k) ∙ among)) [
-            | inl sooner ↦ subst (λ (l : Line). Goes k l (due_at new.dues k)) (sym (lines k other)) (subst (Goes k (line_at between.lines k)) (sym (dues k other)) (first.own k sooner))
-            | inr later ↦ elim (or_cases (eqb j k) false later) [
-              | inl same ↦ absurd (other (sym (eqb-true j k same)))
-              | inr none ↦ absurd (cc)
-            ]
-          ]
+          | inr other ↦
+              subst (λ (l : Line). Goes k l (due_at new.dues k)) (sym (lines k other))
+              (subst (Goes k (line_at between.lines k)) (sym (dues k other)) (first.own k (listed_before states j k other among)))
         ];
         lines = λ k none. lines k (not_last k none) ∙ first.lines k (not_first k none);
         places = places ∙ first.places;

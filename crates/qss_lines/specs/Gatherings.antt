@@ -1,7 +1,6 @@
 -- States that a tick touches, while they are gathered: they move to it along their lines, and are listed.
 use Rattle.std.specs.Prelude.{◌≡◌, ℕ, ◌+◌, ◌<◌, ◌≤◌, Bool, true, false, not, ◌&&◌, ◌||◌, List, ◌∷◌, length, All, ℤ, flat_map, ◌==◌, count_by}
 use Rattle.std.specs.List.{range_with_len}
-use Rattle.mu_num.specs.Sizes.{IsWithin}
 use Rattle.qss_machine.specs.declared.system.Machine.{Machine}
 use Rattle.qss_machine.specs.Machines.{level_unit, quantum_of}
 use Rattle.qss_machine.specs.Uses.{reading_rows}
@@ -29,11 +28,12 @@ is_behind tick may lines j = not ((line_at lines j).tick == tick) && may j
 abbrev pub behind : ℕ → (ℕ → Bool) → List Line → ℕ
 behind tick may lines = count_by (is_behind tick may lines) (range_with_len 0 (length lines))
 
--- lines that may move to a tick of a run, of which those that are there are listed, and room for all others
+-- lines that may move to a tick of a run, of which just those that are there are listed, and room for all others
 pub record CanGather (tick : ℕ) (lines : List Line) (touched : List ℕ) (room : ℕ) : Type 0 where
   pub may_move : MayMove tick lines
   pub below : All (λ j. j < length lines) touched
   pub listed : (j : ℕ) → j < length lines → (line_at lines j).tick ≡ tick → is_among touched j ≡ true
+  pub arrived : (j : ℕ) → is_among touched j ≡ true → (line_at lines j).tick ≡ tick
   pub room_left : length touched + behind tick (λ j. true) lines ≤ room
 
 -- these states, and no others, joined the listed ones, and the lines of listed ones moved to a tick if they were not there; the others are as they were
@@ -49,8 +49,7 @@ pub record AreGathered (tick : ℕ) (states : List ℕ) (old new : Gathering) : 
 abbrev pub reached : Machine → List ℕ → List ℕ
 reached m moved = flat_map (λ j. j ∷ reading_rows m j) moved
 
--- a line may go on from a tick at a level: it is there or was before, and leads to a state within the limit and near the level
+-- a line may go on from a tick at a level: it is there, and its state is near the level
 pub record MayGoOn (m : Machine) (tick j : ℕ) (level : ℤ) (line : Line) : Type 0 where
-  pub not_later : line.tick ≤ tick
-  pub small : IsWithin 89 (state_at line tick)
+  pub here : line.tick ≡ tick
   pub near : IsNear (level_unit m) (state_at line tick) level (quantum_of m j level)

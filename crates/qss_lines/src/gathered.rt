@@ -5,10 +5,10 @@ ghost use Rattle.std.specs.List.{range_with_len};
 ghost use Rattle.mu_num.specs.Sizes.{IsWithin};
 ghost use Rattle.mu_num.specs.Ticks.{tick_limit};
 ghost use Rattle.qss_machine.specs.Numbers.{int_at};
-ghost use Rattle.qss_machine.specs.Machines.{state_count, level_unit, row_at, slope_at, quantum_of};
+ghost use Rattle.qss_machine.specs.Machines.{state_count, row_at, slope_at};
 ghost use Rattle.qss_machine.specs.Slopes.{mode_fits};
 ghost use Rattle.qss_machine.specs.Uses.{reading_rows};
-ghost use Rattle.qss_quant.specs.Lines.{state_at, IsNear};
+ghost use Rattle.qss_quant.specs.Lines.{state_at};
 ghost use Rattle.qss_sched.specs.Ranks.{due_at};
 ghost use Rattle.qss_quiet.specs.Among.{is_among};
 ghost use Rattle.qss_quiet.specs.Writes.{IsWritten};
@@ -20,7 +20,6 @@ ghost use Rattle.qss_lines.specs.Visitings.{AreQuietLevels, CanGoOn, CanReslope,
 
 use crate::shifts::{RowSum, shift_rows};
 use crate::visiting::{Mode, NewSlopes, QuietLevels};
-use qss_machine::Machine;
 use qss_quant::{Integrator, Steps};
 use qss_quiet::leaving;
 use qss_sched::Agenda;
@@ -168,30 +167,18 @@ fn follow_levels<L: Ledger>(
     }
 }
 
-// A line is as this one from now on.
-fn set_line(line: &mut Integrator, here: &Integrator)
-    ensures { line.new ≡ here.now }
+// A line goes on from its tick at this slope and level.
+fn go_on_at(line: &mut Integrator, slope: i128, level: i64)
+    requires slope { IsWithin 88 slope }
+    requires level { IsWithin 43 level }
+    ensures { line.new ≡ record line.old { slope = slope; level = level } }
 {
-    *line = *here;
+    line.slope = slope;
+    line.level = level;
 }
 
-// State j goes on as this line, and the agenda has the tick at which it then leaves its quantum.
-fn go_on_as(m: &Machine, j: u32, here: &Integrator, line: &mut Integrator, agenda: &mut Agenda)
-    requires state { j < state_count m.now }
-    requires place { j < length agenda.old }
-    requires near { IsNear (level_unit m.now) here.now.x here.now.level
-        (quantum_of m.now j here.now.level) }
-    ensures goes_on { GoesOnFrom m.now here.now.tick here.now.x here.now.level here.now.slope j
-        line.new (due_at agenda.new j) }
-    ensures as_many { length agenda.new ≡ length agenda.old }
-    ensures others { (place : ℕ) → (place ≡ j → ⊥)
-        → due_at agenda.new place ≡ due_at agenda.old place }
-{
-    set_line(line, here);
-    agenda.set(j, leaving(m, j, here));
-}
-
-// A state goes on from a tick at its level and its slope, from where its line leads.
+// A state, whose line is at a tick, goes on from it at its level and its slope, and the agenda has the tick at which it then
+// leaves its quantum.
 fn go_on(at: &NewSlopes, j: u32, lines: &mut [Integrator], agenda: &mut Agenda)
     requires on { CanGoOn at.now }
     requires state { j < state_count at.now.machine.now }
@@ -203,6 +190,7 @@ fn go_on(at: &NewSlopes, j: u32, lines: &mut [Integrator], agenda: &mut Agenda)
         (state_at (line_at lines.old j) at.now.tick)
         (int_at at.now.levels.now j) (int_at at.now.slopes.now j) j (line_at lines.new j)
         (due_at agenda.new j) }
+    ensures same_tick { (line_at lines.new j).tick ≡ (line_at lines.old j).tick }
     ensures lines { (k : ℕ) → (k ≡ j → ⊥) → line_at lines.new k ≡ line_at lines.old k }
     ensures places { length agenda.new ≡ length agenda.old }
     ensures dues { (place : ℕ) → (place ≡ j → ⊥)
@@ -211,23 +199,17 @@ fn go_on(at: &NewSlopes, j: u32, lines: &mut [Integrator], agenda: &mut Agenda)
     let slope = at.slopes[j as usize];
     let level = at.levels[j as usize];
     let line = &mut lines[j as usize];
-    let x = line.value_at(at.tick);
-    let here = Integrator {
-        tick: at.tick,
-        x,
-        slope,
-        level,
-    };
-    go_on_as(at.machine, j, &here, line, agenda);
+    go_on_at(line, slope, level);
+    agenda.set(j, leaving(at.machine, j, line));
 }
 
-// These states go on from a tick at their levels and slopes, from where their lines lead.
+// These states, whose lines are at a tick, go on from it at their levels and slopes.
 fn go_on_each(at: &NewSlopes, states: &[u32], lines: &mut [Integrator], agenda: &mut Agenda)
     requires on { CanGoOn at.now }
     requires states { All (λ j. j < state_count at.now.machine.now) states.now }
     requires lines { length lines.old ≡ state_count at.now.machine.now }
     requires places { state_count at.now.machine.now ≤ length agenda.old }
-    requires ready { (j : ℕ) → j < state_count at.now.machine.now
+    requires ready { (j : ℕ) → is_among states.now j ≡ true
         → MayGoOn at.now.machine.now at.now.tick j (int_at at.now.levels.now j)
         (line_at lines.old j) }
     ensures goes_on { (j : ℕ) → is_among states.now j ≡ true

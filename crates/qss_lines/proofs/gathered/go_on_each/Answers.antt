@@ -1,17 +1,20 @@
 -- One more state goes on.
-use Rattle.std.proofs.Common.{◌≡◌, ℕ, ℤ, List, take, get_or, sym, subst, arith}
+use Rattle.std.proofs.Common.{◌≡◌, ℕ, ℤ, List, take, get_or, refl, ◌∙◌, sym, subst, arith}
 use Rattle.std.proofs.lemmas.List.{take_all, take_more}
-use Rattle.mu_num.specs.Sizes.{IsWithin}
 use Rattle.qss_machine.specs.Machines.{level_unit, quantum_of}
 use Rattle.qss_machine.specs.Numbers.{int_at}
 use Rattle.qss_quant.specs.Lines.{state_at, IsNear}
 use Rattle.qss_lines.specs.StateLines.{line_at}
 use Rattle.qss_lines.specs.Reslopings.{Courses}
-use Rattle.qss_lines.proofs.Gathering.{AreOn, none_on, still_there, still_not_later, on_more}
+use Rattle.qss_quiet.proofs.Writes.{among_at}
+use Rattle.qss_lines.proofs.Gathering.{AreOn, none_on, still_there, same_tick_on, on_more}
 use Rattle.qss_lines.proofs.gathered.go_on_each.Goals as goal
 
 pub loop-j-init : goal.loop-j-init
-loop-j-init c = record { on = none_on c.args.at.now.machine.now c.args.at.now.tick c.args.at.now.levels.now c.args.at.now.slopes.now (record { lines = c.args.lines.now; dues = c.args.agenda.now }) }
+loop-j-init c = record {
+  on = none_on c.args.at.now.machine.now c.args.at.now.tick c.args.at.now.levels.now c.args.at.now.slopes.now (record { lines = c.args.lines.now; dues = c.args.agenda.now });
+  same_tick = λ j. refl;
+}
 
 pub go_on-requires-clause-state : goal.go_on-requires-clause-state
 go_on-requires-clause-state c = c.requires.states c.loop-j.j-index 0 c.loop-j-test.true
@@ -34,12 +37,11 @@ go_on-requires-clause-ready c =
     let level : ℤ = int_at levels j in
     let first : Courses = record { lines = c.args.lines.now; dues = c.args.agenda.now } in
     let before : Courses = record { lines = c.loop-j.lines; dues = c.loop-j.agenda } in
-    let may = c.requires.ready j (c.requires.states i 0 c.loop-j-test.true) in
+    let may = c.requires.ready j (among_at states i c.loop-j-test.true) in
     let there : state_at (line_at c.loop-j.lines j) tick ≡ state_at (line_at c.args.lines.now j) tick =
     still_there m tick levels slopes (take i states) first before c.loop-j.invariant.on j in
     record {
-      not_later = still_not_later m tick levels slopes (take i states) first before c.loop-j.invariant.on j may.not_later;
-      small = subst (IsWithin 89) (sym there) may.small;
+      here = c.loop-j.invariant.same_tick j ∙ may.here;
       near = subst (λ (x : ℤ). IsNear (level_unit m) x level (quantum_of m j level)) (sym there) may.near;
     }
 
@@ -58,6 +60,7 @@ loop-j-preserved c =
       on = subst (λ (these : List ℕ). AreOn m tick levels slopes these first after) (sym (take_more states i 0 c.loop-j-test.true))
           (on_more m tick levels slopes (take i states) (get_or states i 0) first before after c.loop-j.invariant.on c.go_on.ensures.goes_on c.go_on.ensures.lines c.go_on.ensures.places
           c.go_on.ensures.dues);
+      same_tick = same_tick_on (get_or states i 0) c.args.lines.now c.loop-j.lines c.go_on.new.lines c.loop-j.invariant.same_tick c.go_on.ensures.same_tick c.go_on.ensures.lines;
     }
 
 pub returns : goal.returns

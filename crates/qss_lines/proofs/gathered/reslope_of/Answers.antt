@@ -7,6 +7,7 @@ use Rattle.qss_machine.specs.Machines.{state_count, level_unit, quantum_of}
 use Rattle.qss_machine.specs.Numbers.{int_at}
 use Rattle.qss_quant.specs.Lines.{IsNear}
 use Rattle.qss_quiet.specs.Among.{is_among}
+use Rattle.qss_quiet.proofs.Writes.{index_of}
 use Rattle.qss_lines.specs.Gatherings.{Gathering, behind, reached}
 use Rattle.qss_lines.specs.Reslopings.{Courses}
 use Rattle.qss_lines.proofs.DueLevels.{int_at-states_at}
@@ -31,6 +32,7 @@ follow_levels-requires-clause-can g c =
       may_move = c.requires.ready.held.may_move;
       below = subst (All (λ j. j < length lines)) (sym c.clear.ensures.items) (All-nil (λ j. j < length lines));
       listed = λ j h there. let earlier = c.requires.ready.earlier j (omega (arith, h, many)) in absurd (omega (arith, earlier, there));
+      arrived = λ j among. let none : is_among c.clear.new.self.items j ≡ false = ap (λ (xs : List ℕ). is_among xs j) c.clear.ensures.items in absurd (cc);
       room_left = omega (arith, ap length c.clear.ensures.items, behind_few c.args.at.now.tick (λ j. true) lines, c.requires.room, many, c.clear.ensures.capacity);
     }
 
@@ -57,14 +59,17 @@ pub go_on_each-requires-clause-places : goal.go_on_each-requires-clause-places
 go_on_each-requires-clause-places g c = c.requires.ready.one_each.places
 
 pub go_on_each-requires-clause-ready : goal.go_on_each-requires-clause-ready
-go_on_each-requires-clause-ready g c j h =
+go_on_each-requires-clause-ready g c j among =
     let m = c.args.at.now.machine.now in
     let level : ℤ = int_at c.args.at.now.levels.now j in
-    let inside : j < length c.args.lines.now = omega (arith, h, c.requires.ready.one_each.lines) in
-    let known : j < length c.follow_levels.new.lines = omega (arith, inside, c.follow_levels.auto.lines) in
+    let touched : List ℕ = c.follow_levels.new.touched.items in
+    let listed : is_among touched j ≡ true = sym (ap (λ (xs : List ℕ). is_among xs j) c.as_slice.ensures.value) ∙ among in
+    let found = index_of touched j listed in
+    let below = c.follow_levels.ensures.can.below found.0 0 found.1 in
+    let inside : j < length c.args.lines.now = omega (arith, below, found.2, c.follow_levels.auto.lines) in
+    let h : j < state_count m = omega (arith, inside, c.requires.ready.one_each.lines) in
     record {
-      not_later = c.follow_levels.ensures.can.may_move.later j known;
-      small = c.follow_levels.ensures.can.may_move.small j known;
+      here = c.follow_levels.ensures.can.arrived j listed;
       near = subst (λ (x : ℤ). IsNear (level_unit m) x level (quantum_of m j level))
           (int_at-states_at c.args.lines.now c.args.at.now.tick j inside ∙ sym (c.follow_levels.ensures.gathered.along j inside).here) (c.requires.ready.levels.near j h);
     }
