@@ -78,9 +78,7 @@ impl Conditions {
         }
     }
 
-    // The conditions that read one of these states go on from a tick at their speeds. A call of its own, so that a visit of a
-    // machine without conditions pays for one test in `rewatch_of`.
-    #[inline(never)]
+    // The conditions that read one of these states go on from a tick at their speeds.
     fn rewatch_states(
         &mut self,
         m: &Machine,
@@ -104,6 +102,32 @@ impl Conditions {
         for state in states {
             let places = uses.conditions_of(*state);
             self.rewatch_places(m, tick, places, slopes, agenda);
+        }
+    }
+
+    // `rewatch_of` where there are conditions. A call of its own, so that a machine without conditions pays for one test.
+    #[inline(never)]
+    fn rewatch_readers(
+        &mut self,
+        m: &Machine,
+        uses: &Uses,
+        tick: u64,
+        moved: &[u32],
+        slopes: &[i128],
+        agenda: &mut Agenda,
+    )
+        requires uses { uses.now ≡ uses_of m.now }
+        requires moved { AreNumbers (state_count m.now) moved.now }
+        requires ready { CanRewatch m.now tick slopes.now self.old agenda.old }
+        ensures watches { AreWatchedOn m.now tick moved.now slopes.now self.old.watches.items
+            self.new.watches.items agenda.old agenda.new }
+        ensures goes_on { AreGoingOn m.now tick slopes.now self.old.watches.items
+            self.new.watches.items agenda.old agenda.new }
+        ensures same { self.new ≡ record self.old { watches = self.new.watches } }
+    {
+        for state in moved {
+            let states = uses.rows_of(*state);
+            self.rewatch_states(m, uses, tick, states, slopes, agenda);
         }
     }
 
@@ -131,9 +155,6 @@ impl Conditions {
         if self.watches.is_empty() {
             return;
         }
-        for state in moved {
-            let states = uses.rows_of(*state);
-            self.rewatch_states(m, uses, tick, states, slopes, agenda);
-        }
+        self.rewatch_readers(m, uses, tick, moved, slopes, agenda);
     }
 }

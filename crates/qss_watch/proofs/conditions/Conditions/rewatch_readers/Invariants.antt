@@ -1,7 +1,7 @@
 use Rattle.std.proofs.Common.{◌≡◌, ℕ, ◌<◌, [], get_or}
 use Rattle.std.specs.Prelude.{All, slice_index_or}
 use Rattle.qss_watch.specs.Speeds.{HasSpeed, AreGoingOn}
-use Rattle.qss_watch.proofs.conditions.Conditions.rewatch_of.Given as goal
+use Rattle.qss_watch.proofs.conditions.Conditions.rewatch_readers.Given as goal
 
 -- the conditions that read a state whose row reads one of the moved states so far have their speeds
 abbrev pub invariant-loop-state : goal.invariant-loop-state
