@@ -1,9 +1,11 @@
 -- What comes first among near and far due ticks, and after one of them has changed.
 use Rattle.std.proofs.Common.{◌≡◌, ℕ, zero, suc, ◌<◌, ◌≤◌, inl, inr, ◌⊎◌, List, [], ◌∷◌, Option, Some, None, length, refl, sym, ◌∙◌, ap, arith}
 use Rattle.std.proofs.lemmas.Bool.{cases_lt}
+use Rattle.std.specs.Option.{unwrap_or}
 use Rattle.std.specs.Prelude.{slice_set}
 use Rattle.qss_sched.specs.Ranks.{due_at, IsLeast, HasNone}
-use Rattle.qss_sched.specs.Agendas.{nearer, joined, IsFirst, AreApart, IsBefore}
+use Rattle.qss_sched.specs.Agendas.{nearer, joined, IsFirst, IsFirstAt, IsTaken, AreApart, HasNoneAt, IsBefore}
+use Rattle.qss_sched.proofs.Least.{has_place}
 
 pub length_joined : (near far : List (Option ℕ)) → length near ≡ length far → length (joined near far) ≡ length near
 length_joined [] far e = refl
@@ -24,6 +26,22 @@ set_joined (x ∷ near) [] e place n f inside = absurd (omega (arith, e))
 set_joined (x ∷ near) (y ∷ far) e zero n f inside = refl
 set_joined (x ∷ near) (y ∷ far) e (suc place) n f inside = ap (λ l. nearer x y ∷ l) (set_joined near far (omega (arith, e)) place n f (omega (arith, inside)))
 
+-- a near due tick goes where there is no far one
+near_goes : (near far : List (Option ℕ)) → length near ≡ length far → (place : ℕ) → place < length near → due_at far place ≡ None →
+    joined (slice_set near place None) far ≡ slice_set (joined near far) place None
+near_goes [] far e place inside none = absurd (omega (arith, inside))
+near_goes (x ∷ near) [] e place inside none = absurd (omega (arith, e))
+near_goes (x ∷ near) (y ∷ far) e zero inside none = ap (λ d. d ∷ joined near far) none
+near_goes (x ∷ near) (y ∷ far) e (suc place) inside none = ap (λ l. nearer x y ∷ l) (near_goes near far (omega (arith, e)) place (omega (arith, inside)) none)
+
+-- a far due tick goes where there is no near one
+far_goes : (near far : List (Option ℕ)) → length near ≡ length far → (place : ℕ) → place < length near → due_at near place ≡ None →
+    joined near (slice_set far place None) ≡ slice_set (joined near far) place None
+far_goes [] far e place inside none = absurd (omega (arith, inside))
+far_goes (x ∷ near) [] e place inside none = absurd (omega (arith, e))
+far_goes (x ∷ near) (y ∷ far) e zero inside none = ap (λ d. nearer d None ∷ joined near far) none
+far_goes (x ∷ near) (y ∷ far) e (suc place) inside none = ap (λ l. nearer x y ∷ l) (far_goes near far (omega (arith, e)) place (omega (arith, inside)) none)
+
 -- a due tick is a near or a far one
 either : (n f : Option ℕ) (tick : ℕ) → nearer n f ≡ Some tick → (n ≡ Some tick) ⊎ (f ≡ Some tick)
 either (Some t) f tick e = inl e
@@ -33,7 +51,7 @@ either_at : (near far : List (Option ℕ)) → AreApart near far → (place tick
     (due_at near place ≡ Some tick) ⊎ (due_at far place ≡ Some tick)
 either_at near far a place tick e = either (due_at near place) (due_at far place) tick (sym (due_joined near far a.as_many place) ∙ e)
 
-near_at : (near far : List (Option ℕ)) → AreApart near far → (place tick : ℕ) → due_at near place ≡ Some tick → due_at (joined near far) place ≡ Some tick
+pub near_at : (near far : List (Option ℕ)) → AreApart near far → (place tick : ℕ) → due_at near place ≡ Some tick → due_at (joined near far) place ≡ Some tick
 near_at near far a place tick e = due_joined near far a.as_many place ∙ ap (λ n. nearer n (due_at far place)) e
 
 -- what is far is not near
@@ -41,7 +59,7 @@ not_near : (near far : List (Option ℕ)) → AreApart near far → (place tick 
 not_near near far a place tick e None f = f
 not_near near far a place tick e (Some t) f = let none = a.apart place t f in absurd (cc)
 
-far_at : (near far : List (Option ℕ)) → AreApart near far → (place tick : ℕ) → due_at far place ≡ Some tick → due_at (joined near far) place ≡ Some tick
+pub far_at : (near far : List (Option ℕ)) → AreApart near far → (place tick : ℕ) → due_at far place ≡ Some tick → due_at (joined near far) place ≡ Some tick
 far_at near far a place tick e =
     due_joined near far a.as_many place ∙ (ap (λ n. nearer n (due_at far place)) (not_near near far a place tick e (due_at near place) refl) ∙ e)
 
@@ -123,3 +141,55 @@ only_far near far (Some d) a n f = record {
   least = λ other t e. elim (either_at near far a other t e) [ inl g ↦ let none = n other in absurd (cc) | inr g ↦ f.least other t g ];
   first = λ other e. elim (either_at near far a other d.0 e) [ inl g ↦ let none = n other in absurd (cc) | inr g ↦ f.first other g ];
 }
+
+-- a near place that is taken before the first far one is the first of all
+pub near_taken : (near far new : List (Option ℕ)) (tick places place : ℕ) (later : Option ℕ) → AreApart near far →
+    ((other due : ℕ) → due_at (joined near far) other ≡ Some due → tick ≤ due) → IsFirstAt far tick places later → IsTaken tick (unwrap_or later places) near new place →
+    IsTaken tick places (joined near far) (joined new far) place
+near_taken near far new tick places place later a before f t = record {
+  within = within later f t.within;
+  least = record {
+    has = near_at near far a place tick t.least.has;
+    least = before;
+    first = λ other e. elim (either_at near far a other tick e) [ inl g ↦ t.least.first other g | inr g ↦ beyond later f t.within other g ];
+  };
+  without =
+      ap (λ n. joined n far) t.without
+      ∙ near_goes near far a.as_many place (has_place near place tick t.least.has) (a.apart place tick t.least.has);
+}
+  where
+    within : (l : Option ℕ) → IsFirstAt far tick places l → place < unwrap_or l places → place < places
+    within None f h = h
+    within (Some p) f h = omega (arith, f.0, h)
+
+    beyond : (l : Option ℕ) → IsFirstAt far tick places l → place < unwrap_or l places → (other : ℕ) → due_at far other ≡ Some tick → place ≤ other
+    beyond None f h other g = elim (cases_lt other places) [ inl less ↦ absurd (f other less g) | inr past ↦ omega (arith, past, h) ]
+    beyond (Some p) f h other g = omega (arith, f.1.first other g, h)
+
+-- the first far place is the first of all where no near one before it is due
+pub far_taken : (near far new_near new_far : List (Option ℕ)) (tick places place : ℕ) → AreApart near far →
+    ((other due : ℕ) → due_at (joined near far) other ≡ Some due → tick ≤ due) → (place < places) × IsLeast far tick place →
+    HasNoneAt near tick place × (new_near ≡ near) → new_far ≡ slice_set far place None →
+    IsTaken tick places (joined near far) (joined new_near new_far) place
+far_taken near far new_near new_far tick places place a before f none put = record {
+  within = f.0;
+  least = record {
+    has = far_at near far a place tick f.1.has;
+    least = before;
+    first = λ other e.
+        elim (either_at near far a other tick e) [
+          | inl g ↦ elim (cases_lt other place) [ inl less ↦ absurd (none.0 other less g) | inr past ↦ past ]
+          | inr g ↦ f.1.first other g
+        ];
+  };
+  without =
+      ap (joined new_near) put
+      ∙ (ap (λ n. joined n (slice_set far place None)) none.1
+      ∙ far_goes near far a.as_many place (omega (arith, has_place far place tick f.1.has, a.as_many)) (not_near near far a place tick f.1.has (due_at near place) refl));
+}
+
+-- where none is due near or far none is taken
+pub neither_taken : (near far new : List (Option ℕ)) (tick places : ℕ) → AreApart near far → HasNoneAt far tick places → HasNoneAt near tick places × (new ≡ near) →
+    HasNoneAt (joined near far) tick places × (joined new far ≡ joined near far)
+neither_taken near far new tick places a none near_none =
+    (λ place h e. elim (either_at near far a place tick e) [ inl g ↦ near_none.0 place h g | inr g ↦ none place h g ], ap (λ n. joined n far) near_none.1)

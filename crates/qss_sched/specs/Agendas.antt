@@ -1,5 +1,5 @@
 -- An agenda of near and far due ticks.
-use Rattle.std.specs.Prelude.{◌≡◌, ℕ, ◌<◌, ◌⊎◌, List, [], ◌∷◌, Option, Some, None, MatchOption, length}
+use Rattle.std.specs.Prelude.{◌≡◌, ◌≢◌, ℕ, ◌<◌, ◌⊎◌, List, [], ◌∷◌, Option, Some, None, MatchOption, length, slice_set}
 use Rattle.qss_sched.specs.Ranks.{due_at, IsLeast, HasNone}
 
 -- the near due tick where there is one, else the far one
@@ -27,7 +27,20 @@ abbrev pub IsBefore : ℕ → ℕ → Option (ℕ × ℕ) → Type 0
 IsBefore tick place None = Unit {0}
 IsBefore tick place (Some f) = (tick < f.0) ⊎ ((tick ≡ f.0) × (place < f.1))
 
--- what an agenda keeps: near and far due ticks, and what comes first
-pub record IsAgenda (near far : List (Option ℕ)) (first : Option (ℕ × ℕ)) : Type 0 where
-  pub apart : AreApart near far
-  pub is_first : IsFirst (joined near far) first
+-- none of the first places is due at a tick
+abbrev pub HasNoneAt : List (Option ℕ) → ℕ → ℕ → Type 0
+HasNoneAt due tick places = (place : ℕ) → place < places → due_at due place ≢ Some tick
+
+-- the place is the least of all that are due at a tick, before which nothing is due, and is one of the first places; or none of these is due then
+abbrev pub IsFirstAt : List (Option ℕ) → ℕ → ℕ → Option ℕ → Type 0
+IsFirstAt due tick places first = MatchOption first (HasNoneAt due tick places) (λ place. (place < places) × IsLeast due tick place)
+
+-- the place is the least of all that are due at a tick, before which nothing is due, and is one of the first places, and its due tick alone is gone
+pub record IsTaken (tick places : ℕ) (old new : List (Option ℕ)) (place : ℕ) : Type 0 where
+  pub within : place < places
+  pub least : IsLeast old tick place
+  pub without : new ≡ slice_set old place None
+
+-- the place is taken, or none of the first places is due at a tick, and nothing changes
+abbrev pub IsTakenAt : ℕ → ℕ → List (Option ℕ) → List (Option ℕ) → Option ℕ → Type 0
+IsTakenAt tick places old new taken = MatchOption taken (HasNoneAt old tick places × (new ≡ old)) (IsTaken tick places old new)

@@ -46,6 +46,10 @@ pub record IsFirstPlace (places : List ℕ) (slot place : ℕ) : Type 0 where
 abbrev pub HasNoPlace : List ℕ → Type 0
 HasNoPlace places = (slot place : ℕ) → slot < 64 → place < 4096 → place_bit places slot place ≡ 0
 
+-- no place is at this slot
+abbrev pub HasNoPlaceAt : List ℕ → ℕ → Type 0
+HasNoPlaceAt places slot = (place : ℕ) → place < 4096 → place_bit places slot place ≡ 0
+
 -- of the slots from one on, and on from the first after the last, the place is the first at the first slot that has one
 pub record IsEarliest (places : List ℕ) (from place : ℕ) : Type 0 where
   pub later : ℕ

@@ -2,7 +2,8 @@ ghost use Rattle.std.specs.Prelude.{ℕ, Option};
 
 use crate::heap::replace;
 use crate::ranks::{
-    is_same, no_ticks, numbers_below, place_of, put_tick, rank_of, ranks_without_ticks, tick_of,
+    is_at, is_same, no_ticks, numbers_below, place_of, put_tick, rank_of, ranks_without_ticks,
+    tick_of,
 };
 use std::alloc::{AllocError, Global};
 use std::marker::Model;
@@ -27,8 +28,9 @@ impl Model for DueHeap {
 }
 
 impl DueHeap {
-    ghost use Rattle.std.specs.Prelude.{◌≡◌, ◌<◌, IfOk, MatchOption, length, slice_set};
-    ghost use Rattle.qss_sched.specs.Ranks.{IsLeast, HasNone};
+    ghost use Rattle.std.specs.Prelude.{◌≡◌, ℕ, ◌<◌, ◌≤◌, IfOk, MatchOption, Some, length, slice_set};
+    ghost use Rattle.qss_sched.specs.Ranks.{due_at, IsLeast, HasNone};
+    ghost use Rattle.qss_sched.specs.Agendas.{IsFirstAt};
 
     /// A heap of n places without due ticks. It takes all the memory that it ever needs.
     pub(crate) fn with_places(alloc: Global, n: u32) -> Result<DueHeap, AllocError>
@@ -79,6 +81,24 @@ impl DueHeap {
         match tick {
             Some(tick) => Some((tick, place)),
             None => None,
+        }
+    }
+
+    /// The least of the first `places` places that is due at a tick, where nothing is due before it.
+    #[inline(always)]
+    pub(crate) fn first_at(&self, tick: u64, places: u32) -> Option<u32>
+        requires { (place due : ℕ) → due_at self.now place ≡ Some due → tick ≤ due }
+        ensures { IsFirstAt self.now tick places result }
+    {
+        if self.ranks.is_empty() {
+            return None;
+        }
+        let rank = self.ranks[0];
+        let place = place_of(rank);
+        if is_at(rank, tick) && place < places {
+            Some(place)
+        } else {
+            None
         }
     }
 }

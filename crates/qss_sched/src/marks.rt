@@ -98,7 +98,7 @@ fn first_place(places: &[u64], groups: &[u64], slot: u32) -> u32
 
 impl Marks {
     ghost use Rattle.std.specs.Prelude.{◌≡◌, ◌<◌, IfOk, MatchOption};
-    ghost use Rattle.qss_sched.specs.Wheels.{place_bit, AreOthersKept, HasNoPlace, IsEarliest};
+    ghost use Rattle.qss_sched.specs.Wheels.{place_bit, AreOthersKept, HasNoPlace, HasNoPlaceAt, IsEarliest, IsFirstPlace};
 
     /// No place at any slot. It takes all the memory that it ever needs.
     pub(crate) fn without_places(alloc: Global) -> Result<Marks, AllocError>
@@ -156,6 +156,18 @@ impl Marks {
             return None;
         }
         let slot = (from + first_slot(self.slots, from)) % SLOTS;
+        Some(first_place(&self.places, &self.groups, slot))
+    }
+
+    /// The first place at a slot.
+    #[inline(always)]
+    pub(crate) fn first_at(&self, slot: u32) -> Option<u32>
+        requires { slot < 64 }
+        ensures { MatchOption result (HasNoPlaceAt self.now slot) (IsFirstPlace self.now slot) }
+    {
+        if self.groups[slot as usize] == 0 {
+            return None;
+        }
         Some(first_place(&self.places, &self.groups, slot))
     }
 }

@@ -1,4 +1,4 @@
-ghost use Rattle.std.specs.Prelude.{◌≡◌, ℕ, Option, ◌+◌, ◌^◌, ◌<◌, ◌↔◌, IsTrue, IfOk, length, vec_len, slice_index, slice_set};
+ghost use Rattle.std.specs.Prelude.{◌≡◌, ℕ, Option, ◌+◌, ◌/◌, ◌^◌, ◌<◌, ◌↔◌, IsTrue, IfOk, length, vec_len, slice_index, slice_set};
 ghost use Rattle.qss_sched.specs.Ranks.{due_at, place_of, rank_of, AreTicks, HasNone};
 
 use std::alloc::{AllocError, Global};
@@ -22,11 +22,20 @@ pub(crate) fn rank_of(tick: Option<u64>, place: u32) -> u128
 }
 
 /// The place that has a rank.
+#[inline(always)]
 #[tactic(auto, unfolding(crate::specs::Ranks::place_of))]
 pub(crate) fn place_of(rank: u128) -> u32
     ensures { result ≡ place_of rank }
 {
     (rank % PLACES) as u32
+}
+
+/// Whether a rank is one of this due tick.
+#[inline(always)]
+pub(crate) fn is_at(rank: u128, tick: u64) -> bool
+    ensures { IsTrue result ↔ (rank / 2 ^ 32 ≡ tick) }
+{
+    rank / PLACES == tick as u128
 }
 
 /// The ranks of n places without due ticks, rising.
@@ -66,6 +75,7 @@ pub(crate) fn no_ticks(alloc: Global, n: u32) -> Result<Vec<Option<u64>>, AllocE
 }
 
 /// A place's due tick.
+#[inline(always)]
 pub(crate) fn tick_of(due: &[Option<u64>], place: u32) -> Option<u64>
     requires { place < length due.now }
     ensures { result ≡ due_at due.now place }
@@ -74,6 +84,7 @@ pub(crate) fn tick_of(due: &[Option<u64>], place: u32) -> Option<u64>
 }
 
 /// A place takes this due tick.
+#[inline(always)]
 pub(crate) fn put_tick(due: &mut [Option<u64>], place: u32, tick: Option<u64>)
     requires place { place < length due.old }
     requires small { AreTicks due.old }

@@ -1,6 +1,7 @@
 ghost use Rattle.std.specs.Prelude.{◌≡◌, ℕ, ◌+◌, ◌<◌, ◌≤◌, Option, None, Some, length, slice_set};
 ghost use Rattle.qss_sched.specs.Ranks.{due_at};
 ghost use Rattle.qss_sched.specs.Wheels.{IsWheel};
+ghost use Rattle.qss_sched.specs.Agendas.{IsTakenAt};
 
 use crate::marks::{Marks, NEAR_PLACES, SLOTS};
 use crate::ranks::{is_same, no_ticks, put_tick, tick_of};
@@ -27,6 +28,19 @@ impl Model for Wheel {
     ghost invariant = { λ w. IsWheel w.due.items w.marks w.base };
 }
 
+// A place's near due tick goes.
+#[inline(always)]
+fn take_from(due: &mut [Option<u64>], marks: &mut Marks, place: u32, tick: u64)
+    requires has { due_at due.old place ≡ Some tick }
+    requires wheel { (base : ℕ) × IsWheel due.old marks.old base }
+    ensures due { due.new ≡ slice_set due.old place None }
+    ensures wheel { (base : ℕ) → IsWheel due.old marks.old base
+        → IsWheel due.new marks.new base }
+{
+    marks.leave(place, (tick % SLOTS as u64) as u32);
+    put_tick(due, place, None);
+}
+
 // A place has no near due tick any more.
 #[inline(always)]
 fn take_out(due: &mut [Option<u64>], marks: &mut Marks, place: u32)
@@ -37,8 +51,7 @@ fn take_out(due: &mut [Option<u64>], marks: &mut Marks, place: u32)
         → IsWheel due.new marks.new base }
 {
     if let Some(tick) = tick_of(due, place) {
-        put_tick(due, place, None);
-        marks.leave(place, (tick % SLOTS as u64) as u32);
+        take_from(due, marks, place, tick);
     }
 }
 
@@ -71,10 +84,30 @@ fn move_to(due: &mut [Option<u64>], marks: &mut Marks, place: u32, tick: u64)
     put_in(due, marks, place, tick);
 }
 
+// Takes the least of the first places that is due at the base out.
+#[inline(always)]
+fn take_first(due: &mut [Option<u64>], marks: &mut Marks, base: u64, places: u32) -> Option<u32>
+    requires { IsWheel due.old marks.old base }
+    ensures wheel { IsWheel due.new marks.new base }
+    ensures taken { IsTakenAt base places due.old due.new result }
+{
+    match marks.first_at((base % SLOTS as u64) as u32) {
+        Some(place) => {
+            if place < places {
+                take_from(due, marks, place, base);
+                Some(place)
+            } else {
+                None
+            }
+        }
+        None => None,
+    }
+}
+
 impl Wheel {
     ghost use Rattle.std.specs.Prelude.{◌≡◌, ◌<◌, ◌≤◌, ℕ, if◌then◌else◌, IfOk, None, Some, length, slice_set};
     ghost use Rattle.qss_sched.specs.Ranks.{due_at, IsLeast, HasNone};
-    ghost use Rattle.qss_sched.specs.Agendas.{IsFirst};
+    ghost use Rattle.qss_sched.specs.Agendas.{IsFirst, IsTakenAt};
 
     /// A wheel of n places without due ticks.
     pub(crate) fn with_places(alloc: Global, n: u32) -> Result<Wheel, AllocError>
@@ -90,15 +123,18 @@ impl Wheel {
         })
     }
 
-    /// Nothing is due before this tick: the wheel's base moves on to it, never back.
+    /// Takes the least of the first `places` places that is due at a tick out, where nothing is due
+    /// before it: the wheel's base moves on to it, never back.
     #[inline(always)]
-    pub(crate) fn advance(&mut self, tick: u64)
+    pub(crate) fn take(&mut self, tick: u64, places: u32) -> Option<u32>
         requires { (place due : ℕ) → due_at self.old place ≡ Some due → tick ≤ due }
-        ensures { self.new ≡ self.old }
+        ensures { IsTakenAt tick places self.old self.new result }
     {
-        if self.base <= tick {
-            self.base = tick;
+        if self.base > tick {
+            return None;
         }
+        self.base = tick;
+        take_first(&mut self.due, &mut self.marks, tick, places)
     }
 
     /// Gives a place this due tick and says so, or says that the tick is not near: then nothing
