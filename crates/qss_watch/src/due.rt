@@ -1,29 +1,11 @@
 //! What is due at one tick.
 
-ghost use Rattle.std.specs.Prelude.{◌≡◌, ◌≢◌, ℕ, ◌+◌, ◌<◌, ◌≤◌, ◌^◌, [], All, MatchOption, None, Some, length, true, false, vec_capacity};
-ghost use Rattle.qss_sched.specs.Ranks.{due_at, IsLeast};
+ghost use Rattle.std.specs.Prelude.{◌≡◌, ◌≢◌, ℕ, ◌+◌, ◌<◌, ◌≤◌, ◌^◌, All, Some, length, true, false, vec_capacity};
+ghost use Rattle.qss_sched.specs.Ranks.{due_at};
 ghost use Rattle.qss_quiet.specs.Among.{is_among};
 ghost use Rattle.qss_watch.specs.Moves.{AreDue, AreChanging, IsTakenAfter, IsWithout};
 
 use qss_sched::Agenda;
-
-// The least of some first places that is due at a tick, where nothing is due before.
-fn due_place(agenda: &Agenda, tick: u64, places: u32) -> Option<u32>
-    requires { (place due : ℕ) → due_at agenda.now place ≡ Some due → tick ≤ due }
-    ensures { MatchOption result ((j : ℕ) → j < places → due_at agenda.now j ≢ Some tick)
-        (λ place. (place < places) × IsLeast agenda.now tick place) }
-{
-    match agenda.next() {
-        Some((due, place)) => {
-            if due == tick && place < places {
-                Some(place)
-            } else {
-                None
-            }
-        }
-        None => None,
-    }
-}
 
 // Takes what is due at a tick at `count` places after the first ones out of the agenda, rising, where nothing is due at
 // those then.
@@ -39,11 +21,8 @@ fn take(agenda: &mut Agenda, tick: u64, first: u32, count: u32, found: &mut Vec<
 {
     found.clear();
     for _ in 0..count {
-        match due_place(agenda, tick, first + count) {
-            Some(place) => {
-                agenda.set(place, None);
-                found.push_reserved(place - first);
-            }
+        match agenda.take(tick, first + count) {
+            Some(place) => found.push_reserved(place - first),
             None => return,
         }
     }
