@@ -12,6 +12,7 @@ use qss_machine::Machine;
 use qss_quant::{Integrator, LevelRule, Quantizer};
 
 /// The first tick after its own at which a state's line leaves the quantum of its level.
+#[inline(always)]
 pub fn leaving(m: &Machine, j: u32, line: &Integrator) -> Option<u64>
     requires state { j < state_count m.now }
     requires near { IsNear (level_unit m.now) line.now.x line.now.level
