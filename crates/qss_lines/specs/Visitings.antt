@@ -23,7 +23,7 @@ use Rattle.qss_lines.specs.declared.visiting.NewLevels.{NewLevels}
 use Rattle.qss_lines.specs.declared.visiting.NewSlopes.{NewSlopes}
 use Rattle.qss_lines.specs.declared.visiting.QuietLevels.{QuietLevels}
 use Rattle.qss_lines.specs.declared.weights.Weights.{Weights}
-use Rattle.qss_lines.specs.Variables.{AreAssignedFrom, AreSlopesOf}
+use Rattle.qss_lines.specs.Variables.{AreAssignedFrom, AreWithin, AreSlopesOf}
 use Rattle.qss_lines.specs.StateLines.{states_at, states_with, line_at, AreLinesUpTo, MayMove}
 use Rattle.qss_lines.specs.Kept.{AreWeights, AreWeightsBefore}
 use Rattle.qss_lines.specs.RowSums.{sum_at, HadSums}
@@ -69,11 +69,8 @@ WereWeights at discretes weights lines =
 -- values of a machine's states and discrete variables after handlers, and of these before them, within the limits: only the assigned ones are others
 pub record AreHandled (m : Machine) (left : Handled) : Type 0 where
   pub assigned : AreAssignedFrom m left.assigned.now left.before.now left.discretes.now
-  pub many_states : length left.states.now ≡ state_count m
   pub many_before : length left.before.now ≡ discrete_count m
-  pub many_discretes : length left.discretes.now ≡ discrete_count m
-  pub small_states : All (IsWithin 88) left.states.now
-  pub small_discretes : All (IsWithin 43) left.discretes.now
+  pub values : AreWithin m left.states.now left.discretes.now
 
 -- a machine's readers, its lines up to a tick, and numbers of states
 pub record IsArrival (at : Arrival) : Type 0 where

@@ -41,11 +41,13 @@ follow_handled-requires-clause-left g c =
     record {
       assigned = subst (AreAssignedFrom c.args.at.now.machine.now c.args.at.now.assigned.now c.as_slice-pre.result.now) (sym of_d)
           (subst (λ (p : List ℤ). AreAssignedFrom c.args.at.now.machine.now c.args.at.now.assigned.now p c.args.at.now.work.now.d) (sym of_pre) c.requires.ready.assigned);
-      many_states = ap length of_x ∙ fits.states;
       many_before = ap length of_pre ∙ fits.before;
-      many_discretes = ap length of_d ∙ fits.discretes;
-      small_states = subst (All (IsWithin 88)) (sym of_x) fits.small_states;
-      small_discretes = subst (All (IsWithin 43)) (sym of_d) fits.small_discretes;
+      values = record {
+        states = ap length of_x ∙ fits.states;
+        discretes = ap length of_d ∙ fits.discretes;
+        small_states = subst (All (IsWithin 88)) (sym of_x) fits.small_states;
+        small_discretes = subst (All (IsWithin 43)) (sym of_d) fits.small_discretes;
+      };
     }
 
 pub follow_handled-requires-clause-before : goal.follow_handled-requires-clause-before

@@ -17,9 +17,9 @@ slope_readers-requires-clause-variables c i d h = (c.requires.left.assigned.know
 pub slope_readers-requires-clause-levels : goal.slope_readers-requires-clause-levels
 slope_readers-requires-clause-levels c = record {
   levels = c.requires.ready.levels;
-  discretes = c.requires.left.many_discretes;
+  discretes = c.requires.left.values.discretes;
   small_levels = c.requires.ready.small_levels;
-  small_discretes = c.requires.left.small_discretes;
+  small_discretes = c.requires.left.values.small_discretes;
 }
 
 pub slope_readers-requires-clause-slopes : goal.slope_readers-requires-clause-slopes
@@ -39,6 +39,6 @@ returns c =
           c.slope_readers.ensures.others j none
           ∙ ap (λ xs. int_at xs j) c.shift_slopes.ensures
           ∙ int_at-tabulate n (λ k. slope_at m k levels c.args.left.now.before.now) j h
-          ∙ sym (slope_stays m levels c.args.left.now.before.now c.args.left.now.discretes.now c.args.left.now.assigned.now c.requires.ready.levels c.requires.left.many_before c.requires.left.many_discretes c.requires.left.assigned.others j h
+          ∙ sym (slope_stays m levels c.args.left.now.before.now c.args.left.now.discretes.now c.args.left.now.assigned.now c.requires.ready.levels c.requires.left.many_before c.requires.left.values.discretes c.requires.left.assigned.others j h
           (sym (among_readers m j h c.args.left.now.assigned.now) ∙ none))
     ])
