@@ -116,34 +116,26 @@ pub record IsHandledArrival (at : HandledArrival) : Type 0 where
   pub assigned : AreAssignedFrom at.machine.now at.assigned.now at.work.now.pre at.work.now.d
   pub fits : AreValuesOf at.machine.now at.work.now
 
--- the new levels that go with new slopes
-abbrev pub levels_with : NewSlopes → NewLevels
-levels_with at = record { machine = at.machine; uses = at.uses; tick = at.tick; moved = at.moved; levels = at.levels }
-
 -- a machine's states may go on at their new levels and slopes
 pub record CanGoOn (at : NewSlopes) : Type 0 where
-  pub new : AreNewLevels (levels_with at)
-  pub slopes_of : AreSlopesOf at.machine.now at.slopes.now
-  pub in_time : at.tick ≤ tick_limit
+  pub new : AreNewLevels at.taken
+  pub slopes_of : AreSlopesOf at.taken.machine.now at.slopes.now
+  pub in_time : at.taken.tick ≤ tick_limit
 
 -- a value of each state, within the limit
 pub record AreStatesOf (m : Machine) (x : List ℤ) : Type 0 where
   pub as_many : length x ≡ state_count m
   pub small : All (IsWithin 88) x
 
--- the new levels at a tick at which nothing but states is due
-abbrev pub new_levels : QuietLevels → NewLevels
-new_levels at = record { machine = at.machine; uses = at.uses; tick = at.tick; moved = at.moved; levels = at.levels }
-
 -- new levels, and a value of each discrete variable, within the limit
 pub record AreQuietLevels (at : QuietLevels) : Type 0 where
-  pub taken : AreNewLevels (new_levels at)
-  pub discretes : length at.discretes.now ≡ discrete_count at.machine.now
+  pub taken : AreNewLevels at.taken
+  pub discretes : length at.discretes.now ≡ discrete_count at.taken.machine.now
   pub small_discretes : All (IsWithin 43) at.discretes.now
 
 -- the slopes of all rows there
 abbrev pub quiet_slopes : QuietLevels → List ℤ
-quiet_slopes at = new_slopes (new_levels at) at.discretes.now
+quiet_slopes at = new_slopes at.taken at.discretes.now
 
 -- levels within whose quanta these states are, and at which, with these discrete values, no row passes its limits
 pub record AreLevelsFor (m : Machine) (states levels discretes : List ℤ) : Type 0 where
@@ -167,10 +159,10 @@ pub record HeldBefore (m : Machine) (tick : ℕ) (moved : List ℕ) (levels disc
 -- the moved states may go on at their new levels, and all states at their new slopes, from the slopes, the lines and the due ticks before, where no line was moved to the tick yet
 pub record CanReslope (at : QuietLevels) (slopes_old : List ℤ) (lines_old : List Line) (dues_old : List (Option ℕ)) : Type 0 where
   pub new : AreQuietLevels at
-  pub levels : AreLevelsFor at.machine.now (states_at lines_old at.tick) at.levels.now at.discretes.now
-  pub one_each : HasOneEach at.machine.now slopes_old lines_old dues_old
-  pub held : HeldBefore at.machine.now at.tick at.moved.now at.levels.now at.discretes.now slopes_old lines_old dues_old
-  pub earlier : (j : ℕ) → j < state_count at.machine.now → (line_at lines_old j).tick < at.tick
+  pub levels : AreLevelsFor at.taken.machine.now (states_at lines_old at.taken.tick) at.taken.levels.now at.discretes.now
+  pub one_each : HasOneEach at.taken.machine.now slopes_old lines_old dues_old
+  pub held : HeldBefore at.taken.machine.now at.taken.tick at.taken.moved.now at.taken.levels.now at.discretes.now slopes_old lines_old dues_old
+  pub earlier : (j : ℕ) → j < state_count at.taken.machine.now → (line_at lines_old j).tick < at.taken.tick
 
 -- the states after handlers: the moved ones as these left them, the others where their lines lead
 abbrev pub states_left : NewLevels → Handled → List Line → List ℤ

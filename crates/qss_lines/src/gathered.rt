@@ -16,7 +16,7 @@ ghost use Rattle.qss_lines.specs.Gatherings.{CanGather, AreGathered, MayGoOn, re
 ghost use Rattle.qss_lines.specs.StateLines.{line_at, GoesOnFrom};
 ghost use Rattle.qss_lines.specs.RowSums.{HasFollowed};
 ghost use Rattle.qss_lines.specs.declared.shifts.RowSum.TheVariants as sum;
-ghost use Rattle.qss_lines.specs.Visitings.{AreQuietLevels, CanGoOn, CanReslope, new_levels, quiet_slopes, WereSums};
+ghost use Rattle.qss_lines.specs.Visitings.{AreQuietLevels, CanGoOn, CanReslope, quiet_slopes, WereSums};
 
 use crate::shifts::{RowSum, shift_rows};
 use crate::visiting::{Mode, NewSlopes, QuietLevels};
@@ -103,22 +103,24 @@ fn follow_level<L: Ledger>(
     steps: &mut Steps<L>,
 )
     requires new { AreQuietLevels at.now }
-    requires state { state < state_count at.now.machine.now }
-    requires modes { (row : ℕ) → row < state_count at.now.machine.now
-        → mode_fits at.now.machine.now.f (state_count at.now.machine.now)
-        (row_at at.now.machine.now row) at.now.discretes.now ≡ true }
-    requires slopes { length slopes.old ≡ state_count at.now.machine.now }
-    requires small_slopes { (j : ℕ) → j < state_count at.now.machine.now
+    requires state { state < state_count at.now.taken.machine.now }
+    requires modes { (row : ℕ) → row < state_count at.now.taken.machine.now
+        → mode_fits at.now.taken.machine.now.f (state_count at.now.taken.machine.now)
+        (row_at at.now.taken.machine.now row) at.now.discretes.now ≡ true }
+    requires slopes { length slopes.old ≡ state_count at.now.taken.machine.now }
+    requires small_slopes { (j : ℕ) → j < state_count at.now.taken.machine.now
         → IsWithin 100 (int_at slopes.old j) }
-    requires lines { length lines.old ≡ state_count at.now.machine.now }
-    requires can { CanGather at.now.tick lines.old touched.old.items
+    requires lines { length lines.old ≡ state_count at.now.taken.machine.now }
+    requires can { CanGather at.now.taken.tick lines.old touched.old.items
         (vec_capacity touched.old) }
     ensures slopes { IsWritten (pos 0)
-        (HasFollowed sum.Slope at.now.machine.now state (line_at lines.old state).level
-        (int_at at.now.levels.now state) at.now.discretes.now slopes.old)
-        (reading_rows at.now.machine.now state) slopes.old slopes.new }
-    ensures can { CanGather at.now.tick lines.new touched.new.items (vec_capacity touched.new) }
-    ensures gathered { AreGathered at.now.tick (state ∷ reading_rows at.now.machine.now state)
+        (HasFollowed sum.Slope at.now.taken.machine.now state (line_at lines.old state).level
+        (int_at at.now.taken.levels.now state) at.now.discretes.now slopes.old)
+        (reading_rows at.now.taken.machine.now state) slopes.old slopes.new }
+    ensures can { CanGather at.now.taken.tick lines.new touched.new.items
+        (vec_capacity touched.new) }
+    ensures gathered { AreGathered at.now.taken.tick
+        (state ∷ reading_rows at.now.taken.machine.now state)
         (record { lines = lines.old; touched = touched.old.items })
         (record { lines = lines.new; touched = touched.new.items }) }
     ensures counted { steps.new + length touched.old.items
@@ -128,15 +130,15 @@ fn follow_level<L: Ledger>(
     let j = state as usize;
     let line = &lines[j];
     let old = line.level;
-    let new = at.levels[j];
-    let rows = at.uses.rows_of(state);
+    let new = at.taken.levels[j];
+    let rows = at.taken.uses.rows_of(state);
     let mode = Mode {
-        machine: at.machine,
+        machine: at.taken.machine,
         discretes: at.discretes,
     };
-    shift_rows(RowSum::Slope, &mode, at.uses, state, old, new, slopes);
-    gather(at.tick, state, lines, touched, steps);
-    gather_each(at.tick, rows, lines, touched, steps);
+    shift_rows(RowSum::Slope, &mode, at.taken.uses, state, old, new, slopes);
+    gather(at.taken.tick, state, lines, touched, steps);
+    gather_each(at.taken.tick, rows, lines, touched, steps);
 }
 
 // The slopes of all rows follow where the moved states take their levels, from those of their lines, and these states and those
@@ -149,21 +151,23 @@ fn follow_levels<L: Ledger>(
     steps: &mut Steps<L>,
 )
     requires new { AreQuietLevels at.now }
-    requires lines { length lines.old ≡ state_count at.now.machine.now }
-    requires before { WereSums sum.Slope (new_levels at.now) at.now.discretes.now slopes.old
+    requires lines { length lines.old ≡ state_count at.now.taken.machine.now }
+    requires before { WereSums sum.Slope at.now.taken at.now.discretes.now slopes.old
         lines.old }
-    requires can { CanGather at.now.tick lines.old touched.old.items
+    requires can { CanGather at.now.taken.tick lines.old touched.old.items
         (vec_capacity touched.old) }
     ensures slopes { slopes.new ≡ quiet_slopes at.now }
-    ensures can { CanGather at.now.tick lines.new touched.new.items (vec_capacity touched.new) }
-    ensures gathered { AreGathered at.now.tick (reached at.now.machine.now at.now.moved.now)
+    ensures can { CanGather at.now.taken.tick lines.new touched.new.items
+        (vec_capacity touched.new) }
+    ensures gathered { AreGathered at.now.taken.tick
+        (reached at.now.taken.machine.now at.now.taken.moved.now)
         (record { lines = lines.old; touched = touched.old.items })
         (record { lines = lines.new; touched = touched.new.items }) }
     ensures counted { steps.new + length touched.old.items
         ≡ steps.old + length touched.new.items }
     ensures room { vec_capacity touched.new ≡ vec_capacity touched.old }
 {
-    for state in at.moved {
+    for state in at.taken.moved {
         follow_level(at, *state, slopes, lines, touched, steps);
     }
 }
@@ -194,14 +198,14 @@ fn go_on_as(m: &Machine, j: u32, here: &Integrator, line: &mut Integrator, agend
 // A state goes on from a tick at its level and its slope, from where its line leads.
 fn go_on(at: &NewSlopes, j: u32, lines: &mut [Integrator], agenda: &mut Agenda)
     requires on { CanGoOn at.now }
-    requires state { j < state_count at.now.machine.now }
-    requires lines { length lines.old ≡ state_count at.now.machine.now }
-    requires places { state_count at.now.machine.now ≤ length agenda.old }
-    requires ready { MayGoOn at.now.machine.now at.now.tick j (int_at at.now.levels.now j)
-        (line_at lines.old j) }
-    ensures goes_on { GoesOnFrom at.now.machine.now at.now.tick
-        (state_at (line_at lines.old j) at.now.tick)
-        (int_at at.now.levels.now j) (int_at at.now.slopes.now j) j (line_at lines.new j)
+    requires state { j < state_count at.now.taken.machine.now }
+    requires lines { length lines.old ≡ state_count at.now.taken.machine.now }
+    requires places { state_count at.now.taken.machine.now ≤ length agenda.old }
+    requires ready { MayGoOn at.now.taken.machine.now at.now.taken.tick j
+        (int_at at.now.taken.levels.now j) (line_at lines.old j) }
+    ensures goes_on { GoesOnFrom at.now.taken.machine.now at.now.taken.tick
+        (state_at (line_at lines.old j) at.now.taken.tick)
+        (int_at at.now.taken.levels.now j) (int_at at.now.slopes.now j) j (line_at lines.new j)
         (due_at agenda.new j) }
     ensures lines { (k : ℕ) → (k ≡ j → ⊥) → line_at lines.new k ≡ line_at lines.old k }
     ensures places { length agenda.new ≡ length agenda.old }
@@ -209,31 +213,31 @@ fn go_on(at: &NewSlopes, j: u32, lines: &mut [Integrator], agenda: &mut Agenda)
         → due_at agenda.new place ≡ due_at agenda.old place }
 {
     let slope = at.slopes[j as usize];
-    let level = at.levels[j as usize];
+    let level = at.taken.levels[j as usize];
     let line = &mut lines[j as usize];
-    let x = line.value_at(at.tick);
+    let x = line.value_at(at.taken.tick);
     let here = Integrator {
-        tick: at.tick,
+        tick: at.taken.tick,
         x,
         slope,
         level,
     };
-    go_on_as(at.machine, j, &here, line, agenda);
+    go_on_as(at.taken.machine, j, &here, line, agenda);
 }
 
 // These states go on from a tick at their levels and slopes, from where their lines lead.
 fn go_on_each(at: &NewSlopes, states: &[u32], lines: &mut [Integrator], agenda: &mut Agenda)
     requires on { CanGoOn at.now }
-    requires states { All (λ j. j < state_count at.now.machine.now) states.now }
-    requires lines { length lines.old ≡ state_count at.now.machine.now }
-    requires places { state_count at.now.machine.now ≤ length agenda.old }
-    requires ready { (j : ℕ) → j < state_count at.now.machine.now
-        → MayGoOn at.now.machine.now at.now.tick j (int_at at.now.levels.now j)
+    requires states { All (λ j. j < state_count at.now.taken.machine.now) states.now }
+    requires lines { length lines.old ≡ state_count at.now.taken.machine.now }
+    requires places { state_count at.now.taken.machine.now ≤ length agenda.old }
+    requires ready { (j : ℕ) → j < state_count at.now.taken.machine.now
+        → MayGoOn at.now.taken.machine.now at.now.taken.tick j (int_at at.now.taken.levels.now j)
         (line_at lines.old j) }
     ensures goes_on { (j : ℕ) → is_among states.now j ≡ true
-        → GoesOnFrom at.now.machine.now at.now.tick
-        (state_at (line_at lines.old j) at.now.tick)
-        (int_at at.now.levels.now j) (int_at at.now.slopes.now j) j (line_at lines.new j)
+        → GoesOnFrom at.now.taken.machine.now at.now.taken.tick
+        (state_at (line_at lines.old j) at.now.taken.tick)
+        (int_at at.now.taken.levels.now j) (int_at at.now.slopes.now j) j (line_at lines.new j)
         (due_at agenda.new j) }
     ensures lines { (j : ℕ) → is_among states.now j ≡ false
         → line_at lines.new j ≡ line_at lines.old j }
@@ -258,32 +262,30 @@ pub fn reslope_of<L: Ledger>(
     steps: &mut Steps<L>,
 )
     requires ready { CanReslope at.now slopes.old lines.old agenda.old }
-    requires room { state_count at.now.machine.now ≤ vec_capacity touched.old }
+    requires room { state_count at.now.taken.machine.now ≤ vec_capacity touched.old }
     ensures slopes { slopes.new ≡ quiet_slopes at.now }
-    ensures lines { (j : ℕ) → j < state_count at.now.machine.now
-        → GoesOnFrom at.now.machine.now at.now.tick (state_at (line_at lines.old j) at.now.tick)
-        (int_at at.now.levels.now j)
-        (slope_at at.now.machine.now j at.now.levels.now at.now.discretes.now)
+    ensures lines { (j : ℕ) → j < state_count at.now.taken.machine.now
+        → GoesOnFrom at.now.taken.machine.now at.now.taken.tick
+        (state_at (line_at lines.old j) at.now.taken.tick)
+        (int_at at.now.taken.levels.now j)
+        (slope_at at.now.taken.machine.now j at.now.taken.levels.now at.now.discretes.now)
         j (line_at lines.new j) (due_at agenda.new j) }
-    ensures kept { (j : ℕ) → is_among (reached at.now.machine.now at.now.moved.now) j ≡ false
+    ensures kept { (j : ℕ)
+        → is_among (reached at.now.taken.machine.now at.now.taken.moved.now) j ≡ false
         → (line_at lines.new j ≡ line_at lines.old j)
         × (due_at agenda.new j ≡ due_at agenda.old j) }
     ensures places { length agenda.new ≡ length agenda.old }
-    ensures others { (place : ℕ) → state_count at.now.machine.now ≤ place
+    ensures others { (place : ℕ) → state_count at.now.taken.machine.now ≤ place
         → due_at agenda.new place ≡ due_at agenda.old place }
     ensures counted { steps.new
-        ≤ steps.old + count_by (is_among (reached at.now.machine.now at.now.moved.now))
-        (range_with_len 0 (state_count at.now.machine.now)) }
+        ≤ steps.old + count_by (is_among (reached at.now.taken.machine.now at.now.taken.moved.now))
+        (range_with_len 0 (state_count at.now.taken.machine.now)) }
     ensures room { vec_capacity touched.new ≡ vec_capacity touched.old }
 {
     touched.clear();
     follow_levels(at, slopes, lines, touched, steps);
     let on = NewSlopes {
-        machine: at.machine,
-        uses: at.uses,
-        tick: at.tick,
-        moved: at.moved,
-        levels: at.levels,
+        taken: at.taken,
         slopes,
     };
     go_on_each(&on, touched.as_slice(), lines, agenda);

@@ -122,21 +122,21 @@ fn seat<L: Ledger>(
     agenda: &mut Agenda,
     steps: &mut Steps<L>,
 )
-    requires state { j < state_count at.now.machine.now }
+    requires state { j < state_count at.now.taken.machine.now }
     requires on { CanGoOn at.now }
-    requires states { AreStatesOf at.now.machine.now x.now }
-    requires lines { length lines.old ≡ state_count at.now.machine.now }
-    requires places { state_count at.now.machine.now ≤ length agenda.old }
-    requires later { (line_at lines.old j).tick ≤ at.now.tick }
-    requires small { IsWithin 89 (state_at (line_at lines.old j) at.now.tick) }
-    requires near { IsNear (level_unit at.now.machine.now) (int_at x.now j)
-        (int_at at.now.levels.now j)
-        (quantum_of at.now.machine.now j (int_at at.now.levels.now j)) }
-    ensures goes_on { GoesOnFrom at.now.machine.now at.now.tick (int_at x.now j)
-        (int_at at.now.levels.now j)
+    requires states { AreStatesOf at.now.taken.machine.now x.now }
+    requires lines { length lines.old ≡ state_count at.now.taken.machine.now }
+    requires places { state_count at.now.taken.machine.now ≤ length agenda.old }
+    requires later { (line_at lines.old j).tick ≤ at.now.taken.tick }
+    requires small { IsWithin 89 (state_at (line_at lines.old j) at.now.taken.tick) }
+    requires near { IsNear (level_unit at.now.taken.machine.now) (int_at x.now j)
+        (int_at at.now.taken.levels.now j)
+        (quantum_of at.now.taken.machine.now j (int_at at.now.taken.levels.now j)) }
+    ensures goes_on { GoesOnFrom at.now.taken.machine.now at.now.taken.tick (int_at x.now j)
+        (int_at at.now.taken.levels.now j)
         (int_at at.now.slopes.now j) j (line_at lines.new j) (due_at agenda.new j) }
     ensures lines { (k : ℕ) → (k ≡ j → ⊥) → line_at lines.new k ≡ line_at lines.old k }
-    ensures kept { goes_from at.now.tick (int_at x.now j) (int_at at.now.levels.now j)
+    ensures kept { goes_from at.now.taken.tick (int_at x.now j) (int_at at.now.taken.levels.now j)
         (int_at at.now.slopes.now j)
         (line_at lines.old j) ≡ true
         → line_at lines.new j ≡ line_at lines.old j }
@@ -145,22 +145,22 @@ fn seat<L: Ledger>(
         → due_at agenda.new place ≡ due_at agenda.old place }
     ensures counted { (states : List ℤ) → int_at states j ≡ int_at x.now j
         → steps.new + renewals_from
-        (state_count at.now.machine.now) at.now.tick states at.now.levels.now at.now.slopes.now
-        lines.new
+        (state_count at.now.taken.machine.now) at.now.taken.tick states at.now.taken.levels.now
+        at.now.slopes.now lines.new
         ≡ steps.old + renewals_from
-        (state_count at.now.machine.now) at.now.tick states at.now.levels.now at.now.slopes.now
-        lines.old }
+        (state_count at.now.taken.machine.now) at.now.taken.tick states at.now.taken.levels.now
+        at.now.slopes.now lines.old }
 {
     let slope = at.slopes[j as usize];
-    let level = at.levels[j as usize];
+    let level = at.taken.levels[j as usize];
     let here = Integrator {
-        tick: at.tick,
+        tick: at.taken.tick,
         x: x[j as usize],
         slope,
         level,
     };
     let line = &mut lines[j as usize];
-    reseat(at.machine, j, &here, line, agenda, steps);
+    reseat(at.taken.machine, j, &here, line, agenda, steps);
 }
 
 // The moved states go on from a tick where they are.
@@ -172,36 +172,38 @@ fn seat_each<L: Ledger>(
     steps: &mut Steps<L>,
 )
     requires on { CanGoOn at.now }
-    requires states { AreStatesOf at.now.machine.now x.now }
-    requires lines { length lines.old ≡ state_count at.now.machine.now }
-    requires places { state_count at.now.machine.now ≤ length agenda.old }
-    requires may_move { MayMove at.now.tick lines.old }
-    requires near { (j : ℕ) → is_among at.now.moved.now j ≡ true
-        → IsNear (level_unit at.now.machine.now) (int_at x.now j) (int_at at.now.levels.now j)
-        (quantum_of at.now.machine.now j (int_at at.now.levels.now j)) }
-    ensures goes_on { (j : ℕ) → is_among at.now.moved.now j ≡ true
-        → GoesOnFrom at.now.machine.now at.now.tick (int_at x.now j) (int_at at.now.levels.now j)
+    requires states { AreStatesOf at.now.taken.machine.now x.now }
+    requires lines { length lines.old ≡ state_count at.now.taken.machine.now }
+    requires places { state_count at.now.taken.machine.now ≤ length agenda.old }
+    requires may_move { MayMove at.now.taken.tick lines.old }
+    requires near { (j : ℕ) → is_among at.now.taken.moved.now j ≡ true
+        → IsNear (level_unit at.now.taken.machine.now) (int_at x.now j)
+        (int_at at.now.taken.levels.now j)
+        (quantum_of at.now.taken.machine.now j (int_at at.now.taken.levels.now j)) }
+    ensures goes_on { (j : ℕ) → is_among at.now.taken.moved.now j ≡ true
+        → GoesOnFrom at.now.taken.machine.now at.now.taken.tick (int_at x.now j)
+        (int_at at.now.taken.levels.now j)
         (int_at at.now.slopes.now j) j (line_at lines.new j) (due_at agenda.new j) }
-    ensures lines { (j : ℕ) → is_among at.now.moved.now j ≡ false
+    ensures lines { (j : ℕ) → is_among at.now.taken.moved.now j ≡ false
         → line_at lines.new j ≡ line_at lines.old j }
     ensures kept { (j : ℕ)
-        → goes_from at.now.tick (int_at x.now j) (int_at at.now.levels.now j)
+        → goes_from at.now.taken.tick (int_at x.now j) (int_at at.now.taken.levels.now j)
         (int_at at.now.slopes.now j)
         (line_at lines.old j) ≡ true
         → line_at lines.new j ≡ line_at lines.old j }
     ensures places { length agenda.new ≡ length agenda.old }
-    ensures dues { (place : ℕ) → is_among at.now.moved.now place ≡ false
+    ensures dues { (place : ℕ) → is_among at.now.taken.moved.now place ≡ false
         → due_at agenda.new place ≡ due_at agenda.old place }
     ensures counted { (states : List ℤ)
-        → ((j : ℕ) → is_among at.now.moved.now j ≡ true → int_at states j ≡ int_at x.now j)
+        → ((j : ℕ) → is_among at.now.taken.moved.now j ≡ true → int_at states j ≡ int_at x.now j)
         → steps.new + renewals_from
-        (state_count at.now.machine.now) at.now.tick states at.now.levels.now at.now.slopes.now
-        lines.new
+        (state_count at.now.taken.machine.now) at.now.taken.tick states at.now.taken.levels.now
+        at.now.slopes.now lines.new
         ≡ steps.old + renewals_from
-        (state_count at.now.machine.now) at.now.tick states at.now.levels.now at.now.slopes.now
-        lines.old }
+        (state_count at.now.taken.machine.now) at.now.taken.tick states at.now.taken.levels.now
+        at.now.slopes.now lines.old }
 {
-    for j in at.moved {
+    for j in at.taken.moved {
         seat(at, *j, x, lines, agenda, steps);
     }
 }
@@ -238,14 +240,7 @@ pub fn reslope_handled<L: Ledger>(
         (states_left at.now left.now lines.old) at.now.levels.now slopes.new lines.old }
 {
     follow_slopes(at, left, lines, slopes);
-    let on = NewSlopes {
-        machine: at.machine,
-        uses: at.uses,
-        tick: at.tick,
-        moved: at.moved,
-        levels: at.levels,
-        slopes,
-    };
+    let on = NewSlopes { taken: *at, slopes };
     seat_each(&on, left.states, lines, agenda, steps);
     reslope_readers(&on, at.moved, lines, agenda, steps);
     reslope_readers(&on, left.assigned, lines, agenda, steps);

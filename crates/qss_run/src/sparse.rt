@@ -20,7 +20,7 @@ ghost use Rattle.qss_run.specs.Touches.{touches_at};
 ghost use Rattle.qss_lines.specs.Visitings.{CanReslope, quiet_slopes};
 
 use crate::store::Store;
-use qss_lines::{Arrival, QuietLevels, requantize_moved, reslope_of};
+use qss_lines::{Arrival, NewLevels, QuietLevels, requantize_moved, reslope_of};
 use qss_machine::Machine;
 use qss_quant::{Integrator, Quantizer, Steps};
 use qss_sched::Agenda;
@@ -39,39 +39,48 @@ fn go_on_moved<L: Ledger>(
     steps: &mut Steps<L>,
 )
     requires ready { CanReslope at.now slopes.old lines.old agenda.old }
-    requires room { state_count at.now.machine.now ≤ vec_capacity touched.old }
-    requires lines { AreLinesAt at.now.machine.now at.now.tick lines.old }
-    requires fits { AreConditionsOf at.now.machine.now watched.old }
-    requires places { HasPlaces at.now.machine.now agenda.old }
-    requires watched { AreWatched at.now.machine.now at.now.tick
-        (states_at lines.old at.now.tick) at.now.discretes.now
+    requires room { state_count at.now.taken.machine.now ≤ vec_capacity touched.old }
+    requires lines { AreLinesAt at.now.taken.machine.now at.now.taken.tick lines.old }
+    requires fits { AreConditionsOf at.now.taken.machine.now watched.old }
+    requires places { HasPlaces at.now.taken.machine.now agenda.old }
+    requires watched { AreWatched at.now.taken.machine.now at.now.taken.tick
+        (states_at lines.old at.now.taken.tick) at.now.discretes.now
         slopes.old watched.old.watches.items agenda.old }
     ensures slopes { slopes.new ≡ quiet_slopes at.now }
-    ensures lines { (j : ℕ) → j < state_count at.now.machine.now
-        → GoesOnFrom at.now.machine.now at.now.tick (state_at (line_at lines.old j) at.now.tick)
-        (int_at at.now.levels.now j)
-        (slope_at at.now.machine.now j at.now.levels.now at.now.discretes.now)
+    ensures lines { (j : ℕ) → j < state_count at.now.taken.machine.now
+        → GoesOnFrom at.now.taken.machine.now at.now.taken.tick
+        (state_at (line_at lines.old j) at.now.taken.tick)
+        (int_at at.now.taken.levels.now j)
+        (slope_at at.now.taken.machine.now j at.now.taken.levels.now at.now.discretes.now)
         j (line_at lines.new j) (due_at agenda.new j) }
-    ensures kept { (j : ℕ) → j < state_count at.now.machine.now
-        → is_among (reached at.now.machine.now at.now.moved.now) j ≡ false
+    ensures kept { (j : ℕ) → j < state_count at.now.taken.machine.now
+        → is_among (reached at.now.taken.machine.now at.now.taken.moved.now) j ≡ false
         → (line_at lines.new j ≡ line_at lines.old j)
         × (due_at agenda.new j ≡ due_at agenda.old j) }
-    ensures watches { AreWatched at.now.machine.now at.now.tick
-        (states_at lines.old at.now.tick) at.now.discretes.now
+    ensures watches { AreWatched at.now.taken.machine.now at.now.taken.tick
+        (states_at lines.old at.now.taken.tick) at.now.discretes.now
         slopes.new watched.new.watches.items agenda.new }
     ensures rest { watched.new ≡ record watched.old { watches = watched.new.watches } }
-    ensures fits { AreConditionsOf at.now.machine.now watched.new }
+    ensures fits { AreConditionsOf at.now.taken.machine.now watched.new }
     ensures places { length agenda.new ≡ length agenda.old }
     ensures beyond { (place : ℕ)
-        → state_count at.now.machine.now + length (conditions at.now.machine.now) ≤ place
+        → state_count at.now.taken.machine.now + length (conditions at.now.taken.machine.now)
+        ≤ place
         → due_at agenda.new place ≡ due_at agenda.old place }
     ensures counted { steps.new
-        ≤ steps.old + count_by (is_among (reached at.now.machine.now at.now.moved.now))
-        (range_with_len 0 (state_count at.now.machine.now)) }
+        ≤ steps.old + count_by (is_among (reached at.now.taken.machine.now at.now.taken.moved.now))
+        (range_with_len 0 (state_count at.now.taken.machine.now)) }
     ensures room { vec_capacity touched.new ≡ vec_capacity touched.old }
 {
     reslope_of(at, slopes, lines, touched, agenda, steps);
-    watched.rewatch_of(at.machine, at.uses, at.tick, at.moved, slopes, agenda);
+    watched.rewatch_of(
+        at.taken.machine,
+        at.taken.uses,
+        at.taken.tick,
+        at.taken.moved,
+        slopes,
+        agenda,
+    );
 }
 
 /// One tick after the one at which the store stands, from an agenda without the states that are due there, where no condition
@@ -110,28 +119,24 @@ pub(crate) fn visit_due<L: Ledger>(
         lines: s.lines.as_slice(),
         moved: s.moved.as_slice(),
     };
-    let over = requantize_moved(
-        &arrival,
-        q,
-        &s.work,
-        s.levels.as_mut_slice(),
-        &mut s.weights,
-        &mut s.rows,
-    );
+    let levels = s.levels.as_mut_slice();
+    let over = requantize_moved(&arrival, q, &s.work, levels, &mut s.weights, &mut s.rows);
     if over.is_some() {
         return over;
     }
     let work = &s.work;
-    let new = QuietLevels {
-        machine: m,
-        uses: &s.uses,
-        tick: tick + 1,
-        moved: s.moved.as_slice(),
-        levels: s.levels.as_slice(),
+    let quiet = QuietLevels {
+        taken: NewLevels {
+            machine: m,
+            uses: &s.uses,
+            tick: tick + 1,
+            moved: s.moved.as_slice(),
+            levels: s.levels.as_slice(),
+        },
         discretes: work.d.as_slice(),
     };
     go_on_moved(
-        &new,
+        &quiet,
         s.slopes.as_mut_slice(),
         s.lines.as_mut_slice(),
         &mut s.touched,

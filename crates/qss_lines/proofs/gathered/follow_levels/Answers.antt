@@ -22,7 +22,7 @@ use Rattle.qss_lines.proofs.gathered.follow_levels.Goals as goal
 
 pub loop-state-init : goal.loop-state-init
 loop-state-init g c =
-    let m = c.args.at.now.machine.now in
+    let m = c.args.at.now.taken.machine.now in
     let d : List ℤ = c.args.at.now.discretes.now in
     let before = c.requires.before.1 in
     let small = sums_small Slope m c.requires.before.0 d c.args.slopes.now before.levels.light before.own_sums in
@@ -31,7 +31,7 @@ loop-state-init g c =
       as_many = ap length before.own_sums ∙ length-map-range_with_len (λ j. sum_at Slope m j c.requires.before.0 d) 0 (state_count m);
       near = λ j h. let here : IsWithin 88 (int_at c.args.slopes.now j) = small j h in omega (arith, here);
       can = c.requires.can;
-      gathered = none_gathered c.args.at.now.tick c.args.lines.now c.args.touched.now.items (vec_capacity c.args.touched.now) c.requires.can;
+      gathered = none_gathered c.args.at.now.taken.tick c.args.lines.now c.args.touched.now.items (vec_capacity c.args.touched.now) c.requires.can;
       counted = refl;
       room = refl;
     }
@@ -41,14 +41,14 @@ follow_level-requires-clause-state g c = c.requires.new.taken.moved.below c.loop
 
 pub follow_level-requires-clause-modes : goal.follow_level-requires-clause-modes
 follow_level-requires-clause-modes g c row h =
-    (row_is_light c.args.at.now.machine.now c.requires.before.0 c.args.at.now.discretes.now c.requires.before.1.levels.light row h).modes
+    (row_is_light c.args.at.now.taken.machine.now c.requires.before.0 c.args.at.now.discretes.now c.requires.before.1.levels.light row h).modes
 
 pub follow_level-requires-clause-slopes : goal.follow_level-requires-clause-slopes
 follow_level-requires-clause-slopes g c = c.loop-state.invariant.as_many
 
 pub follow_level-requires-clause-small_slopes : goal.follow_level-requires-clause-small_slopes
 follow_level-requires-clause-small_slopes g c j h =
-    omega (arith, c.loop-state.invariant.near j h, few_numbers (state_count c.args.at.now.machine.now) c.args.at.now.moved.now c.requires.new.taken.moved, c.args.at.now.machine.now.has_variables.few, c.loop-state-test.true)
+    omega (arith, c.loop-state.invariant.near j h, few_numbers (state_count c.args.at.now.taken.machine.now) c.args.at.now.taken.moved.now c.requires.new.taken.moved, c.args.at.now.taken.machine.now.has_variables.few, c.loop-state-test.true)
 
 pub follow_level-requires-clause-lines : goal.follow_level-requires-clause-lines
 follow_level-requires-clause-lines g c = c.loop-state.invariant.gathered.as_many ∙ c.requires.lines
@@ -58,13 +58,13 @@ follow_level-requires-clause-can g c = c.loop-state.invariant.can
 
 pub loop-state-preserved : goal.loop-state-preserved
 loop-state-preserved g c =
-    let m = c.args.at.now.machine.now in
-    let tick = c.args.at.now.tick in
+    let m = c.args.at.now.taken.machine.now in
+    let tick = c.args.at.now.taken.tick in
     let d : List ℤ = c.args.at.now.discretes.now in
     let i = c.loop-state.state-index in
     let inv = c.loop-state.invariant in
-    let moved : List ℕ = c.args.at.now.moved.now in
-    let levels : List ℤ = c.args.at.now.levels.now in
+    let moved : List ℕ = c.args.at.now.taken.moved.now in
+    let levels : List ℤ = c.args.at.now.taken.levels.now in
     let state : ℕ = get_or moved i 0 in
     let known : state < state_count m = c.requires.new.taken.moved.below i 0 c.loop-state-test.true in
     let inside : state < length c.args.lines.now = omega (arith, known, c.requires.lines) in
@@ -100,10 +100,10 @@ loop-state-preserved g c =
 
 pub returns-clause-slopes : goal.returns-clause-slopes
 returns-clause-slopes g c =
-    let m = c.args.at.now.machine.now in
+    let m = c.args.at.now.taken.machine.now in
     let d : List ℤ = c.args.at.now.discretes.now in
-    let moved : List ℕ = c.args.at.now.moved.now in
-    let levels : List ℤ = c.args.at.now.levels.now in
+    let moved : List ℕ = c.args.at.now.taken.moved.now in
+    let levels : List ℤ = c.args.at.now.taken.levels.now in
     let old : List ℤ = c.requires.before.0 in
     let whole : levels_along (take c.loop-state.state-index moved) levels old ≡ levels =
     ap (λ (js : List ℕ). levels_along js levels old) (take_all c.loop-state.state-index moved c.loop-state-test.false) ∙ along_all moved levels old c.requires.before.1.levels.off in
@@ -117,5 +117,5 @@ pub returns-clause-gathered : goal.returns-clause-gathered
 returns-clause-gathered g c =
     let first : Gathering = record { lines = c.args.lines.now; touched = c.args.touched.now.items } in
     let last : Gathering = record { lines = c.loop-state.lines; touched = c.loop-state.touched.items } in
-    subst (λ (moved : List ℕ). AreGathered c.args.at.now.tick (reached c.args.at.now.machine.now moved) first last)
-    (take_all c.loop-state.state-index c.args.at.now.moved.now c.loop-state-test.false) c.loop-state.invariant.gathered
+    subst (λ (moved : List ℕ). AreGathered c.args.at.now.taken.tick (reached c.args.at.now.taken.machine.now moved) first last)
+    (take_all c.loop-state.state-index c.args.at.now.taken.moved.now c.loop-state-test.false) c.loop-state.invariant.gathered

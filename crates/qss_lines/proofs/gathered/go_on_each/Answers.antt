@@ -11,7 +11,7 @@ use Rattle.qss_lines.proofs.Gathering.{AreOn, none_on, still_there, still_not_la
 use Rattle.qss_lines.proofs.gathered.go_on_each.Goals as goal
 
 pub loop-j-init : goal.loop-j-init
-loop-j-init c = record { on = none_on c.args.at.now.machine.now c.args.at.now.tick c.args.at.now.levels.now c.args.at.now.slopes.now (record { lines = c.args.lines.now; dues = c.args.agenda.now }) }
+loop-j-init c = record { on = none_on c.args.at.now.taken.machine.now c.args.at.now.taken.tick c.args.at.now.taken.levels.now c.args.at.now.slopes.now (record { lines = c.args.lines.now; dues = c.args.agenda.now }) }
 
 pub go_on-requires-clause-state : goal.go_on-requires-clause-state
 go_on-requires-clause-state c = c.requires.states c.loop-j.j-index 0 c.loop-j-test.true
@@ -24,9 +24,9 @@ go_on-requires-clause-places c = omega (arith, c.loop-j.invariant.on.places, c.r
 
 pub go_on-requires-clause-ready : goal.go_on-requires-clause-ready
 go_on-requires-clause-ready c =
-    let m = c.args.at.now.machine.now in
-    let tick = c.args.at.now.tick in
-    let levels : List ℤ = c.args.at.now.levels.now in
+    let m = c.args.at.now.taken.machine.now in
+    let tick = c.args.at.now.taken.tick in
+    let levels : List ℤ = c.args.at.now.taken.levels.now in
     let slopes : List ℤ = c.args.at.now.slopes.now in
     let i = c.loop-j.j-index in
     let states : List ℕ = c.args.states.now in
@@ -45,9 +45,9 @@ go_on-requires-clause-ready c =
 
 pub loop-j-preserved : goal.loop-j-preserved
 loop-j-preserved c =
-    let m = c.args.at.now.machine.now in
-    let tick = c.args.at.now.tick in
-    let levels : List ℤ = c.args.at.now.levels.now in
+    let m = c.args.at.now.taken.machine.now in
+    let tick = c.args.at.now.taken.tick in
+    let levels : List ℤ = c.args.at.now.taken.levels.now in
     let slopes : List ℤ = c.args.at.now.slopes.now in
     let i = c.loop-j.j-index in
     let states : List ℕ = c.args.states.now in
@@ -62,10 +62,10 @@ loop-j-preserved c =
 
 pub returns : goal.returns
 returns c =
-    let m = c.args.at.now.machine.now in
+    let m = c.args.at.now.taken.machine.now in
     let first : Courses = record { lines = c.args.lines.now; dues = c.args.agenda.now } in
     let last : Courses = record { lines = c.loop-j.lines; dues = c.loop-j.agenda } in
-    let on : AreOn m c.args.at.now.tick c.args.at.now.levels.now c.args.at.now.slopes.now c.args.states.now first last =
-    subst (λ (these : List ℕ). AreOn m c.args.at.now.tick c.args.at.now.levels.now c.args.at.now.slopes.now these first last) (take_all c.loop-j.j-index c.args.states.now c.loop-j-test.false)
+    let on : AreOn m c.args.at.now.taken.tick c.args.at.now.taken.levels.now c.args.at.now.slopes.now c.args.states.now first last =
+    subst (λ (these : List ℕ). AreOn m c.args.at.now.taken.tick c.args.at.now.taken.levels.now c.args.at.now.slopes.now these first last) (take_all c.loop-j.j-index c.args.states.now c.loop-j-test.false)
     c.loop-j.invariant.on in
     record { goes_on = on.own; lines = on.lines; places = on.places; dues = on.dues }

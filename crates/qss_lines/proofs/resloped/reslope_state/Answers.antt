@@ -16,58 +16,58 @@ use mir.Syntax.{w64, w128}
 
 pub returns-clause-goes_on : goal.returns-clause-goes_on
 returns-clause-goes_on g c =
-    let m = c.args.at.now.machine.now in
+    let m = c.args.at.now.taken.machine.now in
     let j = c.args.j in
-    let small_level : IsWithin 43 (int_at c.args.at.now.levels.now j) = c.requires.on.new.small_levels j (pos 0) (omega (arith, c.requires.on.new.levels, c.requires.state)) in
-    let level : FitsSigned w64 (int_at c.args.at.now.levels.now j) = omega (arith, ints, small_level) in
+    let small_level : IsWithin 43 (int_at c.args.at.now.taken.levels.now j) = c.requires.on.new.small_levels j (pos 0) (omega (arith, c.requires.on.new.levels, c.requires.state)) in
+    let level : FitsSigned w64 (int_at c.args.at.now.taken.levels.now j) = omega (arith, ints, small_level) in
     let small_slope : IsWithin 88 (int_at c.args.at.now.slopes.now j) = c.requires.on.slopes_of.small j (pos 0) (omega (arith, c.requires.on.slopes_of.as_many, c.requires.state)) in
     let slope : FitsSigned w128 (int_at c.args.at.now.slopes.now j) = omega (arith, ints, small_slope) in
     let x : FitsSigned w128 c.value_at-x.result = record { sfits = c.value_at-x.type_inv } in
     let inside : j < length c.args.lines.now = omega (arith, c.requires.lines, c.requires.state) in
     let old : Line = get_or c.args.lines.now j c.index-lines-j.result in
     let read : old ≡ line_at c.args.lines.now j = get_or_default c.args.lines.now j c.index-lines-j.result no_line inside in
-    subst (λ (l : Line). GoesOnFrom m c.args.at.now.tick (state_at (line_at c.args.lines.now j) c.args.at.now.tick) (int_at c.args.at.now.levels.now j) (int_at c.args.at.now.slopes.now j) j l (due_at c.reslope.new.agenda j))
+    subst (λ (l : Line). GoesOnFrom m c.args.at.now.taken.tick (state_at (line_at c.args.lines.now j) c.args.at.now.taken.tick) (int_at c.args.at.now.taken.levels.now j) (int_at c.args.at.now.slopes.now j) j l (due_at c.reslope.new.agenda j))
     (sym (get_or-set_same c.args.lines.now j c.reslope.new.line no_line inside))
     (record {
       not_later = c.reslope.ensures.not_later;
-      here = c.reslope.ensures.here ∙ to_z-of_z w128 c.value_at-x.result x ∙ c.value_at-x.ensures ∙ ap (λ (l : Line). state_at l c.args.at.now.tick) read;
+      here = c.reslope.ensures.here ∙ to_z-of_z w128 c.value_at-x.result x ∙ c.value_at-x.ensures ∙ ap (λ (l : Line). state_at l c.args.at.now.taken.tick) read;
       own_slope = c.reslope.ensures.own_slope ∙ to_z-of_z w128 (int_at c.args.at.now.slopes.now j) slope;
-      own_level = c.reslope.ensures.own_level ∙ to_z-of_z w64 (int_at c.args.at.now.levels.now j) level;
+      own_level = c.reslope.ensures.own_level ∙ to_z-of_z w64 (int_at c.args.at.now.taken.levels.now j) level;
       is_due = c.reslope.ensures.due;
     })
 
 pub returns-clause-kept : goal.returns-clause-kept
 returns-clause-kept g c so =
     let j = c.args.j in
-    let small_level : IsWithin 43 (int_at c.args.at.now.levels.now j) = c.requires.on.new.small_levels j (pos 0) (omega (arith, c.requires.on.new.levels, c.requires.state)) in
-    let level : FitsSigned w64 (int_at c.args.at.now.levels.now j) = omega (arith, ints, small_level) in
+    let small_level : IsWithin 43 (int_at c.args.at.now.taken.levels.now j) = c.requires.on.new.small_levels j (pos 0) (omega (arith, c.requires.on.new.levels, c.requires.state)) in
+    let level : FitsSigned w64 (int_at c.args.at.now.taken.levels.now j) = omega (arith, ints, small_level) in
     let small_slope : IsWithin 88 (int_at c.args.at.now.slopes.now j) = c.requires.on.slopes_of.small j (pos 0) (omega (arith, c.requires.on.slopes_of.as_many, c.requires.state)) in
     let slope : FitsSigned w128 (int_at c.args.at.now.slopes.now j) = omega (arith, ints, small_slope) in
     let x : FitsSigned w128 c.value_at-x.result = record { sfits = c.value_at-x.type_inv } in
     let inside : j < length c.args.lines.now = omega (arith, c.requires.lines, c.requires.state) in
     let old : Line = get_or c.args.lines.now j c.index-lines-j.result in
     let read : old ≡ line_at c.args.lines.now j = get_or_default c.args.lines.now j c.index-lines-j.result no_line inside in
-    let at : ℤ = state_at (line_at c.args.lines.now j) c.args.at.now.tick in
+    let at : ℤ = state_at (line_at c.args.lines.now j) c.args.at.now.taken.tick in
     get_or-set_same c.args.lines.now j c.reslope.new.line no_line inside
-    ∙ left_at c.args.at.now.tick at (int_at c.args.at.now.levels.now j) (int_at c.args.at.now.slopes.now j) (line_at c.args.lines.now j) _ _ _ old c.reslope.new.line
-    (to_z-of_z w128 c.value_at-x.result x ∙ c.value_at-x.ensures ∙ ap (λ (l : Line). state_at l c.args.at.now.tick) read) (to_z-of_z w64 (int_at c.args.at.now.levels.now j) level)
+    ∙ left_at c.args.at.now.taken.tick at (int_at c.args.at.now.taken.levels.now j) (int_at c.args.at.now.slopes.now j) (line_at c.args.lines.now j) _ _ _ old c.reslope.new.line
+    (to_z-of_z w128 c.value_at-x.result x ∙ c.value_at-x.ensures ∙ ap (λ (l : Line). state_at l c.args.at.now.taken.tick) read) (to_z-of_z w64 (int_at c.args.at.now.taken.levels.now j) level)
     (to_z-of_z w128 (int_at c.args.at.now.slopes.now j) slope) read c.reslope.ensures.kept
-    (from_here c.args.at.now.tick at (int_at c.args.at.now.levels.now j) (int_at c.args.at.now.slopes.now j) (line_at c.args.lines.now j) refl ∙ so)
+    (from_here c.args.at.now.taken.tick at (int_at c.args.at.now.taken.levels.now j) (int_at c.args.at.now.slopes.now j) (line_at c.args.lines.now j) refl ∙ so)
 
 pub returns-clause-counted : goal.returns-clause-counted
 returns-clause-counted g c =
-    let m = c.args.at.now.machine.now in
+    let m = c.args.at.now.taken.machine.now in
     let j = c.args.j in
-    let small_level : IsWithin 43 (int_at c.args.at.now.levels.now j) = c.requires.on.new.small_levels j (pos 0) (omega (arith, c.requires.on.new.levels, c.requires.state)) in
-    let level : FitsSigned w64 (int_at c.args.at.now.levels.now j) = omega (arith, ints, small_level) in
+    let small_level : IsWithin 43 (int_at c.args.at.now.taken.levels.now j) = c.requires.on.new.small_levels j (pos 0) (omega (arith, c.requires.on.new.levels, c.requires.state)) in
+    let level : FitsSigned w64 (int_at c.args.at.now.taken.levels.now j) = omega (arith, ints, small_level) in
     let small_slope : IsWithin 88 (int_at c.args.at.now.slopes.now j) = c.requires.on.slopes_of.small j (pos 0) (omega (arith, c.requires.on.slopes_of.as_many, c.requires.state)) in
     let slope : FitsSigned w128 (int_at c.args.at.now.slopes.now j) = omega (arith, ints, small_slope) in
     let x : FitsSigned w128 c.value_at-x.result = record { sfits = c.value_at-x.type_inv } in
     let inside : j < length c.args.lines.now = omega (arith, c.requires.lines, c.requires.state) in
     let old : Line = get_or c.args.lines.now j c.index-lines-j.result in
     let read : old ≡ line_at c.args.lines.now j = get_or_default c.args.lines.now j c.index-lines-j.result no_line inside in
-    let few = counted_at c.args.at.now.tick (state_at (line_at c.args.lines.now j) c.args.at.now.tick) (int_at c.args.at.now.levels.now j) (int_at c.args.at.now.slopes.now j) (line_at c.args.lines.now j) _ _ _ _ c.args.steps.now c.reslope.new.steps
-    (to_z-of_z w128 c.value_at-x.result x ∙ c.value_at-x.ensures ∙ ap (λ (l : Line). state_at l c.args.at.now.tick) read) (to_z-of_z w64 (int_at c.args.at.now.levels.now j) level)
+    let few = counted_at c.args.at.now.taken.tick (state_at (line_at c.args.lines.now j) c.args.at.now.taken.tick) (int_at c.args.at.now.taken.levels.now j) (int_at c.args.at.now.slopes.now j) (line_at c.args.lines.now j) _ _ _ _ c.args.steps.now c.reslope.new.steps
+    (to_z-of_z w128 c.value_at-x.result x ∙ c.value_at-x.ensures ∙ ap (λ (l : Line). state_at l c.args.at.now.taken.tick) read) (to_z-of_z w64 (int_at c.args.at.now.taken.levels.now j) level)
     (to_z-of_z w128 (int_at c.args.at.now.slopes.now j) slope) read c.reslope.ensures.counted in
-    renewed (state_count m) j c.args.at.now.tick c.args.at.now.levels.now c.args.at.now.slopes.now c.args.lines.now c.reslope.new.line c.args.steps.now c.reslope.new.steps c.requires.state inside
-    (c.reslope.ensures.own_level ∙ to_z-of_z w64 (int_at c.args.at.now.levels.now j) level) (c.reslope.ensures.own_slope ∙ to_z-of_z w128 (int_at c.args.at.now.slopes.now j) slope) few
+    renewed (state_count m) j c.args.at.now.taken.tick c.args.at.now.taken.levels.now c.args.at.now.slopes.now c.args.lines.now c.reslope.new.line c.args.steps.now c.reslope.new.steps c.requires.state inside
+    (c.reslope.ensures.own_level ∙ to_z-of_z w64 (int_at c.args.at.now.taken.levels.now j) level) (c.reslope.ensures.own_slope ∙ to_z-of_z w128 (int_at c.args.at.now.slopes.now j) slope) few

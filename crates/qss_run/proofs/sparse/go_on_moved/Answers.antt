@@ -18,7 +18,7 @@ reslope_of-requires-clause-ready g c = c.requires.ready
 
 pub rewatch_of-requires-clause-ready : goal.rewatch_of-requires-clause-ready
 rewatch_of-requires-clause-ready g c =
-    let m = c.args.at.now.machine.now in
+    let m = c.args.at.now.taken.machine.now in
     let all : Conditions = c.args.watched.now in
     let d : List ℤ = c.args.at.now.discretes.now in
     let fits = c.requires.fits in
@@ -29,13 +29,13 @@ rewatch_of-requires-clause-ready g c =
         later = λ place h. (c.requires.watched place (omega (arith, h, fits.watches))).not_later;
         small = λ place h.
             subst IsSmall (sym (c.requires.watched place (omega (arith, h, fits.watches))).here)
-            (value_small m (condition_at m place).form (states_at c.args.lines.now c.args.at.now.tick) d c.args.at.now.tick
+            (value_small m (condition_at m place).form (states_at c.args.lines.now c.args.at.now.taken.tick) d c.args.at.now.taken.tick
             (condition_bounded m all.branches.items fits.branches place (omega (arith, h, fits.watches, fits.branches.as_many))) c.requires.lines.small c.requires.ready.new.small_discretes
             c.requires.lines.up_to.in_time);
       };
       slopes_of = record {
         as_many = c.reslope_of.auto.slopes ∙ c.requires.ready.one_each.slopes;
-        small = slopes_small m c.args.at.now.levels.now d d c.reslope_of.new.slopes c.requires.ready.levels.light refl c.reslope_of.ensures.slopes;
+        small = slopes_small m c.args.at.now.taken.levels.now d d c.reslope_of.new.slopes c.requires.ready.levels.light refl c.reslope_of.ensures.slopes;
       };
       in_time = c.requires.lines.up_to.in_time;
     }
@@ -47,22 +47,22 @@ returns-clause-kept g c j inside unreached =
 
 pub returns-clause-watches : goal.returns-clause-watches
 returns-clause-watches g c place h =
-    let m = c.args.at.now.machine.now in
-    let t = c.args.at.now.tick in
+    let m = c.args.at.now.taken.machine.now in
+    let t = c.args.at.now.taken.tick in
     let all : Conditions = c.args.watched.now in
     let x : List ℤ = states_at c.args.lines.now t in
     let d : List ℤ = c.args.at.now.discretes.now in
-    let before : AreSlopesBefore m c.args.at.now.moved.now c.args.slopes.now c.reslope_of.new.slopes place = record {
+    let before : AreSlopesBefore m c.args.at.now.taken.moved.now c.args.slopes.now c.reslope_of.new.slopes place = record {
       as_many = c.requires.ready.one_each.slopes;
       others = λ j inside reads none.
-          slopes_stay m c.args.at.now.moved.now c.requires.ready.held.before.0 c.args.at.now.levels.now d c.args.slopes.now c.reslope_of.new.slopes c.requires.ready.held.before.1.levels.off c.requires.ready.held.before.1.own_sums
+          slopes_stay m c.args.at.now.taken.moved.now c.requires.ready.held.before.0 c.args.at.now.taken.levels.now d c.args.slopes.now c.reslope_of.new.slopes c.requires.ready.held.before.1.levels.off c.requires.ready.held.before.1.own_sums
           c.reslope_of.ensures.slopes j inside none;
     } in
     c.rewatch_of.ensures.watches x d c.args.slopes.now place h before
     (subst (IsWatched m t x d c.args.slopes.now place (watch_at all.watches.items place)) (sym (c.reslope_of.ensures.others (state_count m + place) (omega arith))) (c.requires.watched place h))
 
 pub returns-clause-fits : goal.returns-clause-fits
-returns-clause-fits g c = still_fits c.args.at.now.machine.now c.args.watched.now c.rewatch_of.new.self c.requires.fits c.rewatch_of.ensures.same c.rewatch_of.ensures.goes_on.as_many
+returns-clause-fits g c = still_fits c.args.at.now.taken.machine.now c.args.watched.now c.rewatch_of.new.self c.requires.fits c.rewatch_of.ensures.same c.rewatch_of.ensures.goes_on.as_many
 
 pub returns-clause-beyond : goal.returns-clause-beyond
 returns-clause-beyond g c place h =
