@@ -23,7 +23,7 @@ use Rattle.qss_lines.specs.declared.visiting.NewLevels.{NewLevels}
 use Rattle.qss_lines.specs.declared.visiting.NewSlopes.{NewSlopes}
 use Rattle.qss_lines.specs.declared.visiting.QuietLevels.{QuietLevels}
 use Rattle.qss_lines.specs.declared.weights.Weights.{Weights}
-use Rattle.qss_lines.specs.Variables.{AreAssignedFrom, AreWithin, AreSlopesOf}
+use Rattle.qss_lines.specs.Variables.{AreAssignedFrom, AreWithin, AreLevelsOf, AreSlopesOf}
 use Rattle.qss_lines.specs.StateLines.{states_at, states_with, line_at, AreLinesUpTo, MayMove}
 use Rattle.qss_lines.specs.Kept.{AreWeights, AreWeightsBefore}
 use Rattle.qss_lines.specs.RowSums.{sum_at, HadSums}
@@ -41,6 +41,12 @@ pub record AreNewLevels (at : NewLevels) : Type 0 where
   pub moved : AreNumbers (state_count at.machine.now) at.moved.now
   pub levels : length at.levels.now ≡ state_count at.machine.now
   pub small_levels : All (IsWithin 43) at.levels.now
+
+-- a machine's readers and numbers of its states, and new levels and discrete values within the limit
+pub record AreNewLevelsAt (at : NewLevels) (discretes : List ℤ) : Type 0 where
+  pub uses : at.uses.now ≡ uses_of at.machine.now
+  pub moved : AreNumbers (state_count at.machine.now) at.moved.now
+  pub values : AreLevelsOf at.machine.now at.levels.now discretes
 
 -- the sums of all rows at these levels and at discrete values
 abbrev pub new_sums : RowSum → NewLevels → List ℤ → List ℤ
@@ -127,12 +133,6 @@ pub record AreStatesOf (m : Machine) (x : List ℤ) : Type 0 where
   pub as_many : length x ≡ state_count m
   pub small : All (IsWithin 88) x
 
--- new levels, and a value of each discrete variable, within the limit
-pub record AreQuietLevels (at : QuietLevels) : Type 0 where
-  pub taken : AreNewLevels at.taken
-  pub discretes : length at.discretes.now ≡ discrete_count at.taken.machine.now
-  pub small_discretes : All (IsWithin 43) at.discretes.now
-
 -- the slopes of all rows there
 abbrev pub quiet_slopes : QuietLevels → List ℤ
 quiet_slopes at = new_slopes at.taken at.discretes.now
@@ -158,7 +158,7 @@ pub record HeldBefore (m : Machine) (tick : ℕ) (moved : List ℕ) (levels disc
 
 -- the moved states may go on at their new levels, and all states at their new slopes, from the slopes, the lines and the due ticks before, where no line was moved to the tick yet
 pub record CanReslope (at : QuietLevels) (slopes_old : List ℤ) (lines_old : List Line) (dues_old : List (Option ℕ)) : Type 0 where
-  pub new : AreQuietLevels at
+  pub new : AreNewLevelsAt at.taken at.discretes.now
   pub levels : AreLevelsFor at.taken.machine.now (states_at lines_old at.taken.tick) at.taken.levels.now at.discretes.now
   pub one_each : HasOneEach at.taken.machine.now slopes_old lines_old dues_old
   pub held : HeldBefore at.taken.machine.now at.taken.tick at.taken.moved.now at.taken.levels.now at.discretes.now slopes_old lines_old dues_old

@@ -16,7 +16,7 @@ ghost use Rattle.qss_lines.specs.Gatherings.{CanGather, AreGathered, MayGoOn, re
 ghost use Rattle.qss_lines.specs.StateLines.{line_at, GoesOnFrom};
 ghost use Rattle.qss_lines.specs.RowSums.{HasFollowed};
 ghost use Rattle.qss_lines.specs.declared.shifts.RowSum.TheVariants as sum;
-ghost use Rattle.qss_lines.specs.Visitings.{AreQuietLevels, CanGoOn, CanReslope, quiet_slopes, WereSums};
+ghost use Rattle.qss_lines.specs.Visitings.{AreNewLevelsAt, CanGoOn, CanReslope, quiet_slopes, WereSums};
 
 use crate::shifts::{RowSum, shift_rows};
 use crate::visiting::{Mode, NewSlopes, QuietLevels};
@@ -102,7 +102,7 @@ fn follow_level<L: Ledger>(
     touched: &mut Vec<u32>,
     steps: &mut Steps<L>,
 )
-    requires new { AreQuietLevels at.now }
+    requires new { AreNewLevelsAt at.now.taken at.now.discretes.now }
     requires state { state < state_count at.now.taken.machine.now }
     requires modes { (row : ℕ) → row < state_count at.now.taken.machine.now
         → mode_fits at.now.taken.machine.now.f (state_count at.now.taken.machine.now)
@@ -150,7 +150,7 @@ fn follow_levels<L: Ledger>(
     touched: &mut Vec<u32>,
     steps: &mut Steps<L>,
 )
-    requires new { AreQuietLevels at.now }
+    requires new { AreNewLevelsAt at.now.taken at.now.discretes.now }
     requires lines { length lines.old ≡ state_count at.now.taken.machine.now }
     requires before { WereSums sum.Slope at.now.taken at.now.discretes.now slopes.old
         lines.old }

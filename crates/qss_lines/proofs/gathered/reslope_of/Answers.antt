@@ -37,10 +37,10 @@ follow_levels-requires-clause-can g c =
 pub go_on_each-requires-clause-on : goal.go_on_each-requires-clause-on
 go_on_each-requires-clause-on g c = record {
   new = record {
-    uses = c.requires.ready.new.taken.uses;
-    moved = c.requires.ready.new.taken.moved;
-    levels = c.requires.ready.new.taken.levels;
-    small_levels = c.requires.ready.new.taken.small_levels;
+    uses = c.requires.ready.new.uses;
+    moved = c.requires.ready.new.moved;
+    levels = c.requires.ready.new.values.levels;
+    small_levels = c.requires.ready.new.values.small_levels;
   };
   slopes_of = record {
     as_many = c.follow_levels.auto.slopes ∙ c.requires.ready.one_each.slopes;

@@ -30,7 +30,7 @@ rewatch_of-requires-clause-ready g c =
         small = λ place h.
             subst IsSmall (sym (c.requires.watched place (omega (arith, h, fits.watches))).here)
             (value_small m (condition_at m place).form (states_at c.args.lines.now c.args.at.now.taken.tick) d c.args.at.now.taken.tick
-            (condition_bounded m all.branches.items fits.branches place (omega (arith, h, fits.watches, fits.branches.as_many))) c.requires.lines.small c.requires.ready.new.small_discretes
+            (condition_bounded m all.branches.items fits.branches place (omega (arith, h, fits.watches, fits.branches.as_many))) c.requires.lines.small c.requires.ready.new.values.small_discretes
             c.requires.lines.up_to.in_time);
       };
       slopes_of = record {
