@@ -300,7 +300,7 @@ module _ (m : Machine) (tick : ℕ) (levels before discretes slopes_old slopes :
             let same : int_at slopes_old k ≡ slope_at m k levels discretes =
             ap (λ xs. int_at xs k) were.own_sums ∙ int_at-tabulate (state_count m) (λ j. slope_at m j before discretes) k h
             ∙ sym (unread_slope m.f (row_at m k) moved before levels discretes (unread_at moved (row_at m k) (sym (among_readers m k h moved) ∙ parts.1)) were.levels.off) in
-            let own_level : (line_at old.lines k).level ≡ int_at levels k = were.levels.own_levels k h ∙ sym (were.levels.off.others k parts.0) in
+            let own_level : (line_at old.lines k).level ≡ int_at levels k = were.levels.of_lines.own_levels k h ∙ sym (were.levels.off.others k parts.0) in
             let line : line_at new.lines k ≡ line_at old.lines k = on.lines k none ∙ gathered.others k none in
             subst (λ (l : Line). GoesOnFrom m tick x (int_at levels k) (slope_at m k levels discretes) k l (due_at new.dues k)) (sym line)
             (subst (GoesOnFrom m tick x (int_at levels k) (slope_at m k levels discretes) k (line_at old.lines k)) (sym (on.dues k none))

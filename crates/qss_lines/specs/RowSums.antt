@@ -21,12 +21,16 @@ abbrev pub sum_at : RowSum → Machine → ℕ → List ℤ → List ℤ → ℤ
 sum_at Slope m j levels discretes = slope_at m j levels discretes
 sum_at Weight m j levels discretes = weight_at m j levels discretes
 
--- the levels before those of the moved states changed: within their limit, no row past its limits there, and the lines have them
+-- levels that the lines have, within their limit, and no row past its limits there
+pub record AreLevelsOfLines (m : Machine) (lines : List Line) (levels discretes : List ℤ) : Type 0 where
+  pub small : All (IsWithin 43) levels
+  pub light : position (is_overweight m levels discretes) m.rows ≡ None
+  pub own_levels : (j : ℕ) → j < state_count m → (line_at lines j).level ≡ int_at levels j
+
+-- the levels before those of the moved states changed, which the lines have
 pub record AreLevelsBefore (m : Machine) (moved : List ℕ) (new discretes : List ℤ) (lines : List Line) (old : List ℤ) : Type 0 where
   pub off : IsOff moved old new
-  pub small : All (IsWithin 43) old
-  pub light : position (is_overweight m old discretes) m.rows ≡ None
-  pub own_levels : (j : ℕ) → j < state_count m → (line_at lines j).level ≡ int_at old j
+  pub of_lines : AreLevelsOfLines m lines old discretes
 
 -- the levels before, and the sums of all rows there
 pub record AreSumsBefore (kind : RowSum) (m : Machine) (moved : List ℕ) (new discretes sums : List ℤ) (lines : List Line) (old : List ℤ) : Type 0 where

@@ -26,7 +26,7 @@ use Rattle.qss_lines.specs.declared.weights.Weights.{Weights}
 use Rattle.qss_lines.specs.Variables.{AreAssignedFrom, AreWithin, AreLevelsOf, AreSlopesOf}
 use Rattle.qss_lines.specs.StateLines.{states_at, states_with, line_at, AreLinesUpTo, MayMove}
 use Rattle.qss_lines.specs.Kept.{AreWeights, AreWeightsBefore}
-use Rattle.qss_lines.specs.RowSums.{sum_at, HadSums}
+use Rattle.qss_lines.specs.RowSums.{sum_at, AreLevelsOfLines, HadSums}
 
 -- discrete values of a machine within the limit, at which the mode coefficients of all rows are within theirs
 pub record IsMode (at : Mode) : Type 0 where
@@ -106,13 +106,11 @@ pub record CanRequantize (at : Arrival) (x levels_old : List ℤ) : Type 0 where
   pub small_states : (j : ℕ) → is_among at.moved.now j ≡ true → IsWithin 88 (int_at x j)
   pub small_levels : All (IsWithin 43) levels_old
 
--- levels of a machine's states that the lines have, within their limit, and the weights of all rows there and at discrete values, none past its limit
+-- a level of each state, which its line has, and the weights of all rows at these levels and at discrete values
 pub record HoldsLevels (m : Machine) (lines : List Line) (d levels_old : List ℤ) (weights_old : Weights) : Type 0 where
   pub levels : length levels_old ≡ state_count m
-  pub small_levels : All (IsWithin 43) levels_old
-  pub light : position (is_overweight m levels_old d) m.rows ≡ None
+  pub of_lines : AreLevelsOfLines m lines levels_old d
   pub weights : AreWeights m levels_old d weights_old
-  pub own_levels : (j : ℕ) → j < state_count m → (line_at lines j).level ≡ int_at levels_old j
 
 -- a machine's readers, a line of each state, numbers of states and of discrete variables, and values within the limits of which only those were assigned
 pub record IsHandledArrival (at : HandledArrival) : Type 0 where

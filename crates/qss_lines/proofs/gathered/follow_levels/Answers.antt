@@ -25,7 +25,7 @@ loop-state-init g c =
     let m = c.args.at.now.taken.machine.now in
     let d : List ℤ = c.args.at.now.discretes.now in
     let before = c.requires.before.1 in
-    let small = sums_small Slope m c.requires.before.0 d c.args.slopes.now before.levels.light before.own_sums in
+    let small = sums_small Slope m c.requires.before.0 d c.args.slopes.now before.levels.of_lines.light before.own_sums in
     record {
       own = λ old is j h. ap (λ xs. int_at xs j) is.own_sums ∙ get_or-map-range_with_len (λ k. sum_at Slope m k old d) 0 (state_count m) j j (pos 0) h (omega arith);
       as_many = ap length before.own_sums ∙ length-map-range_with_len (λ j. sum_at Slope m j c.requires.before.0 d) 0 (state_count m);
@@ -41,7 +41,7 @@ follow_level-requires-clause-state g c = c.requires.new.moved.below c.loop-state
 
 pub follow_level-requires-clause-modes : goal.follow_level-requires-clause-modes
 follow_level-requires-clause-modes g c row h =
-    (row_is_light c.args.at.now.taken.machine.now c.requires.before.0 c.args.at.now.discretes.now c.requires.before.1.levels.light row h).modes
+    (row_is_light c.args.at.now.taken.machine.now c.requires.before.0 c.args.at.now.discretes.now c.requires.before.1.levels.of_lines.light row h).modes
 
 pub follow_level-requires-clause-slopes : goal.follow_level-requires-clause-slopes
 follow_level-requires-clause-slopes g c = c.loop-state.invariant.as_many
@@ -73,7 +73,7 @@ loop-state-preserved g c =
     length-along (take i moved) levels old ∙ sym is.levels.off.as_many ∙ c.requires.new.values.levels in
     let written = λ (old : List ℤ) (is : AreSumsBefore Slope m moved levels d c.args.slopes.now c.args.lines.now old).
     let from : (line_at c.loop-state.lines state).level ≡ int_at (at old) state =
-    (inv.gathered.along state inside).same_level ∙ is.levels.own_levels state known
+    (inv.gathered.along state inside).same_level ∙ is.levels.of_lines.own_levels state known
     ∙ sym (along_other (take i moved) levels old state (not_before moved i c.requires.new.moved.rising c.loop-state-test.true)) in
     subst (λ (z : ℤ). IsWritten (pos 0) (HasFollowed Slope m state z (int_at levels state) d c.loop-state.slopes) (reading_rows m state) c.loop-state.slopes c.follow_level.new.slopes) from
     c.follow_level.ensures.slopes in

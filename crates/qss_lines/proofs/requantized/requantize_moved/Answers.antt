@@ -11,6 +11,9 @@ use Rattle.qss_quiet.proofs.Overs.{not_some, clash}
 use Rattle.qss_lines.proofs.FirstOvers.{over_sooner, over_later}
 use Rattle.qss_lines.proofs.requantized.requantize_moved.Goals as goal
 
+pub requantize_due-over-requires-clause-small_levels : goal.requantize_due-over-requires-clause-small_levels
+requantize_due-over-requires-clause-small_levels g c = c.requires.held.of_lines.small
+
 pub follow-requires-clause-before : goal.follow-requires-clause-before
 follow-requires-clause-before g c =
     let m = c.args.at.now.machine.now in
@@ -22,9 +25,11 @@ follow-requires-clause-before g c =
       record {
         levels = record {
           off = subst (IsOff c.args.at.now.moved.now old) (sym (c.requantize_due-over.ensures.taken.1.levels none)) c.requantize_due-over.ensures.taken.1.others;
-          small = c.requires.held.small_levels;
-          light = subst (λ (d : List ℤ). position (is_overweight m old d) m.rows ≡ None) (sym of_d) c.requires.held.light;
-          own_levels = c.requires.held.own_levels;
+          of_lines = record {
+            small = c.requires.held.of_lines.small;
+            light = subst (λ (d : List ℤ). position (is_overweight m old d) m.rows ≡ None) (sym of_d) c.requires.held.of_lines.light;
+            own_levels = c.requires.held.of_lines.own_levels;
+          };
         };
         own = subst (λ (d : List ℤ). AreWeights m old d c.args.weights.now) (sym of_d) c.requires.held.weights;
       },

@@ -25,7 +25,7 @@ pub loop-state-init : goal.loop-state-init
 loop-state-init c =
     let m = c.args.at.now.machine.now in
     let before = c.requires.before.1 in
-    let small = sums_small c.args.kind m c.requires.before.0 c.args.d.now c.args.sums.now before.levels.light before.own_sums in
+    let small = sums_small c.args.kind m c.requires.before.0 c.args.d.now c.args.sums.now before.levels.of_lines.light before.own_sums in
     record {
       own = λ old is j h. ap (λ xs. int_at xs j) is.own_sums ∙ get_or-map-range_with_len (λ k. sum_at c.args.kind m k old c.args.d.now) 0 (state_count m) j j (pos 0) h (omega arith);
       as_many = ap length before.own_sums ∙ length-map-range_with_len (λ j. sum_at c.args.kind m j c.requires.before.0 c.args.d.now) 0 (state_count m);
@@ -40,7 +40,7 @@ pub shift_rows-requires-clause-mode : goal.shift_rows-requires-clause-mode
 shift_rows-requires-clause-mode c = record {
   as_many = c.requires.discretes;
   small = c.requires.small_discretes;
-  fits = λ row h. (row_is_light c.args.at.now.machine.now c.requires.before.0 c.args.d.now c.requires.before.1.levels.light row h).modes;
+  fits = λ row h. (row_is_light c.args.at.now.machine.now c.requires.before.0 c.args.d.now c.requires.before.1.levels.of_lines.light row h).modes;
 }
 
 pub loop-state-preserved : goal.loop-state-preserved
@@ -69,7 +69,7 @@ loop-state-preserved c =
     let written = λ (old : List ℤ) (is : AreSumsBefore kind m c.args.at.now.moved.now levels c.args.d.now c.args.sums.now c.args.lines.now old).
     let to_old : to_z w64 (of_z w64 c.taken_level-old.result) ≡ taken_by kind (int_at (at old) state) =
     to_z-of_z w64 c.taken_level-old.result old_fits ∙ c.taken_level-old.ensures.value
-    ∙ ap (taken_by kind) (to_z-of_z w64 c.line.inside.level of_old ∙ line ∙ is.levels.own_levels state known
+    ∙ ap (taken_by kind) (to_z-of_z w64 c.line.inside.level of_old ∙ line ∙ is.levels.of_lines.own_levels state known
     ∙ sym (along_other (take i c.args.at.now.moved.now) levels old state (not_before c.args.at.now.moved.now i c.requires.ready.moved.rising c.loop-state-test.true))) in
     subst (λ (z : ℤ). IsWritten (pos 0) (HasFollowed kind m state (taken_by kind (int_at (at old) state)) z c.args.d.now c.loop-state.sums) (reading_rows m state) c.loop-state.sums c.shift_rows.new.sums)
     to_new

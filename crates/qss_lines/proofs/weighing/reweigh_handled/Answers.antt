@@ -35,7 +35,7 @@ least_reader-least-requires-clause-rows c var h =
     (omega (
       arith,
       many_after m c.args.at.now.moved.now c.args.left.now.assigned.now c.requires.before.0 c.args.at.now.levels.now c.args.left.now.before.now c.args.left.now.discretes.now c.shift_sums.new.sums c.weigh_readers.new.weights
-          c.requires.ready.levels c.requires.left.many_before c.requires.left.values.discretes c.requires.left.assigned.others before.levels.off before.levels.light c.shift_sums.ensures c.weigh_readers.ensures,
+          c.requires.ready.levels c.requires.left.many_before c.requires.left.values.discretes c.requires.left.assigned.others before.levels.off before.levels.of_lines.light c.shift_sums.ensures c.weigh_readers.ensures,
     ))
 
 pub least_reader-requires-clause-variables : goal.least_reader-requires-clause-variables
@@ -49,7 +49,7 @@ least_reader-requires-clause-rows c var h =
     (omega (
       arith,
       many_after m c.args.at.now.moved.now c.args.left.now.assigned.now c.requires.before.0 c.args.at.now.levels.now c.args.left.now.before.now c.args.left.now.discretes.now c.shift_sums.new.sums c.weigh_readers.new.weights
-          c.requires.ready.levels c.requires.left.many_before c.requires.left.values.discretes c.requires.left.assigned.others before.levels.off before.levels.light c.shift_sums.ensures c.weigh_readers.ensures,
+          c.requires.ready.levels c.requires.left.many_before c.requires.left.values.discretes c.requires.left.assigned.others before.levels.off before.levels.of_lines.light c.shift_sums.ensures c.weigh_readers.ensures,
     ))
 
 pub returns : goal.returns
@@ -74,13 +74,13 @@ returns c =
     subst (λ (rows : List ℕ). IsLeastPast after (flat_map (reading_rows m) moved ++ rows) c.least_reader.result) kept_assigned (c.least_reader.ensures (flat_map (reading_rows m) moved) first) in
     let over : c.least_reader.result ≡ position (is_overweight m levels d) m.rows =
     least_is m levels d after looked
-    (many_after m moved assigned old levels pre d c.shift_sums.new.sums after c.requires.ready.levels c.requires.left.many_before c.requires.left.values.discretes c.requires.left.assigned.others before.levels.off before.levels.light c.shift_sums.ensures c.weigh_readers.ensures)
-    (weighed_passes m moved assigned old levels pre d c.shift_sums.new.sums after c.requires.ready.levels c.requires.left.many_before c.requires.left.values.discretes c.requires.left.assigned.others before.levels.off before.levels.light c.shift_sums.ensures c.weigh_readers.ensures)
-    (others_light m moved assigned old levels pre d c.shift_sums.new.sums after c.requires.ready.levels c.requires.left.many_before c.requires.left.values.discretes c.requires.left.assigned.others before.levels.off before.levels.light c.shift_sums.ensures c.weigh_readers.ensures)
+    (many_after m moved assigned old levels pre d c.shift_sums.new.sums after c.requires.ready.levels c.requires.left.many_before c.requires.left.values.discretes c.requires.left.assigned.others before.levels.off before.levels.of_lines.light c.shift_sums.ensures c.weigh_readers.ensures)
+    (weighed_passes m moved assigned old levels pre d c.shift_sums.new.sums after c.requires.ready.levels c.requires.left.many_before c.requires.left.values.discretes c.requires.left.assigned.others before.levels.off before.levels.of_lines.light c.shift_sums.ensures c.weigh_readers.ensures)
+    (others_light m moved assigned old levels pre d c.shift_sums.new.sums after c.requires.ready.levels c.requires.left.many_before c.requires.left.values.discretes c.requires.left.assigned.others before.levels.off before.levels.of_lines.light c.shift_sums.ensures c.weigh_readers.ensures)
     c.least_reader.result both in
     record {
       over = over;
       weights = λ none.
-          all_weighed m moved assigned old levels pre d c.shift_sums.new.sums after c.requires.ready.levels c.requires.left.many_before c.requires.left.values.discretes c.requires.left.assigned.others before.levels.off before.levels.light c.shift_sums.ensures c.weigh_readers.ensures
+          all_weighed m moved assigned old levels pre d c.shift_sums.new.sums after c.requires.ready.levels c.requires.left.many_before c.requires.left.values.discretes c.requires.left.assigned.others before.levels.off before.levels.of_lines.light c.shift_sums.ensures c.weigh_readers.ensures
           (sym over ∙ none);
     }

@@ -39,12 +39,12 @@ returns-clause-over c =
     let many : length weights ≡ state_count m = ap length c.shift_sums.ensures ∙ length-map-range_with_len (λ j. weight_at m j levels d) 0 (state_count m) in
     let known : All (λ var. var < state_count m + discrete_count m) moved = λ k z h. omega (arith, c.requires.ready.moved.below k z h) in
     least_is m levels d weights (flat_map (reading_rows m) moved) many
-    (λ row h. passes_by_weight m row levels d (int_at weights row) (row_is_light m old d before.levels.light row h).modes
+    (λ row h. passes_by_weight m row levels d (int_at weights row) (row_is_light m old d before.levels.of_lines.light row h).modes
     (ap (λ (xs : List ℤ). int_at xs row) c.shift_sums.ensures ∙ int_at-tabulate (state_count m) (λ j. weight_at m j levels d) row h))
     (λ row h none.
     let inside : row < length m.rows = omega (arith, h, m.has_rows.one_each) in
     unread_overweight m (row_at m row) moved old levels d (unread_at moved (row_at m row) (sym (among_readers m row h moved) ∙ none)) before.levels.off
-    ∙ none_passes no_row (is_overweight m old d) m.rows before.levels.light row inside)
+    ∙ none_passes no_row (is_overweight m old d) m.rows before.levels.of_lines.light row inside)
     c.least_reader.result
     (subst (λ (rows : List ℕ). IsLeastPast weights rows c.least_reader.result) (rows_kept_all m c.args.at.now.uses.now c.requires.ready.uses moved known)
     (c.least_reader.ensures [] (least_none weights)))

@@ -128,13 +128,15 @@ requantize_handled-over-requires-clause-held g c =
     let stands = c.requires.taken.1.stands in
     record {
       levels = ap length c.as_mut_slice.ensures.value ∙ stands.fits.levels;
-      small_levels = subst (All (IsWithin 43)) (sym c.as_mut_slice.ensures.value) (levels_small m c.args.tick (record s { agenda = agenda }) stands);
-      light = ap (λ l. position (is_overweight m l new.pre) m.rows) c.as_mut_slice.ensures.value
-          ∙ ap (λ p. position (is_overweight m s.levels.items p) m.rows) of_pre ∙ stands.stands_for.left.light;
+      of_lines = record {
+        small = subst (All (IsWithin 43)) (sym c.as_mut_slice.ensures.value) (levels_small m c.args.tick (record s { agenda = agenda }) stands);
+        light = ap (λ l. position (is_overweight m l new.pre) m.rows) c.as_mut_slice.ensures.value
+            ∙ ap (λ p. position (is_overweight m s.levels.items p) m.rows) of_pre ∙ stands.stands_for.left.light;
+        own_levels = λ j inside.
+            ap (λ ls. (line_at ls j).level) c.as_slice-3.ensures.value ∙ (stands.stands_for.lines j inside).own_level ∙ ap (λ l. int_at l j) (sym c.as_mut_slice.ensures.value);
+      };
       weights = subst (λ p. AreWeights m c.as_mut_slice.result.now p s.weights) (sym of_pre)
           (subst (λ l. AreWeights m l s.work.d s.weights) (sym c.as_mut_slice.ensures.value) stands.own_weights);
-      own_levels = λ j inside.
-          ap (λ ls. (line_at ls j).level) c.as_slice-3.ensures.value ∙ (stands.stands_for.lines j inside).own_level ∙ ap (λ l. int_at l j) (sym c.as_mut_slice.ensures.value);
     }
 
 pub requantize_handled-over-requires-clause-room : goal.requantize_handled-over-requires-clause-room

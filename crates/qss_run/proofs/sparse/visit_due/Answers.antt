@@ -87,11 +87,13 @@ requantize_moved-over-requires-clause-held g c =
     let stands = c.requires.taken.1.stands in
     record {
       levels = ap length c.as_mut_slice-levels.ensures.value ∙ stands.fits.levels;
-      small_levels = subst (All (IsWithin 43)) (sym c.as_mut_slice-levels.ensures.value) (levels_small m c.args.tick (record s { agenda = c.requires.taken.0 }) stands);
-      light = ap (λ l. position (is_overweight m l s.work.d) m.rows) c.as_mut_slice-levels.ensures.value ∙ stands.stands_for.left.light;
+      of_lines = record {
+        small = subst (All (IsWithin 43)) (sym c.as_mut_slice-levels.ensures.value) (levels_small m c.args.tick (record s { agenda = c.requires.taken.0 }) stands);
+        light = ap (λ l. position (is_overweight m l s.work.d) m.rows) c.as_mut_slice-levels.ensures.value ∙ stands.stands_for.left.light;
+        own_levels = λ j inside.
+            ap (λ ls. (line_at ls j).level) c.as_slice.ensures.value ∙ (stands.stands_for.lines j inside).own_level ∙ ap (λ l. int_at l j) (sym c.as_mut_slice-levels.ensures.value);
+      };
       weights = subst (λ l. AreWeights m l s.work.d s.weights) (sym c.as_mut_slice-levels.ensures.value) stands.own_weights;
-      own_levels = λ j inside.
-          ap (λ ls. (line_at ls j).level) c.as_slice.ensures.value ∙ (stands.stands_for.lines j inside).own_level ∙ ap (λ l. int_at l j) (sym c.as_mut_slice-levels.ensures.value);
     }
 
 pub returns-then-is_some-clause-stepped : goal.returns-then-is_some-clause-stepped
