@@ -24,7 +24,7 @@ use Rattle.qss_lines.specs.declared.visiting.NewSlopes.{NewSlopes}
 use Rattle.qss_lines.specs.declared.visiting.QuietLevels.{QuietLevels}
 use Rattle.qss_lines.specs.declared.weights.Weights.{Weights}
 use Rattle.qss_lines.specs.Variables.{AreAssignedFrom, AreWithin, AreLevelsOf, AreSlopesOf}
-use Rattle.qss_lines.specs.StateLines.{states_at, states_with, line_at, AreLinesUpTo, MayMove}
+use Rattle.qss_lines.specs.StateLines.{states_at, states_with, line_at, AreLinesWithDue, MayMove}
 use Rattle.qss_lines.specs.Kept.{AreWeights, AreWeightsBefore}
 use Rattle.qss_lines.specs.RowSums.{sum_at, AreLevelsOfLines, HadSums}
 
@@ -78,23 +78,16 @@ pub record AreHandled (m : Machine) (left : Handled) : Type 0 where
   pub many_before : length left.before.now ≡ discrete_count m
   pub values : AreWithin m left.states.now left.discretes.now
 
--- a machine's readers, its lines up to a tick, and numbers of states
-pub record IsArrival (at : Arrival) : Type 0 where
-  pub uses : at.uses.now ≡ uses_of at.machine.now
-  pub lines : AreLinesUpTo at.machine.now at.tick at.lines.now
-  pub moved : AreNumbers (state_count at.machine.now) at.moved.now
-
 -- a state is at least the quantum away from its level
 abbrev pub HasLeft : Machine → ℕ → ℤ → ℤ → Type 0
 HasLeft m j state level = IsAway (level_unit m) state level (quantum_of m j level)
 
 -- the moved states may arrive at a tick of a run: along their lines they leave the quanta of these levels, and the others pass no limit, and are near these levels
 pub record CanArrive (at : Arrival) (levels : List ℤ) : Type 0 where
-  pub arrival : IsArrival at
+  pub uses : at.uses.now ≡ uses_of at.machine.now
+  pub lines : AreLinesWithDue at.machine.now at.tick at.lines.now at.moved.now
   pub moved_away : (j : ℕ) → is_among at.moved.now j ≡ true →
       HasLeft at.machine.now j (state_at (line_at at.lines.now j) at.tick) (int_at levels j)
-  pub others_small : (j : ℕ) → j < state_count at.machine.now → is_among at.moved.now j ≡ false →
-      IsWithin 88 (state_at (line_at at.lines.now j) at.tick)
   pub others_near : (j : ℕ) → j < state_count at.machine.now → is_among at.moved.now j ≡ false →
       is_near at.machine.now j (state_at (line_at at.lines.now j) at.tick) (int_at levels j) ≡ true
 

@@ -4,12 +4,11 @@ use Rattle.mu_num.specs.Sizes.{IsWithin}
 use Rattle.qss_machine.specs.declared.system.Machine.{Machine}
 use Rattle.qss_machine.specs.Machines.{state_count, truth}
 use Rattle.qss_machine.specs.Uses.{uses_of}
-use Rattle.qss_quant.specs.Lines.{state_at}
 use Rattle.qss_cross.specs.Crossing.{Watch, IsSmall, value_at, holds_at}
 use Rattle.qss_watch.specs.declared.conditions.Conditions.{Conditions}
 use Rattle.qss_watch.specs.declared.moment.Moment.{Moment}
 use Rattle.qss_watch.specs.declared.moment.Point.{Point}
-use Rattle.qss_lines.specs.StateLines.{line_at, states_at, AreLinesUpTo, AreLinesAt}
+use Rattle.qss_lines.specs.StateLines.{states_at, AreLinesAt, AreLinesWithDue}
 use Rattle.qss_watch.specs.Places.{watch_at, AreConditionsOf, HasPlaces, KnowsApart}
 use Rattle.qss_lines.specs.Variables.{AreSlopesOf, AreWithin}
 use Rattle.qss_machine.specs.Firing.{flag_at}
@@ -68,9 +67,7 @@ pub record KnowsArrival (at : Changing) (all : Conditions) (d : List ℤ) : Type
 -- the handlers of a tick may come, where these states are due and were taken out of the agenda: the others lead to states within the limit
 pub record CanHandle (at : Changing) (all : Conditions) (due : List ℕ) (work : Values) (dues : List (Option ℕ)) : Type 0 where
   pub known : KnowsArrival at all work.d
-  pub lines : AreLinesUpTo at.machine.now at.tick at.lines.now
-  pub others_small : (j : ℕ) → j < state_count at.machine.now → is_among due j ≡ false → IsWithin 88 (state_at (line_at at.lines.now j) at.tick)
+  pub lines : AreLinesWithDue at.machine.now at.tick at.lines.now due
   pub values : AreWithin at.machine.now work.x work.d
-  pub moved : AreNumbers (state_count at.machine.now) due
   pub places : state_count at.machine.now ≤ length dues
   pub taken : IsTakenFrom at.tick due dues

@@ -14,6 +14,17 @@ use Rattle.qss_lines.proofs.requantized.requantize_moved.Goals as goal
 pub requantize_due-over-requires-clause-small_levels : goal.requantize_due-over-requires-clause-small_levels
 requantize_due-over-requires-clause-small_levels g c = c.requires.held.of_lines.small
 
+pub follow-requires-clause-ready : goal.follow-requires-clause-ready
+follow-requires-clause-ready g c = record {
+  uses = c.requires.ready.uses;
+  moved = c.requires.ready.lines.numbers;
+  levels = c.requantize_due-over.auto.levels ∙ c.requires.held.levels;
+  small_levels = c.requantize_due-over.ensures.small (not_some c.requantize_due-over.result (sym c.is_some.ensures ∙ c.if-is_some.false));
+}
+
+pub follow-requires-clause-lines : goal.follow-requires-clause-lines
+follow-requires-clause-lines g c = c.requires.ready.lines.up_to.as_many
+
 pub follow-requires-clause-before : goal.follow-requires-clause-before
 follow-requires-clause-before g c =
     let m = c.args.at.now.machine.now in

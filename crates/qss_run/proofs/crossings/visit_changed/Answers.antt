@@ -66,16 +66,18 @@ handle-over-requires-clause-ready g c =
             (ap (λ ls. truth m (condition_at m place) (states_at ls t) s.work.d t) c.as_slice.ensures.value ∙ both.0, both.1);
       };
       lines = record {
-        as_many = ap length c.as_slice.ensures.value ∙ fits.lines;
-        later = λ j h.
-            let not_later = (taken.stands.stands_for.lines j (omega (arith, h, ap length c.as_slice.ensures.value, fits.lines))).not_later in
-            omega (arith, ap (λ ls. (line_at ls j).tick) c.as_slice.ensures.value, not_later);
-        in_time = omega (arith, c.requires.in_time, m.has_units.last_tick);
+        up_to = record {
+          as_many = ap length c.as_slice.ensures.value ∙ fits.lines;
+          later = λ j h.
+              let not_later = (taken.stands.stands_for.lines j (omega (arith, h, ap length c.as_slice.ensures.value, fits.lines))).not_later in
+              omega (arith, ap (λ ls. (line_at ls j).tick) c.as_slice.ensures.value, not_later);
+          in_time = omega (arith, c.requires.in_time, m.has_units.last_tick);
+        };
+        numbers = taken.due.numbers;
+        others_small = λ j h none.
+            subst (λ ls. IsWithin 88 (state_at (line_at ls j) t)) (sym c.as_slice.ensures.value) (rest_small m c.args.tick agenda s taken c.requires.in_time j h none);
       };
-      others_small = λ j h none.
-          subst (λ ls. IsWithin 88 (state_at (line_at ls j) t)) (sym c.as_slice.ensures.value) (rest_small m c.args.tick agenda s taken c.requires.in_time j h none);
       values = fits.values;
-      moved = taken.due.numbers;
       places = omega (arith, taken.without.as_many, fits.places);
       taken = record { later = later_dues m c.args.tick agenda s taken c.requires.in_time; none = taken.without.states };
     }

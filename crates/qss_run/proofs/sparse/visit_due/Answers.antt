@@ -50,24 +50,24 @@ requantize_moved-over-requires-clause-ready g c =
     let taken = c.requires.taken.1 in
     let fits = taken.stands.fits in
     record {
-      arrival = record {
-        uses = fits.uses;
-        lines = record {
+      uses = fits.uses;
+      lines = record {
+        up_to = record {
           as_many = ap length c.as_slice.ensures.value ∙ fits.lines;
           later = λ j h.
               let not_later = (taken.stands.stands_for.lines j (omega (arith, h, ap length c.as_slice.ensures.value, fits.lines))).not_later in
               omega (arith, ap (λ ls. (line_at ls j).tick) c.as_slice.ensures.value, not_later);
           in_time = omega (arith, c.requires.in_time, m.has_units.last_tick);
         };
-        moved = subst (AreNumbers (state_count m)) (sym c.as_slice-2.ensures.value) taken.due.numbers;
+        numbers = subst (AreNumbers (state_count m)) (sym c.as_slice-2.ensures.value) taken.due.numbers;
+        others_small = λ j h none.
+            subst (λ ls. IsWithin 88 (state_at (line_at ls j) t)) (sym c.as_slice.ensures.value)
+            (rest_small m c.args.tick agenda s taken c.requires.in_time j h (ap (λ l. is_among l j) (sym c.as_slice-2.ensures.value) ∙ none));
       };
       moved_away = λ j among.
           subst (λ ls. HasLeft m j (state_at (line_at ls j) t) (int_at c.as_mut_slice-levels.result.now j)) (sym c.as_slice.ensures.value)
           (subst (λ l. HasLeft m j (state_at (line_at s.lines.items j) t) (int_at l j)) (sym c.as_mut_slice-levels.ensures.value)
           (due_left m c.args.tick agenda s taken c.requires.in_time j (ap (λ l. is_among l j) (sym c.as_slice-2.ensures.value) ∙ among)));
-      others_small = λ j h none.
-          subst (λ ls. IsWithin 88 (state_at (line_at ls j) t)) (sym c.as_slice.ensures.value)
-          (rest_small m c.args.tick agenda s taken c.requires.in_time j h (ap (λ l. is_among l j) (sym c.as_slice-2.ensures.value) ∙ none));
       others_near = λ j h none.
           ap (λ ls. is_near m j (state_at (line_at ls j) t) (int_at c.as_mut_slice-levels.result.now j)) c.as_slice.ensures.value
           ∙ ap (λ l. is_near m j (state_at (line_at s.lines.items j) t) (int_at l j)) c.as_mut_slice-levels.ensures.value

@@ -28,14 +28,24 @@ use Rattle.qss_watch.proofs.OwnConditions.{arrived_anew}
 use Rattle.qss_lines.proofs.InPlace.{same_length}
 use Rattle.qss_watch.proofs.conditions.Conditions.handle.Goals as goal
 
+pub arrive_moved-passed-requires-clause-as_many : goal.arrive_moved-passed-requires-clause-as_many
+arrive_moved-passed-requires-clause-as_many c = c.requires.ready.values.states ∙ sym c.requires.ready.lines.up_to.as_many
+
+pub arrive_moved-passed-requires-clause-later : goal.arrive_moved-passed-requires-clause-later
+arrive_moved-passed-requires-clause-later c = c.requires.ready.lines.up_to.later
+
+pub arrive_moved-passed-requires-clause-in_time : goal.arrive_moved-passed-requires-clause-in_time
+arrive_moved-passed-requires-clause-in_time c = c.requires.ready.lines.up_to.in_time
+
 pub arrive_moved-passed-requires-clause-moved : goal.arrive_moved-passed-requires-clause-moved
 arrive_moved-passed-requires-clause-moved c =
     let ready = c.requires.ready in
-    subst (λ n. AreNumbers n c.as_slice.result.now) (sym ready.lines.as_many) (subst (AreNumbers (state_count c.args.at.now.machine.now)) (sym c.as_slice.ensures.value) ready.moved)
+    subst (λ n. AreNumbers n c.as_slice.result.now) (sym ready.lines.up_to.as_many)
+    (subst (AreNumbers (state_count c.args.at.now.machine.now)) (sym c.as_slice.ensures.value) ready.lines.numbers)
 
 pub arrive_moved-passed-requires-clause-others_small : goal.arrive_moved-passed-requires-clause-others_small
 arrive_moved-passed-requires-clause-others_small c j h none =
-    c.requires.ready.others_small j (omega (arith, h, c.requires.ready.lines.as_many)) (ap (λ js. is_among js j) (sym c.as_slice.ensures.value) ∙ none)
+    c.requires.ready.lines.others_small j (omega (arith, h, c.requires.ready.lines.up_to.as_many)) (ap (λ js. is_among js j) (sym c.as_slice.ensures.value) ∙ none)
 
 pub returns-then-is_some-clause-over : goal.returns-then-is_some-clause-over
 returns-then-is_some-clause-over c =
@@ -65,6 +75,9 @@ list_fired-requires-clause-small c =
     let calm : first_past 88 x ≡ None = sym c.arrive_moved-passed.ensures.over ∙ not_some c.arrive_moved-passed.result (sym c.is_some.ensures ∙ c.if-is_some.false) in
     subst (AreSmallAt c.args.at.now.tick) (sym c.as_slice-watches.ensures.value) (small_then c.args.at.now c.args.self.now c.args.work.now.d c.requires.ready.known (all_within 88 x calm))
 
+pub list_fired-requires-clause-in_time : goal.list_fired-requires-clause-in_time
+list_fired-requires-clause-in_time c = omega (arith, c.requires.ready.lines.up_to.in_time)
+
 pub read_changed-requires-clause-watches : goal.read_changed-requires-clause-watches
 read_changed-requires-clause-watches c =
     ap length c.as_slice-watches.ensures.value ∙ c.requires.ready.known.fits.watches ∙ sym (ap length c.as_slice-settled.ensures.value ∙ c.requires.ready.known.fits.settled)
@@ -91,6 +104,9 @@ read_changed-requires-clause-small c =
     let calm : first_past 88 x ≡ None = sym c.arrive_moved-passed.ensures.over ∙ not_some c.arrive_moved-passed.result (sym c.is_some.ensures ∙ c.if-is_some.false) in
     subst (AreSmallAt c.args.at.now.tick) (sym c.as_slice-watches.ensures.value) (small_then c.args.at.now c.args.self.now c.args.work.now.d c.requires.ready.known (all_within 88 x calm))
 
+pub read_changed-requires-clause-in_time : goal.read_changed-requires-clause-in_time
+read_changed-requires-clause-in_time c = omega (arith, c.requires.ready.lines.up_to.in_time)
+
 pub handle_fired-over-requires-clause-branches : goal.handle_fired-over-requires-clause-branches
 handle_fired-over-requires-clause-branches c =
     subst (AreBranches c.args.at.now.machine.now) (sym c.as_slice-branches.ensures.value) c.requires.ready.known.fits.branches
@@ -108,7 +124,7 @@ handle_fired-over-requires-clause-lines c =
     let ready = c.requires.ready in
     let x : List ℤ = states_at c.args.at.now.lines.now c.args.at.now.tick in
     let calm : first_past 88 x ≡ None = sym c.arrive_moved-passed.ensures.over ∙ not_some c.arrive_moved-passed.result (sym c.is_some.ensures ∙ c.if-is_some.false) in
-    record { up_to = ready.lines; small = all_within 88 x calm }
+    record { up_to = ready.lines.up_to; small = all_within 88 x calm }
 
 pub handle_fired-over-requires-clause-values : goal.handle_fired-over-requires-clause-values
 handle_fired-over-requires-clause-values c =
@@ -135,6 +151,9 @@ returns-then-is_some-2-clause-over c =
     c.arrive_moved-passed.new.work.d c.as_slice-2.result.now calm (ap (λ (v : Values). v.d) c.arrive_moved-passed.ensures.work) (c.as_slice-2.ensures.value ∙ c.list_fired.ensures.fired) in
     c.handle_fired-over.ensures.over ∙ ap (λ (h : Handling). h.overflow) same
 
+pub join_reinitialized-requires-clause-moved : goal.join_reinitialized-requires-clause-moved
+join_reinitialized-requires-clause-moved c = subst (λ n. AreNumbers n c.args.moved.now.items) (sym (ap length c.as_slice-3.ensures)) c.requires.ready.lines.numbers
+
 pub join_reinitialized-requires-clause-known : goal.join_reinitialized-requires-clause-known
 join_reinitialized-requires-clause-known c =
     let ready = c.requires.ready in
@@ -151,7 +170,7 @@ join_reinitialized-requires-clause-known c =
     let log : c.as_slice-log.result.now ≡ done.rows =
     c.as_slice-log.ensures.value ∙ ap (λ (v : Values). v.log) c.work.view_is ∙ ap (λ (v : Values). v.log) (c.handle_fired-over.ensures.work none) in
     λ j e. subst (λ n. j < n) (sym (ap length c.as_slice-3.ensures))
-    (known_states m tick lines c.args.moved.now.items c.as_slice-2.result.now c.args.work.now begun c.handle_fired-over.new.work ready.lines.as_many calm came j (subst (λ rows. is_reinitialized rows j ≡ true) log e))
+    (known_states m tick lines c.args.moved.now.items c.as_slice-2.result.now c.args.work.now begun c.handle_fired-over.new.work ready.lines.up_to.as_many calm came j (subst (λ rows. is_reinitialized rows j ≡ true) log e))
 
 pub list_assigned-requires : goal.list_assigned-requires
 list_assigned-requires c =
@@ -201,7 +220,7 @@ returns-clause-handled c =
     let did = c.handle_fired-over.ensures in
     let listed : c.list_assigned.new.assigned.items ≡ assigned_of done.rows = c.list_assigned.ensures.assigned ∙ ap assigned_of log in
     λ e. subst (IsHandled m tick lines c.args.moved.now.items c.join_reinitialized.new.moved.items c.list_assigned.new.assigned.items c.args.work.now c.handle_fired-over.new.work) same
-    (subst (λ assigned. IsHandled m tick lines c.args.moved.now.items c.join_reinitialized.new.moved.items assigned c.args.work.now c.handle_fired-over.new.work done) (sym listed) (is_handled m tick lines c.args.moved.now.items c.as_slice-2.result.now c.args.work.now begun c.handle_fired-over.new.work ready.lines.as_many calm came
+    (subst (λ assigned. IsHandled m tick lines c.args.moved.now.items c.join_reinitialized.new.moved.items assigned c.args.work.now c.handle_fired-over.new.work done) (sym listed) (is_handled m tick lines c.args.moved.now.items c.as_slice-2.result.now c.args.work.now begun c.handle_fired-over.new.work ready.lines.up_to.as_many calm came
     c.arrive_moved-passed.ensures.work (did.work none) (did.many none) (did.arrived none) (did.reinitialized none) c.join_reinitialized.new.moved.items
     (λ j. c.join_reinitialized.ensures.each j ∙ ap (λ (rows : List Row). is_among c.args.moved.now.items j || is_reinitialized rows j) log)
     (did.fits none) (subst (λ n. AreNumbers n c.join_reinitialized.new.moved.items) (ap length c.as_slice-3.ensures) c.join_reinitialized.ensures.numbers)))
