@@ -113,10 +113,12 @@ pub record IsHandledArrival (at : HandledArrival) : Type 0 where
   pub assigned : AreAssignedFrom at.machine.now at.assigned.now at.work.now.pre at.work.now.d
   pub fits : AreValuesOf at.machine.now at.work.now
 
--- a machine's states may go on at their new levels and slopes
-pub record CanGoOn (at : NewSlopes) : Type 0 where
+-- a machine's states may go on at their new levels and slopes, each with a line and a place in an agenda
+pub record CanGoOn (at : NewSlopes) (lines_old : List Line) (dues_old : List (Option ℕ)) : Type 0 where
   pub new : AreNewLevels at.taken
   pub slopes_of : AreSlopesOf at.taken.machine.now at.slopes.now
+  pub lines : length lines_old ≡ state_count at.taken.machine.now
+  pub places : state_count at.taken.machine.now ≤ length dues_old
   pub in_time : at.taken.tick ≤ tick_limit
 
 -- a value of each state, within the limit

@@ -197,10 +197,8 @@ fn go_on_as(m: &Machine, j: u32, here: &Integrator, line: &mut Integrator, agend
 
 // A state goes on from a tick at its level and its slope, from where its line leads.
 fn go_on(at: &NewSlopes, j: u32, lines: &mut [Integrator], agenda: &mut Agenda)
-    requires on { CanGoOn at.now }
+    requires on { CanGoOn at.now lines.old agenda.old }
     requires state { j < state_count at.now.taken.machine.now }
-    requires lines { length lines.old ≡ state_count at.now.taken.machine.now }
-    requires places { state_count at.now.taken.machine.now ≤ length agenda.old }
     requires ready { MayGoOn at.now.taken.machine.now at.now.taken.tick j
         (int_at at.now.taken.levels.now j) (line_at lines.old j) }
     ensures goes_on { GoesOnFrom at.now.taken.machine.now at.now.taken.tick
@@ -227,10 +225,8 @@ fn go_on(at: &NewSlopes, j: u32, lines: &mut [Integrator], agenda: &mut Agenda)
 
 // These states go on from a tick at their levels and slopes, from where their lines lead.
 fn go_on_each(at: &NewSlopes, states: &[u32], lines: &mut [Integrator], agenda: &mut Agenda)
-    requires on { CanGoOn at.now }
+    requires on { CanGoOn at.now lines.old agenda.old }
     requires states { All (λ j. j < state_count at.now.taken.machine.now) states.now }
-    requires lines { length lines.old ≡ state_count at.now.taken.machine.now }
-    requires places { state_count at.now.taken.machine.now ≤ length agenda.old }
     requires ready { (j : ℕ) → j < state_count at.now.taken.machine.now
         → MayGoOn at.now.taken.machine.now at.now.taken.tick j (int_at at.now.taken.levels.now j)
         (line_at lines.old j) }

@@ -123,10 +123,8 @@ fn seat<L: Ledger>(
     steps: &mut Steps<L>,
 )
     requires state { j < state_count at.now.taken.machine.now }
-    requires on { CanGoOn at.now }
+    requires on { CanGoOn at.now lines.old agenda.old }
     requires states { AreStatesOf at.now.taken.machine.now x.now }
-    requires lines { length lines.old ≡ state_count at.now.taken.machine.now }
-    requires places { state_count at.now.taken.machine.now ≤ length agenda.old }
     requires later { (line_at lines.old j).tick ≤ at.now.taken.tick }
     requires small { IsWithin 89 (state_at (line_at lines.old j) at.now.taken.tick) }
     requires near { IsNear (level_unit at.now.taken.machine.now) (int_at x.now j)
@@ -171,10 +169,8 @@ fn seat_each<L: Ledger>(
     agenda: &mut Agenda,
     steps: &mut Steps<L>,
 )
-    requires on { CanGoOn at.now }
+    requires on { CanGoOn at.now lines.old agenda.old }
     requires states { AreStatesOf at.now.taken.machine.now x.now }
-    requires lines { length lines.old ≡ state_count at.now.taken.machine.now }
-    requires places { state_count at.now.taken.machine.now ≤ length agenda.old }
     requires may_move { MayMove at.now.taken.tick lines.old }
     requires near { (j : ℕ) → is_among at.now.taken.moved.now j ≡ true
         → IsNear (level_unit at.now.taken.machine.now) (int_at x.now j)

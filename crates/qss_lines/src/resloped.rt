@@ -1,6 +1,6 @@
 //! Lines at new slopes, of states whose rows read a variable that changed.
 
-ghost use Rattle.std.specs.Prelude.{◌≡◌, ℕ, ◌+◌, ◌<◌, ◌≤◌, All, length, true, flat_map};
+ghost use Rattle.std.specs.Prelude.{◌≡◌, ℕ, ◌+◌, ◌<◌, All, length, true, flat_map};
 ghost use Rattle.qss_machine.specs.Numbers.{int_at};
 ghost use Rattle.qss_machine.specs.Machines.{state_count, discrete_count};
 ghost use Rattle.qss_machine.specs.Uses.{reading_rows};
@@ -26,9 +26,7 @@ fn reslope_state<L: Ledger>(
     steps: &mut Steps<L>,
 )
     requires state { j < state_count at.now.taken.machine.now }
-    requires on { CanGoOn at.now }
-    requires lines { length lines.old ≡ state_count at.now.taken.machine.now }
-    requires places { state_count at.now.taken.machine.now ≤ length agenda.old }
+    requires on { CanGoOn at.now lines.old agenda.old }
     requires ready { MayReslope at.now.taken.machine.now at.now.taken.tick
         (int_at at.now.taken.levels.now j) (int_at at.now.slopes.now j)
         j (line_at lines.old j) (due_at agenda.old j) }
@@ -72,9 +70,7 @@ fn reslope_each<L: Ledger>(
     steps: &mut Steps<L>,
 )
     requires states { All (λ j. j < state_count at.now.taken.machine.now) states.now }
-    requires on { CanGoOn at.now }
-    requires lines { length lines.old ≡ state_count at.now.taken.machine.now }
-    requires places { state_count at.now.taken.machine.now ≤ length agenda.old }
+    requires on { CanGoOn at.now lines.old agenda.old }
     requires ready { (j : ℕ) → j < state_count at.now.taken.machine.now
         → MayReslope at.now.taken.machine.now at.now.taken.tick (int_at at.now.taken.levels.now j)
         (int_at at.now.slopes.now j) j (line_at lines.old j) (due_at agenda.old j) }
@@ -105,9 +101,7 @@ pub(crate) fn reslope_readers<L: Ledger>(
     requires variables { All
         (λ var. var < state_count at.now.taken.machine.now
         + discrete_count at.now.taken.machine.now) variables.now }
-    requires on { CanGoOn at.now }
-    requires lines { length lines.old ≡ state_count at.now.taken.machine.now }
-    requires places { state_count at.now.taken.machine.now ≤ length agenda.old }
+    requires on { CanGoOn at.now lines.old agenda.old }
     requires ready { (j : ℕ) → j < state_count at.now.taken.machine.now
         → MayReslope at.now.taken.machine.now at.now.taken.tick (int_at at.now.taken.levels.now j)
         (int_at at.now.slopes.now j) j (line_at lines.old j) (due_at agenda.old j) }

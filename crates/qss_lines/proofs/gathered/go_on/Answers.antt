@@ -24,7 +24,7 @@ go_on_as-requires-clause-near c =
     let small_level : IsWithin 43 level = c.requires.on.new.small_levels j (pos 0) (omega (arith, c.requires.on.new.levels, c.requires.state)) in
     let of_level : FitsSigned w64 level = omega (arith, ints, small_level) in
     let of_x : FitsSigned w128 c.value_at-x.result = record { sfits = c.value_at-x.type_inv } in
-    let inside : j < length lines = omega (arith, c.requires.lines, c.requires.state) in
+    let inside : j < length lines = omega (arith, c.requires.on.lines, c.requires.state) in
     let read : get_or lines j c.index-lines-j.result ≡ line_at lines j = get_or_default lines j c.index-lines-j.result no_line inside in
     let x : to_z w128 (of_z w128 c.value_at-x.result) ≡ state_at (line_at lines j) tick =
     to_z-of_z w128 c.value_at-x.result of_x ∙ c.value_at-x.ensures ∙ ap (λ (l : Line). state_at l tick) read in
@@ -42,7 +42,7 @@ returns-clause-goes_on c =
     let small_slope : IsWithin 88 (int_at c.args.at.now.slopes.now j) = c.requires.on.slopes_of.small j (pos 0) (omega (arith, c.requires.on.slopes_of.as_many, c.requires.state)) in
     let slope : FitsSigned w128 (int_at c.args.at.now.slopes.now j) = omega (arith, ints, small_slope) in
     let x : FitsSigned w128 c.value_at-x.result = record { sfits = c.value_at-x.type_inv } in
-    let inside : j < length lines = omega (arith, c.requires.lines, c.requires.state) in
+    let inside : j < length lines = omega (arith, c.requires.on.lines, c.requires.state) in
     let read : get_or lines j c.index-lines-j.result ≡ line_at lines j = get_or_default lines j c.index-lines-j.result no_line inside in
     let goes_on = c.go_on_as.ensures.goes_on in
     subst (λ (l : Line). GoesOnFrom m tick (state_at (line_at lines j) tick) (int_at c.args.at.now.taken.levels.now j) (int_at c.args.at.now.slopes.now j) j l (due_at c.go_on_as.new.agenda j))

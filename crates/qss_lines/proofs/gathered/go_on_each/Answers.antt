@@ -7,6 +7,7 @@ use Rattle.qss_machine.specs.Numbers.{int_at}
 use Rattle.qss_quant.specs.Lines.{state_at, IsNear}
 use Rattle.qss_lines.specs.StateLines.{line_at}
 use Rattle.qss_lines.specs.Reslopings.{Courses}
+use Rattle.qss_lines.proofs.GoingOn.{still_on}
 use Rattle.qss_lines.proofs.Gathering.{AreOn, none_on, still_there, still_not_later, on_more}
 use Rattle.qss_lines.proofs.gathered.go_on_each.Goals as goal
 
@@ -16,11 +17,9 @@ loop-j-init c = record { on = none_on c.args.at.now.taken.machine.now c.args.at.
 pub go_on-requires-clause-state : goal.go_on-requires-clause-state
 go_on-requires-clause-state c = c.requires.states c.loop-j.j-index 0 c.loop-j-test.true
 
-pub go_on-requires-clause-lines : goal.go_on-requires-clause-lines
-go_on-requires-clause-lines c = omega (arith, c.loop-j.auto.lines, c.requires.lines)
-
-pub go_on-requires-clause-places : goal.go_on-requires-clause-places
-go_on-requires-clause-places c = omega (arith, c.loop-j.invariant.on.places, c.requires.places)
+pub go_on-requires-clause-on : goal.go_on-requires-clause-on
+go_on-requires-clause-on c =
+    still_on c.args.at.now c.args.lines.now c.loop-j.lines c.args.agenda.now c.loop-j.agenda c.requires.on (omega (arith, c.loop-j.auto.lines)) c.loop-j.invariant.on.places
 
 pub go_on-requires-clause-ready : goal.go_on-requires-clause-ready
 go_on-requires-clause-ready c =

@@ -47,6 +47,8 @@ go_on_each-requires-clause-on g c = record {
     small = slopes_small c.args.at.now.taken.machine.now c.args.at.now.taken.levels.now c.args.at.now.discretes.now c.args.at.now.discretes.now c.follow_levels.new.slopes c.requires.ready.levels.light refl
         c.follow_levels.ensures.slopes;
   };
+  lines = c.follow_levels.auto.lines ∙ c.requires.ready.one_each.lines;
+  places = c.requires.ready.one_each.places;
   in_time = c.requires.ready.held.may_move.in_time;
 }
 
@@ -54,12 +56,6 @@ pub go_on_each-requires-clause-states : goal.go_on_each-requires-clause-states
 go_on_each-requires-clause-states g c =
     subst (All (λ j. j < state_count c.args.at.now.taken.machine.now)) (sym c.as_slice.ensures.value)
     (λ i d h. let known = c.follow_levels.ensures.can.below i d h in omega (arith, known, c.follow_levels.auto.lines, c.requires.ready.one_each.lines))
-
-pub go_on_each-requires-clause-lines : goal.go_on_each-requires-clause-lines
-go_on_each-requires-clause-lines g c = c.follow_levels.auto.lines ∙ c.requires.ready.one_each.lines
-
-pub go_on_each-requires-clause-places : goal.go_on_each-requires-clause-places
-go_on_each-requires-clause-places g c = c.requires.ready.one_each.places
 
 pub go_on_each-requires-clause-ready : goal.go_on_each-requires-clause-ready
 go_on_each-requires-clause-ready g c j h =

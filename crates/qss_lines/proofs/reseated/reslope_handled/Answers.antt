@@ -25,6 +25,8 @@ seat_each-requires-clause-on g c = record {
     as_many = c.follow_slopes.auto.slopes ∙ c.requires.one_each.slopes;
     small = slopes_small c.args.at.now.machine.now c.args.at.now.levels.now c.args.left.now.discretes.now c.args.left.now.discretes.now c.follow_slopes.new.slopes c.requires.levels.light refl c.follow_slopes.ensures;
   };
+  lines = c.requires.one_each.lines;
+  places = c.requires.one_each.places;
   in_time = c.requires.held.may_move.in_time;
 }
 
@@ -49,6 +51,8 @@ reslope_readers-requires-clause-on g c = record {
     as_many = c.follow_slopes.auto.slopes ∙ c.requires.one_each.slopes;
     small = slopes_small c.args.at.now.machine.now c.args.at.now.levels.now c.args.left.now.discretes.now c.args.left.now.discretes.now c.follow_slopes.new.slopes c.requires.levels.light refl c.follow_slopes.ensures;
   };
+  lines = c.seat_each.auto.lines ∙ c.requires.one_each.lines;
+  places = omega (arith, c.seat_each.ensures.places, c.requires.one_each.places);
   in_time = c.requires.held.may_move.in_time;
 }
 
@@ -72,6 +76,8 @@ reslope_readers-requires-2-clause-on g c = record {
     as_many = c.follow_slopes.auto.slopes ∙ c.requires.one_each.slopes;
     small = slopes_small c.args.at.now.machine.now c.args.at.now.levels.now c.args.left.now.discretes.now c.args.left.now.discretes.now c.follow_slopes.new.slopes c.requires.levels.light refl c.follow_slopes.ensures;
   };
+  lines = c.reslope_readers.auto.lines ∙ c.seat_each.auto.lines ∙ c.requires.one_each.lines;
+  places = omega (arith, c.reslope_readers.ensures.resloped.as_many, c.seat_each.ensures.places, c.requires.one_each.places);
   in_time = c.requires.held.may_move.in_time;
 }
 

@@ -27,7 +27,7 @@ returns-clause-goes_on g c =
     let slope : FitsSigned w128 (int_at c.args.at.now.slopes.now j) = omega (arith, ints, small_slope) in
     let goes_on = c.reseat.ensures.goes_on in
     subst (λ (l : Line). GoesOnFrom m c.args.at.now.taken.tick (int_at c.args.x.now j) (int_at c.args.at.now.taken.levels.now j) (int_at c.args.at.now.slopes.now j) j l (due_at c.reseat.new.agenda j))
-    (sym (get_or-set_same c.args.lines.now j c.reseat.new.line no_line (omega (arith, c.requires.lines, c.requires.state))))
+    (sym (get_or-set_same c.args.lines.now j c.reseat.new.line no_line (omega (arith, c.requires.on.lines, c.requires.state))))
     (record {
       not_later = goes_on.not_later;
       here = goes_on.here ∙ to_z-of_z w128 (int_at c.args.x.now j) x;
@@ -45,7 +45,7 @@ returns-clause-kept g c so =
     let level : FitsSigned w64 (int_at c.args.at.now.taken.levels.now j) = omega (arith, ints, small_level) in
     let small_slope : IsWithin 88 (int_at c.args.at.now.slopes.now j) = c.requires.on.slopes_of.small j (pos 0) (omega (arith, c.requires.on.slopes_of.as_many, c.requires.state)) in
     let slope : FitsSigned w128 (int_at c.args.at.now.slopes.now j) = omega (arith, ints, small_slope) in
-    let inside : j < length c.args.lines.now = omega (arith, c.requires.lines, c.requires.state) in
+    let inside : j < length c.args.lines.now = omega (arith, c.requires.on.lines, c.requires.state) in
     let old : Line = get_or c.args.lines.now j c.index-lines-j.result in
     let read : old ≡ line_at c.args.lines.now j = get_or_default c.args.lines.now j c.index-lines-j.result no_line inside in
     get_or-set_same c.args.lines.now j c.reseat.new.line no_line inside
@@ -62,7 +62,7 @@ returns-clause-counted g c states at =
     let level : FitsSigned w64 (int_at c.args.at.now.taken.levels.now j) = omega (arith, ints, small_level) in
     let small_slope : IsWithin 88 (int_at c.args.at.now.slopes.now j) = c.requires.on.slopes_of.small j (pos 0) (omega (arith, c.requires.on.slopes_of.as_many, c.requires.state)) in
     let slope : FitsSigned w128 (int_at c.args.at.now.slopes.now j) = omega (arith, ints, small_slope) in
-    let inside : j < length c.args.lines.now = omega (arith, c.requires.lines, c.requires.state) in
+    let inside : j < length c.args.lines.now = omega (arith, c.requires.on.lines, c.requires.state) in
     let old : Line = get_or c.args.lines.now j c.index-lines-j.result in
     let read : old ≡ line_at c.args.lines.now j = get_or_default c.args.lines.now j c.index-lines-j.result no_line inside in
     let goes_on = c.reseat.ensures.goes_on in

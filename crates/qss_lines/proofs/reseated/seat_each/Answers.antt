@@ -5,6 +5,7 @@ use Rattle.mu_num.specs.Sizes.{IsWithin}
 use Rattle.qss_machine.specs.Machines.{state_count}
 use Rattle.qss_machine.specs.Numbers.{int_at}
 use Rattle.qss_lines.specs.Reslopings.{Courses}
+use Rattle.qss_lines.proofs.GoingOn.{still_on}
 use Rattle.qss_lines.proofs.Seats.{AreSeated, none_seated, seated_more, still_begun, still_small}
 use Rattle.qss_quiet.proofs.Writes.{among_at}
 use Rattle.qss_lines.proofs.reseated.seat_each.Goals as goal
@@ -12,9 +13,14 @@ use Rattle.qss_lines.proofs.reseated.seat_each.Goals as goal
 pub loop-j-init : goal.loop-j-init
 loop-j-init g c = record {
   are_seated = none_seated c.args.at.now.taken.machine.now c.args.at.now.taken.tick c.args.x.now c.args.at.now.taken.levels.now c.args.at.now.slopes.now (record { lines = c.args.lines.now; dues = c.args.agenda.now });
-  line_count = c.requires.lines;
+  line_count = c.requires.on.lines;
   counted = λ states at. refl;
 }
+
+pub seat-requires-clause-on : goal.seat-requires-clause-on
+seat-requires-clause-on g c =
+    still_on c.args.at.now c.args.lines.now c.loop-j.lines c.args.agenda.now c.loop-j.agenda c.requires.on (omega (arith, c.loop-j.invariant.line_count, c.requires.on.lines))
+    c.loop-j.invariant.are_seated.places
 
 pub seat-requires-clause-later : goal.seat-requires-clause-later
 seat-requires-clause-later g c =
@@ -24,7 +30,7 @@ seat-requires-clause-later g c =
     let j : ℕ = get_or c.args.at.now.taken.moved.now i 0 in
     let known : j < state_count c.args.at.now.taken.machine.now = c.requires.on.new.moved.below i 0 c.loop-j-test.true in
     still_begun c.args.at.now.taken.machine.now c.args.at.now.taken.tick c.args.x.now c.args.at.now.taken.levels.now c.args.at.now.slopes.now (take i c.args.at.now.taken.moved.now) first before c.loop-j.invariant.are_seated j
-    (c.requires.may_move.later j (omega (arith, known, c.requires.lines)))
+    (c.requires.may_move.later j (omega (arith, known, c.requires.on.lines)))
 
 pub seat-requires-clause-small : goal.seat-requires-clause-small
 seat-requires-clause-small g c =
@@ -35,7 +41,7 @@ seat-requires-clause-small g c =
     let known : j < state_count c.args.at.now.taken.machine.now = c.requires.on.new.moved.below i 0 c.loop-j-test.true in
     let small_x : IsWithin 88 (int_at c.args.x.now j) = c.requires.states.small j (pos 0) (omega (arith, known, c.requires.states.as_many)) in
     still_small c.args.at.now.taken.machine.now c.args.at.now.taken.tick c.args.x.now c.args.at.now.taken.levels.now c.args.at.now.slopes.now (take i c.args.at.now.taken.moved.now) first before c.loop-j.invariant.are_seated j small_x
-    (c.requires.may_move.small j (omega (arith, known, c.requires.lines)))
+    (c.requires.may_move.small j (omega (arith, known, c.requires.on.lines)))
 
 pub seat-requires-clause-near : goal.seat-requires-clause-near
 seat-requires-clause-near g c =

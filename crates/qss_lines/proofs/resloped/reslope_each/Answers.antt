@@ -4,7 +4,13 @@ use Rattle.std.proofs.lemmas.List.{take_more}
 use Rattle.qss_machine.specs.Machines.{state_count}
 use Rattle.qss_lines.specs.Reslopings.{Courses, AreResloped}
 use Rattle.qss_lines.proofs.Courses.{one_resloped, resloped_then}
+use Rattle.qss_lines.proofs.GoingOn.{still_on}
 use Rattle.qss_lines.proofs.resloped.reslope_each.Goals as goal
+
+pub reslope_state-requires-clause-on : goal.reslope_state-requires-clause-on
+reslope_state-requires-clause-on g c =
+    still_on c.args.at.now c.args.lines.now c.loop-j.lines c.args.agenda.now c.loop-j.agenda c.requires.on (omega (arith, c.loop-j.invariant.line_count, c.requires.on.lines))
+    c.loop-j.invariant.resloped.as_many
 
 pub loop-j-preserved : goal.loop-j-preserved
 loop-j-preserved g c =

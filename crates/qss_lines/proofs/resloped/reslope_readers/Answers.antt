@@ -10,6 +10,7 @@ use Rattle.qss_lines.specs.StateLines.{line_at}
 use Rattle.qss_lines.specs.Reslopings.{Courses, AreResloped}
 use Rattle.qss_quiet.proofs.Among.{lists_more}
 use Rattle.qss_lines.proofs.Courses.{may_reslope_again, resloped_then}
+use Rattle.qss_lines.proofs.GoingOn.{still_on}
 use Rattle.qss_quiet.proofs.KeptReaders.{rows_many, rows_kept, rows_below}
 use Rattle.qss_lines.proofs.resloped.reslope_readers.Goals as goal
 
@@ -22,6 +23,11 @@ reslope_each-requires-clause-states g c =
     let var : ℕ = get_or c.args.variables.now c.loop-var.var-index 0 in
     let known : var < state_count m + discrete_count m = c.requires.variables c.loop-var.var-index 0 c.loop-var-test.true in
     subst (All (λ row. row < state_count m)) (sym c.rows_of-readers.ensures) (rows_below m c.args.at.now.taken.uses.now c.requires.on.new.uses var known (state_count m) (omega arith))
+
+pub reslope_each-requires-clause-on : goal.reslope_each-requires-clause-on
+reslope_each-requires-clause-on g c =
+    still_on c.args.at.now c.args.lines.now c.loop-var.lines c.args.agenda.now c.loop-var.agenda c.requires.on (omega (arith, c.loop-var.invariant.line_count, c.requires.on.lines))
+    c.loop-var.invariant.resloped.as_many
 
 pub reslope_each-requires-clause-ready : goal.reslope_each-requires-clause-ready
 reslope_each-requires-clause-ready g c k h =

@@ -23,7 +23,7 @@ returns-clause-goes_on g c =
     let small_slope : IsWithin 88 (int_at c.args.at.now.slopes.now j) = c.requires.on.slopes_of.small j (pos 0) (omega (arith, c.requires.on.slopes_of.as_many, c.requires.state)) in
     let slope : FitsSigned w128 (int_at c.args.at.now.slopes.now j) = omega (arith, ints, small_slope) in
     let x : FitsSigned w128 c.value_at-x.result = record { sfits = c.value_at-x.type_inv } in
-    let inside : j < length c.args.lines.now = omega (arith, c.requires.lines, c.requires.state) in
+    let inside : j < length c.args.lines.now = omega (arith, c.requires.on.lines, c.requires.state) in
     let old : Line = get_or c.args.lines.now j c.index-lines-j.result in
     let read : old ≡ line_at c.args.lines.now j = get_or_default c.args.lines.now j c.index-lines-j.result no_line inside in
     subst (λ (l : Line). GoesOnFrom m c.args.at.now.taken.tick (state_at (line_at c.args.lines.now j) c.args.at.now.taken.tick) (int_at c.args.at.now.taken.levels.now j) (int_at c.args.at.now.slopes.now j) j l (due_at c.reslope.new.agenda j))
@@ -44,7 +44,7 @@ returns-clause-kept g c so =
     let small_slope : IsWithin 88 (int_at c.args.at.now.slopes.now j) = c.requires.on.slopes_of.small j (pos 0) (omega (arith, c.requires.on.slopes_of.as_many, c.requires.state)) in
     let slope : FitsSigned w128 (int_at c.args.at.now.slopes.now j) = omega (arith, ints, small_slope) in
     let x : FitsSigned w128 c.value_at-x.result = record { sfits = c.value_at-x.type_inv } in
-    let inside : j < length c.args.lines.now = omega (arith, c.requires.lines, c.requires.state) in
+    let inside : j < length c.args.lines.now = omega (arith, c.requires.on.lines, c.requires.state) in
     let old : Line = get_or c.args.lines.now j c.index-lines-j.result in
     let read : old ≡ line_at c.args.lines.now j = get_or_default c.args.lines.now j c.index-lines-j.result no_line inside in
     let at : ℤ = state_at (line_at c.args.lines.now j) c.args.at.now.taken.tick in
@@ -63,7 +63,7 @@ returns-clause-counted g c =
     let small_slope : IsWithin 88 (int_at c.args.at.now.slopes.now j) = c.requires.on.slopes_of.small j (pos 0) (omega (arith, c.requires.on.slopes_of.as_many, c.requires.state)) in
     let slope : FitsSigned w128 (int_at c.args.at.now.slopes.now j) = omega (arith, ints, small_slope) in
     let x : FitsSigned w128 c.value_at-x.result = record { sfits = c.value_at-x.type_inv } in
-    let inside : j < length c.args.lines.now = omega (arith, c.requires.lines, c.requires.state) in
+    let inside : j < length c.args.lines.now = omega (arith, c.requires.on.lines, c.requires.state) in
     let old : Line = get_or c.args.lines.now j c.index-lines-j.result in
     let read : old ≡ line_at c.args.lines.now j = get_or_default c.args.lines.now j c.index-lines-j.result no_line inside in
     let few = counted_at c.args.at.now.taken.tick (state_at (line_at c.args.lines.now j) c.args.at.now.taken.tick) (int_at c.args.at.now.taken.levels.now j) (int_at c.args.at.now.slopes.now j) (line_at c.args.lines.now j) _ _ _ _ c.args.steps.now c.reslope.new.steps
