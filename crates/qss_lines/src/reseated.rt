@@ -12,6 +12,7 @@ ghost use Rattle.qss_quiet.specs.Among.{is_among};
 ghost use Rattle.qss_lines.specs.Variables.{AreLevelsOf};
 ghost use Rattle.qss_lines.specs.StateLines.{line_at, MayMove, GoesOnFrom};
 ghost use Rattle.qss_lines.specs.Renewals.{goes_from, renewals_from};
+ghost use Rattle.qss_lines.specs.Reslopings.{CanRenew};
 ghost use Rattle.qss_quiet.specs.Writes.{IsWritten};
 ghost use Rattle.qss_lines.specs.declared.shifts.RowSum.TheVariants as sum;
 ghost use Rattle.qss_lines.specs.Visitings.{AreNewLevels, AreHandled, AreStatesOf, CanGoOn, CanReseat, first_overweight, new_slopes, states_left, WereSums};
@@ -92,12 +93,7 @@ fn reseat<L: Ledger>(
     agenda: &mut Agenda,
     steps: &mut Steps<L>,
 )
-    requires state { j < state_count m.now }
-    requires place { j < length agenda.old }
-    requires later { line.old.tick ≤ here.now.tick }
-    requires small { IsWithin 89 (state_at line.old here.now.tick) }
-    requires near { IsNear (level_unit m.now) here.now.x here.now.level
-        (quantum_of m.now j here.now.level) }
+    requires { CanRenew m.now j here.now line.old agenda.old }
     ensures goes_on { GoesOnFrom m.now here.now.tick here.now.x here.now.level here.now.slope j
         line.new (due_at agenda.new j) }
     ensures as_many { length agenda.new ≡ length agenda.old }

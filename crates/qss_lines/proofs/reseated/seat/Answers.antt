@@ -1,19 +1,40 @@
 -- The line of one state starts where the state is.
-use Rattle.std.proofs.Common.{◌≡◌, ◌<◌, pos, length, get_or, ◌∙◌, sym, subst, arith}
+use Rattle.std.proofs.Common.{◌≡◌, ◌<◌, ◌≤◌, pos, length, get_or, ◌∙◌, sym, subst, arith}
 use Rattle.std.proofs.lemmas.Int.{ints, to_z-of_z}
 use Rattle.std.proofs.lemmas.List.{get_or-set_same, get_or_default}
 use Rattle.std.specs.Int.RustNames.{FitsSigned}
 use Rattle.mu_num.specs.Sizes.{IsWithin}
 use Rattle.qss_machine.specs.Numbers.{int_at}
 use Rattle.qss_machine.specs.Machines.{state_count}
-use Rattle.qss_quant.specs.Lines.{Line}
+use Rattle.qss_quant.specs.Lines.{Line, state_at}
 use Rattle.qss_sched.specs.Ranks.{due_at}
 use Rattle.qss_quiet.specs.Sims.{no_line}
 use Rattle.qss_lines.specs.StateLines.{line_at, GoesOnFrom}
+use Rattle.qss_lines.proofs.GoingOn.{near_along}
 use Rattle.qss_lines.proofs.Renewed.{counted_at, left_at}
 use Rattle.qss_lines.proofs.Seats.{seated}
 use Rattle.qss_lines.proofs.reseated.seat.Goals as goal
 use mir.Syntax.{w64, w128}
+
+pub reseat-requires : goal.reseat-requires
+reseat-requires g c =
+    let j = c.args.j in
+    let tick = c.args.at.now.taken.tick in
+    let lines = c.args.lines.now in
+    let small_x : IsWithin 88 (int_at c.args.x.now j) = c.requires.states.small j (pos 0) (omega (arith, c.requires.states.as_many, c.requires.state)) in
+    let x : FitsSigned w128 (int_at c.args.x.now j) = omega (arith, ints, small_x) in
+    let small_level : IsWithin 43 (int_at c.args.at.now.taken.levels.now j) = c.requires.on.new.small_levels j (pos 0) (omega (arith, c.requires.on.new.levels, c.requires.state)) in
+    let level : FitsSigned w64 (int_at c.args.at.now.taken.levels.now j) = omega (arith, ints, small_level) in
+    let inside : j < length lines = omega (arith, c.requires.on.lines, c.requires.state) in
+    let read : get_or lines j c.index-lines-j.result ≡ line_at lines j = get_or_default lines j c.index-lines-j.result no_line inside in
+    record {
+      state = c.requires.state;
+      place = omega (arith, c.requires.on.places, c.requires.state);
+      later = subst (λ (l : Line). l.tick ≤ tick) (sym read) c.requires.later;
+      small = subst (λ (l : Line). IsWithin 89 (state_at l tick)) (sym read) c.requires.small;
+      near = near_along c.args.at.now.taken.machine.now j _ (int_at c.args.x.now j) _ (int_at c.args.at.now.taken.levels.now j) (to_z-of_z w128 (int_at c.args.x.now j) x)
+          (to_z-of_z w64 (int_at c.args.at.now.taken.levels.now j) level) c.requires.near;
+    }
 
 pub returns-clause-goes_on : goal.returns-clause-goes_on
 returns-clause-goes_on g c =

@@ -1,5 +1,5 @@
 -- The line of one state goes on.
-use Rattle.std.proofs.Common.{◌≡◌, ◌<◌, pos, length, get_or, ℤ, refl, ◌∙◌, sym, ap, subst, arith}
+use Rattle.std.proofs.Common.{◌≡◌, ◌<◌, ◌≤◌, pos, length, get_or, ℤ, refl, ◌∙◌, sym, ap, subst, arith}
 use Rattle.std.proofs.lemmas.Int.{ints, to_z-of_z}
 use Rattle.std.proofs.lemmas.List.{get_or-set_same, get_or_default}
 use Rattle.std.specs.Int.RustNames.{FitsSigned}
@@ -10,9 +10,32 @@ use Rattle.qss_quant.specs.Lines.{Line, state_at}
 use Rattle.qss_sched.specs.Ranks.{due_at}
 use Rattle.qss_quiet.specs.Sims.{no_line}
 use Rattle.qss_lines.specs.StateLines.{line_at, GoesOnFrom}
+use Rattle.qss_lines.proofs.GoingOn.{near_along}
 use Rattle.qss_lines.proofs.Renewed.{counted_at, from_here, left_at, renewed}
 use Rattle.qss_lines.proofs.resloped.reslope_state.Goals as goal
 use mir.Syntax.{w64, w128}
+
+pub reslope-requires-clause-ready : goal.reslope-requires-clause-ready
+reslope-requires-clause-ready g c =
+    let j = c.args.j in
+    let tick = c.args.at.now.taken.tick in
+    let lines = c.args.lines.now in
+    let at : ℤ = state_at (line_at lines j) tick in
+    let small_level : IsWithin 43 (int_at c.args.at.now.taken.levels.now j) = c.requires.on.new.small_levels j (pos 0) (omega (arith, c.requires.on.new.levels, c.requires.state)) in
+    let level : FitsSigned w64 (int_at c.args.at.now.taken.levels.now j) = omega (arith, ints, small_level) in
+    let x : FitsSigned w128 c.value_at-x.result = record { sfits = c.value_at-x.type_inv } in
+    let inside : j < length lines = omega (arith, c.requires.on.lines, c.requires.state) in
+    let read : get_or lines j c.index-lines-j.result ≡ line_at lines j = get_or_default lines j c.index-lines-j.result no_line inside in
+    let small : IsWithin 88 at = c.requires.ready.small in
+    let more : IsWithin 89 at = omega (arith, small) in
+    record {
+      state = c.requires.state;
+      place = omega (arith, c.requires.on.places, c.requires.state);
+      later = subst (λ (l : Line). l.tick ≤ tick) (sym read) c.requires.ready.not_later;
+      small = subst (λ (l : Line). IsWithin 89 (state_at l tick)) (sym read) more;
+      near = near_along c.args.at.now.taken.machine.now j _ at _ (int_at c.args.at.now.taken.levels.now j)
+          (to_z-of_z w128 c.value_at-x.result x ∙ c.value_at-x.ensures ∙ ap (λ (l : Line). state_at l tick) read) (to_z-of_z w64 (int_at c.args.at.now.taken.levels.now j) level) c.requires.ready.near;
+    }
 
 pub returns-clause-goes_on : goal.returns-clause-goes_on
 returns-clause-goes_on g c =
