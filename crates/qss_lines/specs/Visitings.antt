@@ -35,6 +35,13 @@ pub record IsMode (at : Mode) : Type 0 where
   pub fits : (row : ℕ) → row < state_count at.machine.now →
       mode_fits at.machine.now.f (state_count at.machine.now) (row_at at.machine.now row) at.discretes.now ≡ true
 
+-- a state may go from one level to another, both as a sum takes them and within the limit, at discrete values of its machine
+pub record CanShift (at : Mode) (state : ℕ) (level_old level_new : ℤ) : Type 0 where
+  pub mode : IsMode at
+  pub known : state < state_count at.machine.now
+  pub small_old : IsWithin 43 level_old
+  pub small_new : IsWithin 43 level_new
+
 -- a machine's readers, numbers of its states, and a level of each state, within the limit
 pub record AreNewLevels (at : NewLevels) : Type 0 where
   pub uses : at.uses.now ≡ uses_of at.machine.now

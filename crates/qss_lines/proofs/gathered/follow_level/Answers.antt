@@ -23,24 +23,22 @@ use mir.Val.{to_z, of_z}
 pub rows_of-rows-requires : goal.rows_of-rows-requires
 rows_of-rows-requires g c = omega (arith, c.requires.state, rows_many c.args.at.now.taken.machine.now c.args.at.now.taken.uses.now c.requires.new.uses)
 
-pub shift_rows-requires-clause-mode : goal.shift_rows-requires-clause-mode
-shift_rows-requires-clause-mode g c = record { as_many = c.requires.new.values.discretes; small = c.requires.new.values.small_discretes; fits = c.requires.modes }
+pub shift_rows-requires-clause-can : goal.shift_rows-requires-clause-can
+shift_rows-requires-clause-can g c =
+    let level : ℤ = int_at c.args.at.now.taken.levels.now c.args.state in
+    let small_old : IsWithin 43 c.line.inside.level = c.line.invariant.small_level in
+    let small_new : IsWithin 43 level = c.requires.new.values.small_levels c.args.state (pos 0) (omega (arith, c.requires.state, c.requires.new.values.levels)) in
+    let of_old : FitsSigned w64 c.line.inside.level = omega (arith, ints, small_old) in
+    let of_new : FitsSigned w64 level = omega (arith, ints, small_new) in
+    record {
+      mode = record { as_many = c.requires.new.values.discretes; small = c.requires.new.values.small_discretes; fits = c.requires.modes };
+      known = c.requires.state;
+      small_old = rw (to_z-of_z w64 c.line.inside.level of_old) small_old;
+      small_new = rw (to_z-of_z w64 level of_new) small_new;
+    }
 
 pub shift_rows-requires-clause-uses : goal.shift_rows-requires-clause-uses
 shift_rows-requires-clause-uses g c = c.requires.new.uses
-
-pub shift_rows-requires-clause-old : goal.shift_rows-requires-clause-old
-shift_rows-requires-clause-old g c =
-    let small : IsWithin 43 c.line.inside.level = c.line.invariant.small_level in
-    let fits : FitsSigned w64 c.line.inside.level = omega (arith, ints, small) in
-    rw (to_z-of_z w64 c.line.inside.level fits) small
-
-pub shift_rows-requires-clause-new : goal.shift_rows-requires-clause-new
-shift_rows-requires-clause-new g c =
-    let level : ℤ = int_at c.args.at.now.taken.levels.now c.args.state in
-    let small : IsWithin 43 level = c.requires.new.values.small_levels c.args.state (pos 0) (omega (arith, c.requires.state, c.requires.new.values.levels)) in
-    let fits : FitsSigned w64 level = omega (arith, ints, small) in
-    rw (to_z-of_z w64 level fits) small
 
 pub gather-requires-clause-can : goal.gather-requires-clause-can
 gather-requires-clause-can g c = c.requires.can

@@ -36,12 +36,20 @@ pub shift_rows-requires-clause-small_sums : goal.shift_rows-requires-clause-smal
 shift_rows-requires-clause-small_sums c j h =
     omega (arith, c.loop-state.invariant.near j h, few_numbers (state_count c.args.at.now.machine.now) c.args.at.now.moved.now c.requires.ready.moved, c.args.at.now.machine.now.has_variables.few, c.loop-state-test.true)
 
-pub shift_rows-requires-clause-mode : goal.shift_rows-requires-clause-mode
-shift_rows-requires-clause-mode c = record {
-  as_many = c.requires.discretes;
-  small = c.requires.small_discretes;
-  fits = λ row h. (row_is_light c.args.at.now.machine.now c.requires.before.0 c.args.d.now c.requires.before.1.levels.of_lines.light row h).modes;
-}
+pub shift_rows-requires-clause-can : goal.shift_rows-requires-clause-can
+shift_rows-requires-clause-can c =
+    let old_fits : FitsSigned w64 c.taken_level-old.result = record { sfits = c.taken_level-old.type_inv } in
+    let new_fits : FitsSigned w64 c.taken_level-new.result = record { sfits = c.taken_level-new.type_inv } in
+    record {
+      mode = record {
+        as_many = c.requires.discretes;
+        small = c.requires.small_discretes;
+        fits = λ row h. (row_is_light c.args.at.now.machine.now c.requires.before.0 c.args.d.now c.requires.before.1.levels.of_lines.light row h).modes;
+      };
+      known = c.requires.ready.moved.below c.loop-state.state-index 0 c.loop-state-test.true;
+      small_old = rw (to_z-of_z w64 c.taken_level-old.result old_fits) c.taken_level-old.ensures.bound;
+      small_new = rw (to_z-of_z w64 c.taken_level-new.result new_fits) c.taken_level-new.ensures.bound;
+    }
 
 pub loop-state-preserved : goal.loop-state-preserved
 loop-state-preserved c =
