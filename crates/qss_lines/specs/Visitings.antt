@@ -74,6 +74,12 @@ first_overweight at discretes =
 abbrev pub WereSums : RowSum → NewLevels → List ℤ → List ℤ → List Line → Type 0
 WereSums kind at discretes sums lines = HadSums kind at.machine.now at.moved.now at.levels.now discretes sums lines
 
+-- sums of all rows at the levels before may follow where the moved states take these, from those of their lines, at discrete values
+pub record CanFollow (kind : RowSum) (at : NewLevels) (discretes sums : List ℤ) (lines : List Line) : Type 0 where
+  pub new : AreNewLevelsAt at discretes
+  pub many_lines : length lines ≡ state_count at.machine.now
+  pub before : WereSums kind at discretes sums lines
+
 -- weights and lines of the levels before, at discrete values
 abbrev pub WereWeights : NewLevels → List ℤ → Weights → List Line → Type 0
 WereWeights at discretes weights lines =

@@ -7,9 +7,13 @@ use Rattle.qss_machine.specs.Numbers.{int_at}
 use Rattle.qss_machine.specs.Uses.{reading_rows}
 use Rattle.qss_quiet.specs.Among.{is_among}
 use Rattle.qss_lines.proofs.Assigned.{slope_stays}
+use Rattle.qss_lines.proofs.Shifting.{at_before}
 use Rattle.qss_quiet.proofs.Quiet.{int_at-tabulate}
 use Rattle.qss_quiet.proofs.Among.{among_readers}
 use Rattle.qss_lines.proofs.reseated.follow_slopes.Goals as goal
+
+pub shift_slopes-requires : goal.shift_slopes-requires
+shift_slopes-requires c = record { new = at_before c.args.at.now c.args.left.now c.requires.ready c.requires.left; many_lines = c.requires.lines; before = c.requires.before }
 
 pub slope_readers-requires-clause-variables : goal.slope_readers-requires-clause-variables
 slope_readers-requires-clause-variables c i d h = (c.requires.left.assigned.known i d h).1

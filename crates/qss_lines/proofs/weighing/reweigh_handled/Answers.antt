@@ -8,9 +8,13 @@ use Rattle.qss_machine.specs.Ticks.{is_overweight}
 use Rattle.qss_machine.specs.Uses.{reading_rows}
 use Rattle.qss_lines.specs.Overweights.{IsLeastPast}
 use Rattle.qss_lines.proofs.Least.{least_none, least_is}
+use Rattle.qss_lines.proofs.Shifting.{at_before}
 use Rattle.qss_quiet.proofs.KeptReaders.{rows_many, rows_below, rows_kept_all}
 use Rattle.qss_lines.proofs.Weighed.{many_after, weighed_passes, others_light, all_weighed}
 use Rattle.qss_lines.proofs.weighing.reweigh_handled.Goals as goal
+
+pub shift_sums-requires : goal.shift_sums-requires
+shift_sums-requires c = record { new = at_before c.args.at.now c.args.left.now c.requires.ready c.requires.left; many_lines = c.requires.lines; before = c.requires.before }
 
 pub weigh_readers-requires-clause-levels : goal.weigh_readers-requires-clause-levels
 weigh_readers-requires-clause-levels c = record {
