@@ -1,6 +1,7 @@
 -- What conditions and handlers are given at a tick.
-use Rattle.std.specs.Prelude.{◌≡◌, ℕ, ◌<◌, ◌≤◌, ◌^◌, List, length, All, ℤ, Option, false}
+use Rattle.std.specs.Prelude.{◌≡◌, ℕ, ◌<◌, ◌≤◌, ◌^◌, Bool, List, length, All, ℤ, Option, false}
 use Rattle.mu_num.specs.Sizes.{IsWithin}
+use Rattle.mu_num.specs.Ticks.{tick_limit}
 use Rattle.qss_machine.specs.declared.system.Machine.{Machine}
 use Rattle.qss_machine.specs.Machines.{state_count, truth}
 use Rattle.qss_machine.specs.Uses.{uses_of}
@@ -23,6 +24,13 @@ use Rattle.qss_watch.specs.Moves.{IsTakenFrom}
 pub record AreSmallAt (tick : ℕ) (watches : List Watch) : Type 0 where
   pub later : (place : ℕ) → place < length watches → (watch_at watches place).tick ≤ tick
   pub small : (place : ℕ) → place < length watches → IsSmall (value_at (watch_at watches place) tick)
+
+-- numbers of conditions whose truths may be read from their watches at a tick: watches, small there, and truths after the last handlers are as many
+pub record MayBeRead (tick : ℕ) (watches : List Watch) (settled : List Bool) (changed : List ℕ) : Type 0 where
+  pub as_many : length watches ≡ length settled
+  pub numbers : AreNumbers (length settled) changed
+  pub small : AreSmallAt tick watches
+  pub in_time : tick ≤ tick_limit
 
 -- a machine's readers, and its lines and slopes at a tick, within the limits
 pub record IsMoment (at : Moment) : Type 0 where

@@ -16,13 +16,12 @@ use Rattle.qss_watch.specs.declared.conditions.Conditions.{Conditions}
 use Rattle.qss_watch.specs.Handlings.{handling_of_fired, is_reinitialized, IsHandled, handling_from}
 use Rattle.qss_quiet.specs.Logs.{assigned_of}
 use Rattle.qss_quiet.specs.Among.{is_among, AreNumbers}
-use Rattle.qss_watch.specs.Moments.{AreSmallAt}
 use Rattle.qss_watch.specs.Places.{AreBranches, watch_at}
 use Rattle.qss_lines.specs.StateLines.{line_at, states_at}
 use Rattle.qss_watch.specs.PlaceSets.{PlaceList}
 use Rattle.qss_quiet.specs.Writes.{IsWritten}
 use Rattle.qss_quiet.proofs.Overs.{all_within, not_some}
-use Rattle.qss_watch.proofs.Arrivals.{small_then, fired_numbers, read_on_arrival, read_handling, rows_fired, known_states, is_handled}
+use Rattle.qss_watch.proofs.Arrivals.{may_be_read, fired_numbers, read_on_arrival, read_handling, rows_fired, known_states, is_handled}
 use Rattle.qss_watch.proofs.Handled.{over_early}
 use Rattle.qss_watch.proofs.OwnConditions.{arrived_anew}
 use Rattle.qss_lines.proofs.InPlace.{same_length}
@@ -53,13 +52,12 @@ returns-then-is_some-clause-over c =
     over_early c.args.at.now.machine.now c.args.at.now.tick (states_at c.args.at.now.lines.now c.args.at.now.tick) c.args.work.now.d all.arrived.items all.settled.items
     c.arrive_moved-passed.result (sym c.is_some.ensures ∙ c.if-is_some.true) c.arrive_moved-passed.ensures.over
 
-pub list_fired-requires-clause-watches : goal.list_fired-requires-clause-watches
-list_fired-requires-clause-watches c =
-    ap length c.as_slice-watches.ensures.value ∙ c.requires.ready.known.fits.watches ∙ sym (ap length c.as_slice-settled.ensures.value ∙ c.requires.ready.known.fits.settled)
-
-pub list_fired-requires-clause-changed : goal.list_fired-requires-clause-changed
-list_fired-requires-clause-changed c =
-    subst (λ n. AreNumbers n c.args.at.now.changed.now) (sym (ap length c.as_slice-settled.ensures.value ∙ c.requires.ready.known.fits.settled)) c.requires.ready.known.changed
+pub list_fired-requires-clause-read : goal.list_fired-requires-clause-read
+list_fired-requires-clause-read c =
+    let calm : first_past 88 (states_at c.args.at.now.lines.now c.args.at.now.tick) ≡ None =
+    sym c.arrive_moved-passed.ensures.over ∙ not_some c.arrive_moved-passed.result (sym c.is_some.ensures ∙ c.if-is_some.false) in
+    may_be_read c.args.at.now c.args.self.now c.args.work.now.d c.as_slice-watches.result.now c.as_slice-settled.result.now c.requires.ready.known c.as_slice-watches.ensures.value
+    c.as_slice-settled.ensures.value calm c.requires.ready.lines.up_to.in_time
 
 pub list_fired-requires-clause-arrived : goal.list_fired-requires-clause-arrived
 list_fired-requires-clause-arrived c =
@@ -69,22 +67,12 @@ pub list_fired-requires-clause-room : goal.list_fired-requires-clause-room
 list_fired-requires-clause-room c =
     omega (arith, ap length c.as_slice-settled.ensures.value, c.requires.ready.known.fits.settled, c.requires.fired_room)
 
-pub list_fired-requires-clause-small : goal.list_fired-requires-clause-small
-list_fired-requires-clause-small c =
-    let x : List ℤ = states_at c.args.at.now.lines.now c.args.at.now.tick in
-    let calm : first_past 88 x ≡ None = sym c.arrive_moved-passed.ensures.over ∙ not_some c.arrive_moved-passed.result (sym c.is_some.ensures ∙ c.if-is_some.false) in
-    subst (AreSmallAt c.args.at.now.tick) (sym c.as_slice-watches.ensures.value) (small_then c.args.at.now c.args.self.now c.args.work.now.d c.requires.ready.known (all_within 88 x calm))
-
-pub list_fired-requires-clause-in_time : goal.list_fired-requires-clause-in_time
-list_fired-requires-clause-in_time c = omega (arith, c.requires.ready.lines.up_to.in_time)
-
-pub read_changed-requires-clause-watches : goal.read_changed-requires-clause-watches
-read_changed-requires-clause-watches c =
-    ap length c.as_slice-watches.ensures.value ∙ c.requires.ready.known.fits.watches ∙ sym (ap length c.as_slice-settled.ensures.value ∙ c.requires.ready.known.fits.settled)
-
-pub read_changed-requires-clause-changed : goal.read_changed-requires-clause-changed
-read_changed-requires-clause-changed c =
-    subst (λ n. AreNumbers n c.args.at.now.changed.now) (sym (ap length c.as_slice-settled.ensures.value ∙ c.requires.ready.known.fits.settled)) c.requires.ready.known.changed
+pub read_changed-requires-clause-read : goal.read_changed-requires-clause-read
+read_changed-requires-clause-read c =
+    let calm : first_past 88 (states_at c.args.at.now.lines.now c.args.at.now.tick) ≡ None =
+    sym c.arrive_moved-passed.ensures.over ∙ not_some c.arrive_moved-passed.result (sym c.is_some.ensures ∙ c.if-is_some.false) in
+    may_be_read c.args.at.now c.args.self.now c.args.work.now.d c.as_slice-watches.result.now c.as_slice-settled.result.now c.requires.ready.known c.as_slice-watches.ensures.value
+    c.as_slice-settled.ensures.value calm c.requires.ready.lines.up_to.in_time
 
 pub read_changed-requires-clause-apart : goal.read_changed-requires-clause-apart
 read_changed-requires-clause-apart c =
@@ -97,15 +85,6 @@ read_changed-requires-clause-apart c =
           ∙ c.requires.ready.known.alike place (ap (λ these. is_among these place) (sym c.places-apart.ensures.places) ∙ none)
           ∙ sym (ap (λ flags. flag_at flags place) c.as_slice-settled.ensures.value);
     }
-
-pub read_changed-requires-clause-small : goal.read_changed-requires-clause-small
-read_changed-requires-clause-small c =
-    let x : List ℤ = states_at c.args.at.now.lines.now c.args.at.now.tick in
-    let calm : first_past 88 x ≡ None = sym c.arrive_moved-passed.ensures.over ∙ not_some c.arrive_moved-passed.result (sym c.is_some.ensures ∙ c.if-is_some.false) in
-    subst (AreSmallAt c.args.at.now.tick) (sym c.as_slice-watches.ensures.value) (small_then c.args.at.now c.args.self.now c.args.work.now.d c.requires.ready.known (all_within 88 x calm))
-
-pub read_changed-requires-clause-in_time : goal.read_changed-requires-clause-in_time
-read_changed-requires-clause-in_time c = omega (arith, c.requires.ready.lines.up_to.in_time)
 
 pub handle_fired-over-requires-clause-branches : goal.handle_fired-over-requires-clause-branches
 handle_fired-over-requires-clause-branches c =
