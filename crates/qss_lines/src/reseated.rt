@@ -1,18 +1,17 @@
 //! Lines at new states and slopes after handlers.
 
-ghost use Rattle.std.specs.Prelude.{◌≡◌, ℕ, ◌+◌, ◌<◌, ◌≤◌, List, ℤ, pos, All, None, length, position, true, false, flat_map, if◌then◌else◌};
+ghost use Rattle.std.specs.Prelude.{◌≡◌, ℕ, ◌+◌, ◌<◌, ◌≤◌, List, ℤ, pos, All, None, length, true, false, flat_map, if◌then◌else◌};
 ghost use Rattle.mu_num.specs.Sizes.{IsWithin};
 ghost use Rattle.qss_machine.specs.Numbers.{int_at};
 ghost use Rattle.qss_machine.specs.Machines.{state_count, discrete_count, level_unit, slope_at, quantum_of};
-ghost use Rattle.qss_machine.specs.Ticks.{is_overweight};
 ghost use Rattle.qss_machine.specs.Uses.{reading_rows, uses_of};
 ghost use Rattle.qss_quant.specs.Lines.{state_at, IsNear};
 ghost use Rattle.qss_sched.specs.Ranks.{due_at};
 ghost use Rattle.qss_quiet.specs.Among.{is_among};
-ghost use Rattle.qss_lines.specs.Variables.{AreLevelsOf};
 ghost use Rattle.qss_lines.specs.StateLines.{line_at, MayMove, GoesOnFrom};
 ghost use Rattle.qss_lines.specs.Renewals.{goes_from, renewals_from};
 ghost use Rattle.qss_lines.specs.Reslopings.{CanRenew};
+ghost use Rattle.qss_lines.specs.RowSums.{CanAddUp};
 ghost use Rattle.qss_quiet.specs.Writes.{IsWritten};
 ghost use Rattle.qss_lines.specs.declared.shifts.RowSum.TheVariants as sum;
 ghost use Rattle.qss_lines.specs.Visitings.{AreNewLevels, AreHandled, AreStatesOf, CanGoOn, CanReseat, first_overweight, new_slopes, states_left, WereSums};
@@ -30,9 +29,7 @@ use std::sync::ledger::Ledger;
 // The slopes of these rows are added up anew.
 fn slope_rows(m: &Machine, rows: &[u32], levels: &[i64], d: &[i64], slopes: &mut [i128])
     requires rows { All (λ row. row < state_count m.now) rows.now }
-    requires levels { AreLevelsOf m.now levels.now d.now }
-    requires slopes { length slopes.old ≡ state_count m.now }
-    requires light { position (is_overweight m.now levels.now d.now) m.now.rows ≡ None }
+    requires can { CanAddUp m.now levels.now d.now slopes.old }
     ensures { IsWritten (pos 0) (λ j slope. slope ≡ slope_at m.now j levels.now d.now) rows.now
         slopes.old slopes.new }
 {
@@ -52,9 +49,7 @@ fn slope_readers(
 )
     requires uses { uses.now ≡ uses_of m.now }
     requires variables { All (λ var. var < state_count m.now + discrete_count m.now) variables.now }
-    requires levels { AreLevelsOf m.now levels.now d.now }
-    requires slopes { length slopes.old ≡ state_count m.now }
-    requires light { position (is_overweight m.now levels.now d.now) m.now.rows ≡ None }
+    requires can { CanAddUp m.now levels.now d.now slopes.old }
     ensures { IsWritten (pos 0) (λ j slope. slope ≡ slope_at m.now j levels.now d.now)
         (flat_map (reading_rows m.now) variables.now) slopes.old slopes.new }
 {

@@ -6,6 +6,7 @@ ghost use Rattle.qss_machine.specs.Ticks.{is_overweight};
 ghost use Rattle.qss_machine.specs.Uses.{reading_rows, uses_of};
 ghost use Rattle.qss_lines.specs.Variables.{AreDiscretes, AreLevelsOf};
 ghost use Rattle.qss_lines.specs.Overweights.{IsWeighed};
+ghost use Rattle.qss_lines.specs.RowSums.{CanAddUp};
 ghost use Rattle.qss_quiet.specs.Sims.{weights_at};
 ghost use Rattle.qss_lines.specs.declared.shifts.RowSum.TheVariants as sum;
 ghost use Rattle.qss_quiet.specs.Writes.{IsWritten};
@@ -136,9 +137,7 @@ pub(crate) fn weigh_every(
 
 /// The weights of all rows, none past its limits.
 pub(crate) fn weigh_all(m: &Machine, levels: &[i64], d: &[i64], weights: &mut [i128])
-    requires levels { AreLevelsOf m.now levels.now d.now }
-    requires weights { length weights.old ≡ state_count m.now }
-    requires light { position (is_overweight m.now levels.now d.now) m.now.rows ≡ None }
+    requires { CanAddUp m.now levels.now d.now weights.old }
     ensures { weights.new ≡ weights_at m.now levels.now d.now }
 {
     for row in 0..weights.len() {

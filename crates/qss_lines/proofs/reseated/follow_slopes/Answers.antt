@@ -18,17 +18,18 @@ shift_slopes-requires c = record { new = at_before c.args.at.now c.args.left.now
 pub slope_readers-requires-clause-variables : goal.slope_readers-requires-clause-variables
 slope_readers-requires-clause-variables c i d h = (c.requires.left.assigned.known i d h).1
 
-pub slope_readers-requires-clause-levels : goal.slope_readers-requires-clause-levels
-slope_readers-requires-clause-levels c = record {
-  levels = c.requires.ready.levels;
-  discretes = c.requires.left.values.discretes;
-  small_levels = c.requires.ready.small_levels;
-  small_discretes = c.requires.left.values.small_discretes;
+pub slope_readers-requires-clause-can : goal.slope_readers-requires-clause-can
+slope_readers-requires-clause-can c = record {
+  values = record {
+    levels = c.requires.ready.levels;
+    discretes = c.requires.left.values.discretes;
+    small_levels = c.requires.ready.small_levels;
+    small_discretes = c.requires.left.values.small_discretes;
+  };
+  one_each = ap length c.shift_slopes.ensures
+      ∙ length-map-range_with_len (λ j. slope_at c.args.at.now.machine.now j c.args.at.now.levels.now c.args.left.now.before.now) 0 (state_count c.args.at.now.machine.now);
+  light = c.requires.light;
 }
-
-pub slope_readers-requires-clause-slopes : goal.slope_readers-requires-clause-slopes
-slope_readers-requires-clause-slopes c =
-    ap length c.shift_slopes.ensures ∙ length-map-range_with_len (λ j. slope_at c.args.at.now.machine.now j c.args.at.now.levels.now c.args.left.now.before.now) 0 (state_count c.args.at.now.machine.now)
 
 pub returns : goal.returns
 returns c =
