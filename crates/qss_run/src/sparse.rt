@@ -6,17 +6,14 @@ ghost use Rattle.qss_machine.specs.Numbers.{int_at};
 ghost use Rattle.qss_machine.specs.Counts.{is_touched};
 ghost use Rattle.qss_machine.specs.Handlers.{conditions};
 ghost use Rattle.qss_machine.specs.Machines.{state_count, slope_at};
-ghost use Rattle.qss_machine.specs.Ticks.{world_unless, Step};
-ghost use Rattle.qss_machine.specs.Runs.{tick_rows};
 ghost use Rattle.qss_quant.specs.Lines.{state_at};
 ghost use Rattle.qss_sched.specs.Ranks.{due_at};
 ghost use Rattle.qss_quiet.specs.Among.{is_among};
 ghost use Rattle.qss_lines.specs.Gatherings.{reached};
 ghost use Rattle.qss_watch.specs.Places.{AreConditionsOf, AreWatched, HasPlaces};
 ghost use Rattle.qss_lines.specs.StateLines.{line_at, AreLinesAt, GoesOnFrom, states_at};
-ghost use Rattle.qss_quiet.specs.Rules.{IsRuled};
-ghost use Rattle.qss_run.specs.Stores.{world_of, Stands, IsTaken};
-ghost use Rattle.qss_run.specs.Touches.{touches_at};
+ghost use Rattle.qss_run.specs.Stores.{world_of, IsTaken};
+ghost use Rattle.qss_run.specs.Visits.{IsVisited};
 ghost use Rattle.qss_lines.specs.Visitings.{CanReslope, quiet_slopes};
 
 use crate::store::Store;
@@ -96,21 +93,11 @@ pub(crate) fn visit_due<L: Ledger>(
     requires taken { (agenda : List (Option ℕ)) × IsTaken m.now tick agenda s.old }
     requires none_changes { s.old.changed.items ≡ [] }
     requires in_time { tick < m.now.last }
-    ensures stepped { Step (IsRuled q.now.name) m.now (tick + 1) (world_of tick s.old)
-        (world_unless result (world_of (tick + 1) s.new)) }
-    ensures rows { result ≡ None
-        → s.new.rows.items
-        ≡ tick_rows m.now (tick + 1) (world_of tick s.old) (world_of (tick + 1) s.new) }
-    ensures stands { result ≡ None → Stands m.now (tick + 1) s.new }
+    ensures visited { IsVisited m.now q.now.name tick s.old s.new result steps.old steps.new }
     ensures kept { result ≡ None → (j : ℕ) → j < state_count m.now
         → is_touched m.now (tick + 1) (world_of tick s.old) (world_of (tick + 1) s.new) j ≡ false
         → (line_at s.new.lines.items j ≡ line_at s.old.lines.items j)
         × (due_at s.new.agenda j ≡ due_at s.old.agenda j) }
-    ensures room { vec_capacity s.new.rows ≡ vec_capacity s.old.rows }
-    ensures counted { steps.new
-        ≤ steps.old
-        + touches_at m.now (tick + 1) (world_of tick s.old)
-        (world_unless result (world_of (tick + 1) s.new)) }
 {
     let arrival = Arrival {
         machine: m,

@@ -29,7 +29,7 @@ use Rattle.qss_watch.specs.Places.{watch_at, IsWatched}
 use Rattle.qss_lines.specs.Renewals.{renewals_from}
 use Rattle.qss_quiet.specs.Rules.{IsRuled}
 use Rattle.qss_quiet.specs.Sims.{condition_at}
-use Rattle.qss_quiet.proofs.Overs.{not_some}
+use Rattle.qss_quiet.proofs.Overs.{not_some, clash}
 use Rattle.qss_lines.specs.Kept.{AreWeights}
 use Rattle.qss_run.specs.Stores.{world_of}
 use Rattle.qss_run.specs.Touches.{touches_at}
@@ -82,8 +82,8 @@ handle-over-requires-clause-ready g c =
       taken = record { later = later_dues m c.args.tick agenda s taken c.requires.in_time; none = taken.without.states };
     }
 
-pub returns-then-is_some-clause-stepped : goal.returns-then-is_some-clause-stepped
-returns-then-is_some-clause-stepped g c =
+pub returns-then-is_some : goal.returns-then-is_some
+returns-then-is_some g c =
     let m = c.args.m.now in
     let t = c.args.tick + 1 in
     let s : Store = c.args.s.now in
@@ -92,8 +92,14 @@ returns-then-is_some-clause-stepped g c =
     let is_h : h ≡ handling_at m t (world_of c.args.tick s) =
     handles_from m c.args.tick (record s { agenda = agenda }) c.requires.taken.1.stands c.as_slice.result.now s.conditions.arrived.items s.conditions.settled.items
     c.as_slice.ensures.value refl refl in
-    early (IsRuled c.args.q.now.name) m t (world_of c.args.tick s) _ c.handle-over.result (sym c.is_some.ensures ∙ c.if-is_some.true)
-    (c.handle-over.ensures.over ∙ ap (λ (k : Handling). k.overflow) is_h)
+    let some = sym c.is_some.ensures ∙ c.if-is_some.true in
+    record {
+      stepped = early (IsRuled c.args.q.now.name) m t (world_of c.args.tick s) _ c.handle-over.result some (c.handle-over.ensures.over ∙ ap (λ (k : Handling). k.overflow) is_h);
+      rows = λ none. clash c.handle-over.result some none;
+      stands = λ none. clash c.handle-over.result some none;
+      room = refl;
+      counted = omega arith;
+    }
 
 pub requantize_handled-over-requires-clause-ready : goal.requantize_handled-over-requires-clause-ready
 requantize_handled-over-requires-clause-ready g c =
@@ -163,8 +169,8 @@ requantize_handled-over-requires-clause-room g c =
       c.requires.taken.1.stands.fits.room.rows,
     )
 
-pub returns-then-is_some-2-clause-stepped : goal.returns-then-is_some-2-clause-stepped
-returns-then-is_some-2-clause-stepped g c =
+pub returns-then-is_some-2 : goal.returns-then-is_some-2
+returns-then-is_some-2 g c =
     let m = c.args.m.now in
     let t = c.args.tick + 1 in
     let s : Store = c.args.s.now in
@@ -190,7 +196,14 @@ returns-then-is_some-2-clause-stepped g c =
     subst (λ l. AreNextLevels (IsRuled c.args.q.now.name) m h.states l fresh) c.as_mut_slice.ensures.value (c.requantize_handled-over.ensures.taken.1.allowed h.states to) in
     let over : c.requantize_handled-over.result ≡ option_or (first_past 43 fresh) (position (is_overweight m fresh h.discretes) m.rows) =
     c.requantize_handled-over.ensures.taken.1.over_is ∙ ap (λ d. option_or (first_past 43 fresh) (position (is_overweight m fresh d) m.rows)) of_d in
-    late (IsRuled c.args.q.now.name) m t (world_of c.args.tick s) _ h fresh c.requantize_handled-over.result (sym c.is_some-2.ensures ∙ c.if-is_some-2.true) is_h calm_h allowed over
+    let some = sym c.is_some-2.ensures ∙ c.if-is_some-2.true in
+    record {
+      stepped = late (IsRuled c.args.q.now.name) m t (world_of c.args.tick s) _ h fresh c.requantize_handled-over.result some is_h calm_h allowed over;
+      rows = λ none. clash c.requantize_handled-over.result some none;
+      stands = λ none. clash c.requantize_handled-over.result some none;
+      room = c.requantize_handled-over.ensures.room;
+      counted = omega arith;
+    }
 
 pub go_on_handled-requires : goal.go_on_handled-requires
 go_on_handled-requires g c =

@@ -96,8 +96,8 @@ requantize_moved-over-requires-clause-held g c =
       weights = subst (λ l. AreWeights m l s.work.d s.weights) (sym c.as_mut_slice-levels.ensures.value) stands.own_weights;
     }
 
-pub returns-then-is_some-clause-stepped : goal.returns-then-is_some-clause-stepped
-returns-then-is_some-clause-stepped g c =
+pub returns-then-is_some-clause-visited : goal.returns-then-is_some-clause-visited
+returns-then-is_some-clause-visited g c =
     let m = c.args.m.now in
     let t = c.args.tick + 1 in
     let s : Store = c.args.s.now in
@@ -113,8 +113,15 @@ returns-then-is_some-clause-stepped g c =
     let over : c.requantize_moved-over.result ≡ option_or (first_past 88 x) (option_or (first_past 43 fresh) (position (is_overweight m fresh s.work.d) m.rows)) =
     c.requantize_moved-over.ensures.taken.1.over_is
     ∙ ap (λ ls. option_or (first_past 88 (states_at ls t)) (option_or (first_past 43 fresh) (position (is_overweight m fresh s.work.d) m.rows))) c.as_slice.ensures.value in
-    steps_or (IsRuled c.args.q.now.name) m t (world_of c.args.tick s) _ h fresh c.requantize_moved-over.result is_h allowed over
-    (λ none. clash c.requantize_moved-over.result (sym c.is_some.ensures ∙ c.if-is_some.true) none)
+    let some = sym c.is_some.ensures ∙ c.if-is_some.true in
+    record {
+      stepped = steps_or (IsRuled c.args.q.now.name) m t (world_of c.args.tick s) _ h fresh c.requantize_moved-over.result is_h allowed over
+          (λ none. clash c.requantize_moved-over.result some none);
+      rows = λ none. clash c.requantize_moved-over.result some none;
+      stands = λ none. clash c.requantize_moved-over.result some none;
+      room = c.requantize_moved-over.ensures.room;
+      counted = omega arith;
+    }
 
 pub returns-then-is_some-clause-kept : goal.returns-then-is_some-clause-kept
 returns-then-is_some-clause-kept g c none = clash c.requantize_moved-over.result (sym c.is_some.ensures ∙ c.if-is_some.true) none
@@ -354,19 +361,21 @@ returns g c =
     let counted : c.go_on_moved.new.steps ≤ c.args.steps.now + count_by (is_among (reached m s.moved.items)) (range_with_len 0 (state_count m)) =
     subst (λ js. c.go_on_moved.new.steps ≤ c.args.steps.now + count_by (is_among (reached m js)) (range_with_len 0 (state_count m))) c.as_slice-3.ensures.value c.go_on_moved.ensures.counted in
     record {
-      stepped = steps_or (IsRuled c.args.q.now.name) m t w (world_of t next) h fresh None is_h allowed (sym calm ∙ over) (λ none. end);
-      rows = λ none.
-          c.requantize_moved-over.ensures.rows calm
-          ∙ ap (λ l. level_rows t l c.requantize_moved-over.new.levels (states_at c.as_slice.result.now t)) c.as_mut_slice-levels.ensures.value
-          ∙ ap (λ l. level_rows t s.levels.items l (states_at c.as_slice.result.now t)) (c.requantize_moved-over.ensures.taken.1.levels calm ∙ sym new_levels)
-          ∙ ap (λ ls. level_rows t s.levels.items next.levels.items (states_at ls t)) c.as_slice.ensures.value
-          ∙ ap (λ y. level_rows t s.levels.items next.levels.items y) (sym again.0)
-          ∙ sym (rows_then m c.args.tick agenda s taken c.requires.in_time c.requires.none_changes (world_of t next));
-      stands = λ none. again.1;
+      visited = record {
+        stepped = steps_or (IsRuled c.args.q.now.name) m t w (world_of t next) h fresh None is_h allowed (sym calm ∙ over) (λ none. end);
+        rows = λ none.
+            c.requantize_moved-over.ensures.rows calm
+            ∙ ap (λ l. level_rows t l c.requantize_moved-over.new.levels (states_at c.as_slice.result.now t)) c.as_mut_slice-levels.ensures.value
+            ∙ ap (λ l. level_rows t s.levels.items l (states_at c.as_slice.result.now t)) (c.requantize_moved-over.ensures.taken.1.levels calm ∙ sym new_levels)
+            ∙ ap (λ ls. level_rows t s.levels.items next.levels.items (states_at ls t)) c.as_slice.ensures.value
+            ∙ ap (λ y. level_rows t s.levels.items next.levels.items y) (sym again.0)
+            ∙ sym (rows_then m c.args.tick agenda s taken c.requires.in_time c.requires.none_changes (world_of t next));
+        stands = λ none. again.1;
+        room = c.requantize_moved-over.ensures.room;
+        counted = omega (arith, counted, few);
+      };
       kept = λ none j inside untouched.
           let left = c.go_on_moved.ensures.kept j inside
           (ap (λ js. is_among (reached m js) j) c.as_slice-3.ensures.value ∙ unreached m t w (world_of t next) s.moved.items taken.due.numbers changed j inside untouched) in
           (ap (λ ls. line_at ls j) of_lines ∙ left.0 ∙ ap (λ ls. line_at ls j) c.as_mut_slice-2.ensures.value, left.1);
-      room = c.requantize_moved-over.ensures.room;
-      counted = omega (arith, counted, few);
     }
