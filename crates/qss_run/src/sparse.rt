@@ -1,7 +1,8 @@
 //! A tick at which nothing but states is due.
 
-ghost use Rattle.std.specs.Prelude.{◌≡◌, ℕ, ◌+◌, ◌<◌, ◌≤◌, [], false, length, List, Option, None, count_by, vec_capacity};
+ghost use Rattle.std.specs.Prelude.{◌≡◌, ℕ, ◌+◌, ◌^◌, ◌<◌, ◌≤◌, All, [], false, length, List, Option, None, count_by, vec_capacity};
 ghost use Rattle.std.specs.List.{range_with_len};
+ghost use Rattle.mu_num.specs.Sizes.{IsWithin};
 ghost use Rattle.qss_machine.specs.Numbers.{int_at};
 ghost use Rattle.qss_machine.specs.Counts.{is_touched};
 ghost use Rattle.qss_machine.specs.Handlers.{conditions};
@@ -11,7 +12,7 @@ ghost use Rattle.qss_sched.specs.Ranks.{due_at};
 ghost use Rattle.qss_quiet.specs.Among.{is_among};
 ghost use Rattle.qss_lines.specs.Gatherings.{reached};
 ghost use Rattle.qss_watch.specs.Places.{AreConditionsOf, AreWatched, HasPlaces};
-ghost use Rattle.qss_lines.specs.StateLines.{line_at, AreLinesAt, GoesOnFrom, states_at};
+ghost use Rattle.qss_lines.specs.StateLines.{line_at, GoesOnFrom, states_at};
 ghost use Rattle.qss_run.specs.Stores.{world_of, IsTaken};
 ghost use Rattle.qss_run.specs.Visits.{IsVisited};
 ghost use Rattle.qss_lines.specs.Visitings.{CanReslope, quiet_slopes};
@@ -37,7 +38,8 @@ fn go_on_moved<L: Ledger>(
 )
     requires ready { CanReslope at.now slopes.old lines.old agenda.old }
     requires room { state_count at.now.taken.machine.now ≤ vec_capacity touched.old }
-    requires lines { AreLinesAt at.now.taken.machine.now at.now.taken.tick lines.old }
+    requires small { All (IsWithin 88) (states_at lines.old at.now.taken.tick) }
+    requires in_time { at.now.taken.tick < 2 ^ 32 }
     requires fits { AreConditionsOf at.now.taken.machine.now watched.old }
     requires places { HasPlaces at.now.taken.machine.now agenda.old }
     requires watched { AreWatched at.now.taken.machine.now at.now.taken.tick

@@ -30,14 +30,14 @@ rewatch_of-requires-clause-ready g c =
         small = λ place h.
             subst IsSmall (sym (c.requires.watched place (omega (arith, h, fits.watches))).here)
             (value_small m (condition_at m place).form (states_at c.args.lines.now c.args.at.now.taken.tick) d c.args.at.now.taken.tick
-            (condition_bounded m all.branches.items fits.branches place (omega (arith, h, fits.watches, fits.branches.as_many))) c.requires.lines.small c.requires.ready.new.values.small_discretes
-            c.requires.lines.up_to.in_time);
+            (condition_bounded m all.branches.items fits.branches place (omega (arith, h, fits.watches, fits.branches.as_many))) c.requires.small c.requires.ready.new.values.small_discretes
+            c.requires.in_time);
       };
       slopes_of = record {
         as_many = c.reslope_of.auto.slopes ∙ c.requires.ready.one_each.slopes;
         small = slopes_small m c.args.at.now.taken.levels.now d d c.reslope_of.new.slopes c.requires.ready.levels.light refl c.reslope_of.ensures.slopes;
       };
-      in_time = c.requires.lines.up_to.in_time;
+      in_time = c.requires.in_time;
     }
 
 pub returns-clause-kept : goal.returns-clause-kept

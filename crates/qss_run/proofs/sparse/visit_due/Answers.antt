@@ -22,7 +22,7 @@ use Rattle.qss_watch.specs.declared.conditions.Conditions.{Conditions}
 use Rattle.qss_run.specs.declared.store.Store.{Store}
 use Rattle.qss_machine.specs.Firing.{flag_at}
 use Rattle.qss_quiet.specs.Among.{is_among, AreNumbers, IsOff}
-use Rattle.qss_lines.specs.StateLines.{line_at, GoesOnFrom, states_at, AreLinesAt, MayMove}
+use Rattle.qss_lines.specs.StateLines.{line_at, GoesOnFrom, states_at, MayMove}
 use Rattle.qss_watch.specs.Places.{watch_at, IsWatched}
 use Rattle.qss_quiet.specs.Rules.{IsRuled}
 use Rattle.qss_quiet.specs.Sims.{IsDue}
@@ -203,8 +203,11 @@ go_on_moved-requires-clause-ready g c =
           omega (arith, ap (λ ls. (line_at ls j).tick) c.as_mut_slice-2.ensures.value, not_later);
     }
 
-pub go_on_moved-requires-clause-lines : goal.go_on_moved-requires-clause-lines
-go_on_moved-requires-clause-lines g c =
+pub go_on_moved-requires-clause-in_time : goal.go_on_moved-requires-clause-in_time
+go_on_moved-requires-clause-in_time g c = omega (arith, c.requires.in_time, c.args.m.now.has_units.last_tick)
+
+pub go_on_moved-requires-clause-small : goal.go_on_moved-requires-clause-small
+go_on_moved-requires-clause-small g c =
     let m = c.args.m.now in
     let t = c.args.tick + 1 in
     let s : Store = c.args.s.now in
@@ -214,7 +217,7 @@ go_on_moved-requires-clause-lines g c =
     c.requantize_moved-over.ensures.taken.1.over_is
     ∙ ap (λ ls. option_or (first_past 88 (states_at ls t)) (option_or (first_past 43 fresh) (position (is_overweight m fresh s.work.d) m.rows))) c.as_slice.ensures.value in
     let none = both_none (first_past 88 (states_at s.lines.items t)) (option_or (first_past 43 fresh) (position (is_overweight m fresh s.work.d) m.rows)) (sym calm ∙ over) in
-    subst (AreLinesAt m t) (sym c.as_mut_slice-2.ensures.value) (lines_then m c.args.tick c.requires.taken.0 s c.requires.taken.1 c.requires.in_time none.0)
+    subst (λ ls. All (IsWithin 88) (states_at ls t)) (sym c.as_mut_slice-2.ensures.value) (lines_then m c.args.tick c.requires.taken.0 s c.requires.taken.1 c.requires.in_time none.0).small
 
 pub go_on_moved-requires-clause-watched : goal.go_on_moved-requires-clause-watched
 go_on_moved-requires-clause-watched g c place inside =
