@@ -271,8 +271,6 @@ pub fn reslope_of<L: Ledger>(
         → (line_at lines.new j ≡ line_at lines.old j)
         × (due_at agenda.new j ≡ due_at agenda.old j) }
     ensures places { length agenda.new ≡ length agenda.old }
-    ensures others { (place : ℕ) → state_count at.now.taken.machine.now ≤ place
-        → due_at agenda.new place ≡ due_at agenda.old place }
     ensures counted { steps.new
         ≤ steps.old + count_by (is_among (reached at.now.taken.machine.now at.now.taken.moved.now))
         (range_with_len 0 (state_count at.now.taken.machine.now)) }

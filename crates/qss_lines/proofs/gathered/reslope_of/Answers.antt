@@ -10,7 +10,7 @@ use Rattle.qss_quiet.specs.Among.{is_among}
 use Rattle.qss_lines.specs.Gatherings.{Gathering, behind, reached}
 use Rattle.qss_lines.specs.Reslopings.{Courses}
 use Rattle.qss_lines.proofs.DueLevels.{int_at-states_at}
-use Rattle.qss_lines.proofs.Gathering.{AreOn, behind_few, behind_may, not_listed, all_on}
+use Rattle.qss_lines.proofs.Gathering.{AreOn, behind_few, behind_may, all_on}
 use Rattle.qss_lines.proofs.GoingOn.{slopes_small}
 use Rattle.qss_lines.proofs.gathered.reslope_of.Goals as goal
 
@@ -97,13 +97,6 @@ returns-clause-kept g c j unreached =
     gathered.listed j ∙ ap (λ (xs : List ℕ). is_among xs j || is_among (reached m c.args.at.now.taken.moved.now) j) c.clear.ensures.items ∙ unreached in
     let left : is_among c.as_slice.result.now j ≡ false = ap (λ xs. is_among xs j) c.as_slice.ensures.value ∙ unlisted in
     (c.go_on_each.ensures.lines j left ∙ gathered.others j unlisted, c.go_on_each.ensures.dues j left)
-
-pub returns-clause-others : goal.returns-clause-others
-returns-clause-others g c place past =
-    let touched : List ℕ = c.follow_levels.new.touched.items in
-    let below : All (λ j. j < state_count c.args.at.now.taken.machine.now) touched = λ i d h.
-    let known = c.follow_levels.ensures.can.below i d h in omega (arith, known, c.follow_levels.auto.lines, c.requires.ready.one_each.lines) in
-    c.go_on_each.ensures.dues place (ap (λ xs. is_among xs place) c.as_slice.ensures.value ∙ not_listed (state_count c.args.at.now.taken.machine.now) touched place below past)
 
 pub returns-clause-counted : goal.returns-clause-counted
 returns-clause-counted g c =

@@ -1,15 +1,18 @@
 -- Slopes and values are small, and conditions were watched before.
-use Rattle.std.proofs.Common.{◌+◌, List, ℤ, refl, sym, ◌∙◌, subst, arith}
+use Rattle.std.proofs.Common.{◌≡◌, ◌+◌, false, List, ℤ, refl, sym, ◌∙◌, subst, arith}
 use Rattle.qss_machine.specs.Machines.{state_count}
 use Rattle.qss_cross.specs.Crossing.{IsSmall}
 use Rattle.qss_watch.specs.declared.conditions.Conditions.{Conditions}
 use Rattle.qss_watch.specs.Places.{watch_at, IsWatched}
 use Rattle.qss_quiet.specs.Sims.{condition_at}
 use Rattle.qss_watch.specs.Speeds.{AreSlopesBefore}
+use Rattle.qss_quiet.specs.Among.{is_among}
+use Rattle.qss_lines.specs.Gatherings.{reached}
 use Rattle.qss_lines.specs.StateLines.{states_at}
 use Rattle.qss_watch.proofs.OwnConditions.{still_fits}
 use Rattle.qss_run.proofs.QuietTick.{value_small, condition_bounded}
 use Rattle.qss_run.proofs.QuietVisits.{slopes_stay}
+use Rattle.qss_lines.proofs.Gathering.{not_reached}
 use Rattle.qss_lines.proofs.GoingOn.{slopes_small}
 use Rattle.qss_run.proofs.sparse.go_on_moved.Goals as goal
 
@@ -58,12 +61,15 @@ returns-clause-watches g c place h =
           slopes_stay m c.args.at.now.taken.moved.now c.requires.ready.held.before.0 c.args.at.now.taken.levels.now d c.args.slopes.now c.reslope_of.new.slopes c.requires.ready.held.before.1.levels.off c.requires.ready.held.before.1.own_sums
           c.reslope_of.ensures.slopes j inside none;
     } in
+    let unreached : is_among (reached m c.args.at.now.taken.moved.now) (state_count m + place) ≡ false =
+    not_reached m c.args.at.now.taken.moved.now (state_count m + place) c.requires.ready.new.moved.below (omega arith) in
     c.rewatch_of.ensures.watches x d c.args.slopes.now place h before
-    (subst (IsWatched m t x d c.args.slopes.now place (watch_at all.watches.items place)) (sym (c.reslope_of.ensures.others (state_count m + place) (omega arith))) (c.requires.watched place h))
+    (subst (IsWatched m t x d c.args.slopes.now place (watch_at all.watches.items place)) (sym (c.reslope_of.ensures.kept (state_count m + place) unreached).1) (c.requires.watched place h))
 
 pub returns-clause-fits : goal.returns-clause-fits
 returns-clause-fits g c = still_fits c.args.at.now.taken.machine.now c.args.watched.now c.rewatch_of.new.self c.requires.fits c.rewatch_of.ensures.same c.rewatch_of.ensures.goes_on.as_many
 
 pub returns-clause-beyond : goal.returns-clause-beyond
 returns-clause-beyond g c place h =
-    c.rewatch_of.ensures.goes_on.beyond place (omega (arith, h, c.requires.fits.watches)) ∙ c.reslope_of.ensures.others place (omega (arith, h))
+    let unreached = not_reached c.args.at.now.taken.machine.now c.args.at.now.taken.moved.now place c.requires.ready.new.moved.below (omega (arith, h)) in
+    c.rewatch_of.ensures.goes_on.beyond place (omega (arith, h, c.requires.fits.watches)) ∙ (c.reslope_of.ensures.kept place unreached).1
