@@ -1,5 +1,5 @@
 -- The line of one state goes on.
-use Rattle.std.proofs.Common.{◌≡◌, ◌<◌, ℤ, pos, length, get_or, ◌∙◌, sym, ap, subst, arith}
+use Rattle.std.proofs.Common.{◌≡◌, ◌<◌, ◌≤◌, ℤ, pos, length, get_or, ◌∙◌, sym, ap, subst, arith}
 use Rattle.std.proofs.lemmas.Int.{ints, to_z-of_z}
 use Rattle.std.proofs.lemmas.List.{get_or-set_same, get_or_default}
 use Rattle.std.specs.Int.RustNames.{FitsSigned}
@@ -13,6 +13,13 @@ use Rattle.qss_quiet.specs.Sims.{no_line}
 use Rattle.qss_lines.proofs.gathered.go_on.Goals as goal
 use mir.Syntax.{w64, w128}
 use mir.Val.{to_z, of_z}
+
+pub value_at-x-requires-clause-later : goal.value_at-x-requires-clause-later
+value_at-x-requires-clause-later c =
+    let lines = c.args.lines.now in
+    let inside : c.args.j < length lines = omega (arith, c.requires.on.lines, c.requires.state) in
+    let read : get_or lines c.args.j c.index-lines-j.result ≡ line_at lines c.args.j = get_or_default lines c.args.j c.index-lines-j.result no_line inside in
+    subst (λ (l : Line). l.tick ≤ c.args.at.now.taken.tick) (sym read) c.requires.ready.not_later
 
 pub go_on_as-requires-clause-near : goal.go_on_as-requires-clause-near
 go_on_as-requires-clause-near c =

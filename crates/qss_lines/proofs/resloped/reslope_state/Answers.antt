@@ -8,12 +8,19 @@ use Rattle.qss_machine.specs.Numbers.{int_at}
 use Rattle.qss_machine.specs.Machines.{state_count}
 use Rattle.qss_quant.specs.Lines.{Line, state_at}
 use Rattle.qss_sched.specs.Ranks.{due_at}
-use Rattle.qss_quiet.specs.Sims.{no_line}
+use Rattle.qss_quiet.specs.Sims.{IsDue, no_line}
 use Rattle.qss_lines.specs.StateLines.{line_at, GoesOnFrom}
 use Rattle.qss_lines.proofs.GoingOn.{near_along}
 use Rattle.qss_lines.proofs.Renewed.{counted_at, from_here, left_at, renewed}
 use Rattle.qss_lines.proofs.resloped.reslope_state.Goals as goal
 use mir.Syntax.{w64, w128}
+
+pub value_at-x-requires-clause-later : goal.value_at-x-requires-clause-later
+value_at-x-requires-clause-later g c =
+    let lines = c.args.lines.now in
+    let inside : c.args.j < length lines = omega (arith, c.requires.on.lines, c.requires.state) in
+    let read : get_or lines c.args.j c.index-lines-j.result ≡ line_at lines c.args.j = get_or_default lines c.args.j c.index-lines-j.result no_line inside in
+    subst (λ (l : Line). l.tick ≤ c.args.at.now.taken.tick) (sym read) c.requires.ready.not_later
 
 pub reslope-requires-clause-ready : goal.reslope-requires-clause-ready
 reslope-requires-clause-ready g c =
@@ -36,6 +43,17 @@ reslope-requires-clause-ready g c =
       near = near_along c.args.at.now.taken.machine.now j _ at _ (int_at c.args.at.now.taken.levels.now j)
           (to_z-of_z w128 c.value_at-x.result x ∙ c.value_at-x.ensures ∙ ap (λ (l : Line). state_at l tick) read) (to_z-of_z w64 (int_at c.args.at.now.taken.levels.now j) level) c.requires.ready.near;
     }
+
+pub reslope-requires-clause-due : goal.reslope-requires-clause-due
+reslope-requires-clause-due g c here own_level =
+    let j = c.args.j in
+    let lines = c.args.lines.now in
+    let small_level : IsWithin 43 (int_at c.args.at.now.taken.levels.now j) = c.requires.on.new.small_levels j (pos 0) (omega (arith, c.requires.on.new.levels, c.requires.state)) in
+    let level : FitsSigned w64 (int_at c.args.at.now.taken.levels.now j) = omega (arith, ints, small_level) in
+    let inside : j < length lines = omega (arith, c.requires.on.lines, c.requires.state) in
+    let read : get_or lines j c.index-lines-j.result ≡ line_at lines j = get_or_default lines j c.index-lines-j.result no_line inside in
+    subst (λ (l : Line). IsDue c.args.at.now.taken.machine.now c.args.at.now.taken.tick j l (due_at c.args.agenda.now j)) (sym read)
+    (c.requires.ready.due (ap (λ (l : Line). l.level) (sym read) ∙ own_level ∙ to_z-of_z w64 (int_at c.args.at.now.taken.levels.now j) level))
 
 pub returns-clause-goes_on : goal.returns-clause-goes_on
 returns-clause-goes_on g c =
