@@ -16,6 +16,7 @@ use Rattle.qss_sched.specs.Ranks.{due_at}
 use Rattle.qss_quiet.specs.Among.{is_among}
 use Rattle.qss_quiet.specs.Sims.{IsDue, no_line}
 use Rattle.qss_quiet.proofs.Among.{among_readers}
+use Rattle.qss_quiet.proofs.KeptReaders.{rows_known}
 use Rattle.qss_quiet.proofs.Quiet.{int_at-tabulate}
 use Rattle.qss_quiet.proofs.Unread.{unread_at, unread_slope}
 use Rattle.qss_quiet.proofs.Writes.{among_push, index_of}
@@ -73,7 +74,7 @@ or_three true b c = refl
 or_three false b c = refl
 
 -- a number past all numbers is not among them
-pub not_listed : (n : ℕ) (xs : List ℕ) (place : ℕ) → All (λ j. j < n) xs → n ≤ place → is_among xs place ≡ false
+not_listed : (n : ℕ) (xs : List ℕ) (place : ℕ) → All (λ j. j < n) xs → n ≤ place → is_among xs place ≡ false
 not_listed n xs place below past = elim (cases_Bool (is_among xs place)) [
   | inl among ↦ (let found = index_of xs place among in absurd (omega (arith, below found.0 0 found.1, found.2, past)))
   | inr none ↦ none
@@ -233,6 +234,18 @@ among_reached m (i ∷ moved) k =
     ∙ or_swap (eqb i k) (is_among (reading_rows m i) k) (is_among moved k) (is_among (flat_map (reading_rows m) moved) k)
     ∙ ap (λ (b : Bool). (eqb i k || is_among moved k) || b) (sym (list_any-append (λ (j : ℕ). eqb j k) (reading_rows m i) (flat_map (reading_rows m) moved)))
 
+-- and a number past all states is not
+pub not_reached : (m : Machine) (moved : List ℕ) (place : ℕ) → All (λ j. j < state_count m) moved → state_count m ≤ place → is_among (reached m moved) place ≡ false
+not_reached m moved place below past =
+    among_reached m moved place
+    ∙ or_from (is_among moved place) (is_among (flat_map (reading_rows m) moved) place) (not_listed (state_count m) moved place below past) (not_read moved)
+  where
+    not_read : (xs : List ℕ) → is_among (flat_map (reading_rows m) xs) place ≡ false
+    not_read [] = refl
+    not_read (i ∷ xs) =
+        list_any-append (λ (j : ℕ). eqb j place) (reading_rows m i) (flat_map (reading_rows m) xs)
+        ∙ or_from (is_among (reading_rows m i) place) (is_among (flat_map (reading_rows m) xs) place) (not_listed (state_count m) (reading_rows m i) place (rows_known m i) past) (not_read xs)
+
 -- ---- one touched state goes on
 
 -- a line at its tick
@@ -345,7 +358,7 @@ module _ (m : Machine) (tick : ℕ) (levels before discretes slopes_old slopes :
             let same : int_at slopes_old k ≡ slope_at m k levels discretes =
             ap (λ xs. int_at xs k) were.own_sums ∙ int_at-tabulate (state_count m) (λ j. slope_at m j before discretes) k h
             ∙ sym (unread_slope m.f (row_at m k) moved before levels discretes (unread_at moved (row_at m k) (sym (among_readers m k h moved) ∙ parts.1)) were.levels.off) in
-            let own_level : (line_at old.lines k).level ≡ int_at levels k = were.levels.own_levels k h ∙ sym (were.levels.off.others k parts.0) in
+            let own_level : (line_at old.lines k).level ≡ int_at levels k = were.levels.of_lines.own_levels k h ∙ sym (were.levels.off.others k parts.0) in
             let line : line_at new.lines k ≡ line_at old.lines k = on.lines k none ∙ gathered.others k none in
             subst (λ (l : Line). GoesOnFrom m tick x (int_at levels k) (slope_at m k levels discretes) k l (due_at new.dues k)) (sym line)
             (subst (GoesOnFrom m tick x (int_at levels k) (slope_at m k levels discretes) k (line_at old.lines k)) (sym (on.dues k none))

@@ -12,6 +12,8 @@ use Rattle.qss_machine.specs.Ticks.{is_overweight}
 use Rattle.qss_quant.specs.Lines.{Line, IsNear}
 use Rattle.qss_sched.specs.Ranks.{due_at}
 use Rattle.qss_lines.specs.StateLines.{line_at, GoesOnFrom}
+use Rattle.qss_lines.specs.Visitings.{CanGoOn}
+use Rattle.qss_lines.specs.declared.visiting.NewSlopes.{NewSlopes}
 use Rattle.qss_quiet.specs.Sims.{no_line}
 use Rattle.qss_quiet.proofs.LightRows.{row_is_light}
 
@@ -41,6 +43,10 @@ slopes_small m levels d e slopes light same is k z h =
     let here : get_or slopes k z ≡ slope_at m k levels d =
     ap (λ xs. get_or xs k z) is ∙ get_or-map-range_with_len (λ j. slope_at m j levels e) 0 (state_count m) k k z inside (omega arith) ∙ ap (slope_at m k levels) same in
     subst (IsWithin 88) (sym here) (row_is_light m levels d light k inside).slope
+
+-- states that may go on still may where lines and agenda are as long as before
+pub still_on : (at : NewSlopes) (lines next : List Line) (dues after : List (Option ℕ)) → CanGoOn at lines dues → length next ≡ length lines → length after ≡ length dues → CanGoOn at next after
+still_on at lines next dues after on many places = record { new = on.new; slopes_of = on.slopes_of; lines = many ∙ on.lines; places = omega (arith, places, on.places); in_time = on.in_time }
 
 -- a state near its level, in other words
 pub near_along : (m : Machine) (j : ℕ) (x y l k : ℤ) → x ≡ y → l ≡ k → IsNear (level_unit m) y k (quantum_of m j k) → IsNear (level_unit m) x l (quantum_of m j l)

@@ -138,7 +138,7 @@ module _ (m : Machine) (tick : ℕ) (x levels slopes : List ℤ) (moved : List �
           | inr unread ↦ on (elim (cases_Bool (is_among moved j)) [
             | inl among ↦ subst (λ z. GoesOnFrom m tick z level slope j (line_at between.lines j) (due_at between.dues j)) (sym (moved_state first.lines tick moved x j inside among)) (are.own j among)
             | inr none ↦
-                let own_level : (line_at first.lines j).level ≡ level = were.levels.own_levels j h ∙ sym (were.levels.off.others j none) in
+                let own_level : (line_at first.lines j).level ≡ level = were.levels.of_lines.own_levels j h ∙ sym (were.levels.off.others j none) in
                 subst (λ (l : Line). Goes l (due_at between.dues j)) (sym (are.lines j none))
                 (subst (Goes (line_at first.lines j)) (sym (are.dues j none))
                 (record {

@@ -16,8 +16,11 @@ use Rattle.qss_machine.specs.Uses.{row_reads, reading_rows, reading_coefficients
 use Rattle.qss_machine.proofs.Distinct.{coefficient_small}
 use Rattle.qss_lines.specs.declared.shifts.RowSum.{RowSum}
 use Rattle.qss_lines.specs.declared.shifts.RowSum.TheVariants.{Slope, Weight}
+use Rattle.qss_lines.specs.declared.visiting.Handled.{Handled}
+use Rattle.qss_lines.specs.declared.visiting.NewLevels.{NewLevels}
 use Rattle.qss_quiet.specs.Among.{is_among, AreNumbers, IsOff}
 use Rattle.qss_lines.specs.RowSums.{taken_by, sum_at, HasFollowed}
+use Rattle.qss_lines.specs.Visitings.{AreNewLevels, AreNewLevelsAt, AreHandled}
 use Rattle.qss_quiet.specs.Writes.{IsWritten}
 use Rattle.qss_quiet.proofs.Among.{among_rows}
 use Rattle.qss_quiet.proofs.Changes.{slopes_follow_levels}
@@ -102,6 +105,14 @@ along_all moved levels old off =
       | inl among ↦ along_own moved levels old j (omega (arith, h, off.as_many)) among
       | inr none ↦ along_other moved levels old j none ∙ sym (off.others j none)
     ])
+
+-- new levels at the discrete values before handlers
+pub at_before : (at : NewLevels) (left : Handled) → AreNewLevels at → AreHandled at.machine.now left → AreNewLevelsAt at left.before.now
+at_before at left new handled = record {
+  uses = new.uses;
+  moved = new.moved;
+  values = record { levels = new.levels; discretes = handled.many_before; small_levels = new.small_levels; small_discretes = handled.assigned.small_before };
+}
 
 -- ---- sums that follow
 

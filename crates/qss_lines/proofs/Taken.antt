@@ -151,13 +151,13 @@ module _ (at : Arrival) (name : Option Rule) (old kept : List ℤ) (before rows 
   states = states_at at.lines.now at.tick
 
   are : AreMovedTo at.machine.now at.moved.now states old states
-  are = arrived_at at.machine.now at.tick at.lines.now at.moved.now old ready.arrival.lines.as_many ready.others_near
+  are = arrived_at at.machine.now at.tick at.lines.now at.moved.now old ready.lines.up_to.as_many ready.others_near
 
   off : (none : first_past 88 states ≡ None) → IsOff at.moved.now old (taken none).0
   off none = written_off at.moved.now _ old old (taken none).0 refl (taken none).1.allowed
 
   first : (none : first_past 88 states ≡ None) → over ≡ first_past 43 (taken none).0
-  first none = levels_over at.machine.now at.moved.now states old (taken none).0 ready.arrival.moved many (off none) over small (taken none).1.found
+  first none = levels_over at.machine.now at.moved.now states old (taken none).0 ready.lines.numbers many (off none) over small (taken none).1.found
 
   -- the new levels, and what overflows
   pub on_arrival : (new : List ℤ) × AreRequantizedOnArrival at name old kept new (first_past 43 new) over
@@ -178,7 +178,7 @@ module _ (at : Arrival) (name : Option Rule) (old kept : List ℤ) (before rows 
         record {
           over_is = first e ∙ sym (ap (λ o. option_or o (first_past 43 (taken e).0)) e);
           allowed = λ none.
-              levels_allowed at.machine.now at.moved.now states old (taken e).0 ready.arrival.moved many (off e) states are (IsRuled name) (taken e).1.allowed.each;
+              levels_allowed at.machine.now at.moved.now states old (taken e).0 ready.lines.numbers many (off e) states are (IsRuled name) (taken e).1.allowed.each;
           others = off e;
           levels = (taken e).1.levels;
         },
@@ -203,5 +203,5 @@ module _ (at : Arrival) (name : Option Rule) (old kept : List ℤ) (before rows 
       let calm = none_passed none in
       (taken calm).1.own_rows none
       ∙ ap (λ (more : List Row). before ++ more)
-      (rows_of_moved at.machine.now at.moved.now states old (taken calm).0 ready.arrival.moved many (off calm) states are at.tick
+      (rows_of_moved at.machine.now at.moved.now states old (taken calm).0 ready.lines.numbers many (off calm) states are at.tick
       ∙ ap (λ (l : List ℤ). level_rows at.tick old l states) (sym ((taken calm).1.levels none)))

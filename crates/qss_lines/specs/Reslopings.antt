@@ -18,6 +18,14 @@ pub record MayReslope (m : Machine) (tick : ℕ) (level slope : ℤ) (j : ℕ) (
   pub near : IsNear (level_unit m) (state_at line tick) level (quantum_of m j level)
   pub due : line.level ≡ level → IsDue m tick j line found
 
+-- a state may go on as another line from that one's tick on: its own line moves there, the other is near its level, and the state has a place in an agenda
+pub record CanRenew (m : Machine) (j : ℕ) (here line : Line) (dues : List (Option ℕ)) : Type 0 where
+  pub state : j < state_count m
+  pub place : j < length dues
+  pub later : line.tick ≤ here.tick
+  pub small : IsWithin 89 (state_at line here.tick)
+  pub near : IsNear (level_unit m) here.x here.level (quantum_of m j here.level)
+
 -- a state's line and due tick are as they were, or it goes on from a tick at this level and slope
 abbrev pub GoesOn : Machine → ℕ → ℤ → ℤ → ℕ → Line → Line → Option ℕ → Option ℕ → Type 0
 GoesOn m tick level slope j old new due_old due_new = ((new ≡ old) × (due_new ≡ due_old)) ⊎ GoesOnFrom m tick (state_at old tick) level slope j new due_new

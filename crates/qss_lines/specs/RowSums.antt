@@ -1,5 +1,5 @@
 -- The two sums of a row over levels: its slope, and its weight, which takes the sizes of all numbers.
-use Rattle.std.specs.Prelude.{◌≡◌, ℕ, ◌+◌, ◌^◌, ◌<◌, ◌≤◌, List, ℤ, ◌+ℤ◌, ◌-ℤ◌, ◌*ℤ◌, unsigned_abs, None, All, position}
+use Rattle.std.specs.Prelude.{◌≡◌, ℕ, ◌+◌, ◌^◌, ◌<◌, ◌≤◌, List, length, ℤ, ◌+ℤ◌, ◌-ℤ◌, ◌*ℤ◌, unsigned_abs, None, All, position}
 use Rattle.mu_num.specs.Sizes.{IsWithin}
 use Rattle.qss_machine.specs.declared.system.Machine.{Machine}
 use Rattle.qss_machine.specs.Machines.{state_count, mode_coefficient_at, slope_at, weight_at}
@@ -10,6 +10,7 @@ use Rattle.qss_lines.specs.declared.shifts.RowSum.{RowSum}
 use Rattle.qss_lines.specs.declared.shifts.RowSum.TheVariants.{Slope, Weight}
 use Rattle.qss_quiet.specs.Among.{IsOff}
 use Rattle.qss_lines.specs.StateLines.{line_at}
+use Rattle.qss_lines.specs.Variables.{AreLevelsOf}
 
 -- a number as a sum takes it
 abbrev pub taken_by : RowSum → ℤ → ℤ
@@ -21,12 +22,22 @@ abbrev pub sum_at : RowSum → Machine → ℕ → List ℤ → List ℤ → ℤ
 sum_at Slope m j levels discretes = slope_at m j levels discretes
 sum_at Weight m j levels discretes = weight_at m j levels discretes
 
--- the levels before those of the moved states changed: within their limit, no row past its limits there, and the lines have them
+-- sums of all rows may be added up anew at levels and discrete values, at which no row passes its limits
+pub record CanAddUp (m : Machine) (levels discretes sums : List ℤ) : Type 0 where
+  pub values : AreLevelsOf m levels discretes
+  pub one_each : length sums ≡ state_count m
+  pub light : position (is_overweight m levels discretes) m.rows ≡ None
+
+-- levels that the lines have, within their limit, and no row past its limits there
+pub record AreLevelsOfLines (m : Machine) (lines : List Line) (levels discretes : List ℤ) : Type 0 where
+  pub small : All (IsWithin 43) levels
+  pub light : position (is_overweight m levels discretes) m.rows ≡ None
+  pub own_levels : (j : ℕ) → j < state_count m → (line_at lines j).level ≡ int_at levels j
+
+-- the levels before those of the moved states changed, which the lines have
 pub record AreLevelsBefore (m : Machine) (moved : List ℕ) (new discretes : List ℤ) (lines : List Line) (old : List ℤ) : Type 0 where
   pub off : IsOff moved old new
-  pub small : All (IsWithin 43) old
-  pub light : position (is_overweight m old discretes) m.rows ≡ None
-  pub own_levels : (j : ℕ) → j < state_count m → (line_at lines j).level ≡ int_at old j
+  pub of_lines : AreLevelsOfLines m lines old discretes
 
 -- the levels before, and the sums of all rows there
 pub record AreSumsBefore (kind : RowSum) (m : Machine) (moved : List ℕ) (new discretes sums : List ℤ) (lines : List Line) (old : List ℤ) : Type 0 where

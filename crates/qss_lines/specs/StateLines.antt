@@ -1,12 +1,12 @@
 -- The lines of states, by number, and the states to which they lead.
-use Rattle.std.specs.Prelude.{ℕ, List, length, All, ℤ, if◌then◌else◌, ◌≡◌, ◌^◌, ◌<◌, ◌≤◌, Option, slice_index_or}
+use Rattle.std.specs.Prelude.{ℕ, List, length, All, ℤ, false, if◌then◌else◌, ◌≡◌, ◌^◌, ◌<◌, ◌≤◌, Option, slice_index_or}
 use Rattle.mu_num.specs.Sizes.{IsWithin}
 use Rattle.mu_num.specs.Ticks.{tick_limit}
 use Rattle.qss_machine.specs.Machines.{state_count}
 use Rattle.qss_machine.specs.Numbers.{int_at, tabulate}
 use Rattle.qss_machine.specs.declared.system.Machine.{Machine}
 use Rattle.qss_quant.specs.Lines.{Line, state_at}
-use Rattle.qss_quiet.specs.Among.{is_among}
+use Rattle.qss_quiet.specs.Among.{is_among, AreNumbers}
 use Rattle.qss_quiet.specs.Sims.{IsDue, no_line}
 
 -- the line of a state
@@ -27,6 +27,12 @@ pub record AreLinesUpTo (m : Machine) (tick : ℕ) (lines : List Line) : Type 0 
 pub record AreLinesAt (m : Machine) (tick : ℕ) (lines : List Line) : Type 0 where
   pub up_to : AreLinesUpTo m tick lines
   pub small : All (IsWithin 88) (states_at lines tick)
+
+-- lines up to a tick, and numbers of states that are due there: the others are within the limit where their lines lead
+pub record AreLinesWithDue (m : Machine) (tick : ℕ) (lines : List Line) (due : List ℕ) : Type 0 where
+  pub up_to : AreLinesUpTo m tick lines
+  pub numbers : AreNumbers (state_count m) due
+  pub others_small : (j : ℕ) → j < state_count m → is_among due j ≡ false → IsWithin 88 (state_at (line_at lines j) tick)
 
 -- lines that may move to a tick up to 2^32: each is there or was before, and leads there to a state within 89 bits
 pub record MayMove (tick : ℕ) (lines : List Line) : Type 0 where

@@ -1,5 +1,6 @@
 -- What the parts of a visit are given.
-use Rattle.std.specs.Prelude.{◌≡◌, ℕ, ◌<◌, ◌≤◌, true, false, List, length, All, ℤ, Option, None, position}
+use Rattle.std.specs.Prelude.{◌≡◌, ℕ, ◌+◌, ◌<◌, ◌≤◌, true, false, List, length, All, ℤ, Option, None, position, count_by}
+use Rattle.std.specs.List.{range_with_len}
 use Rattle.mu_num.specs.Sizes.{IsWithin}
 use Rattle.mu_num.specs.Ticks.{tick_limit}
 use Rattle.qss_machine.specs.declared.system.Machine.{Machine}
@@ -23,10 +24,12 @@ use Rattle.qss_lines.specs.declared.visiting.NewLevels.{NewLevels}
 use Rattle.qss_lines.specs.declared.visiting.NewSlopes.{NewSlopes}
 use Rattle.qss_lines.specs.declared.visiting.QuietLevels.{QuietLevels}
 use Rattle.qss_lines.specs.declared.weights.Weights.{Weights}
-use Rattle.qss_lines.specs.Variables.{AreAssignedFrom, AreSlopesOf}
-use Rattle.qss_lines.specs.StateLines.{states_at, states_with, line_at, AreLinesUpTo, MayMove}
+use Rattle.qss_lines.specs.Variables.{AreAssignedFrom, AreWithin, AreLevelsOf, AreSlopesOf}
+use Rattle.qss_lines.specs.StateLines.{states_at, states_with, line_at, AreLinesWithDue, MayMove, GoesOnFrom}
+use Rattle.qss_lines.specs.Gatherings.{reached}
+use Rattle.qss_lines.specs.Reslopings.{Courses}
 use Rattle.qss_lines.specs.Kept.{AreWeights, AreWeightsBefore}
-use Rattle.qss_lines.specs.RowSums.{sum_at, HadSums}
+use Rattle.qss_lines.specs.RowSums.{sum_at, AreLevelsOfLines, HadSums}
 
 -- discrete values of a machine within the limit, at which the mode coefficients of all rows are within theirs
 pub record IsMode (at : Mode) : Type 0 where
@@ -35,12 +38,25 @@ pub record IsMode (at : Mode) : Type 0 where
   pub fits : (row : ℕ) → row < state_count at.machine.now →
       mode_fits at.machine.now.f (state_count at.machine.now) (row_at at.machine.now row) at.discretes.now ≡ true
 
+-- a state may go from one level to another, both as a sum takes them and within the limit, at discrete values of its machine
+pub record CanShift (at : Mode) (state : ℕ) (level_old level_new : ℤ) : Type 0 where
+  pub mode : IsMode at
+  pub known : state < state_count at.machine.now
+  pub small_old : IsWithin 43 level_old
+  pub small_new : IsWithin 43 level_new
+
 -- a machine's readers, numbers of its states, and a level of each state, within the limit
 pub record AreNewLevels (at : NewLevels) : Type 0 where
   pub uses : at.uses.now ≡ uses_of at.machine.now
   pub moved : AreNumbers (state_count at.machine.now) at.moved.now
   pub levels : length at.levels.now ≡ state_count at.machine.now
   pub small_levels : All (IsWithin 43) at.levels.now
+
+-- a machine's readers and numbers of its states, and new levels and discrete values within the limit
+pub record AreNewLevelsAt (at : NewLevels) (discretes : List ℤ) : Type 0 where
+  pub uses : at.uses.now ≡ uses_of at.machine.now
+  pub moved : AreNumbers (state_count at.machine.now) at.moved.now
+  pub values : AreLevelsOf at.machine.now at.levels.now discretes
 
 -- the sums of all rows at these levels and at discrete values
 abbrev pub new_sums : RowSum → NewLevels → List ℤ → List ℤ
@@ -61,6 +77,12 @@ first_overweight at discretes =
 abbrev pub WereSums : RowSum → NewLevels → List ℤ → List ℤ → List Line → Type 0
 WereSums kind at discretes sums lines = HadSums kind at.machine.now at.moved.now at.levels.now discretes sums lines
 
+-- sums of all rows at the levels before may follow where the moved states take these, from those of their lines, at discrete values
+pub record CanFollow (kind : RowSum) (at : NewLevels) (discretes sums : List ℤ) (lines : List Line) : Type 0 where
+  pub new : AreNewLevelsAt at discretes
+  pub many_lines : length lines ≡ state_count at.machine.now
+  pub before : WereSums kind at discretes sums lines
+
 -- weights and lines of the levels before, at discrete values
 abbrev pub WereWeights : NewLevels → List ℤ → Weights → List Line → Type 0
 WereWeights at discretes weights lines =
@@ -69,17 +91,8 @@ WereWeights at discretes weights lines =
 -- values of a machine's states and discrete variables after handlers, and of these before them, within the limits: only the assigned ones are others
 pub record AreHandled (m : Machine) (left : Handled) : Type 0 where
   pub assigned : AreAssignedFrom m left.assigned.now left.before.now left.discretes.now
-  pub many_states : length left.states.now ≡ state_count m
   pub many_before : length left.before.now ≡ discrete_count m
-  pub many_discretes : length left.discretes.now ≡ discrete_count m
-  pub small_states : All (IsWithin 88) left.states.now
-  pub small_discretes : All (IsWithin 43) left.discretes.now
-
--- a machine's readers, its lines up to a tick, and numbers of states
-pub record IsArrival (at : Arrival) : Type 0 where
-  pub uses : at.uses.now ≡ uses_of at.machine.now
-  pub lines : AreLinesUpTo at.machine.now at.tick at.lines.now
-  pub moved : AreNumbers (state_count at.machine.now) at.moved.now
+  pub values : AreWithin m left.states.now left.discretes.now
 
 -- a state is at least the quantum away from its level
 abbrev pub HasLeft : Machine → ℕ → ℤ → ℤ → Type 0
@@ -87,11 +100,10 @@ HasLeft m j state level = IsAway (level_unit m) state level (quantum_of m j leve
 
 -- the moved states may arrive at a tick of a run: along their lines they leave the quanta of these levels, and the others pass no limit, and are near these levels
 pub record CanArrive (at : Arrival) (levels : List ℤ) : Type 0 where
-  pub arrival : IsArrival at
+  pub uses : at.uses.now ≡ uses_of at.machine.now
+  pub lines : AreLinesWithDue at.machine.now at.tick at.lines.now at.moved.now
   pub moved_away : (j : ℕ) → is_among at.moved.now j ≡ true →
       HasLeft at.machine.now j (state_at (line_at at.lines.now j) at.tick) (int_at levels j)
-  pub others_small : (j : ℕ) → j < state_count at.machine.now → is_among at.moved.now j ≡ false →
-      IsWithin 88 (state_at (line_at at.lines.now j) at.tick)
   pub others_near : (j : ℕ) → j < state_count at.machine.now → is_among at.moved.now j ≡ false →
       is_near at.machine.now j (state_at (line_at at.lines.now j) at.tick) (int_at levels j) ≡ true
 
@@ -103,13 +115,11 @@ pub record CanRequantize (at : Arrival) (x levels_old : List ℤ) : Type 0 where
   pub small_states : (j : ℕ) → is_among at.moved.now j ≡ true → IsWithin 88 (int_at x j)
   pub small_levels : All (IsWithin 43) levels_old
 
--- levels of a machine's states that the lines have, within their limit, and the weights of all rows there and at discrete values, none past its limit
+-- a level of each state, which its line has, and the weights of all rows at these levels and at discrete values
 pub record HoldsLevels (m : Machine) (lines : List Line) (d levels_old : List ℤ) (weights_old : Weights) : Type 0 where
   pub levels : length levels_old ≡ state_count m
-  pub small_levels : All (IsWithin 43) levels_old
-  pub light : position (is_overweight m levels_old d) m.rows ≡ None
+  pub of_lines : AreLevelsOfLines m lines levels_old d
   pub weights : AreWeights m levels_old d weights_old
-  pub own_levels : (j : ℕ) → j < state_count m → (line_at lines j).level ≡ int_at levels_old j
 
 -- a machine's readers, a line of each state, numbers of states and of discrete variables, and values within the limits of which only those were assigned
 pub record IsHandledArrival (at : HandledArrival) : Type 0 where
@@ -119,34 +129,22 @@ pub record IsHandledArrival (at : HandledArrival) : Type 0 where
   pub assigned : AreAssignedFrom at.machine.now at.assigned.now at.work.now.pre at.work.now.d
   pub fits : AreValuesOf at.machine.now at.work.now
 
--- the new levels that go with new slopes
-abbrev pub levels_with : NewSlopes → NewLevels
-levels_with at = record { machine = at.machine; uses = at.uses; tick = at.tick; moved = at.moved; levels = at.levels }
-
--- a machine's states may go on at their new levels and slopes
-pub record CanGoOn (at : NewSlopes) : Type 0 where
-  pub new : AreNewLevels (levels_with at)
-  pub slopes_of : AreSlopesOf at.machine.now at.slopes.now
-  pub in_time : at.tick ≤ tick_limit
+-- a machine's states may go on at their new levels and slopes, each with a line and a place in an agenda
+pub record CanGoOn (at : NewSlopes) (lines_old : List Line) (dues_old : List (Option ℕ)) : Type 0 where
+  pub new : AreNewLevels at.taken
+  pub slopes_of : AreSlopesOf at.taken.machine.now at.slopes.now
+  pub lines : length lines_old ≡ state_count at.taken.machine.now
+  pub places : state_count at.taken.machine.now ≤ length dues_old
+  pub in_time : at.taken.tick ≤ tick_limit
 
 -- a value of each state, within the limit
 pub record AreStatesOf (m : Machine) (x : List ℤ) : Type 0 where
   pub as_many : length x ≡ state_count m
   pub small : All (IsWithin 88) x
 
--- the new levels at a tick at which nothing but states is due
-abbrev pub new_levels : QuietLevels → NewLevels
-new_levels at = record { machine = at.machine; uses = at.uses; tick = at.tick; moved = at.moved; levels = at.levels }
-
--- new levels, and a value of each discrete variable, within the limit
-pub record AreQuietLevels (at : QuietLevels) : Type 0 where
-  pub taken : AreNewLevels (new_levels at)
-  pub discretes : length at.discretes.now ≡ discrete_count at.machine.now
-  pub small_discretes : All (IsWithin 43) at.discretes.now
-
 -- the slopes of all rows there
 abbrev pub quiet_slopes : QuietLevels → List ℤ
-quiet_slopes at = new_slopes (new_levels at) at.discretes.now
+quiet_slopes at = new_slopes at.taken at.discretes.now
 
 -- levels within whose quanta these states are, and at which, with these discrete values, no row passes its limits
 pub record AreLevelsFor (m : Machine) (states levels discretes : List ℤ) : Type 0 where
@@ -169,11 +167,20 @@ pub record HeldBefore (m : Machine) (tick : ℕ) (moved : List ℕ) (levels disc
 
 -- the moved states may go on at their new levels, and all states at their new slopes, from the slopes, the lines and the due ticks before, where no line was moved to the tick yet
 pub record CanReslope (at : QuietLevels) (slopes_old : List ℤ) (lines_old : List Line) (dues_old : List (Option ℕ)) : Type 0 where
-  pub new : AreQuietLevels at
-  pub levels : AreLevelsFor at.machine.now (states_at lines_old at.tick) at.levels.now at.discretes.now
-  pub one_each : HasOneEach at.machine.now slopes_old lines_old dues_old
-  pub held : HeldBefore at.machine.now at.tick at.moved.now at.levels.now at.discretes.now slopes_old lines_old dues_old
-  pub earlier : (j : ℕ) → j < state_count at.machine.now → (line_at lines_old j).tick < at.tick
+  pub new : AreNewLevelsAt at.taken at.discretes.now
+  pub levels : AreLevelsFor at.taken.machine.now (states_at lines_old at.taken.tick) at.taken.levels.now at.discretes.now
+  pub one_each : HasOneEach at.taken.machine.now slopes_old lines_old dues_old
+  pub held : HeldBefore at.taken.machine.now at.taken.tick at.taken.moved.now at.taken.levels.now at.discretes.now slopes_old lines_old dues_old
+  pub earlier : (j : ℕ) → j < state_count at.taken.machine.now → (line_at lines_old j).tick < at.taken.tick
+
+-- all states have gone on from a tick, at the new levels and their slopes there, for no more moves of lines than the moved states and their readers are
+pub record HaveGoneOn (at : QuietLevels) (slopes_new : List ℤ) (old new : Courses) (steps_old steps_new : ℕ) : Type 0 where
+  pub slopes : slopes_new ≡ quiet_slopes at
+  pub lines : (j : ℕ) → j < state_count at.taken.machine.now →
+      GoesOnFrom at.taken.machine.now at.taken.tick (state_at (line_at old.lines j) at.taken.tick) (int_at at.taken.levels.now j)
+      (slope_at at.taken.machine.now j at.taken.levels.now at.discretes.now) j (line_at new.lines j) (due_at new.dues j)
+  pub places : length new.dues ≡ length old.dues
+  pub counted : steps_new ≤ steps_old + count_by (is_among (reached at.taken.machine.now at.taken.moved.now)) (range_with_len 0 (state_count at.taken.machine.now))
 
 -- the states after handlers: the moved ones as these left them, the others where their lines lead
 abbrev pub states_left : NewLevels → Handled → List Line → List ℤ

@@ -1,11 +1,10 @@
 //! States that a tick touches at which nothing but states is due: they are gathered, and go on from it at new slopes.
 
-ghost use Rattle.std.specs.Prelude.{◌≡◌, ℕ, ◌+◌, ◌<◌, ◌≤◌, ◌∷◌, [], All, length, pos, true, false, vec_capacity, count_by};
-ghost use Rattle.std.specs.List.{range_with_len};
+ghost use Rattle.std.specs.Prelude.{◌≡◌, ℕ, ◌+◌, ◌<◌, ◌≤◌, ◌∷◌, [], All, length, pos, true, false, vec_capacity};
 ghost use Rattle.mu_num.specs.Sizes.{IsWithin};
 ghost use Rattle.mu_num.specs.Ticks.{tick_limit};
 ghost use Rattle.qss_machine.specs.Numbers.{int_at};
-ghost use Rattle.qss_machine.specs.Machines.{state_count, row_at, slope_at};
+ghost use Rattle.qss_machine.specs.Machines.{state_count, row_at};
 ghost use Rattle.qss_machine.specs.Slopes.{mode_fits};
 ghost use Rattle.qss_machine.specs.Uses.{reading_rows};
 ghost use Rattle.qss_quant.specs.Lines.{state_at};
@@ -16,7 +15,7 @@ ghost use Rattle.qss_lines.specs.Gatherings.{CanGather, AreGathered, MayGoOn, re
 ghost use Rattle.qss_lines.specs.StateLines.{line_at, GoesOnFrom};
 ghost use Rattle.qss_lines.specs.RowSums.{HasFollowed};
 ghost use Rattle.qss_lines.specs.declared.shifts.RowSum.TheVariants as sum;
-ghost use Rattle.qss_lines.specs.Visitings.{AreQuietLevels, CanGoOn, CanReslope, new_levels, quiet_slopes, WereSums};
+ghost use Rattle.qss_lines.specs.Visitings.{AreNewLevelsAt, CanGoOn, CanReslope, HaveGoneOn, quiet_slopes, WereSums};
 
 use crate::shifts::{RowSum, shift_rows};
 use crate::visiting::{Mode, NewSlopes, QuietLevels};
@@ -101,23 +100,25 @@ fn follow_level<L: Ledger>(
     touched: &mut Vec<u32>,
     steps: &mut Steps<L>,
 )
-    requires new { AreQuietLevels at.now }
-    requires state { state < state_count at.now.machine.now }
-    requires modes { (row : ℕ) → row < state_count at.now.machine.now
-        → mode_fits at.now.machine.now.f (state_count at.now.machine.now)
-        (row_at at.now.machine.now row) at.now.discretes.now ≡ true }
-    requires slopes { length slopes.old ≡ state_count at.now.machine.now }
-    requires small_slopes { (j : ℕ) → j < state_count at.now.machine.now
+    requires new { AreNewLevelsAt at.now.taken at.now.discretes.now }
+    requires state { state < state_count at.now.taken.machine.now }
+    requires modes { (row : ℕ) → row < state_count at.now.taken.machine.now
+        → mode_fits at.now.taken.machine.now.f (state_count at.now.taken.machine.now)
+        (row_at at.now.taken.machine.now row) at.now.discretes.now ≡ true }
+    requires slopes { length slopes.old ≡ state_count at.now.taken.machine.now }
+    requires small_slopes { (j : ℕ) → j < state_count at.now.taken.machine.now
         → IsWithin 100 (int_at slopes.old j) }
-    requires lines { length lines.old ≡ state_count at.now.machine.now }
-    requires can { CanGather at.now.tick lines.old touched.old.items
+    requires lines { length lines.old ≡ state_count at.now.taken.machine.now }
+    requires can { CanGather at.now.taken.tick lines.old touched.old.items
         (vec_capacity touched.old) }
     ensures slopes { IsWritten (pos 0)
-        (HasFollowed sum.Slope at.now.machine.now state (line_at lines.old state).level
-        (int_at at.now.levels.now state) at.now.discretes.now slopes.old)
-        (reading_rows at.now.machine.now state) slopes.old slopes.new }
-    ensures can { CanGather at.now.tick lines.new touched.new.items (vec_capacity touched.new) }
-    ensures gathered { AreGathered at.now.tick (state ∷ reading_rows at.now.machine.now state)
+        (HasFollowed sum.Slope at.now.taken.machine.now state (line_at lines.old state).level
+        (int_at at.now.taken.levels.now state) at.now.discretes.now slopes.old)
+        (reading_rows at.now.taken.machine.now state) slopes.old slopes.new }
+    ensures can { CanGather at.now.taken.tick lines.new touched.new.items
+        (vec_capacity touched.new) }
+    ensures gathered { AreGathered at.now.taken.tick
+        (state ∷ reading_rows at.now.taken.machine.now state)
         (record { lines = lines.old; touched = touched.old.items })
         (record { lines = lines.new; touched = touched.new.items }) }
     ensures counted { steps.new + length touched.old.items
@@ -127,15 +128,15 @@ fn follow_level<L: Ledger>(
     let j = state as usize;
     let line = &lines[j];
     let old = line.level;
-    let new = at.levels[j];
-    let rows = at.uses.rows_of(state);
+    let new = at.taken.levels[j];
+    let rows = at.taken.uses.rows_of(state);
     let mode = Mode {
-        machine: at.machine,
+        machine: at.taken.machine,
         discretes: at.discretes,
     };
-    shift_rows(RowSum::Slope, &mode, at.uses, state, old, new, slopes);
-    gather(at.tick, state, lines, touched, steps);
-    gather_each(at.tick, rows, lines, touched, steps);
+    shift_rows(RowSum::Slope, &mode, at.taken.uses, state, old, new, slopes);
+    gather(at.taken.tick, state, lines, touched, steps);
+    gather_each(at.taken.tick, rows, lines, touched, steps);
 }
 
 // The slopes of all rows follow where the moved states take their levels, from those of their lines, and these states and those
@@ -147,22 +148,24 @@ fn follow_levels<L: Ledger>(
     touched: &mut Vec<u32>,
     steps: &mut Steps<L>,
 )
-    requires new { AreQuietLevels at.now }
-    requires lines { length lines.old ≡ state_count at.now.machine.now }
-    requires before { WereSums sum.Slope (new_levels at.now) at.now.discretes.now slopes.old
+    requires new { AreNewLevelsAt at.now.taken at.now.discretes.now }
+    requires lines { length lines.old ≡ state_count at.now.taken.machine.now }
+    requires before { WereSums sum.Slope at.now.taken at.now.discretes.now slopes.old
         lines.old }
-    requires can { CanGather at.now.tick lines.old touched.old.items
+    requires can { CanGather at.now.taken.tick lines.old touched.old.items
         (vec_capacity touched.old) }
     ensures slopes { slopes.new ≡ quiet_slopes at.now }
-    ensures can { CanGather at.now.tick lines.new touched.new.items (vec_capacity touched.new) }
-    ensures gathered { AreGathered at.now.tick (reached at.now.machine.now at.now.moved.now)
+    ensures can { CanGather at.now.taken.tick lines.new touched.new.items
+        (vec_capacity touched.new) }
+    ensures gathered { AreGathered at.now.taken.tick
+        (reached at.now.taken.machine.now at.now.taken.moved.now)
         (record { lines = lines.old; touched = touched.old.items })
         (record { lines = lines.new; touched = touched.new.items }) }
     ensures counted { steps.new + length touched.old.items
         ≡ steps.old + length touched.new.items }
     ensures room { vec_capacity touched.new ≡ vec_capacity touched.old }
 {
-    for state in at.moved {
+    for state in at.taken.moved {
         follow_level(at, *state, slopes, lines, touched, steps);
     }
 }
@@ -180,15 +183,13 @@ fn go_on_at(line: &mut Integrator, slope: i128, level: i64)
 // A state, whose line is at a tick, goes on from it at its level and its slope, and the agenda has the tick at which it then
 // leaves its quantum.
 fn go_on(at: &NewSlopes, j: u32, lines: &mut [Integrator], agenda: &mut Agenda)
-    requires on { CanGoOn at.now }
-    requires state { j < state_count at.now.machine.now }
-    requires lines { length lines.old ≡ state_count at.now.machine.now }
-    requires places { state_count at.now.machine.now ≤ length agenda.old }
-    requires ready { MayGoOn at.now.machine.now at.now.tick j (int_at at.now.levels.now j)
-        (line_at lines.old j) }
-    ensures goes_on { GoesOnFrom at.now.machine.now at.now.tick
-        (state_at (line_at lines.old j) at.now.tick)
-        (int_at at.now.levels.now j) (int_at at.now.slopes.now j) j (line_at lines.new j)
+    requires on { CanGoOn at.now lines.old agenda.old }
+    requires state { j < state_count at.now.taken.machine.now }
+    requires ready { MayGoOn at.now.taken.machine.now at.now.taken.tick j
+        (int_at at.now.taken.levels.now j) (line_at lines.old j) }
+    ensures goes_on { GoesOnFrom at.now.taken.machine.now at.now.taken.tick
+        (state_at (line_at lines.old j) at.now.taken.tick)
+        (int_at at.now.taken.levels.now j) (int_at at.now.slopes.now j) j (line_at lines.new j)
         (due_at agenda.new j) }
     ensures same_tick { (line_at lines.new j).tick ≡ (line_at lines.old j).tick }
     ensures lines { (k : ℕ) → (k ≡ j → ⊥) → line_at lines.new k ≡ line_at lines.old k }
@@ -197,25 +198,23 @@ fn go_on(at: &NewSlopes, j: u32, lines: &mut [Integrator], agenda: &mut Agenda)
         → due_at agenda.new place ≡ due_at agenda.old place }
 {
     let slope = at.slopes[j as usize];
-    let level = at.levels[j as usize];
+    let level = at.taken.levels[j as usize];
     let line = &mut lines[j as usize];
     go_on_at(line, slope, level);
-    agenda.set(j, leaving(at.machine, j, line));
+    agenda.set(j, leaving(at.taken.machine, j, line));
 }
 
 // These states, whose lines are at a tick, go on from it at their levels and slopes.
 fn go_on_each(at: &NewSlopes, states: &[u32], lines: &mut [Integrator], agenda: &mut Agenda)
-    requires on { CanGoOn at.now }
-    requires states { All (λ j. j < state_count at.now.machine.now) states.now }
-    requires lines { length lines.old ≡ state_count at.now.machine.now }
-    requires places { state_count at.now.machine.now ≤ length agenda.old }
+    requires on { CanGoOn at.now lines.old agenda.old }
+    requires states { All (λ j. j < state_count at.now.taken.machine.now) states.now }
     requires ready { (j : ℕ) → is_among states.now j ≡ true
-        → MayGoOn at.now.machine.now at.now.tick j (int_at at.now.levels.now j)
+        → MayGoOn at.now.taken.machine.now at.now.taken.tick j (int_at at.now.taken.levels.now j)
         (line_at lines.old j) }
     ensures goes_on { (j : ℕ) → is_among states.now j ≡ true
-        → GoesOnFrom at.now.machine.now at.now.tick
-        (state_at (line_at lines.old j) at.now.tick)
-        (int_at at.now.levels.now j) (int_at at.now.slopes.now j) j (line_at lines.new j)
+        → GoesOnFrom at.now.taken.machine.now at.now.taken.tick
+        (state_at (line_at lines.old j) at.now.taken.tick)
+        (int_at at.now.taken.levels.now j) (int_at at.now.slopes.now j) j (line_at lines.new j)
         (due_at agenda.new j) }
     ensures lines { (j : ℕ) → is_among states.now j ≡ false
         → line_at lines.new j ≡ line_at lines.old j }
@@ -240,32 +239,20 @@ pub fn reslope_of<L: Ledger>(
     steps: &mut Steps<L>,
 )
     requires ready { CanReslope at.now slopes.old lines.old agenda.old }
-    requires room { state_count at.now.machine.now ≤ vec_capacity touched.old }
-    ensures slopes { slopes.new ≡ quiet_slopes at.now }
-    ensures lines { (j : ℕ) → j < state_count at.now.machine.now
-        → GoesOnFrom at.now.machine.now at.now.tick (state_at (line_at lines.old j) at.now.tick)
-        (int_at at.now.levels.now j)
-        (slope_at at.now.machine.now j at.now.levels.now at.now.discretes.now)
-        j (line_at lines.new j) (due_at agenda.new j) }
-    ensures kept { (j : ℕ) → is_among (reached at.now.machine.now at.now.moved.now) j ≡ false
+    requires room { state_count at.now.taken.machine.now ≤ vec_capacity touched.old }
+    ensures gone_on { HaveGoneOn at.now slopes.new
+        (record { lines = lines.old; dues = agenda.old })
+        (record { lines = lines.new; dues = agenda.new }) steps.old steps.new }
+    ensures kept { (j : ℕ)
+        → is_among (reached at.now.taken.machine.now at.now.taken.moved.now) j ≡ false
         → (line_at lines.new j ≡ line_at lines.old j)
         × (due_at agenda.new j ≡ due_at agenda.old j) }
-    ensures places { length agenda.new ≡ length agenda.old }
-    ensures others { (place : ℕ) → state_count at.now.machine.now ≤ place
-        → due_at agenda.new place ≡ due_at agenda.old place }
-    ensures counted { steps.new
-        ≤ steps.old + count_by (is_among (reached at.now.machine.now at.now.moved.now))
-        (range_with_len 0 (state_count at.now.machine.now)) }
     ensures room { vec_capacity touched.new ≡ vec_capacity touched.old }
 {
     touched.clear();
     follow_levels(at, slopes, lines, touched, steps);
     let on = NewSlopes {
-        machine: at.machine,
-        uses: at.uses,
-        tick: at.tick,
-        moved: at.moved,
-        levels: at.levels,
+        taken: at.taken,
         slopes,
     };
     go_on_each(&on, touched.as_slice(), lines, agenda);

@@ -1,17 +1,17 @@
 //! Lines at new states and slopes after handlers.
 
-ghost use Rattle.std.specs.Prelude.{◌≡◌, ℕ, ◌+◌, ◌<◌, ◌≤◌, List, ℤ, pos, All, None, length, position, true, false, flat_map, if◌then◌else◌};
+ghost use Rattle.std.specs.Prelude.{◌≡◌, ℕ, ◌+◌, ◌<◌, ◌≤◌, List, ℤ, pos, All, None, length, true, false, flat_map, if◌then◌else◌};
 ghost use Rattle.mu_num.specs.Sizes.{IsWithin};
 ghost use Rattle.qss_machine.specs.Numbers.{int_at};
 ghost use Rattle.qss_machine.specs.Machines.{state_count, discrete_count, level_unit, slope_at, quantum_of};
-ghost use Rattle.qss_machine.specs.Ticks.{is_overweight};
 ghost use Rattle.qss_machine.specs.Uses.{reading_rows, uses_of};
 ghost use Rattle.qss_quant.specs.Lines.{state_at, IsNear};
 ghost use Rattle.qss_sched.specs.Ranks.{due_at};
 ghost use Rattle.qss_quiet.specs.Among.{is_among};
-ghost use Rattle.qss_lines.specs.Variables.{AreLevelsOf};
 ghost use Rattle.qss_lines.specs.StateLines.{line_at, MayMove, GoesOnFrom};
 ghost use Rattle.qss_lines.specs.Renewals.{goes_from, renewals_from};
+ghost use Rattle.qss_lines.specs.Reslopings.{CanRenew};
+ghost use Rattle.qss_lines.specs.RowSums.{CanAddUp};
 ghost use Rattle.qss_quiet.specs.Writes.{IsWritten};
 ghost use Rattle.qss_lines.specs.declared.shifts.RowSum.TheVariants as sum;
 ghost use Rattle.qss_lines.specs.Visitings.{AreNewLevels, AreHandled, AreStatesOf, CanGoOn, CanReseat, first_overweight, new_slopes, states_left, WereSums};
@@ -29,9 +29,7 @@ use std::sync::ledger::Ledger;
 // The slopes of these rows are added up anew.
 fn slope_rows(m: &Machine, rows: &[u32], levels: &[i64], d: &[i64], slopes: &mut [i128])
     requires rows { All (λ row. row < state_count m.now) rows.now }
-    requires levels { AreLevelsOf m.now levels.now d.now }
-    requires slopes { length slopes.old ≡ state_count m.now }
-    requires light { position (is_overweight m.now levels.now d.now) m.now.rows ≡ None }
+    requires can { CanAddUp m.now levels.now d.now slopes.old }
     ensures { IsWritten (pos 0) (λ j slope. slope ≡ slope_at m.now j levels.now d.now) rows.now
         slopes.old slopes.new }
 {
@@ -51,9 +49,7 @@ fn slope_readers(
 )
     requires uses { uses.now ≡ uses_of m.now }
     requires variables { All (λ var. var < state_count m.now + discrete_count m.now) variables.now }
-    requires levels { AreLevelsOf m.now levels.now d.now }
-    requires slopes { length slopes.old ≡ state_count m.now }
-    requires light { position (is_overweight m.now levels.now d.now) m.now.rows ≡ None }
+    requires can { CanAddUp m.now levels.now d.now slopes.old }
     ensures { IsWritten (pos 0) (λ j slope. slope ≡ slope_at m.now j levels.now d.now)
         (flat_map (reading_rows m.now) variables.now) slopes.old slopes.new }
 {
@@ -92,12 +88,7 @@ fn reseat<L: Ledger>(
     agenda: &mut Agenda,
     steps: &mut Steps<L>,
 )
-    requires state { j < state_count m.now }
-    requires place { j < length agenda.old }
-    requires later { line.old.tick ≤ here.now.tick }
-    requires small { IsWithin 89 (state_at line.old here.now.tick) }
-    requires near { IsNear (level_unit m.now) here.now.x here.now.level
-        (quantum_of m.now j here.now.level) }
+    requires { CanRenew m.now j here.now line.old agenda.old }
     ensures goes_on { GoesOnFrom m.now here.now.tick here.now.x here.now.level here.now.slope j
         line.new (due_at agenda.new j) }
     ensures as_many { length agenda.new ≡ length agenda.old }
@@ -122,21 +113,19 @@ fn seat<L: Ledger>(
     agenda: &mut Agenda,
     steps: &mut Steps<L>,
 )
-    requires state { j < state_count at.now.machine.now }
-    requires on { CanGoOn at.now }
-    requires states { AreStatesOf at.now.machine.now x.now }
-    requires lines { length lines.old ≡ state_count at.now.machine.now }
-    requires places { state_count at.now.machine.now ≤ length agenda.old }
-    requires later { (line_at lines.old j).tick ≤ at.now.tick }
-    requires small { IsWithin 89 (state_at (line_at lines.old j) at.now.tick) }
-    requires near { IsNear (level_unit at.now.machine.now) (int_at x.now j)
-        (int_at at.now.levels.now j)
-        (quantum_of at.now.machine.now j (int_at at.now.levels.now j)) }
-    ensures goes_on { GoesOnFrom at.now.machine.now at.now.tick (int_at x.now j)
-        (int_at at.now.levels.now j)
+    requires state { j < state_count at.now.taken.machine.now }
+    requires on { CanGoOn at.now lines.old agenda.old }
+    requires states { AreStatesOf at.now.taken.machine.now x.now }
+    requires later { (line_at lines.old j).tick ≤ at.now.taken.tick }
+    requires small { IsWithin 89 (state_at (line_at lines.old j) at.now.taken.tick) }
+    requires near { IsNear (level_unit at.now.taken.machine.now) (int_at x.now j)
+        (int_at at.now.taken.levels.now j)
+        (quantum_of at.now.taken.machine.now j (int_at at.now.taken.levels.now j)) }
+    ensures goes_on { GoesOnFrom at.now.taken.machine.now at.now.taken.tick (int_at x.now j)
+        (int_at at.now.taken.levels.now j)
         (int_at at.now.slopes.now j) j (line_at lines.new j) (due_at agenda.new j) }
     ensures lines { (k : ℕ) → (k ≡ j → ⊥) → line_at lines.new k ≡ line_at lines.old k }
-    ensures kept { goes_from at.now.tick (int_at x.now j) (int_at at.now.levels.now j)
+    ensures kept { goes_from at.now.taken.tick (int_at x.now j) (int_at at.now.taken.levels.now j)
         (int_at at.now.slopes.now j)
         (line_at lines.old j) ≡ true
         → line_at lines.new j ≡ line_at lines.old j }
@@ -145,22 +134,22 @@ fn seat<L: Ledger>(
         → due_at agenda.new place ≡ due_at agenda.old place }
     ensures counted { (states : List ℤ) → int_at states j ≡ int_at x.now j
         → steps.new + renewals_from
-        (state_count at.now.machine.now) at.now.tick states at.now.levels.now at.now.slopes.now
-        lines.new
+        (state_count at.now.taken.machine.now) at.now.taken.tick states at.now.taken.levels.now
+        at.now.slopes.now lines.new
         ≡ steps.old + renewals_from
-        (state_count at.now.machine.now) at.now.tick states at.now.levels.now at.now.slopes.now
-        lines.old }
+        (state_count at.now.taken.machine.now) at.now.taken.tick states at.now.taken.levels.now
+        at.now.slopes.now lines.old }
 {
     let slope = at.slopes[j as usize];
-    let level = at.levels[j as usize];
+    let level = at.taken.levels[j as usize];
     let here = Integrator {
-        tick: at.tick,
+        tick: at.taken.tick,
         x: x[j as usize],
         slope,
         level,
     };
     let line = &mut lines[j as usize];
-    reseat(at.machine, j, &here, line, agenda, steps);
+    reseat(at.taken.machine, j, &here, line, agenda, steps);
 }
 
 // The moved states go on from a tick where they are.
@@ -171,37 +160,37 @@ fn seat_each<L: Ledger>(
     agenda: &mut Agenda,
     steps: &mut Steps<L>,
 )
-    requires on { CanGoOn at.now }
-    requires states { AreStatesOf at.now.machine.now x.now }
-    requires lines { length lines.old ≡ state_count at.now.machine.now }
-    requires places { state_count at.now.machine.now ≤ length agenda.old }
-    requires may_move { MayMove at.now.tick lines.old }
-    requires near { (j : ℕ) → is_among at.now.moved.now j ≡ true
-        → IsNear (level_unit at.now.machine.now) (int_at x.now j) (int_at at.now.levels.now j)
-        (quantum_of at.now.machine.now j (int_at at.now.levels.now j)) }
-    ensures goes_on { (j : ℕ) → is_among at.now.moved.now j ≡ true
-        → GoesOnFrom at.now.machine.now at.now.tick (int_at x.now j) (int_at at.now.levels.now j)
+    requires on { CanGoOn at.now lines.old agenda.old }
+    requires states { AreStatesOf at.now.taken.machine.now x.now }
+    requires may_move { MayMove at.now.taken.tick lines.old }
+    requires near { (j : ℕ) → is_among at.now.taken.moved.now j ≡ true
+        → IsNear (level_unit at.now.taken.machine.now) (int_at x.now j)
+        (int_at at.now.taken.levels.now j)
+        (quantum_of at.now.taken.machine.now j (int_at at.now.taken.levels.now j)) }
+    ensures goes_on { (j : ℕ) → is_among at.now.taken.moved.now j ≡ true
+        → GoesOnFrom at.now.taken.machine.now at.now.taken.tick (int_at x.now j)
+        (int_at at.now.taken.levels.now j)
         (int_at at.now.slopes.now j) j (line_at lines.new j) (due_at agenda.new j) }
-    ensures lines { (j : ℕ) → is_among at.now.moved.now j ≡ false
+    ensures lines { (j : ℕ) → is_among at.now.taken.moved.now j ≡ false
         → line_at lines.new j ≡ line_at lines.old j }
     ensures kept { (j : ℕ)
-        → goes_from at.now.tick (int_at x.now j) (int_at at.now.levels.now j)
+        → goes_from at.now.taken.tick (int_at x.now j) (int_at at.now.taken.levels.now j)
         (int_at at.now.slopes.now j)
         (line_at lines.old j) ≡ true
         → line_at lines.new j ≡ line_at lines.old j }
     ensures places { length agenda.new ≡ length agenda.old }
-    ensures dues { (place : ℕ) → is_among at.now.moved.now place ≡ false
+    ensures dues { (place : ℕ) → is_among at.now.taken.moved.now place ≡ false
         → due_at agenda.new place ≡ due_at agenda.old place }
     ensures counted { (states : List ℤ)
-        → ((j : ℕ) → is_among at.now.moved.now j ≡ true → int_at states j ≡ int_at x.now j)
+        → ((j : ℕ) → is_among at.now.taken.moved.now j ≡ true → int_at states j ≡ int_at x.now j)
         → steps.new + renewals_from
-        (state_count at.now.machine.now) at.now.tick states at.now.levels.now at.now.slopes.now
-        lines.new
+        (state_count at.now.taken.machine.now) at.now.taken.tick states at.now.taken.levels.now
+        at.now.slopes.now lines.new
         ≡ steps.old + renewals_from
-        (state_count at.now.machine.now) at.now.tick states at.now.levels.now at.now.slopes.now
-        lines.old }
+        (state_count at.now.taken.machine.now) at.now.taken.tick states at.now.taken.levels.now
+        at.now.slopes.now lines.old }
 {
-    for j in at.moved {
+    for j in at.taken.moved {
         seat(at, *j, x, lines, agenda, steps);
     }
 }
@@ -238,14 +227,7 @@ pub fn reslope_handled<L: Ledger>(
         (states_left at.now left.now lines.old) at.now.levels.now slopes.new lines.old }
 {
     follow_slopes(at, left, lines, slopes);
-    let on = NewSlopes {
-        machine: at.machine,
-        uses: at.uses,
-        tick: at.tick,
-        moved: at.moved,
-        levels: at.levels,
-        slopes,
-    };
+    let on = NewSlopes { taken: *at, slopes };
     seat_each(&on, left.states, lines, agenda, steps);
     reslope_readers(&on, at.moved, lines, agenda, steps);
     reslope_readers(&on, left.assigned, lines, agenda, steps);

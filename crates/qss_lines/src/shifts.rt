@@ -1,14 +1,14 @@
 //! Slopes and weights along the changes of levels.
 
-ghost use Rattle.std.specs.Prelude.{◌≡◌, ℕ, ◌<◌, pos, ◌-ℤ◌, ◌*ℤ◌, All, length};
+ghost use Rattle.std.specs.Prelude.{◌≡◌, ℕ, ◌<◌, pos, ◌-ℤ◌, ◌*ℤ◌, length};
 ghost use Rattle.mu_num.specs.Sizes.{IsWithin};
 ghost use Rattle.qss_machine.specs.Numbers.{int_at};
-ghost use Rattle.qss_machine.specs.Machines.{state_count, discrete_count, row_coefficient, mode_coefficient_at};
+ghost use Rattle.qss_machine.specs.Machines.{state_count, row_coefficient, mode_coefficient_at};
 ghost use Rattle.qss_machine.specs.Uses.{reading_rows, uses_of};
 ghost use Rattle.qss_lines.specs.RowSums.{taken_by, HasFollowed};
 ghost use Rattle.qss_quiet.specs.Writes.{IsWritten};
 ghost use Rattle.qss_lines.specs.declared.shifts.RowSum.TheVariants as sum;
-ghost use Rattle.qss_lines.specs.Visitings.{IsMode, AreNewLevels, new_sums, new_slopes, WereSums};
+ghost use Rattle.qss_lines.specs.Visitings.{CanShift, CanFollow, new_sums, new_slopes};
 
 use crate::visiting::{Mode, NewLevels};
 use qss_machine::Uses;
@@ -60,12 +60,9 @@ fn shift(coefficient: i128, old: i64, new: i64) -> i128
 
 // How much a row's sum changes where a state, of this coefficient there, takes another level.
 fn shift_of(kind: RowSum, at: &Mode, own: i64, row: u32, state: u32, old: i64, new: i64) -> i128
-    requires mode { IsMode at.now }
+    requires can { CanShift at.now state old new }
     requires row { row < state_count at.now.machine.now }
-    requires state { state < state_count at.now.machine.now }
     requires own { own ≡ row_coefficient at.now.machine.now row state }
-    requires old { IsWithin 43 old }
-    requires new { IsWithin 43 new }
     ensures value { result
         ≡ taken_by kind (mode_coefficient_at at.now.machine.now row state at.now.discretes.now)
         *ℤ (new -ℤ old) }
@@ -85,14 +82,11 @@ pub(crate) fn shift_rows(
     new: i64,
     sums: &mut [i128],
 )
-    requires mode { IsMode at.now }
+    requires can { CanShift at.now state old new }
     requires uses { uses.now ≡ uses_of at.now.machine.now }
-    requires state { state < state_count at.now.machine.now }
     requires sums { length sums.old ≡ state_count at.now.machine.now }
     requires small_sums { (j : ℕ) → j < state_count at.now.machine.now
         → IsWithin 100 (int_at sums.old j) }
-    requires old { IsWithin 43 old }
-    requires new { IsWithin 43 new }
     ensures { IsWritten (pos 0)
         (HasFollowed kind at.now.machine.now state old new at.now.discretes.now sums.old)
         (reading_rows at.now.machine.now state) sums.old sums.new }
@@ -114,11 +108,7 @@ pub(crate) fn shift_sums(
     lines: &[Integrator],
     sums: &mut [i128],
 )
-    requires ready { AreNewLevels at.now }
-    requires discretes { length d.now ≡ discrete_count at.now.machine.now }
-    requires small_discretes { All (IsWithin 43) d.now }
-    requires lines { length lines.now ≡ state_count at.now.machine.now }
-    requires before { WereSums kind at.now d.now sums.old lines.now }
+    requires { CanFollow kind at.now d.now sums.old lines.now }
     ensures { sums.new ≡ new_sums kind at.now d.now }
 {
     for state in at.moved {
@@ -136,11 +126,7 @@ pub(crate) fn shift_sums(
 
 /// The slopes of all rows, at these discrete values, follow where the moved states take their levels, from those of their lines.
 pub(crate) fn shift_slopes(at: &NewLevels, d: &[i64], lines: &[Integrator], slopes: &mut [i128])
-    requires ready { AreNewLevels at.now }
-    requires discretes { length d.now ≡ discrete_count at.now.machine.now }
-    requires small_discretes { All (IsWithin 43) d.now }
-    requires lines { length lines.now ≡ state_count at.now.machine.now }
-    requires before { WereSums sum.Slope at.now d.now slopes.old lines.now }
+    requires { CanFollow sum.Slope at.now d.now slopes.old lines.now }
     ensures { slopes.new ≡ new_slopes at.now d.now }
 {
     shift_sums(RowSum::Slope, at, d, lines, slopes);

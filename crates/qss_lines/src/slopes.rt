@@ -1,12 +1,12 @@
 //! Lines at new slopes.
 
-ghost use Rattle.std.specs.Prelude.{◌≡◌, ℕ, ◌+◌, ◌<◌, ◌≤◌, length, true, false, if◌then◌else◌};
+ghost use Rattle.std.specs.Prelude.{◌≡◌, ℕ, ◌+◌, ◌≤◌, length, true, false, if◌then◌else◌};
 ghost use Rattle.mu_num.specs.Sizes.{IsWithin};
-ghost use Rattle.qss_machine.specs.Machines.{state_count, level_unit, quantum_of};
-ghost use Rattle.qss_quant.specs.Lines.{state_at, IsNear};
+ghost use Rattle.qss_quant.specs.Lines.{state_at};
 ghost use Rattle.qss_sched.specs.Ranks.{due_at};
 ghost use Rattle.qss_quiet.specs.Sims.{IsDue};
 ghost use Rattle.qss_lines.specs.Renewals.{goes_from};
+ghost use Rattle.qss_lines.specs.Reslopings.{CanRenew};
 
 use qss_machine::Machine;
 use qss_quant::{Integrator, Steps};
@@ -48,12 +48,7 @@ pub(crate) fn reslope<L: Ledger>(
     agenda: &mut Agenda,
     steps: &mut Steps<L>,
 )
-    requires state { j < state_count m.now }
-    requires place { j < length agenda.old }
-    requires later { line.old.tick ≤ here.now.tick }
-    requires small { IsWithin 89 (state_at line.old here.now.tick) }
-    requires near { IsNear (level_unit m.now) here.now.x here.now.level
-        (quantum_of m.now j here.now.level) }
+    requires ready { CanRenew m.now j here.now line.old agenda.old }
     requires due { state_at line.old here.now.tick ≡ here.now.x → line.old.level ≡ here.now.level
         → IsDue m.now here.now.tick j line.old (due_at agenda.old j) }
     ensures not_later { line.new.tick ≤ here.now.tick }

@@ -22,29 +22,19 @@ pub struct NewLevels<'a> {
     pub levels: &'a [i64],
 }
 
-/// A machine at a tick from which states go on: which rows and conditions read a variable, the numbers of the states that moved
-/// there, rising, and by state its level, in units of 2^-f and at most 2^43 in size, and its slope, in units of 2^-(f+p+k) and at
-/// most 2^88 in size.
+/// New levels that are taken at a tick, and by state the slope at which it goes on from it, in units of 2^-(f+p+k) and at most
+/// 2^88 in size.
 #[derive(Clone, Copy)]
 pub(crate) struct NewSlopes<'a> {
-    pub machine: &'a Machine,
-    pub uses: &'a Uses,
-    pub tick: u64,
-    pub moved: &'a [u32],
-    pub levels: &'a [i64],
+    pub taken: NewLevels<'a>,
     pub slopes: &'a [i128],
 }
 
-/// A machine at a tick at which nothing but states is due: which rows and conditions read a variable, the numbers of the states
-/// that move there, rising, the levels of all states then, and the discrete values, which stay; both are in units of 2^-f and at
-/// most 2^43 in size.
+/// New levels that are taken at a tick at which nothing but states is due, and the discrete values, which stay, in units of 2^-f
+/// and at most 2^43 in size.
 #[derive(Clone, Copy)]
 pub struct QuietLevels<'a> {
-    pub machine: &'a Machine,
-    pub uses: &'a Uses,
-    pub tick: u64,
-    pub moved: &'a [u32],
-    pub levels: &'a [i64],
+    pub taken: NewLevels<'a>,
     pub discretes: &'a [i64],
 }
 

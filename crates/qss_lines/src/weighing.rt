@@ -1,16 +1,16 @@
 //! Weights along the changes of levels and of discrete values.
 
 ghost use Rattle.std.specs.Prelude.{◌≡◌, ◌<◌, pos, All, None, length, flat_map, position};
-ghost use Rattle.mu_num.specs.Sizes.{IsWithin};
-ghost use Rattle.qss_machine.specs.Machines.{state_count, discrete_count};
+ghost use Rattle.qss_machine.specs.Machines.{state_count};
 ghost use Rattle.qss_machine.specs.Ticks.{is_overweight};
 ghost use Rattle.qss_machine.specs.Uses.{reading_rows, uses_of};
 ghost use Rattle.qss_lines.specs.Variables.{AreDiscretes, AreLevelsOf};
 ghost use Rattle.qss_lines.specs.Overweights.{IsWeighed};
+ghost use Rattle.qss_lines.specs.RowSums.{CanAddUp};
 ghost use Rattle.qss_quiet.specs.Sims.{weights_at};
 ghost use Rattle.qss_lines.specs.declared.shifts.RowSum.TheVariants as sum;
 ghost use Rattle.qss_quiet.specs.Writes.{IsWritten};
-ghost use Rattle.qss_lines.specs.Visitings.{AreNewLevels, AreHandled, first_overweight, WereSums};
+ghost use Rattle.qss_lines.specs.Visitings.{AreNewLevels, AreHandled, CanFollow, first_overweight, WereSums};
 
 use crate::limits::WEIGHT_BITS;
 use crate::readers::least_reader;
@@ -28,11 +28,7 @@ pub(crate) fn reweigh_of(
     lines: &[Integrator],
     weights: &mut [i128],
 ) -> Option<u32>
-    requires ready { AreNewLevels at.now }
-    requires discretes { length d.now ≡ discrete_count at.now.machine.now }
-    requires small_discretes { All (IsWithin 43) d.now }
-    requires lines { length lines.now ≡ state_count at.now.machine.now }
-    requires before { WereSums sum.Weight at.now d.now weights.old lines.now }
+    requires { CanFollow sum.Weight at.now d.now weights.old lines.now }
     ensures over { result ≡ first_overweight at.now d.now }
     ensures weights { weights.new ≡ weights_at at.now.machine.now at.now.levels.now d.now }
 {
@@ -141,9 +137,7 @@ pub(crate) fn weigh_every(
 
 /// The weights of all rows, none past its limits.
 pub(crate) fn weigh_all(m: &Machine, levels: &[i64], d: &[i64], weights: &mut [i128])
-    requires levels { AreLevelsOf m.now levels.now d.now }
-    requires weights { length weights.old ≡ state_count m.now }
-    requires light { position (is_overweight m.now levels.now d.now) m.now.rows ≡ None }
+    requires { CanAddUp m.now levels.now d.now weights.old }
     ensures { weights.new ≡ weights_at m.now levels.now d.now }
 {
     for row in 0..weights.len() {

@@ -1,12 +1,11 @@
 //! Weights of rows, kept up once levels and discrete values are great.
 
 ghost use Rattle.std.specs.Prelude.{◌≡◌, ◌↔◌, ℕ, All, IsTrue, None, Some, true, false, length, position};
-ghost use Rattle.mu_num.specs.Sizes.{IsWithin};
-ghost use Rattle.qss_machine.specs.Machines.{state_count, discrete_count};
+ghost use Rattle.qss_machine.specs.Machines.{state_count};
 ghost use Rattle.qss_machine.specs.Ticks.{is_overweight};
 ghost use Rattle.qss_lines.specs.Variables.{AreLevelsOf};
 ghost use Rattle.qss_lines.specs.Kept.{AreWeights};
-ghost use Rattle.qss_lines.specs.Visitings.{AreNewLevels, AreHandled, first_overweight, WereWeights};
+ghost use Rattle.qss_lines.specs.Visitings.{AreNewLevels, AreNewLevelsAt, AreHandled, first_overweight, WereWeights};
 ghost use Rattle.qss_lines.specs.Weighings.{IsUpTo, AreUpToAt, IsSafeBound};
 
 use crate::bounds::{are_up_to_at, bound_for};
@@ -68,9 +67,7 @@ impl Weights {
     /// gives the least row past its limits, if one is; the weights are good for nothing then. They are kept from the first time on
     /// at which a moved level is greater than the bound.
     pub(crate) fn follow(&mut self, at: &NewLevels, d: &[i64], lines: &[Integrator]) -> Option<u32>
-        requires ready { AreNewLevels at.now }
-        requires discretes { length d.now ≡ discrete_count at.now.machine.now }
-        requires small_discretes { All (IsWithin 43) d.now }
+        requires ready { AreNewLevelsAt at.now d.now }
         requires lines { length lines.now ≡ state_count at.now.machine.now }
         requires before { WereWeights at.now d.now self.old lines.now }
         ensures over { result ≡ first_overweight at.now d.now }

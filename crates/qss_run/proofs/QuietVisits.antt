@@ -155,11 +155,13 @@ module _ (m : Machine) (tick : ℕ) (agenda : List (Option ℕ)) (s : Store) (ta
   levels_before moved levels off = record {
     levels = record {
       off = off;
-      small = λ k d h.
-          let inside : k < state_count m = omega (arith, h, taken.stands.fits.levels) in
-          subst (IsWithin 43) (get_or_default s.levels.items k (pos 0) d h) (for.left.small_levels k inside);
-      light = for.left.light;
-      own_levels = λ j h. (for.lines j h).own_level;
+      of_lines = record {
+        small = λ k d h.
+            let inside : k < state_count m = omega (arith, h, taken.stands.fits.levels) in
+            subst (IsWithin 43) (get_or_default s.levels.items k (pos 0) d h) (for.left.small_levels k inside);
+        light = for.left.light;
+        own_levels = λ j h. (for.lines j h).own_level;
+      };
     };
     own_sums = taken.stands.own_slopes;
   }

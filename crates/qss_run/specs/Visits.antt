@@ -1,10 +1,13 @@
--- What a store has to be where a visit goes on after its handlers, and what it is then.
-use Rattle.std.specs.Prelude.{◌≡◌, ℕ, ◌^◌, ◌<◌, List, ℤ, All}
+-- What a store has to be where a visit goes on after its handlers, what it is then, and what a visit makes of it.
+use Rattle.std.specs.Prelude.{◌≡◌, ℕ, ◌+◌, ◌^◌, ◌<◌, ◌≤◌, List, ℤ, All, Option, None, vec_capacity}
 use Rattle.mu_num.specs.Sizes.{IsWithin}
 use Rattle.qss_machine.specs.declared.system.Machine.{Machine}
 use Rattle.qss_machine.specs.Handlers.{truths}
-use Rattle.qss_machine.specs.Ticks.{World}
+use Rattle.qss_machine.specs.Runs.{tick_rows}
+use Rattle.qss_machine.specs.Ticks.{World, world_unless, Step}
+use Rattle.qss_quant.specs.declared.rule.Rule.{Rule}
 use Rattle.qss_quiet.specs.Logs.{reinitialized_of}
+use Rattle.qss_quiet.specs.Rules.{IsRuled}
 use Rattle.qss_lines.specs.StateLines.{states_at, states_with}
 use Rattle.qss_lines.specs.Variables.{AreAssignedFrom}
 use Rattle.qss_lines.specs.Kept.{AreWeights}
@@ -12,7 +15,8 @@ use Rattle.qss_lines.specs.Visitings.{AreLevelsFor, HeldBefore}
 use Rattle.qss_watch.specs.Handlings.{AreStatesLeft, AreSettledBut, AreWatchedUpTo}
 use Rattle.qss_watch.specs.Rewatchings.{watchings_of}
 use Rattle.qss_run.specs.declared.store.Store.{Store}
-use Rattle.qss_run.specs.Stores.{FitsMachine}
+use Rattle.qss_run.specs.Stores.{FitsMachine, world_of, Stands}
+use Rattle.qss_run.specs.Touches.{touches_at}
 
 -- a store may go on from a tick after its handlers: its states, discrete variables, levels and weights are those after them; its slopes, lines, due ticks and watches are those before the tick
 pub record CanGoOnHandled (m : Machine) (tick : ℕ) (s : Store) : Type 0 where
@@ -53,3 +57,11 @@ IsRewatchedFrom old new =
       agenda = new.agenda;
       work = record old.work { x = new.work.x };
     }
+
+-- what a visit of the tick after one makes of a store that stood at it: a step of the definition that gives the variable that overflows, if one does, for no more moves of lines than that tick touches; without an overflow the store stands there, with the rows of the tick
+pub record IsVisited (m : Machine) (name : Option Rule) (tick : ℕ) (old new : Store) (over : Option ℕ) (steps_old steps_new : ℕ) : Type 0 where
+  pub stepped : Step (IsRuled name) m (tick + 1) (world_of tick old) (world_unless over (world_of (tick + 1) new))
+  pub rows : over ≡ None → new.rows.items ≡ tick_rows m (tick + 1) (world_of tick old) (world_of (tick + 1) new)
+  pub stands : over ≡ None → Stands m (tick + 1) new
+  pub room : vec_capacity new.rows ≡ vec_capacity old.rows
+  pub counted : steps_new ≤ steps_old + touches_at m (tick + 1) (world_of tick old) (world_unless over (world_of (tick + 1) new))

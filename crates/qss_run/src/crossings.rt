@@ -1,20 +1,16 @@
 //! A tick at which conditions are looked at.
 
-ghost use Rattle.std.specs.Prelude.{◌≡◌, ℕ, ◌+◌, ◌<◌, ◌≤◌, ◌^◌, List, Option, None, Some, length, vec_capacity, if◌then◌else◌};
+ghost use Rattle.std.specs.Prelude.{◌≡◌, ℕ, ◌+◌, ◌<◌, ◌^◌, List, Option, None, Some, length, if◌then◌else◌};
 ghost use Rattle.std.specs.List.{list_any};
 ghost use Rattle.qss_machine.specs.Handlers.{due_flags};
 ghost use Rattle.qss_machine.specs.Machines.{state_count, slope_at};
 ghost use Rattle.qss_machine.specs.Numbers.{tabulate};
-ghost use Rattle.qss_machine.specs.Ticks.{world_unless, Step};
-ghost use Rattle.qss_machine.specs.Runs.{tick_rows};
 ghost use Rattle.qss_sched.specs.Ranks.{due_at};
 ghost use Rattle.qss_lines.specs.StateLines.{states_with};
 ghost use Rattle.qss_watch.specs.Places.{KnowsApart};
 ghost use Rattle.qss_lines.specs.Renewals.{renewals_from};
-ghost use Rattle.qss_quiet.specs.Rules.{IsRuled};
 ghost use Rattle.qss_run.specs.Stores.{world_of, Stands, IsTaken};
-ghost use Rattle.qss_run.specs.Touches.{touches_at};
-ghost use Rattle.qss_run.specs.Visits.{CanGoOnHandled, world_left};
+ghost use Rattle.qss_run.specs.Visits.{CanGoOnHandled, world_left, IsVisited};
 
 use crate::rewatched::rewatch_handled;
 use crate::store::Store;
@@ -108,17 +104,7 @@ pub(crate) fn visit_changed<L: Ledger>(
 ) -> Option<u32>
     requires taken { (agenda : List (Option ℕ)) × IsTaken m.now tick agenda s.old }
     requires in_time { tick < m.now.last }
-    ensures stepped { Step (IsRuled q.now.name) m.now (tick + 1) (world_of tick s.old)
-        (world_unless result (world_of (tick + 1) s.new)) }
-    ensures rows { result ≡ None
-        → s.new.rows.items
-        ≡ tick_rows m.now (tick + 1) (world_of tick s.old) (world_of (tick + 1) s.new) }
-    ensures stands { result ≡ None → Stands m.now (tick + 1) s.new }
-    ensures room { vec_capacity s.new.rows ≡ vec_capacity s.old.rows }
-    ensures counted { steps.new
-        ≤ steps.old
-        + touches_at m.now (tick + 1) (world_of tick s.old)
-        (world_unless result (world_of (tick + 1) s.new)) }
+    ensures { IsVisited m.now q.now.name tick s.old s.new result steps.old steps.new }
 {
     let at = Changing {
         machine: m,

@@ -1,26 +1,21 @@
 //! A tick at which nothing but states is due.
 
-ghost use Rattle.std.specs.Prelude.{◌≡◌, ℕ, ◌+◌, ◌<◌, ◌≤◌, [], false, length, List, Option, None, count_by, vec_capacity};
-ghost use Rattle.std.specs.List.{range_with_len};
-ghost use Rattle.qss_machine.specs.Numbers.{int_at};
+ghost use Rattle.std.specs.Prelude.{◌≡◌, ℕ, ◌+◌, ◌^◌, ◌<◌, ◌≤◌, All, [], false, length, List, Option, None, vec_capacity};
+ghost use Rattle.mu_num.specs.Sizes.{IsWithin};
 ghost use Rattle.qss_machine.specs.Counts.{is_touched};
 ghost use Rattle.qss_machine.specs.Handlers.{conditions};
-ghost use Rattle.qss_machine.specs.Machines.{state_count, slope_at};
-ghost use Rattle.qss_machine.specs.Ticks.{world_unless, Step};
-ghost use Rattle.qss_machine.specs.Runs.{tick_rows};
-ghost use Rattle.qss_quant.specs.Lines.{state_at};
+ghost use Rattle.qss_machine.specs.Machines.{state_count};
 ghost use Rattle.qss_sched.specs.Ranks.{due_at};
 ghost use Rattle.qss_quiet.specs.Among.{is_among};
 ghost use Rattle.qss_lines.specs.Gatherings.{reached};
 ghost use Rattle.qss_watch.specs.Places.{AreConditionsOf, AreWatched, HasPlaces};
-ghost use Rattle.qss_lines.specs.StateLines.{line_at, AreLinesAt, GoesOnFrom, states_at};
-ghost use Rattle.qss_quiet.specs.Rules.{IsRuled};
-ghost use Rattle.qss_run.specs.Stores.{world_of, Stands, IsTaken};
-ghost use Rattle.qss_run.specs.Touches.{touches_at};
-ghost use Rattle.qss_lines.specs.Visitings.{CanReslope, quiet_slopes};
+ghost use Rattle.qss_lines.specs.StateLines.{line_at, states_at};
+ghost use Rattle.qss_run.specs.Stores.{world_of, IsTaken};
+ghost use Rattle.qss_run.specs.Visits.{IsVisited};
+ghost use Rattle.qss_lines.specs.Visitings.{CanReslope, HaveGoneOn};
 
 use crate::store::Store;
-use qss_lines::{Arrival, QuietLevels, requantize_moved, reslope_of};
+use qss_lines::{Arrival, NewLevels, QuietLevels, requantize_moved, reslope_of};
 use qss_machine::Machine;
 use qss_quant::{Integrator, Quantizer, Steps};
 use qss_sched::Agenda;
@@ -39,39 +34,41 @@ fn go_on_moved<L: Ledger>(
     steps: &mut Steps<L>,
 )
     requires ready { CanReslope at.now slopes.old lines.old agenda.old }
-    requires room { state_count at.now.machine.now ≤ vec_capacity touched.old }
-    requires lines { AreLinesAt at.now.machine.now at.now.tick lines.old }
-    requires fits { AreConditionsOf at.now.machine.now watched.old }
-    requires places { HasPlaces at.now.machine.now agenda.old }
-    requires watched { AreWatched at.now.machine.now at.now.tick
-        (states_at lines.old at.now.tick) at.now.discretes.now
+    requires room { state_count at.now.taken.machine.now ≤ vec_capacity touched.old }
+    requires small { All (IsWithin 88) (states_at lines.old at.now.taken.tick) }
+    requires in_time { at.now.taken.tick < 2 ^ 32 }
+    requires fits { AreConditionsOf at.now.taken.machine.now watched.old }
+    requires places { HasPlaces at.now.taken.machine.now agenda.old }
+    requires watched { AreWatched at.now.taken.machine.now at.now.taken.tick
+        (states_at lines.old at.now.taken.tick) at.now.discretes.now
         slopes.old watched.old.watches.items agenda.old }
-    ensures slopes { slopes.new ≡ quiet_slopes at.now }
-    ensures lines { (j : ℕ) → j < state_count at.now.machine.now
-        → GoesOnFrom at.now.machine.now at.now.tick (state_at (line_at lines.old j) at.now.tick)
-        (int_at at.now.levels.now j)
-        (slope_at at.now.machine.now j at.now.levels.now at.now.discretes.now)
-        j (line_at lines.new j) (due_at agenda.new j) }
-    ensures kept { (j : ℕ) → j < state_count at.now.machine.now
-        → is_among (reached at.now.machine.now at.now.moved.now) j ≡ false
+    ensures gone_on { HaveGoneOn at.now slopes.new
+        (record { lines = lines.old; dues = agenda.old })
+        (record { lines = lines.new; dues = agenda.new }) steps.old steps.new }
+    ensures kept { (j : ℕ) → j < state_count at.now.taken.machine.now
+        → is_among (reached at.now.taken.machine.now at.now.taken.moved.now) j ≡ false
         → (line_at lines.new j ≡ line_at lines.old j)
         × (due_at agenda.new j ≡ due_at agenda.old j) }
-    ensures watches { AreWatched at.now.machine.now at.now.tick
-        (states_at lines.old at.now.tick) at.now.discretes.now
+    ensures watches { AreWatched at.now.taken.machine.now at.now.taken.tick
+        (states_at lines.old at.now.taken.tick) at.now.discretes.now
         slopes.new watched.new.watches.items agenda.new }
     ensures rest { watched.new ≡ record watched.old { watches = watched.new.watches } }
-    ensures fits { AreConditionsOf at.now.machine.now watched.new }
-    ensures places { length agenda.new ≡ length agenda.old }
+    ensures fits { AreConditionsOf at.now.taken.machine.now watched.new }
     ensures beyond { (place : ℕ)
-        → state_count at.now.machine.now + length (conditions at.now.machine.now) ≤ place
+        → state_count at.now.taken.machine.now + length (conditions at.now.taken.machine.now)
+        ≤ place
         → due_at agenda.new place ≡ due_at agenda.old place }
-    ensures counted { steps.new
-        ≤ steps.old + count_by (is_among (reached at.now.machine.now at.now.moved.now))
-        (range_with_len 0 (state_count at.now.machine.now)) }
     ensures room { vec_capacity touched.new ≡ vec_capacity touched.old }
 {
     reslope_of(at, slopes, lines, touched, agenda, steps);
-    watched.rewatch_of(at.machine, at.uses, at.tick, at.moved, slopes, agenda);
+    watched.rewatch_of(
+        at.taken.machine,
+        at.taken.uses,
+        at.taken.tick,
+        at.taken.moved,
+        slopes,
+        agenda,
+    );
 }
 
 /// One tick after the one at which the store stands, from an agenda without the states that are due there, where no condition
@@ -87,21 +84,11 @@ pub(crate) fn visit_due<L: Ledger>(
     requires taken { (agenda : List (Option ℕ)) × IsTaken m.now tick agenda s.old }
     requires none_changes { s.old.changed.items ≡ [] }
     requires in_time { tick < m.now.last }
-    ensures stepped { Step (IsRuled q.now.name) m.now (tick + 1) (world_of tick s.old)
-        (world_unless result (world_of (tick + 1) s.new)) }
-    ensures rows { result ≡ None
-        → s.new.rows.items
-        ≡ tick_rows m.now (tick + 1) (world_of tick s.old) (world_of (tick + 1) s.new) }
-    ensures stands { result ≡ None → Stands m.now (tick + 1) s.new }
+    ensures visited { IsVisited m.now q.now.name tick s.old s.new result steps.old steps.new }
     ensures kept { result ≡ None → (j : ℕ) → j < state_count m.now
         → is_touched m.now (tick + 1) (world_of tick s.old) (world_of (tick + 1) s.new) j ≡ false
         → (line_at s.new.lines.items j ≡ line_at s.old.lines.items j)
         × (due_at s.new.agenda j ≡ due_at s.old.agenda j) }
-    ensures room { vec_capacity s.new.rows ≡ vec_capacity s.old.rows }
-    ensures counted { steps.new
-        ≤ steps.old
-        + touches_at m.now (tick + 1) (world_of tick s.old)
-        (world_unless result (world_of (tick + 1) s.new)) }
 {
     let arrival = Arrival {
         machine: m,
@@ -110,28 +97,24 @@ pub(crate) fn visit_due<L: Ledger>(
         lines: s.lines.as_slice(),
         moved: s.moved.as_slice(),
     };
-    let over = requantize_moved(
-        &arrival,
-        q,
-        &s.work,
-        s.levels.as_mut_slice(),
-        &mut s.weights,
-        &mut s.rows,
-    );
+    let levels = s.levels.as_mut_slice();
+    let over = requantize_moved(&arrival, q, &s.work, levels, &mut s.weights, &mut s.rows);
     if over.is_some() {
         return over;
     }
     let work = &s.work;
-    let new = QuietLevels {
-        machine: m,
-        uses: &s.uses,
-        tick: tick + 1,
-        moved: s.moved.as_slice(),
-        levels: s.levels.as_slice(),
+    let quiet = QuietLevels {
+        taken: NewLevels {
+            machine: m,
+            uses: &s.uses,
+            tick: tick + 1,
+            moved: s.moved.as_slice(),
+            levels: s.levels.as_slice(),
+        },
         discretes: work.d.as_slice(),
     };
     go_on_moved(
-        &new,
+        &quiet,
         s.slopes.as_mut_slice(),
         s.lines.as_mut_slice(),
         &mut s.touched,

@@ -1,11 +1,8 @@
 //! One tick.
 
-ghost use Rattle.std.specs.Prelude.{◌≡◌, ◌+◌, ◌<◌, ◌≤◌, None, vec_capacity};
-ghost use Rattle.qss_machine.specs.Ticks.{world_unless, Step};
-ghost use Rattle.qss_machine.specs.Runs.{tick_rows};
-ghost use Rattle.qss_quiet.specs.Rules.{IsRuled};
-ghost use Rattle.qss_run.specs.Stores.{world_of, Stands};
-ghost use Rattle.qss_run.specs.Touches.{touches_at};
+ghost use Rattle.std.specs.Prelude.{◌<◌};
+ghost use Rattle.qss_run.specs.Stores.{Stands};
+ghost use Rattle.qss_run.specs.Visits.{IsVisited};
 
 use crate::crossings::visit_changed;
 use crate::sparse::visit_due;
@@ -26,17 +23,7 @@ pub(crate) fn visit<L: Ledger>(
 ) -> Option<u32>
     requires stands { Stands m.now tick s.old }
     requires in_time { tick < m.now.last }
-    ensures stepped { Step (IsRuled q.now.name) m.now (tick + 1) (world_of tick s.old)
-        (world_unless result (world_of (tick + 1) s.new)) }
-    ensures rows { result ≡ None
-        → s.new.rows.items
-        ≡ tick_rows m.now (tick + 1) (world_of tick s.old) (world_of (tick + 1) s.new) }
-    ensures stands { result ≡ None → Stands m.now (tick + 1) s.new }
-    ensures room { vec_capacity s.new.rows ≡ vec_capacity s.old.rows }
-    ensures counted { steps.new
-        ≤ steps.old
-        + touches_at m.now (tick + 1) (world_of tick s.old)
-        (world_unless result (world_of (tick + 1) s.new)) }
+    ensures { IsVisited m.now q.now.name tick s.old s.new result steps.old steps.new }
 {
     let states = s.lines.len() as u32;
     let conditions = s.conditions.branches.len() as u32;

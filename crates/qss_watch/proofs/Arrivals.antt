@@ -1,5 +1,5 @@
 -- Conditions on arrival, and what the handlers of the branches do that are then due.
-use Rattle.std.proofs.Common.{◌≡◌, ℕ, ◌+◌, ◌<◌, ◌≤◌, Bool, true, false, ◌&&◌, ◌||◌, List, [], length, get_or, ℤ, pos, refl, sym, ap, ◌∙◌, subst, inl, inr, ◌⊎◌, arith, eqb}
+use Rattle.std.proofs.Common.{◌≡◌, ℕ, ◌+◌, ◌^◌, ◌<◌, ◌≤◌, Bool, true, false, ◌&&◌, ◌||◌, List, [], length, get_or, ℤ, pos, refl, sym, ap, ◌∙◌, subst, inl, inr, ◌⊎◌, arith, eqb}
 use Rattle.std.proofs.lemmas.Bool.{cases_Bool, or_parts, or_cases, eqb-true}
 use Rattle.std.proofs.lemmas.List.{get_or_default}
 use Rattle.std.proofs.lemmas.List.Elements.{All-filter}
@@ -22,7 +22,7 @@ use Rattle.qss_watch.specs.declared.conditions.Conditions.{Conditions}
 use Rattle.qss_watch.specs.declared.moment.Changing.{Changing}
 use Rattle.qss_watch.specs.Handlings.{flags_of, handling_of_fired, is_reinitialized, IsHandled, handling_from}
 use Rattle.qss_lines.specs.StateLines.{states_with, line_at, states_at}
-use Rattle.qss_watch.specs.Moments.{AreSmallAt, KnowsArrival}
+use Rattle.qss_watch.specs.Moments.{AreSmallAt, MayBeRead, KnowsArrival}
 use Rattle.qss_watch.specs.Places.{watch_at}
 use Rattle.qss_quiet.specs.Logs.{assigned_of}
 use Rattle.qss_quiet.specs.Among.{is_among, AreNumbers}
@@ -116,13 +116,25 @@ module _ (settled arrived : List Bool) (looked : List ℕ) (holds : ℕ → Bool
           ∙ ap (λ (o : Option ℕ). run_clauses m tick d 0 (start o) m.clauses (due_flags (truths m x d tick) arrived settled)) (sym calm)
 
 -- where no state passes its limit on arrival, watches that know it are small there
-pub small_then : (at : Changing) (all : Conditions) (d : List ℤ) → KnowsArrival at all d → All (IsWithin 88) (states_at at.lines.now at.tick) → AreSmallAt at.tick all.watches.items
+small_then : (at : Changing) (all : Conditions) (d : List ℤ) → KnowsArrival at all d → All (IsWithin 88) (states_at at.lines.now at.tick) → AreSmallAt at.tick all.watches.items
 small_then at all d known small = record {
   later = λ place h. (known.watched place (omega (arith, h, known.fits.watches))).0;
   small = λ place h. (known.watched place (omega (arith, h, known.fits.watches))).1 small;
 }
 
--- the same from slices of what conditions keep, where the watches know the arrival
+-- and truths may be read from slices of what conditions keep
+pub may_be_read : (at : Changing) (all : Conditions) (d : List ℤ) (watches : List Watch) (settled : List Bool) → KnowsArrival at all d → watches ≡ all.watches.items → settled ≡ all.settled.items →
+    first_past 88 (states_at at.lines.now at.tick) ≡ None → at.tick < 2 ^ 32 → MayBeRead at.tick watches settled at.changed.now
+may_be_read at all d watches settled known of_watches of_settled calm in_time =
+    let many : length settled ≡ length (conditions at.machine.now) = ap length of_settled ∙ known.fits.settled in
+    record {
+      as_many = ap length of_watches ∙ known.fits.watches ∙ sym many;
+      numbers = subst (λ n. AreNumbers n at.changed.now) (sym many) known.changed;
+      small = subst (AreSmallAt at.tick) (sym of_watches) (small_then at all d known (all_within 88 (states_at at.lines.now at.tick) calm));
+      in_time = omega (arith, in_time);
+    }
+
+-- the same truths from such slices, where the watches know the arrival
 module _ (at : Changing) (all : Conditions) (d : List ℤ) (known : KnowsArrival at all d) (watches : List Watch) (settled arrived now : List Bool)
     (of_watches : watches ≡ all.watches.items) (of_settled : settled ≡ all.settled.items) (of_arrived : arrived ≡ all.arrived.items)
     (read : IsWritten false (λ place flag. flag ≡ holds_at (watch_at watches place) at.tick) at.changed.now settled now) where

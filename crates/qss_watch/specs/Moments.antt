@@ -1,15 +1,15 @@
 -- What conditions and handlers are given at a tick.
-use Rattle.std.specs.Prelude.{◌≡◌, ℕ, ◌<◌, ◌≤◌, ◌^◌, List, length, All, ℤ, Option, false}
+use Rattle.std.specs.Prelude.{◌≡◌, ℕ, ◌<◌, ◌≤◌, ◌^◌, Bool, List, length, All, ℤ, Option, false}
 use Rattle.mu_num.specs.Sizes.{IsWithin}
+use Rattle.mu_num.specs.Ticks.{tick_limit}
 use Rattle.qss_machine.specs.declared.system.Machine.{Machine}
 use Rattle.qss_machine.specs.Machines.{state_count, truth}
 use Rattle.qss_machine.specs.Uses.{uses_of}
-use Rattle.qss_quant.specs.Lines.{state_at}
 use Rattle.qss_cross.specs.Crossing.{Watch, IsSmall, value_at, holds_at}
 use Rattle.qss_watch.specs.declared.conditions.Conditions.{Conditions}
 use Rattle.qss_watch.specs.declared.moment.Moment.{Moment}
 use Rattle.qss_watch.specs.declared.moment.Point.{Point}
-use Rattle.qss_lines.specs.StateLines.{line_at, states_at, AreLinesUpTo, AreLinesAt}
+use Rattle.qss_lines.specs.StateLines.{states_at, AreLinesAt, AreLinesWithDue}
 use Rattle.qss_watch.specs.Places.{watch_at, AreConditionsOf, HasPlaces, KnowsApart}
 use Rattle.qss_lines.specs.Variables.{AreSlopesOf, AreWithin}
 use Rattle.qss_machine.specs.Firing.{flag_at}
@@ -24,6 +24,13 @@ use Rattle.qss_watch.specs.Moves.{IsTakenFrom}
 pub record AreSmallAt (tick : ℕ) (watches : List Watch) : Type 0 where
   pub later : (place : ℕ) → place < length watches → (watch_at watches place).tick ≤ tick
   pub small : (place : ℕ) → place < length watches → IsSmall (value_at (watch_at watches place) tick)
+
+-- numbers of conditions whose truths may be read from their watches at a tick: watches, small there, and truths after the last handlers are as many
+pub record MayBeRead (tick : ℕ) (watches : List Watch) (settled : List Bool) (changed : List ℕ) : Type 0 where
+  pub as_many : length watches ≡ length settled
+  pub numbers : AreNumbers (length settled) changed
+  pub small : AreSmallAt tick watches
+  pub in_time : tick ≤ tick_limit
 
 -- a machine's readers, and its lines and slopes at a tick, within the limits
 pub record IsMoment (at : Moment) : Type 0 where
@@ -44,6 +51,12 @@ pub record CanRewatch (m : Machine) (tick : ℕ) (slopes : List ℤ) (all : Cond
   pub small : AreSmallAt tick all.watches.items
   pub slopes_of : AreSlopesOf m slopes
   pub in_time : tick < 2 ^ 32
+
+-- with a machine's readers and numbers of its moved states, the conditions that read a state whose row reads one of these may go on from a tick at slopes
+pub record CanRewatchReaders (m : Machine) (readers : List (List ℕ) × List (List ℕ) × List (List ℤ)) (tick : ℕ) (states : List ℕ) (slopes : List ℤ) (all : Conditions) (due : List (Option ℕ)) : Type 0 where
+  pub uses : readers ≡ uses_of m
+  pub moved : AreNumbers (state_count m) states
+  pub ready : CanRewatch m tick slopes all due
 
 -- a machine's conditions, with places in an agenda, may settle at a moment under discrete values, where the states that they read arrive among these
 pub record CanSettle (at : Moment) (d : List ℤ) (all : Conditions) (due : List (Option ℕ)) (x : List ℤ) : Type 0 where
@@ -68,9 +81,7 @@ pub record KnowsArrival (at : Changing) (all : Conditions) (d : List ℤ) : Type
 -- the handlers of a tick may come, where these states are due and were taken out of the agenda: the others lead to states within the limit
 pub record CanHandle (at : Changing) (all : Conditions) (due : List ℕ) (work : Values) (dues : List (Option ℕ)) : Type 0 where
   pub known : KnowsArrival at all work.d
-  pub lines : AreLinesUpTo at.machine.now at.tick at.lines.now
-  pub others_small : (j : ℕ) → j < state_count at.machine.now → is_among due j ≡ false → IsWithin 88 (state_at (line_at at.lines.now j) at.tick)
+  pub lines : AreLinesWithDue at.machine.now at.tick at.lines.now due
   pub values : AreWithin at.machine.now work.x work.d
-  pub moved : AreNumbers (state_count at.machine.now) due
   pub places : state_count at.machine.now ≤ length dues
   pub taken : IsTakenFrom at.tick due dues

@@ -8,6 +8,7 @@ use Rattle.qss_machine.specs.Uses.{condition_reads}
 use Rattle.qss_cross.specs.Crossing.{Watch, value_at, holds_at}
 use Rattle.qss_sched.specs.Ranks.{due_at}
 use Rattle.qss_quiet.specs.Sims.{condition_at, IsChange}
+use Rattle.qss_watch.specs.declared.conditions.Conditions.{Conditions}
 use Rattle.qss_watch.specs.Places.{watch_at, IsWatched}
 use Rattle.qss_lines.specs.Variables.{reads_moved}
 
@@ -43,3 +44,9 @@ AreWatchedOn m tick moved slopes old new old_due new_due =
     (x d before : List ℤ) (place : ℕ) → place < length (conditions m) → AreSlopesBefore m moved before slopes place →
     IsWatched m tick x d before place (watch_at old place) (due_at old_due (state_count m + place)) →
     IsWatched m tick x d slopes place (watch_at new place) (due_at new_due (state_count m + place))
+
+-- conditions after those that read a state whose row reads a moved one went on: what was watched is, each goes on, and nothing but watches and their due ticks changed
+pub record AreRewatchedOn (m : Machine) (tick : ℕ) (moved : List ℕ) (slopes : List ℤ) (old new : Conditions) (old_due new_due : List (Option ℕ)) : Type 0 where
+  pub watches : AreWatchedOn m tick moved slopes old.watches.items new.watches.items old_due new_due
+  pub goes_on : AreGoingOn m tick slopes old.watches.items new.watches.items old_due new_due
+  pub same : new ≡ record old { watches = new.watches }

@@ -5,8 +5,7 @@ ghost use Rattle.std.specs.List.{filter};
 ghost use Rattle.mu_num.specs.Ticks.{tick_limit};
 ghost use Rattle.qss_machine.specs.Firing.{flag_at};
 ghost use Rattle.qss_cross.specs.Crossing.{IsSmall, value_at, holds_at};
-ghost use Rattle.qss_quiet.specs.Among.{AreNumbers};
-ghost use Rattle.qss_watch.specs.Moments.{AreSmallAt};
+ghost use Rattle.qss_watch.specs.Moments.{MayBeRead};
 ghost use Rattle.qss_watch.specs.Moves.{AreApartAt};
 ghost use Rattle.qss_watch.specs.Places.{watch_at};
 ghost use Rattle.qss_quiet.specs.Writes.{IsWritten};
@@ -36,11 +35,8 @@ pub(crate) fn read_changed(
     settled: &[bool],
     arrived: &mut [bool],
 )
-    requires watches { length watches.now ≡ length settled.now }
-    requires changed { AreNumbers (length settled.now) changed.now }
+    requires read { MayBeRead tick watches.now settled.now changed.now }
     requires apart { AreApartAt apart.now arrived.old settled.now }
-    requires small { AreSmallAt tick watches.now }
-    requires in_time { tick ≤ tick_limit }
     ensures { IsWritten false (λ place flag. flag ≡ holds_at (watch_at watches.now place) tick)
         changed.now settled.now arrived.new }
 {
@@ -61,12 +57,9 @@ pub(crate) fn list_fired(
     arrived: &[bool],
     fired: &mut Vec<u32>,
 )
-    requires watches { length watches.now ≡ length settled.now }
-    requires changed { AreNumbers (length settled.now) changed.now }
+    requires read { MayBeRead tick watches.now settled.now changed.now }
     requires arrived { length arrived.now ≡ length settled.now }
     requires room { length settled.now ≤ vec_capacity fired.old }
-    requires small { AreSmallAt tick watches.now }
-    requires in_time { tick ≤ tick_limit }
     ensures fired { fired.new.items
         ≡ filter
         (λ place. holds_at (watch_at watches.now place) tick

@@ -7,9 +7,8 @@ ghost use Rattle.qss_machine.specs.Machines.{state_count};
 ghost use Rattle.qss_machine.specs.Uses.{uses_of};
 ghost use Rattle.qss_cross.specs.Crossing.{IsSmall, value_at};
 ghost use Rattle.qss_sched.specs.Ranks.{due_at};
-ghost use Rattle.qss_watch.specs.Moments.{CanRewatch};
-ghost use Rattle.qss_quiet.specs.Among.{AreNumbers};
-ghost use Rattle.qss_watch.specs.Speeds.{HasSpeed, GoesOn, AreGoingOn, AreWatchedOn};
+ghost use Rattle.qss_watch.specs.Moments.{CanRewatch, CanRewatchReaders};
+ghost use Rattle.qss_watch.specs.Speeds.{HasSpeed, GoesOn, AreGoingOn, AreRewatchedOn};
 
 use crate::conditions::Conditions;
 use qss_cross::Detector;
@@ -116,14 +115,9 @@ impl Conditions {
         slopes: &[i128],
         agenda: &mut Agenda,
     )
-        requires uses { uses.now ≡ uses_of m.now }
-        requires moved { AreNumbers (state_count m.now) moved.now }
-        requires ready { CanRewatch m.now tick slopes.now self.old agenda.old }
-        ensures watches { AreWatchedOn m.now tick moved.now slopes.now self.old.watches.items
-            self.new.watches.items agenda.old agenda.new }
-        ensures goes_on { AreGoingOn m.now tick slopes.now self.old.watches.items
-            self.new.watches.items agenda.old agenda.new }
-        ensures same { self.new ≡ record self.old { watches = self.new.watches } }
+        requires { CanRewatchReaders m.now uses.now tick moved.now slopes.now self.old agenda.old }
+        ensures { AreRewatchedOn m.now tick moved.now slopes.now self.old self.new agenda.old
+            agenda.new }
     {
         for state in moved {
             let states = uses.rows_of(*state);
@@ -143,14 +137,9 @@ impl Conditions {
         slopes: &[i128],
         agenda: &mut Agenda,
     )
-        requires uses { uses.now ≡ uses_of m.now }
-        requires moved { AreNumbers (state_count m.now) moved.now }
-        requires ready { CanRewatch m.now tick slopes.now self.old agenda.old }
-        ensures watches { AreWatchedOn m.now tick moved.now slopes.now self.old.watches.items
-            self.new.watches.items agenda.old agenda.new }
-        ensures goes_on { AreGoingOn m.now tick slopes.now self.old.watches.items
-            self.new.watches.items agenda.old agenda.new }
-        ensures same { self.new ≡ record self.old { watches = self.new.watches } }
+        requires { CanRewatchReaders m.now uses.now tick moved.now slopes.now self.old agenda.old }
+        ensures { AreRewatchedOn m.now tick moved.now slopes.now self.old self.new agenda.old
+            agenda.new }
     {
         if self.watches.is_empty() {
             return;

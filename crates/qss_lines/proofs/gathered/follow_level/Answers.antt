@@ -21,26 +21,24 @@ use mir.Syntax.{w64}
 use mir.Val.{to_z, of_z}
 
 pub rows_of-rows-requires : goal.rows_of-rows-requires
-rows_of-rows-requires g c = omega (arith, c.requires.state, rows_many c.args.at.now.machine.now c.args.at.now.uses.now c.requires.new.taken.uses)
+rows_of-rows-requires g c = omega (arith, c.requires.state, rows_many c.args.at.now.taken.machine.now c.args.at.now.taken.uses.now c.requires.new.uses)
 
-pub shift_rows-requires-clause-mode : goal.shift_rows-requires-clause-mode
-shift_rows-requires-clause-mode g c = record { as_many = c.requires.new.discretes; small = c.requires.new.small_discretes; fits = c.requires.modes }
+pub shift_rows-requires-clause-can : goal.shift_rows-requires-clause-can
+shift_rows-requires-clause-can g c =
+    let level : ℤ = int_at c.args.at.now.taken.levels.now c.args.state in
+    let small_old : IsWithin 43 c.line.inside.level = c.line.invariant.small_level in
+    let small_new : IsWithin 43 level = c.requires.new.values.small_levels c.args.state (pos 0) (omega (arith, c.requires.state, c.requires.new.values.levels)) in
+    let of_old : FitsSigned w64 c.line.inside.level = omega (arith, ints, small_old) in
+    let of_new : FitsSigned w64 level = omega (arith, ints, small_new) in
+    record {
+      mode = record { as_many = c.requires.new.values.discretes; small = c.requires.new.values.small_discretes; fits = c.requires.modes };
+      known = c.requires.state;
+      small_old = rw (to_z-of_z w64 c.line.inside.level of_old) small_old;
+      small_new = rw (to_z-of_z w64 level of_new) small_new;
+    }
 
 pub shift_rows-requires-clause-uses : goal.shift_rows-requires-clause-uses
-shift_rows-requires-clause-uses g c = c.requires.new.taken.uses
-
-pub shift_rows-requires-clause-old : goal.shift_rows-requires-clause-old
-shift_rows-requires-clause-old g c =
-    let small : IsWithin 43 c.line.inside.level = c.line.invariant.small_level in
-    let fits : FitsSigned w64 c.line.inside.level = omega (arith, ints, small) in
-    rw (to_z-of_z w64 c.line.inside.level fits) small
-
-pub shift_rows-requires-clause-new : goal.shift_rows-requires-clause-new
-shift_rows-requires-clause-new g c =
-    let level : ℤ = int_at c.args.at.now.levels.now c.args.state in
-    let small : IsWithin 43 level = c.requires.new.taken.small_levels c.args.state (pos 0) (omega (arith, c.requires.state, c.requires.new.taken.levels)) in
-    let fits : FitsSigned w64 level = omega (arith, ints, small) in
-    rw (to_z-of_z w64 level fits) small
+shift_rows-requires-clause-uses g c = c.requires.new.uses
 
 pub gather-requires-clause-can : goal.gather-requires-clause-can
 gather-requires-clause-can g c = c.requires.can
@@ -54,20 +52,20 @@ gather_each-requires-clause-can g c = c.gather.ensures.can
 pub gather_each-requires-clause-known : goal.gather_each-requires-clause-known
 gather_each-requires-clause-known g c =
     subst (All (λ row. row < length c.gather.new.lines)) (sym c.rows_of-rows.ensures)
-    (rows_below c.args.at.now.machine.now c.args.at.now.uses.now c.requires.new.taken.uses c.args.state (omega (arith, c.requires.state)) (length c.gather.new.lines)
+    (rows_below c.args.at.now.taken.machine.now c.args.at.now.taken.uses.now c.requires.new.uses c.args.state (omega (arith, c.requires.state)) (length c.gather.new.lines)
     (omega (arith, c.gather.auto.lines, c.requires.lines)))
 
 pub returns-clause-slopes : goal.returns-clause-slopes
 returns-clause-slopes g c =
-    let m = c.args.at.now.machine.now in
+    let m = c.args.at.now.taken.machine.now in
     let state : ℕ = c.args.state in
     let lines = c.args.lines.now in
-    let level : ℤ = int_at c.args.at.now.levels.now state in
+    let level : ℤ = int_at c.args.at.now.taken.levels.now state in
     let inside : state < length lines = omega (arith, c.requires.state, c.requires.lines) in
     let line : c.line.inside.level ≡ (line_at lines state).level =
     ap (λ (l : Line). l.level) (c.line.view_is ∙ get_or_default lines state c.index-lines-j.result no_line inside) in
     let small_old : IsWithin 43 c.line.inside.level = c.line.invariant.small_level in
-    let small_new : IsWithin 43 level = c.requires.new.taken.small_levels state (pos 0) (omega (arith, c.requires.state, c.requires.new.taken.levels)) in
+    let small_new : IsWithin 43 level = c.requires.new.values.small_levels state (pos 0) (omega (arith, c.requires.state, c.requires.new.values.levels)) in
     let of_old : FitsSigned w64 c.line.inside.level = omega (arith, ints, small_old) in
     let of_new : FitsSigned w64 level = omega (arith, ints, small_new) in
     let Follows : ℤ → ℤ → ℕ → ℤ → Type 0 = λ old new. HasFollowed Slope m state old new c.args.at.now.discretes.now c.args.slopes.now in
@@ -80,14 +78,14 @@ returns-clause-can g c = c.gather_each.ensures.can
 
 pub returns-clause-gathered : goal.returns-clause-gathered
 returns-clause-gathered g c =
-    let m = c.args.at.now.machine.now in
+    let m = c.args.at.now.taken.machine.now in
     let state : ℕ = c.args.state in
-    let rows : c.rows_of-rows.result.now ≡ reading_rows m state = c.rows_of-rows.ensures ∙ rows_kept m c.args.at.now.uses.now c.requires.new.taken.uses state (omega (arith, c.requires.state)) in
+    let rows : c.rows_of-rows.result.now ≡ reading_rows m state = c.rows_of-rows.ensures ∙ rows_kept m c.args.at.now.taken.uses.now c.requires.new.uses state (omega (arith, c.requires.state)) in
     let first : Gathering = record { lines = c.args.lines.now; touched = c.args.touched.now.items } in
     let between : Gathering = record { lines = c.gather.new.lines; touched = c.gather.new.touched.items } in
     let last : Gathering = record { lines = c.gather_each.new.lines; touched = c.gather_each.new.touched.items } in
-    subst (λ (read : List ℕ). AreGathered c.args.at.now.tick (state ∷ read) first last) rows
-    (gathered_then c.args.at.now.tick (state ∷ []) c.rows_of-rows.result.now first between last c.gather.ensures.gathered c.gather_each.ensures.gathered)
+    subst (λ (read : List ℕ). AreGathered c.args.at.now.taken.tick (state ∷ read) first last) rows
+    (gathered_then c.args.at.now.taken.tick (state ∷ []) c.rows_of-rows.result.now first between last c.gather.ensures.gathered c.gather_each.ensures.gathered)
 
 pub returns-clause-counted : goal.returns-clause-counted
 returns-clause-counted g c = omega (arith, c.gather.ensures.counted, c.gather_each.ensures.counted)

@@ -22,33 +22,33 @@ use Rattle.qss_lines.proofs.gathered.follow_levels.Goals as goal
 
 pub loop-state-init : goal.loop-state-init
 loop-state-init g c =
-    let m = c.args.at.now.machine.now in
+    let m = c.args.at.now.taken.machine.now in
     let d : List ℤ = c.args.at.now.discretes.now in
     let before = c.requires.before.1 in
-    let small = sums_small Slope m c.requires.before.0 d c.args.slopes.now before.levels.light before.own_sums in
+    let small = sums_small Slope m c.requires.before.0 d c.args.slopes.now before.levels.of_lines.light before.own_sums in
     record {
       own = λ old is j h. ap (λ xs. int_at xs j) is.own_sums ∙ get_or-map-range_with_len (λ k. sum_at Slope m k old d) 0 (state_count m) j j (pos 0) h (omega arith);
       as_many = ap length before.own_sums ∙ length-map-range_with_len (λ j. sum_at Slope m j c.requires.before.0 d) 0 (state_count m);
       near = λ j h. let here : IsWithin 88 (int_at c.args.slopes.now j) = small j h in omega (arith, here);
       can = c.requires.can;
-      gathered = none_gathered c.args.at.now.tick c.args.lines.now c.args.touched.now.items (vec_capacity c.args.touched.now) c.requires.can;
+      gathered = none_gathered c.args.at.now.taken.tick c.args.lines.now c.args.touched.now.items (vec_capacity c.args.touched.now) c.requires.can;
       counted = refl;
       room = refl;
     }
 
 pub follow_level-requires-clause-state : goal.follow_level-requires-clause-state
-follow_level-requires-clause-state g c = c.requires.new.taken.moved.below c.loop-state.state-index 0 c.loop-state-test.true
+follow_level-requires-clause-state g c = c.requires.new.moved.below c.loop-state.state-index 0 c.loop-state-test.true
 
 pub follow_level-requires-clause-modes : goal.follow_level-requires-clause-modes
 follow_level-requires-clause-modes g c row h =
-    (row_is_light c.args.at.now.machine.now c.requires.before.0 c.args.at.now.discretes.now c.requires.before.1.levels.light row h).modes
+    (row_is_light c.args.at.now.taken.machine.now c.requires.before.0 c.args.at.now.discretes.now c.requires.before.1.levels.of_lines.light row h).modes
 
 pub follow_level-requires-clause-slopes : goal.follow_level-requires-clause-slopes
 follow_level-requires-clause-slopes g c = c.loop-state.invariant.as_many
 
 pub follow_level-requires-clause-small_slopes : goal.follow_level-requires-clause-small_slopes
 follow_level-requires-clause-small_slopes g c j h =
-    omega (arith, c.loop-state.invariant.near j h, few_numbers (state_count c.args.at.now.machine.now) c.args.at.now.moved.now c.requires.new.taken.moved, c.args.at.now.machine.now.has_variables.few, c.loop-state-test.true)
+    omega (arith, c.loop-state.invariant.near j h, few_numbers (state_count c.args.at.now.taken.machine.now) c.args.at.now.taken.moved.now c.requires.new.moved, c.args.at.now.taken.machine.now.has_variables.few, c.loop-state-test.true)
 
 pub follow_level-requires-clause-lines : goal.follow_level-requires-clause-lines
 follow_level-requires-clause-lines g c = c.loop-state.invariant.gathered.as_many ∙ c.requires.lines
@@ -58,23 +58,23 @@ follow_level-requires-clause-can g c = c.loop-state.invariant.can
 
 pub loop-state-preserved : goal.loop-state-preserved
 loop-state-preserved g c =
-    let m = c.args.at.now.machine.now in
-    let tick = c.args.at.now.tick in
+    let m = c.args.at.now.taken.machine.now in
+    let tick = c.args.at.now.taken.tick in
     let d : List ℤ = c.args.at.now.discretes.now in
     let i = c.loop-state.state-index in
     let inv = c.loop-state.invariant in
-    let moved : List ℕ = c.args.at.now.moved.now in
-    let levels : List ℤ = c.args.at.now.levels.now in
+    let moved : List ℕ = c.args.at.now.taken.moved.now in
+    let levels : List ℤ = c.args.at.now.taken.levels.now in
     let state : ℕ = get_or moved i 0 in
-    let known : state < state_count m = c.requires.new.taken.moved.below i 0 c.loop-state-test.true in
+    let known : state < state_count m = c.requires.new.moved.below i 0 c.loop-state-test.true in
     let inside : state < length c.args.lines.now = omega (arith, known, c.requires.lines) in
     let at = λ (old : List ℤ). levels_along (take i moved) levels old in
     let many = λ (old : List ℤ) (is : AreSumsBefore Slope m moved levels d c.args.slopes.now c.args.lines.now old).
-    length-along (take i moved) levels old ∙ sym is.levels.off.as_many ∙ c.requires.new.taken.levels in
+    length-along (take i moved) levels old ∙ sym is.levels.off.as_many ∙ c.requires.new.values.levels in
     let written = λ (old : List ℤ) (is : AreSumsBefore Slope m moved levels d c.args.slopes.now c.args.lines.now old).
     let from : (line_at c.loop-state.lines state).level ≡ int_at (at old) state =
-    (inv.gathered.along state inside).same_level ∙ is.levels.own_levels state known
-    ∙ sym (along_other (take i moved) levels old state (not_before moved i c.requires.new.taken.moved.rising c.loop-state-test.true)) in
+    (inv.gathered.along state inside).same_level ∙ is.levels.of_lines.own_levels state known
+    ∙ sym (along_other (take i moved) levels old state (not_before moved i c.requires.new.moved.rising c.loop-state-test.true)) in
     subst (λ (z : ℤ). IsWritten (pos 0) (HasFollowed Slope m state z (int_at levels state) d c.loop-state.slopes) (reading_rows m state) c.loop-state.slopes c.follow_level.new.slopes) from
     c.follow_level.ensures.slopes in
     let before = c.requires.before.1 in
@@ -100,10 +100,10 @@ loop-state-preserved g c =
 
 pub returns-clause-slopes : goal.returns-clause-slopes
 returns-clause-slopes g c =
-    let m = c.args.at.now.machine.now in
+    let m = c.args.at.now.taken.machine.now in
     let d : List ℤ = c.args.at.now.discretes.now in
-    let moved : List ℕ = c.args.at.now.moved.now in
-    let levels : List ℤ = c.args.at.now.levels.now in
+    let moved : List ℕ = c.args.at.now.taken.moved.now in
+    let levels : List ℤ = c.args.at.now.taken.levels.now in
     let old : List ℤ = c.requires.before.0 in
     let whole : levels_along (take c.loop-state.state-index moved) levels old ≡ levels =
     ap (λ (js : List ℕ). levels_along js levels old) (take_all c.loop-state.state-index moved c.loop-state-test.false) ∙ along_all moved levels old c.requires.before.1.levels.off in
@@ -117,5 +117,5 @@ pub returns-clause-gathered : goal.returns-clause-gathered
 returns-clause-gathered g c =
     let first : Gathering = record { lines = c.args.lines.now; touched = c.args.touched.now.items } in
     let last : Gathering = record { lines = c.loop-state.lines; touched = c.loop-state.touched.items } in
-    subst (λ (moved : List ℕ). AreGathered c.args.at.now.tick (reached c.args.at.now.machine.now moved) first last)
-    (take_all c.loop-state.state-index c.args.at.now.moved.now c.loop-state-test.false) c.loop-state.invariant.gathered
+    subst (λ (moved : List ℕ). AreGathered c.args.at.now.taken.tick (reached c.args.at.now.taken.machine.now moved) first last)
+    (take_all c.loop-state.state-index c.args.at.now.taken.moved.now c.loop-state-test.false) c.loop-state.invariant.gathered

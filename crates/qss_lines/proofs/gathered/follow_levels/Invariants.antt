@@ -11,12 +11,12 @@ use Rattle.qss_lines.proofs.gathered.follow_levels.Given as goal
 -- the slopes where the moved states so far have their levels, and what these reach
 abbrev pub invariant-loop-state : goal.invariant-loop-state
 invariant-loop-state g l = record {
-  own : (old : List ℤ) → AreSumsBefore Slope l.at.machine.now l.at.moved.now l.at.levels.now l.at.discretes.now l.fn.slopes l.fn.lines old → (j : ℕ) → j < state_count l.at.machine.now →
-      int_at l.slopes j ≡ sum_at Slope l.at.machine.now j (levels_along (take l.state-index l.at.moved.now) l.at.levels.now old) l.at.discretes.now;
-  as_many : length l.slopes ≡ state_count l.at.machine.now;
-  near : (j : ℕ) → j < state_count l.at.machine.now → unsigned_abs (int_at l.slopes j) ≤ (l.state-index + 1) * 2 ^ 88;
-  can : CanGather l.at.tick l.lines l.touched.items (vec_capacity l.touched);
-  gathered : AreGathered l.at.tick (reached l.at.machine.now (take l.state-index l.at.moved.now)) (record { lines = l.fn.lines; touched = l.fn.touched.items }) (record { lines = l.lines; touched = l.touched.items });
+  own : (old : List ℤ) → AreSumsBefore Slope l.at.taken.machine.now l.at.taken.moved.now l.at.taken.levels.now l.at.discretes.now l.fn.slopes l.fn.lines old → (j : ℕ) → j < state_count l.at.taken.machine.now →
+      int_at l.slopes j ≡ sum_at Slope l.at.taken.machine.now j (levels_along (take l.state-index l.at.taken.moved.now) l.at.taken.levels.now old) l.at.discretes.now;
+  as_many : length l.slopes ≡ state_count l.at.taken.machine.now;
+  near : (j : ℕ) → j < state_count l.at.taken.machine.now → unsigned_abs (int_at l.slopes j) ≤ (l.state-index + 1) * 2 ^ 88;
+  can : CanGather l.at.taken.tick l.lines l.touched.items (vec_capacity l.touched);
+  gathered : AreGathered l.at.taken.tick (reached l.at.taken.machine.now (take l.state-index l.at.taken.moved.now)) (record { lines = l.fn.lines; touched = l.fn.touched.items }) (record { lines = l.lines; touched = l.touched.items });
   counted : l.steps + length l.fn.touched.items ≡ l.fn.steps + length l.touched.items;
   room : vec_capacity l.touched ≡ vec_capacity l.fn.touched;
 }

@@ -23,46 +23,46 @@ go_on_at-requires-clause-slope c =
 
 pub go_on_at-requires-clause-level : goal.go_on_at-requires-clause-level
 go_on_at-requires-clause-level c =
-    let level : ℤ = int_at c.args.at.now.levels.now c.args.j in
+    let level : ℤ = int_at c.args.at.now.taken.levels.now c.args.j in
     let small : IsWithin 43 level = c.requires.on.new.small_levels c.args.j (pos 0) (omega (arith, c.requires.on.new.levels, c.requires.state)) in
     let fits : FitsSigned w64 level = omega (arith, ints, small) in
     rw (to_z-of_z w64 level fits) small
 
 pub leaving-requires-clause-near : goal.leaving-requires-clause-near
 leaving-requires-clause-near c =
-    let m = c.args.at.now.machine.now in
+    let m = c.args.at.now.taken.machine.now in
     let j = c.args.j in
     let lines = c.args.lines.now in
     let slope : ℤ = int_at c.args.at.now.slopes.now j in
-    let level : ℤ = int_at c.args.at.now.levels.now j in
+    let level : ℤ = int_at c.args.at.now.taken.levels.now j in
     let small_slope : IsWithin 88 slope = c.requires.on.slopes_of.small j (pos 0) (omega (arith, c.requires.on.slopes_of.as_many, c.requires.state)) in
     let of_slope : FitsSigned w128 slope = omega (arith, ints, small_slope) in
     let small_level : IsWithin 43 level = c.requires.on.new.small_levels j (pos 0) (omega (arith, c.requires.on.new.levels, c.requires.state)) in
     let of_level : FitsSigned w64 level = omega (arith, ints, small_level) in
-    let inside : j < length lines = omega (arith, c.requires.lines, c.requires.state) in
+    let inside : j < length lines = omega (arith, c.requires.on.lines, c.requires.state) in
     let old : Line = get_or lines j c.index-lines-j.result in
     let read : old ≡ line_at lines j = get_or_default lines j c.index-lines-j.result no_line inside in
     let is : c.go_on_at.new.line ≡ record (line_at lines j) { slope = slope; level = level } =
     line_with (line_at lines j) old c.go_on_at.new.line slope level _ _ read (to_z-of_z w128 slope of_slope) (to_z-of_z w64 level of_level) c.go_on_at.ensures in
-    near_on m c.args.at.now.tick j slope level (line_at lines j) c.go_on_at.new.line c.requires.ready.here is c.requires.ready.near
+    near_on m c.args.at.now.taken.tick j slope level (line_at lines j) c.go_on_at.new.line c.requires.ready.here is c.requires.ready.near
 
 pub set-requires : goal.set-requires
-set-requires c = omega (arith, c.requires.state, c.requires.places)
+set-requires c = omega (arith, c.requires.state, c.requires.on.places)
 
 pub returns-clause-goes_on : goal.returns-clause-goes_on
 returns-clause-goes_on c =
-    let m = c.args.at.now.machine.now in
+    let m = c.args.at.now.taken.machine.now in
     let j = c.args.j in
-    let tick = c.args.at.now.tick in
+    let tick = c.args.at.now.taken.tick in
     let lines = c.args.lines.now in
     let slope : ℤ = int_at c.args.at.now.slopes.now j in
-    let level : ℤ = int_at c.args.at.now.levels.now j in
+    let level : ℤ = int_at c.args.at.now.taken.levels.now j in
     let small_slope : IsWithin 88 slope = c.requires.on.slopes_of.small j (pos 0) (omega (arith, c.requires.on.slopes_of.as_many, c.requires.state)) in
     let of_slope : FitsSigned w128 slope = omega (arith, ints, small_slope) in
     let small_level : IsWithin 43 level = c.requires.on.new.small_levels j (pos 0) (omega (arith, c.requires.on.new.levels, c.requires.state)) in
     let of_level : FitsSigned w64 level = omega (arith, ints, small_level) in
-    let inside : j < length lines = omega (arith, c.requires.lines, c.requires.state) in
-    let place : j < length c.args.agenda.now = omega (arith, c.requires.places, c.requires.state) in
+    let inside : j < length lines = omega (arith, c.requires.on.lines, c.requires.state) in
+    let place : j < length c.args.agenda.now = omega (arith, c.requires.on.places, c.requires.state) in
     let old : Line = get_or lines j c.index-lines-j.result in
     let read : old ≡ line_at lines j = get_or_default lines j c.index-lines-j.result no_line inside in
     let is : c.go_on_at.new.line ≡ record (line_at lines j) { slope = slope; level = level } =
@@ -76,7 +76,7 @@ pub returns-clause-same_tick : goal.returns-clause-same_tick
 returns-clause-same_tick c =
     let j = c.args.j in
     let lines = c.args.lines.now in
-    let inside : j < length lines = omega (arith, c.requires.lines, c.requires.state) in
+    let inside : j < length lines = omega (arith, c.requires.on.lines, c.requires.state) in
     let old : Line = get_or lines j c.index-lines-j.result in
     let read : old ≡ line_at lines j = get_or_default lines j c.index-lines-j.result no_line inside in
     ap (λ (l : Line). l.tick) (get_or-set_same lines j c.go_on_at.new.line no_line inside ∙ c.go_on_at.ensures) ∙ ap (λ (l : Line). l.tick) read

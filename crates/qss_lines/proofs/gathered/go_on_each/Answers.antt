@@ -7,29 +7,28 @@ use Rattle.qss_quant.specs.Lines.{state_at, IsNear}
 use Rattle.qss_lines.specs.StateLines.{line_at}
 use Rattle.qss_lines.specs.Reslopings.{Courses}
 use Rattle.qss_quiet.proofs.Writes.{among_at}
+use Rattle.qss_lines.proofs.GoingOn.{still_on}
 use Rattle.qss_lines.proofs.Gathering.{AreOn, none_on, still_there, same_tick_on, on_more}
 use Rattle.qss_lines.proofs.gathered.go_on_each.Goals as goal
 
 pub loop-j-init : goal.loop-j-init
 loop-j-init c = record {
-  on = none_on c.args.at.now.machine.now c.args.at.now.tick c.args.at.now.levels.now c.args.at.now.slopes.now (record { lines = c.args.lines.now; dues = c.args.agenda.now });
+  on = none_on c.args.at.now.taken.machine.now c.args.at.now.taken.tick c.args.at.now.taken.levels.now c.args.at.now.slopes.now (record { lines = c.args.lines.now; dues = c.args.agenda.now });
   same_tick = λ j. refl;
 }
 
 pub go_on-requires-clause-state : goal.go_on-requires-clause-state
 go_on-requires-clause-state c = c.requires.states c.loop-j.j-index 0 c.loop-j-test.true
 
-pub go_on-requires-clause-lines : goal.go_on-requires-clause-lines
-go_on-requires-clause-lines c = omega (arith, c.loop-j.auto.lines, c.requires.lines)
-
-pub go_on-requires-clause-places : goal.go_on-requires-clause-places
-go_on-requires-clause-places c = omega (arith, c.loop-j.invariant.on.places, c.requires.places)
+pub go_on-requires-clause-on : goal.go_on-requires-clause-on
+go_on-requires-clause-on c =
+    still_on c.args.at.now c.args.lines.now c.loop-j.lines c.args.agenda.now c.loop-j.agenda c.requires.on (omega (arith, c.loop-j.auto.lines)) c.loop-j.invariant.on.places
 
 pub go_on-requires-clause-ready : goal.go_on-requires-clause-ready
 go_on-requires-clause-ready c =
-    let m = c.args.at.now.machine.now in
-    let tick = c.args.at.now.tick in
-    let levels : List ℤ = c.args.at.now.levels.now in
+    let m = c.args.at.now.taken.machine.now in
+    let tick = c.args.at.now.taken.tick in
+    let levels : List ℤ = c.args.at.now.taken.levels.now in
     let slopes : List ℤ = c.args.at.now.slopes.now in
     let i = c.loop-j.j-index in
     let states : List ℕ = c.args.states.now in
@@ -47,9 +46,9 @@ go_on-requires-clause-ready c =
 
 pub loop-j-preserved : goal.loop-j-preserved
 loop-j-preserved c =
-    let m = c.args.at.now.machine.now in
-    let tick = c.args.at.now.tick in
-    let levels : List ℤ = c.args.at.now.levels.now in
+    let m = c.args.at.now.taken.machine.now in
+    let tick = c.args.at.now.taken.tick in
+    let levels : List ℤ = c.args.at.now.taken.levels.now in
     let slopes : List ℤ = c.args.at.now.slopes.now in
     let i = c.loop-j.j-index in
     let states : List ℕ = c.args.states.now in
@@ -65,10 +64,10 @@ loop-j-preserved c =
 
 pub returns : goal.returns
 returns c =
-    let m = c.args.at.now.machine.now in
+    let m = c.args.at.now.taken.machine.now in
     let first : Courses = record { lines = c.args.lines.now; dues = c.args.agenda.now } in
     let last : Courses = record { lines = c.loop-j.lines; dues = c.loop-j.agenda } in
-    let on : AreOn m c.args.at.now.tick c.args.at.now.levels.now c.args.at.now.slopes.now c.args.states.now first last =
-    subst (λ (these : List ℕ). AreOn m c.args.at.now.tick c.args.at.now.levels.now c.args.at.now.slopes.now these first last) (take_all c.loop-j.j-index c.args.states.now c.loop-j-test.false)
+    let on : AreOn m c.args.at.now.taken.tick c.args.at.now.taken.levels.now c.args.at.now.slopes.now c.args.states.now first last =
+    subst (λ (these : List ℕ). AreOn m c.args.at.now.taken.tick c.args.at.now.taken.levels.now c.args.at.now.slopes.now these first last) (take_all c.loop-j.j-index c.args.states.now c.loop-j-test.false)
     c.loop-j.invariant.on in
     record { goes_on = on.own; lines = on.lines; places = on.places; dues = on.dues }

@@ -11,7 +11,7 @@ use Rattle.qss_quiet.proofs.Writes.{index_of}
 use Rattle.qss_lines.specs.Gatherings.{Gathering, behind, reached}
 use Rattle.qss_lines.specs.Reslopings.{Courses}
 use Rattle.qss_lines.proofs.DueLevels.{int_at-states_at}
-use Rattle.qss_lines.proofs.Gathering.{AreOn, behind_few, behind_may, not_listed, all_on}
+use Rattle.qss_lines.proofs.Gathering.{AreOn, behind_few, behind_may, all_on}
 use Rattle.qss_lines.proofs.GoingOn.{slopes_small}
 use Rattle.qss_lines.proofs.gathered.reslope_of.Goals as goal
 
@@ -33,35 +33,36 @@ follow_levels-requires-clause-can g c =
       below = subst (All (λ j. j < length lines)) (sym c.clear.ensures.items) (All-nil (λ j. j < length lines));
       listed = λ j h there. let earlier = c.requires.ready.earlier j (omega (arith, h, many)) in absurd (omega (arith, earlier, there));
       arrived = λ j among. let none : is_among c.clear.new.self.items j ≡ false = ap (λ (xs : List ℕ). is_among xs j) c.clear.ensures.items in absurd (cc);
-      room_left = omega (arith, ap length c.clear.ensures.items, behind_few c.args.at.now.tick (λ j. true) lines, c.requires.room, many, c.clear.ensures.capacity);
+      room_left = omega (arith, ap length c.clear.ensures.items, behind_few c.args.at.now.taken.tick (λ j. true) lines, c.requires.room, many, c.clear.ensures.capacity);
     }
 
 pub go_on_each-requires-clause-on : goal.go_on_each-requires-clause-on
 go_on_each-requires-clause-on g c = record {
-  new = c.requires.ready.new.taken;
+  new = record {
+    uses = c.requires.ready.new.uses;
+    moved = c.requires.ready.new.moved;
+    levels = c.requires.ready.new.values.levels;
+    small_levels = c.requires.ready.new.values.small_levels;
+  };
   slopes_of = record {
     as_many = c.follow_levels.auto.slopes ∙ c.requires.ready.one_each.slopes;
-    small = slopes_small c.args.at.now.machine.now c.args.at.now.levels.now c.args.at.now.discretes.now c.args.at.now.discretes.now c.follow_levels.new.slopes c.requires.ready.levels.light refl
+    small = slopes_small c.args.at.now.taken.machine.now c.args.at.now.taken.levels.now c.args.at.now.discretes.now c.args.at.now.discretes.now c.follow_levels.new.slopes c.requires.ready.levels.light refl
         c.follow_levels.ensures.slopes;
   };
+  lines = c.follow_levels.auto.lines ∙ c.requires.ready.one_each.lines;
+  places = c.requires.ready.one_each.places;
   in_time = c.requires.ready.held.may_move.in_time;
 }
 
 pub go_on_each-requires-clause-states : goal.go_on_each-requires-clause-states
 go_on_each-requires-clause-states g c =
-    subst (All (λ j. j < state_count c.args.at.now.machine.now)) (sym c.as_slice.ensures.value)
+    subst (All (λ j. j < state_count c.args.at.now.taken.machine.now)) (sym c.as_slice.ensures.value)
     (λ i d h. let known = c.follow_levels.ensures.can.below i d h in omega (arith, known, c.follow_levels.auto.lines, c.requires.ready.one_each.lines))
-
-pub go_on_each-requires-clause-lines : goal.go_on_each-requires-clause-lines
-go_on_each-requires-clause-lines g c = c.follow_levels.auto.lines ∙ c.requires.ready.one_each.lines
-
-pub go_on_each-requires-clause-places : goal.go_on_each-requires-clause-places
-go_on_each-requires-clause-places g c = c.requires.ready.one_each.places
 
 pub go_on_each-requires-clause-ready : goal.go_on_each-requires-clause-ready
 go_on_each-requires-clause-ready g c j among =
-    let m = c.args.at.now.machine.now in
-    let level : ℤ = int_at c.args.at.now.levels.now j in
+    let m = c.args.at.now.taken.machine.now in
+    let level : ℤ = int_at c.args.at.now.taken.levels.now j in
     let touched : List ℕ = c.follow_levels.new.touched.items in
     let listed : is_among touched j ≡ true = sym (ap (λ (xs : List ℕ). is_among xs j) c.as_slice.ensures.value) ∙ among in
     let found = index_of touched j listed in
@@ -71,52 +72,46 @@ go_on_each-requires-clause-ready g c j among =
     record {
       here = c.follow_levels.ensures.can.arrived j listed;
       near = subst (λ (x : ℤ). IsNear (level_unit m) x level (quantum_of m j level))
-          (int_at-states_at c.args.lines.now c.args.at.now.tick j inside ∙ sym (c.follow_levels.ensures.gathered.along j inside).here) (c.requires.ready.levels.near j h);
+          (int_at-states_at c.args.lines.now c.args.at.now.taken.tick j inside ∙ sym (c.follow_levels.ensures.gathered.along j inside).here) (c.requires.ready.levels.near j h);
     }
 
-pub returns-clause-lines : goal.returns-clause-lines
-returns-clause-lines g c k h =
-    let m = c.args.at.now.machine.now in
-    let levels : List ℤ = c.args.at.now.levels.now in
+pub returns-clause-gone_on : goal.returns-clause-gone_on
+returns-clause-gone_on g c =
+    let m = c.args.at.now.taken.machine.now in
+    let tick = c.args.at.now.taken.tick in
+    let levels : List ℤ = c.args.at.now.taken.levels.now in
     let slopes : List ℤ = c.follow_levels.new.slopes in
     let first : Gathering = record { lines = c.args.lines.now; touched = c.clear.new.self.items } in
     let between : Gathering = record { lines = c.follow_levels.new.lines; touched = c.follow_levels.new.touched.items } in
     let last : Courses = record { lines = c.go_on_each.new.lines; dues = c.go_on_each.new.agenda } in
-    let on : AreOn m c.args.at.now.tick levels slopes between.touched (record { lines = between.lines; dues = c.args.agenda.now }) last = record {
+    let on : AreOn m tick levels slopes between.touched (record { lines = between.lines; dues = c.args.agenda.now }) last = record {
       own = λ j among. c.go_on_each.ensures.goes_on j (ap (λ xs. is_among xs j) c.as_slice.ensures.value ∙ among);
       lines = λ j none. c.go_on_each.ensures.lines j (ap (λ xs. is_among xs j) c.as_slice.ensures.value ∙ none);
       places = c.go_on_each.ensures.places;
       dues = λ j none. c.go_on_each.ensures.dues j (ap (λ xs. is_among xs j) c.as_slice.ensures.value ∙ none);
     } in
     let held = c.requires.ready.held in
-    let inside : k < length c.args.lines.now = omega (arith, h, c.requires.ready.one_each.lines) in
-    all_on m c.args.at.now.tick levels held.before.0 c.args.at.now.discretes.now c.args.slopes.now slopes c.args.at.now.moved.now first between c.args.agenda.now last
-    c.follow_levels.ensures.gathered on held.before.1 c.follow_levels.ensures.slopes k h inside (held.may_move.later k inside) (held.own_slope k h) (held.due k h)
+    let may = is_among (reached m c.args.at.now.taken.moved.now) in
+    let count = c.follow_levels.ensures.gathered.counted may (λ j among. among) in
+    let fewer : behind tick may c.args.lines.now ≤ count_by may (range_with_len 0 (state_count m)) = behind_may tick (state_count m) may c.args.lines.now c.requires.ready.one_each.lines in
+    record {
+      slopes = c.follow_levels.ensures.slopes;
+      lines = λ k h.
+          let inside : k < length c.args.lines.now = omega (arith, h, c.requires.ready.one_each.lines) in
+          all_on m tick levels held.before.0 c.args.at.now.discretes.now c.args.slopes.now slopes c.args.at.now.taken.moved.now first between c.args.agenda.now last
+          c.follow_levels.ensures.gathered on held.before.1 c.follow_levels.ensures.slopes k h inside (held.may_move.later k inside) (held.own_slope k h) (held.due k h);
+      places = c.go_on_each.ensures.places;
+      counted = omega (arith, count, fewer, c.follow_levels.ensures.counted, ap length c.clear.ensures.items);
+    }
 
 pub returns-clause-kept : goal.returns-clause-kept
 returns-clause-kept g c j unreached =
-    let m = c.args.at.now.machine.now in
+    let m = c.args.at.now.taken.machine.now in
     let gathered = c.follow_levels.ensures.gathered in
     let unlisted : is_among c.follow_levels.new.touched.items j ≡ false =
-    gathered.listed j ∙ ap (λ (xs : List ℕ). is_among xs j || is_among (reached m c.args.at.now.moved.now) j) c.clear.ensures.items ∙ unreached in
+    gathered.listed j ∙ ap (λ (xs : List ℕ). is_among xs j || is_among (reached m c.args.at.now.taken.moved.now) j) c.clear.ensures.items ∙ unreached in
     let left : is_among c.as_slice.result.now j ≡ false = ap (λ xs. is_among xs j) c.as_slice.ensures.value ∙ unlisted in
     (c.go_on_each.ensures.lines j left ∙ gathered.others j unlisted, c.go_on_each.ensures.dues j left)
-
-pub returns-clause-others : goal.returns-clause-others
-returns-clause-others g c place past =
-    let touched : List ℕ = c.follow_levels.new.touched.items in
-    let below : All (λ j. j < state_count c.args.at.now.machine.now) touched = λ i d h.
-    let known = c.follow_levels.ensures.can.below i d h in omega (arith, known, c.follow_levels.auto.lines, c.requires.ready.one_each.lines) in
-    c.go_on_each.ensures.dues place (ap (λ xs. is_among xs place) c.as_slice.ensures.value ∙ not_listed (state_count c.args.at.now.machine.now) touched place below past)
-
-pub returns-clause-counted : goal.returns-clause-counted
-returns-clause-counted g c =
-    let m = c.args.at.now.machine.now in
-    let tick = c.args.at.now.tick in
-    let may = is_among (reached m c.args.at.now.moved.now) in
-    let count = c.follow_levels.ensures.gathered.counted may (λ j among. among) in
-    let fewer : behind tick may c.args.lines.now ≤ count_by may (range_with_len 0 (state_count m)) = behind_may tick (state_count m) may c.args.lines.now c.requires.ready.one_each.lines in
-    omega (arith, count, fewer, c.follow_levels.ensures.counted, ap length c.clear.ensures.items)
 
 pub returns-clause-room : goal.returns-clause-room
 returns-clause-room g c = c.follow_levels.ensures.room ∙ c.clear.ensures.capacity

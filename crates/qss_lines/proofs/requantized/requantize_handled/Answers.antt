@@ -29,7 +29,7 @@ requantize_states-over-requires-clause-ready g c =
       small_states = λ j among.
           subst (λ (xs : List ℤ). IsWithin 88 (int_at xs j)) (sym of_x)
           (fits.small_states j (pos 0) (omega (arith, moved_inside n moved c.requires.ready.moved j among, fits.states)));
-      small_levels = c.requires.held.small_levels;
+      small_levels = c.requires.held.of_lines.small;
     }
 
 pub follow_handled-requires-clause-left : goal.follow_handled-requires-clause-left
@@ -41,11 +41,13 @@ follow_handled-requires-clause-left g c =
     record {
       assigned = subst (AreAssignedFrom c.args.at.now.machine.now c.args.at.now.assigned.now c.as_slice-pre.result.now) (sym of_d)
           (subst (λ (p : List ℤ). AreAssignedFrom c.args.at.now.machine.now c.args.at.now.assigned.now p c.args.at.now.work.now.d) (sym of_pre) c.requires.ready.assigned);
-      many_states = ap length of_x ∙ fits.states;
       many_before = ap length of_pre ∙ fits.before;
-      many_discretes = ap length of_d ∙ fits.discretes;
-      small_states = subst (All (IsWithin 88)) (sym of_x) fits.small_states;
-      small_discretes = subst (All (IsWithin 43)) (sym of_d) fits.small_discretes;
+      values = record {
+        states = ap length of_x ∙ fits.states;
+        discretes = ap length of_d ∙ fits.discretes;
+        small_states = subst (All (IsWithin 88)) (sym of_x) fits.small_states;
+        small_discretes = subst (All (IsWithin 43)) (sym of_d) fits.small_discretes;
+      };
     }
 
 pub follow_handled-requires-clause-before : goal.follow_handled-requires-clause-before
@@ -58,9 +60,11 @@ follow_handled-requires-clause-before g c =
       record {
         levels = record {
           off = subst (IsOff c.args.at.now.moved.now old) (sym (c.requantize_states-over.ensures.taken.1.levels none)) c.requantize_states-over.ensures.taken.1.others;
-          small = c.requires.held.small_levels;
-          light = subst (λ (d : List ℤ). position (is_overweight m old d) m.rows ≡ None) (sym pre) c.requires.held.light;
-          own_levels = c.requires.held.own_levels;
+          of_lines = record {
+            small = c.requires.held.of_lines.small;
+            light = subst (λ (d : List ℤ). position (is_overweight m old d) m.rows ≡ None) (sym pre) c.requires.held.of_lines.light;
+            own_levels = c.requires.held.of_lines.own_levels;
+          };
         };
         own = subst (λ (d : List ℤ). AreWeights m old d c.args.weights.now) (sym pre) c.requires.held.weights;
       },

@@ -1,7 +1,8 @@
 -- The weights are those at the levels before.
-use Rattle.std.proofs.Common.{◌≡◌, List, ℤ, sym, ◌∙◌, ap, subst}
+use Rattle.std.proofs.Common.{◌≡◌, List, length, ℤ, sym, ◌∙◌, ap, subst}
 use Rattle.std.specs.List.{position}
-use Rattle.std.specs.Prelude.{None}
+use Rattle.std.specs.Prelude.{None, All}
+use Rattle.mu_num.specs.Sizes.{IsWithin}
 use Rattle.qss_hand.specs.Values.{Values}
 use Rattle.qss_machine.specs.Numbers.{first_past}
 use Rattle.qss_machine.specs.Ticks.{is_overweight}
@@ -10,6 +11,27 @@ use Rattle.qss_lines.specs.Kept.{AreWeights}
 use Rattle.qss_quiet.proofs.Overs.{not_some, clash}
 use Rattle.qss_lines.proofs.FirstOvers.{over_sooner, over_later}
 use Rattle.qss_lines.proofs.requantized.requantize_moved.Goals as goal
+
+pub requantize_due-over-requires-clause-small_levels : goal.requantize_due-over-requires-clause-small_levels
+requantize_due-over-requires-clause-small_levels g c = c.requires.held.of_lines.small
+
+pub follow-requires-clause-ready : goal.follow-requires-clause-ready
+follow-requires-clause-ready g c =
+    let of_d : c.as_slice-d.result.now ≡ c.args.work.now.d =
+    c.as_slice-d.ensures.value ∙ ap (λ (v : Values). v.d) c.work.view_is in
+    record {
+      uses = c.requires.ready.uses;
+      moved = c.requires.ready.lines.numbers;
+      values = record {
+        levels = c.requantize_due-over.auto.levels ∙ c.requires.held.levels;
+        discretes = ap length of_d ∙ c.requires.discretes;
+        small_levels = c.requantize_due-over.ensures.small (not_some c.requantize_due-over.result (sym c.is_some.ensures ∙ c.if-is_some.false));
+        small_discretes = subst (All (IsWithin 43)) (sym of_d) c.requires.small_discretes;
+      };
+    }
+
+pub follow-requires-clause-lines : goal.follow-requires-clause-lines
+follow-requires-clause-lines g c = c.requires.ready.lines.up_to.as_many
 
 pub follow-requires-clause-before : goal.follow-requires-clause-before
 follow-requires-clause-before g c =
@@ -22,9 +44,11 @@ follow-requires-clause-before g c =
       record {
         levels = record {
           off = subst (IsOff c.args.at.now.moved.now old) (sym (c.requantize_due-over.ensures.taken.1.levels none)) c.requantize_due-over.ensures.taken.1.others;
-          small = c.requires.held.small_levels;
-          light = subst (λ (d : List ℤ). position (is_overweight m old d) m.rows ≡ None) (sym of_d) c.requires.held.light;
-          own_levels = c.requires.held.own_levels;
+          of_lines = record {
+            small = c.requires.held.of_lines.small;
+            light = subst (λ (d : List ℤ). position (is_overweight m old d) m.rows ≡ None) (sym of_d) c.requires.held.of_lines.light;
+            own_levels = c.requires.held.of_lines.own_levels;
+          };
         };
         own = subst (λ (d : List ℤ). AreWeights m old d c.args.weights.now) (sym of_d) c.requires.held.weights;
       },

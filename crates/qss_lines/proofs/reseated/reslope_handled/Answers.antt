@@ -25,8 +25,13 @@ seat_each-requires-clause-on g c = record {
     as_many = c.follow_slopes.auto.slopes ∙ c.requires.one_each.slopes;
     small = slopes_small c.args.at.now.machine.now c.args.at.now.levels.now c.args.left.now.discretes.now c.args.left.now.discretes.now c.follow_slopes.new.slopes c.requires.levels.light refl c.follow_slopes.ensures;
   };
+  lines = c.requires.one_each.lines;
+  places = c.requires.one_each.places;
   in_time = c.requires.held.may_move.in_time;
 }
+
+pub seat_each-requires-clause-states : goal.seat_each-requires-clause-states
+seat_each-requires-clause-states g c = record { as_many = c.requires.handled.values.states; small = c.requires.handled.values.small_states }
 
 pub seat_each-requires-clause-near : goal.seat_each-requires-clause-near
 seat_each-requires-clause-near g c j among =
@@ -46,6 +51,8 @@ reslope_readers-requires-clause-on g c = record {
     as_many = c.follow_slopes.auto.slopes ∙ c.requires.one_each.slopes;
     small = slopes_small c.args.at.now.machine.now c.args.at.now.levels.now c.args.left.now.discretes.now c.args.left.now.discretes.now c.follow_slopes.new.slopes c.requires.levels.light refl c.follow_slopes.ensures;
   };
+  lines = c.seat_each.auto.lines ∙ c.requires.one_each.lines;
+  places = omega (arith, c.seat_each.ensures.places, c.requires.one_each.places);
   in_time = c.requires.held.may_move.in_time;
 }
 
@@ -69,6 +76,8 @@ reslope_readers-requires-2-clause-on g c = record {
     as_many = c.follow_slopes.auto.slopes ∙ c.requires.one_each.slopes;
     small = slopes_small c.args.at.now.machine.now c.args.at.now.levels.now c.args.left.now.discretes.now c.args.left.now.discretes.now c.follow_slopes.new.slopes c.requires.levels.light refl c.follow_slopes.ensures;
   };
+  lines = c.reslope_readers.auto.lines ∙ c.seat_each.auto.lines ∙ c.requires.one_each.lines;
+  places = omega (arith, c.reslope_readers.ensures.resloped.as_many, c.seat_each.ensures.places, c.requires.one_each.places);
   in_time = c.requires.held.may_move.in_time;
 }
 
@@ -102,7 +111,7 @@ returns-clause-lines g c j h =
     record { own = seats.goes_on; lines = seats.lines; left = seats.kept; places = seats.places; dues = seats.dues } in
     reseated m c.args.at.now.tick c.args.left.now.states.now c.args.at.now.levels.now c.follow_slopes.new.slopes c.args.at.now.moved.now first between are many
     c.args.left.now.assigned.now held.before.0 c.args.left.now.before.now c.args.left.now.discretes.now c.args.slopes.now next last c.reslope_readers.ensures.resloped c.reslope_readers-2.ensures.resloped
-    held.before.1 c.requires.handled.assigned.others c.follow_slopes.ensures c.requires.new.levels c.requires.handled.many_before c.requires.handled.many_discretes j h
+    held.before.1 c.requires.handled.assigned.others c.follow_slopes.ensures c.requires.new.levels c.requires.handled.many_before c.requires.handled.values.discretes j h
     (held.may_move.later j (omega (arith, h, many))) (held.own_slope j h) (held.due j h)
 
 pub returns-clause-kept : goal.returns-clause-kept
@@ -146,7 +155,7 @@ returns-clause-counted g c =
     let none : renewals n levels slopes c.reslope_readers-2.new.lines ≡ 0 = none_left n levels slopes c.reslope_readers-2.new.lines (λ j h.
     let own = reseated m c.args.at.now.tick c.args.left.now.states.now levels slopes c.args.at.now.moved.now first between are many
     c.args.left.now.assigned.now held.before.0 c.args.left.now.before.now c.args.left.now.discretes.now c.args.slopes.now next last c.reslope_readers.ensures.resloped c.reslope_readers-2.ensures.resloped
-    held.before.1 c.requires.handled.assigned.others c.follow_slopes.ensures c.requires.new.levels c.requires.handled.many_before c.requires.handled.many_discretes j h
+    held.before.1 c.requires.handled.assigned.others c.follow_slopes.ensures c.requires.new.levels c.requires.handled.many_before c.requires.handled.values.discretes j h
     (held.may_move.later j (omega (arith, h, many))) (held.own_slope j h) (held.due j h) in
     (own.own_level, own.own_slope ∙ sym (ap (λ zs. int_at zs j) c.follow_slopes.ensures ∙ int_at-tabulate n (λ k. slope_at m k levels c.args.left.now.discretes.now) j h))) in
     let seated = seats.counted (states_with c.args.lines.now c.args.at.now.tick c.args.at.now.moved.now c.args.left.now.states.now) (λ j among.

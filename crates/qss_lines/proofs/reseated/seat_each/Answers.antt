@@ -5,57 +5,63 @@ use Rattle.mu_num.specs.Sizes.{IsWithin}
 use Rattle.qss_machine.specs.Machines.{state_count}
 use Rattle.qss_machine.specs.Numbers.{int_at}
 use Rattle.qss_lines.specs.Reslopings.{Courses}
+use Rattle.qss_lines.proofs.GoingOn.{still_on}
 use Rattle.qss_lines.proofs.Seats.{AreSeated, none_seated, seated_more, still_begun, still_small}
 use Rattle.qss_quiet.proofs.Writes.{among_at}
 use Rattle.qss_lines.proofs.reseated.seat_each.Goals as goal
 
 pub loop-j-init : goal.loop-j-init
 loop-j-init g c = record {
-  are_seated = none_seated c.args.at.now.machine.now c.args.at.now.tick c.args.x.now c.args.at.now.levels.now c.args.at.now.slopes.now (record { lines = c.args.lines.now; dues = c.args.agenda.now });
-  line_count = c.requires.lines;
+  are_seated = none_seated c.args.at.now.taken.machine.now c.args.at.now.taken.tick c.args.x.now c.args.at.now.taken.levels.now c.args.at.now.slopes.now (record { lines = c.args.lines.now; dues = c.args.agenda.now });
+  line_count = c.requires.on.lines;
   counted = λ states at. refl;
 }
+
+pub seat-requires-clause-on : goal.seat-requires-clause-on
+seat-requires-clause-on g c =
+    still_on c.args.at.now c.args.lines.now c.loop-j.lines c.args.agenda.now c.loop-j.agenda c.requires.on (omega (arith, c.loop-j.invariant.line_count, c.requires.on.lines))
+    c.loop-j.invariant.are_seated.places
 
 pub seat-requires-clause-later : goal.seat-requires-clause-later
 seat-requires-clause-later g c =
     let i = c.loop-j.j-index in
     let first : Courses = record { lines = c.args.lines.now; dues = c.args.agenda.now } in
     let before : Courses = record { lines = c.loop-j.lines; dues = c.loop-j.agenda } in
-    let j : ℕ = get_or c.args.at.now.moved.now i 0 in
-    let known : j < state_count c.args.at.now.machine.now = c.requires.on.new.moved.below i 0 c.loop-j-test.true in
-    still_begun c.args.at.now.machine.now c.args.at.now.tick c.args.x.now c.args.at.now.levels.now c.args.at.now.slopes.now (take i c.args.at.now.moved.now) first before c.loop-j.invariant.are_seated j
-    (c.requires.may_move.later j (omega (arith, known, c.requires.lines)))
+    let j : ℕ = get_or c.args.at.now.taken.moved.now i 0 in
+    let known : j < state_count c.args.at.now.taken.machine.now = c.requires.on.new.moved.below i 0 c.loop-j-test.true in
+    still_begun c.args.at.now.taken.machine.now c.args.at.now.taken.tick c.args.x.now c.args.at.now.taken.levels.now c.args.at.now.slopes.now (take i c.args.at.now.taken.moved.now) first before c.loop-j.invariant.are_seated j
+    (c.requires.may_move.later j (omega (arith, known, c.requires.on.lines)))
 
 pub seat-requires-clause-small : goal.seat-requires-clause-small
 seat-requires-clause-small g c =
     let i = c.loop-j.j-index in
     let first : Courses = record { lines = c.args.lines.now; dues = c.args.agenda.now } in
     let before : Courses = record { lines = c.loop-j.lines; dues = c.loop-j.agenda } in
-    let j : ℕ = get_or c.args.at.now.moved.now i 0 in
-    let known : j < state_count c.args.at.now.machine.now = c.requires.on.new.moved.below i 0 c.loop-j-test.true in
+    let j : ℕ = get_or c.args.at.now.taken.moved.now i 0 in
+    let known : j < state_count c.args.at.now.taken.machine.now = c.requires.on.new.moved.below i 0 c.loop-j-test.true in
     let small_x : IsWithin 88 (int_at c.args.x.now j) = c.requires.states.small j (pos 0) (omega (arith, known, c.requires.states.as_many)) in
-    still_small c.args.at.now.machine.now c.args.at.now.tick c.args.x.now c.args.at.now.levels.now c.args.at.now.slopes.now (take i c.args.at.now.moved.now) first before c.loop-j.invariant.are_seated j small_x
-    (c.requires.may_move.small j (omega (arith, known, c.requires.lines)))
+    still_small c.args.at.now.taken.machine.now c.args.at.now.taken.tick c.args.x.now c.args.at.now.taken.levels.now c.args.at.now.slopes.now (take i c.args.at.now.taken.moved.now) first before c.loop-j.invariant.are_seated j small_x
+    (c.requires.may_move.small j (omega (arith, known, c.requires.on.lines)))
 
 pub seat-requires-clause-near : goal.seat-requires-clause-near
 seat-requires-clause-near g c =
-    c.requires.near (get_or c.args.at.now.moved.now c.loop-j.j-index 0) (among_at c.args.at.now.moved.now c.loop-j.j-index c.loop-j-test.true)
+    c.requires.near (get_or c.args.at.now.taken.moved.now c.loop-j.j-index 0) (among_at c.args.at.now.taken.moved.now c.loop-j.j-index c.loop-j-test.true)
 
 pub loop-j-preserved : goal.loop-j-preserved
 loop-j-preserved g c =
-    let m = c.args.at.now.machine.now in
+    let m = c.args.at.now.taken.machine.now in
     let i = c.loop-j.j-index in
     let inv = c.loop-j.invariant in
     let first : Courses = record { lines = c.args.lines.now; dues = c.args.agenda.now } in
     let before : Courses = record { lines = c.loop-j.lines; dues = c.loop-j.agenda } in
     let after : Courses = record { lines = c.seat.new.lines; dues = c.seat.new.agenda } in
     record {
-      are_seated = seated_more m c.args.at.now.tick c.args.x.now c.args.at.now.levels.now c.args.at.now.slopes.now c.args.at.now.moved.now i first before after c.loop-j-test.true inv.are_seated
+      are_seated = seated_more m c.args.at.now.taken.tick c.args.x.now c.args.at.now.taken.levels.now c.args.at.now.slopes.now c.args.at.now.taken.moved.now i first before after c.loop-j-test.true inv.are_seated
           c.seat.ensures.goes_on c.seat.ensures.lines c.seat.ensures.kept c.seat.ensures.places c.seat.ensures.dues;
       line_count = omega (arith, inv.line_count, c.seat.auto.lines);
       counted = λ states at.
           let own = inv.counted states at in
-          let one = c.seat.ensures.counted states (at (get_or c.args.at.now.moved.now i 0) (among_at c.args.at.now.moved.now i c.loop-j-test.true)) in
+          let one = c.seat.ensures.counted states (at (get_or c.args.at.now.taken.moved.now i 0) (among_at c.args.at.now.taken.moved.now i c.loop-j-test.true)) in
           omega (arith, own, one);
     }
 
@@ -63,7 +69,7 @@ pub returns : goal.returns
 returns g c =
     let first : Courses = record { lines = c.args.lines.now; dues = c.args.agenda.now } in
     let last : Courses = record { lines = c.loop-j.lines; dues = c.loop-j.agenda } in
-    let are : AreSeated c.args.at.now.machine.now c.args.at.now.tick c.args.x.now c.args.at.now.levels.now c.args.at.now.slopes.now c.args.at.now.moved.now first last =
-    subst (λ (moved : List ℕ). AreSeated c.args.at.now.machine.now c.args.at.now.tick c.args.x.now c.args.at.now.levels.now c.args.at.now.slopes.now moved first last)
-    (take_all c.loop-j.j-index c.args.at.now.moved.now c.loop-j-test.false) c.loop-j.invariant.are_seated in
+    let are : AreSeated c.args.at.now.taken.machine.now c.args.at.now.taken.tick c.args.x.now c.args.at.now.taken.levels.now c.args.at.now.slopes.now c.args.at.now.taken.moved.now first last =
+    subst (λ (moved : List ℕ). AreSeated c.args.at.now.taken.machine.now c.args.at.now.taken.tick c.args.x.now c.args.at.now.taken.levels.now c.args.at.now.slopes.now moved first last)
+    (take_all c.loop-j.j-index c.args.at.now.taken.moved.now c.loop-j-test.false) c.loop-j.invariant.are_seated in
     record { goes_on = are.own; lines = are.lines; kept = are.left; places = are.places; dues = are.dues; counted = c.loop-j.invariant.counted }

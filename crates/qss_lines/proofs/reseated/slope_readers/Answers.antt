@@ -20,6 +20,9 @@ slope_rows-requires-clause-rows c =
     let known : var < state_count m + discrete_count m = c.requires.variables c.loop-var.var-index 0 c.loop-var-test.true in
     subst (All (λ row. row < state_count m)) (sym c.rows_of.ensures) (rows_below m c.args.uses.now c.requires.uses var known (state_count m) (omega arith))
 
+pub slope_rows-requires-clause-can : goal.slope_rows-requires-clause-can
+slope_rows-requires-clause-can c = record { values = c.requires.can.values; one_each = c.loop-var.invariant.as_many; light = c.requires.can.light }
+
 pub loop-var-preserved : goal.loop-var-preserved
 loop-var-preserved c =
     let m = c.args.m.now in

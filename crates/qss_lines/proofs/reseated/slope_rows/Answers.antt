@@ -13,7 +13,7 @@ use mir.Val.{to_z, of_z}
 
 pub slope-requires-clause-modes : goal.slope-requires-clause-modes
 slope-requires-clause-modes c =
-    is_true _ (row_is_light c.args.m.now c.args.levels.now c.args.d.now c.requires.light (get_or c.args.rows.now c.loop-row.row-index 0)
+    is_true _ (row_is_light c.args.m.now c.args.levels.now c.args.d.now c.requires.can.light (get_or c.args.rows.now c.loop-row.row-index 0)
     (c.requires.rows c.loop-row.row-index 0 c.loop-row-test.true)).modes
 
 pub loop-row-preserved : goal.loop-row-preserved

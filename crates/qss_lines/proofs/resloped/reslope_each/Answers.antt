@@ -4,11 +4,17 @@ use Rattle.std.proofs.lemmas.List.{take_more}
 use Rattle.qss_machine.specs.Machines.{state_count}
 use Rattle.qss_lines.specs.Reslopings.{Courses, AreResloped}
 use Rattle.qss_lines.proofs.Courses.{one_resloped, resloped_then}
+use Rattle.qss_lines.proofs.GoingOn.{still_on}
 use Rattle.qss_lines.proofs.resloped.reslope_each.Goals as goal
+
+pub reslope_state-requires-clause-on : goal.reslope_state-requires-clause-on
+reslope_state-requires-clause-on g c =
+    still_on c.args.at.now c.args.lines.now c.loop-j.lines c.args.agenda.now c.loop-j.agenda c.requires.on (omega (arith, c.loop-j.invariant.line_count, c.requires.on.lines))
+    c.loop-j.invariant.resloped.as_many
 
 pub loop-j-preserved : goal.loop-j-preserved
 loop-j-preserved g c =
-    let m = c.args.at.now.machine.now in
+    let m = c.args.at.now.taken.machine.now in
     let i = c.loop-j.j-index in
     let inv = c.loop-j.invariant in
     let state : ℕ = get_or c.args.states.now i 0 in
@@ -16,11 +22,11 @@ loop-j-preserved g c =
     let first : Courses = record { lines = c.args.lines.now; dues = c.args.agenda.now } in
     let before : Courses = record { lines = c.loop-j.lines; dues = c.loop-j.agenda } in
     let after : Courses = record { lines = c.reslope_state.new.lines; dues = c.reslope_state.new.agenda } in
-    let one : AreResloped m c.args.at.now.tick c.args.at.now.levels.now c.args.at.now.slopes.now (state ∷ []) before after =
-    one_resloped m c.args.at.now.tick c.args.at.now.levels.now c.args.at.now.slopes.now state before after known c.reslope_state.ensures.goes_on c.reslope_state.ensures.lines c.reslope_state.ensures.places c.reslope_state.ensures.dues c.reslope_state.ensures.kept in
+    let one : AreResloped m c.args.at.now.taken.tick c.args.at.now.taken.levels.now c.args.at.now.slopes.now (state ∷ []) before after =
+    one_resloped m c.args.at.now.taken.tick c.args.at.now.taken.levels.now c.args.at.now.slopes.now state before after known c.reslope_state.ensures.goes_on c.reslope_state.ensures.lines c.reslope_state.ensures.places c.reslope_state.ensures.dues c.reslope_state.ensures.kept in
     record {
-      resloped = subst (λ (states : List ℕ). AreResloped m c.args.at.now.tick c.args.at.now.levels.now c.args.at.now.slopes.now states first after) (sym (take_more c.args.states.now i 0 c.loop-j-test.true))
-          (resloped_then m c.args.at.now.tick c.args.at.now.levels.now c.args.at.now.slopes.now (take i c.args.states.now) (state ∷ []) first before after inv.resloped one);
+      resloped = subst (λ (states : List ℕ). AreResloped m c.args.at.now.taken.tick c.args.at.now.taken.levels.now c.args.at.now.slopes.now states first after) (sym (take_more c.args.states.now i 0 c.loop-j-test.true))
+          (resloped_then m c.args.at.now.taken.tick c.args.at.now.taken.levels.now c.args.at.now.slopes.now (take i c.args.states.now) (state ∷ []) first before after inv.resloped one);
       line_count = omega (arith, inv.line_count, c.reslope_state.auto.lines);
       counted = omega (arith, inv.counted, c.reslope_state.ensures.counted);
     }

@@ -7,7 +7,7 @@ use Rattle.qss_lines.proofs.resloped.reslope_each.Given as goal
 -- the states so far
 abbrev pub invariant-loop-j : goal.invariant-loop-j
 invariant-loop-j g l = record {
-  resloped : AreResloped l.at.machine.now l.at.tick l.at.levels.now l.at.slopes.now (take l.j-index l.states) (record { lines = l.fn.lines; dues = l.fn.agenda }) (record { lines = l.lines; dues = l.agenda });
-  line_count : length l.lines ≡ state_count l.at.machine.now;
-  counted : l.steps + renewals (state_count l.at.machine.now) l.at.levels.now l.at.slopes.now l.lines ≡ l.fn.steps + renewals (state_count l.at.machine.now) l.at.levels.now l.at.slopes.now l.fn.lines;
+  resloped : AreResloped l.at.taken.machine.now l.at.taken.tick l.at.taken.levels.now l.at.slopes.now (take l.j-index l.states) (record { lines = l.fn.lines; dues = l.fn.agenda }) (record { lines = l.lines; dues = l.agenda });
+  line_count : length l.lines ≡ state_count l.at.taken.machine.now;
+  counted : l.steps + renewals (state_count l.at.taken.machine.now) l.at.taken.levels.now l.at.slopes.now l.lines ≡ l.fn.steps + renewals (state_count l.at.taken.machine.now) l.at.taken.levels.now l.at.slopes.now l.fn.lines;
 }

@@ -10,27 +10,33 @@ use Rattle.qss_lines.specs.StateLines.{line_at}
 use Rattle.qss_lines.specs.Reslopings.{Courses, AreResloped}
 use Rattle.qss_quiet.proofs.Among.{lists_more}
 use Rattle.qss_lines.proofs.Courses.{may_reslope_again, resloped_then}
+use Rattle.qss_lines.proofs.GoingOn.{still_on}
 use Rattle.qss_quiet.proofs.KeptReaders.{rows_many, rows_kept, rows_below}
 use Rattle.qss_lines.proofs.resloped.reslope_readers.Goals as goal
 
 pub rows_of-readers-requires : goal.rows_of-readers-requires
-rows_of-readers-requires g c = omega (arith, c.requires.variables c.loop-var.var-index 0 c.loop-var-test.true, rows_many c.args.at.now.machine.now c.args.at.now.uses.now c.requires.on.new.uses)
+rows_of-readers-requires g c = omega (arith, c.requires.variables c.loop-var.var-index 0 c.loop-var-test.true, rows_many c.args.at.now.taken.machine.now c.args.at.now.taken.uses.now c.requires.on.new.uses)
 
 pub reslope_each-requires-clause-states : goal.reslope_each-requires-clause-states
 reslope_each-requires-clause-states g c =
-    let m = c.args.at.now.machine.now in
+    let m = c.args.at.now.taken.machine.now in
     let var : ℕ = get_or c.args.variables.now c.loop-var.var-index 0 in
     let known : var < state_count m + discrete_count m = c.requires.variables c.loop-var.var-index 0 c.loop-var-test.true in
-    subst (All (λ row. row < state_count m)) (sym c.rows_of-readers.ensures) (rows_below m c.args.at.now.uses.now c.requires.on.new.uses var known (state_count m) (omega arith))
+    subst (All (λ row. row < state_count m)) (sym c.rows_of-readers.ensures) (rows_below m c.args.at.now.taken.uses.now c.requires.on.new.uses var known (state_count m) (omega arith))
+
+pub reslope_each-requires-clause-on : goal.reslope_each-requires-clause-on
+reslope_each-requires-clause-on g c =
+    still_on c.args.at.now c.args.lines.now c.loop-var.lines c.args.agenda.now c.loop-var.agenda c.requires.on (omega (arith, c.loop-var.invariant.line_count, c.requires.on.lines))
+    c.loop-var.invariant.resloped.as_many
 
 pub reslope_each-requires-clause-ready : goal.reslope_each-requires-clause-ready
 reslope_each-requires-clause-ready g c k h =
-    may_reslope_again c.args.at.now.machine.now c.args.at.now.tick (int_at c.args.at.now.levels.now k) (int_at c.args.at.now.slopes.now k) k (line_at c.args.lines.now k) (line_at c.loop-var.lines k)
+    may_reslope_again c.args.at.now.taken.machine.now c.args.at.now.taken.tick (int_at c.args.at.now.taken.levels.now k) (int_at c.args.at.now.slopes.now k) k (line_at c.args.lines.now k) (line_at c.loop-var.lines k)
     (due_at c.args.agenda.now k) (due_at c.loop-var.agenda k) (c.requires.ready k h) (c.loop-var.invariant.resloped.each k h)
 
 pub loop-var-preserved : goal.loop-var-preserved
 loop-var-preserved g c =
-    let m = c.args.at.now.machine.now in
+    let m = c.args.at.now.taken.machine.now in
     let i = c.loop-var.var-index in
     let inv = c.loop-var.invariant in
     let var : ℕ = get_or c.args.variables.now i 0 in
@@ -38,19 +44,19 @@ loop-var-preserved g c =
     let first : Courses = record { lines = c.args.lines.now; dues = c.args.agenda.now } in
     let before : Courses = record { lines = c.loop-var.lines; dues = c.loop-var.agenda } in
     let after : Courses = record { lines = c.reslope_each.new.lines; dues = c.reslope_each.new.agenda } in
-    let more : AreResloped m c.args.at.now.tick c.args.at.now.levels.now c.args.at.now.slopes.now (reading_rows m var) before after =
-    subst (λ (rows : List ℕ). AreResloped m c.args.at.now.tick c.args.at.now.levels.now c.args.at.now.slopes.now rows before after)
-    (c.rows_of-readers.ensures ∙ rows_kept m c.args.at.now.uses.now c.requires.on.new.uses var known) c.reslope_each.ensures.resloped in
+    let more : AreResloped m c.args.at.now.taken.tick c.args.at.now.taken.levels.now c.args.at.now.slopes.now (reading_rows m var) before after =
+    subst (λ (rows : List ℕ). AreResloped m c.args.at.now.taken.tick c.args.at.now.taken.levels.now c.args.at.now.slopes.now rows before after)
+    (c.rows_of-readers.ensures ∙ rows_kept m c.args.at.now.taken.uses.now c.requires.on.new.uses var known) c.reslope_each.ensures.resloped in
     record {
-      resloped = subst (λ (states : List ℕ). AreResloped m c.args.at.now.tick c.args.at.now.levels.now c.args.at.now.slopes.now states first after)
+      resloped = subst (λ (states : List ℕ). AreResloped m c.args.at.now.taken.tick c.args.at.now.taken.levels.now c.args.at.now.slopes.now states first after)
           (sym (lists_more (reading_rows m) c.args.variables.now i c.loop-var-test.true))
-          (resloped_then m c.args.at.now.tick c.args.at.now.levels.now c.args.at.now.slopes.now (flat_map (reading_rows m) (take i c.args.variables.now)) (reading_rows m var) first before after inv.resloped more);
+          (resloped_then m c.args.at.now.taken.tick c.args.at.now.taken.levels.now c.args.at.now.slopes.now (flat_map (reading_rows m) (take i c.args.variables.now)) (reading_rows m var) first before after inv.resloped more);
       line_count = omega (arith, inv.line_count, c.reslope_each.auto.lines);
       counted = omega (arith, inv.counted, c.reslope_each.ensures.counted);
     }
 
 pub returns-clause-resloped : goal.returns-clause-resloped
 returns-clause-resloped g c =
-    subst (λ (vars : List ℕ). AreResloped c.args.at.now.machine.now c.args.at.now.tick c.args.at.now.levels.now c.args.at.now.slopes.now (flat_map (reading_rows c.args.at.now.machine.now) vars)
+    subst (λ (vars : List ℕ). AreResloped c.args.at.now.taken.machine.now c.args.at.now.taken.tick c.args.at.now.taken.levels.now c.args.at.now.slopes.now (flat_map (reading_rows c.args.at.now.taken.machine.now) vars)
     (record { lines = c.args.lines.now; dues = c.args.agenda.now }) (record { lines = c.loop-var.lines; dues = c.loop-var.agenda }))
     (take_all c.loop-var.var-index c.args.variables.now c.loop-var-test.false) c.loop-var.invariant.resloped

@@ -8,7 +8,7 @@ use Rattle.qss_lines.proofs.resloped.reslope_readers.Given as goal
 -- the variables so far
 abbrev pub invariant-loop-var : goal.invariant-loop-var
 invariant-loop-var g l = record {
-  resloped : AreResloped l.at.machine.now l.at.tick l.at.levels.now l.at.slopes.now (flat_map (reading_rows l.at.machine.now) (take l.var-index l.variables)) (record { lines = l.fn.lines; dues = l.fn.agenda }) (record { lines = l.lines; dues = l.agenda });
-  line_count : length l.lines ≡ state_count l.at.machine.now;
-  counted : l.steps + renewals (state_count l.at.machine.now) l.at.levels.now l.at.slopes.now l.lines ≡ l.fn.steps + renewals (state_count l.at.machine.now) l.at.levels.now l.at.slopes.now l.fn.lines;
+  resloped : AreResloped l.at.taken.machine.now l.at.taken.tick l.at.taken.levels.now l.at.slopes.now (flat_map (reading_rows l.at.taken.machine.now) (take l.var-index l.variables)) (record { lines = l.fn.lines; dues = l.fn.agenda }) (record { lines = l.lines; dues = l.agenda });
+  line_count : length l.lines ≡ state_count l.at.taken.machine.now;
+  counted : l.steps + renewals (state_count l.at.taken.machine.now) l.at.taken.levels.now l.at.slopes.now l.lines ≡ l.fn.steps + renewals (state_count l.at.taken.machine.now) l.at.taken.levels.now l.at.slopes.now l.fn.lines;
 }

@@ -19,18 +19,18 @@ use mir.Syntax.{w64, w128}
 use mir.Val.{to_z, of_z}
 
 pub rows_of-rows-requires : goal.rows_of-rows-requires
-rows_of-rows-requires c = omega (arith, c.requires.state, rows_many c.args.at.now.machine.now c.args.uses.now c.requires.uses)
+rows_of-rows-requires c = omega (arith, c.requires.can.known, rows_many c.args.at.now.machine.now c.args.uses.now c.requires.uses)
 
 pub coefficients_of-coefficients-requires : goal.coefficients_of-coefficients-requires
-coefficients_of-coefficients-requires c = omega (arith, c.requires.state, coefficients_many c.args.at.now.machine.now c.args.uses.now c.requires.uses)
+coefficients_of-coefficients-requires c = omega (arith, c.requires.can.known, coefficients_many c.args.at.now.machine.now c.args.uses.now c.requires.uses)
 
 -- the rows that read the state, and its coefficients there
 rows_are : (c : After-coefficients_of-coefficients) → c.rows_of-rows.result.now ≡ reading_rows c.args.at.now.machine.now c.args.state
-rows_are c = c.rows_of-rows.ensures ∙ rows_kept c.args.at.now.machine.now c.args.uses.now c.requires.uses c.args.state (omega (arith, c.requires.state))
+rows_are c = c.rows_of-rows.ensures ∙ rows_kept c.args.at.now.machine.now c.args.uses.now c.requires.uses c.args.state (omega (arith, c.requires.can.known))
 
 coefficients_are : (c : After-coefficients_of-coefficients) → c.coefficients_of-coefficients.result.now ≡ reading_coefficients c.args.at.now.machine.now c.args.state
 coefficients_are c =
-    c.coefficients_of-coefficients.ensures ∙ coefficients_kept c.args.at.now.machine.now c.args.uses.now c.requires.uses c.args.state (omega (arith, c.requires.state))
+    c.coefficients_of-coefficients.ensures ∙ coefficients_kept c.args.at.now.machine.now c.args.uses.now c.requires.uses c.args.state (omega (arith, c.requires.can.known))
 
 pub loop-place-init : goal.loop-place-init
 loop-place-init c = record {
@@ -47,6 +47,14 @@ bounds-coefficients-place c =
       c.loop-place-test.true,
       readers_as_many c.args.at.now.machine.now c.args.state c.rows_of-rows.result.now c.coefficients_of-coefficients.result.now (rows_are read) (coefficients_are read),
     )
+
+pub shift_of-change-requires-clause-can : goal.shift_of-change-requires-clause-can
+shift_of-change-requires-clause-can c = record {
+  mode = c.requires.can.mode;
+  known = c.requires.can.known;
+  small_old = rw (to_z-of_z w64 c.args.old c.ranges.old) c.requires.can.small_old;
+  small_new = rw (to_z-of_z w64 c.args.new c.ranges.new) c.requires.can.small_new;
+}
 
 pub shift_of-change-requires-clause-own : goal.shift_of-change-requires-clause-own
 shift_of-change-requires-clause-own c =

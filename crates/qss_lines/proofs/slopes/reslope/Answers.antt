@@ -12,7 +12,7 @@ use Rattle.qss_lines.proofs.slopes.reslope.Goals as goal
 
 pub leaving-requires-clause-near : goal.leaving-requires-clause-near
 leaving-requires-clause-near g c =
-    subst (λ (l : Line). IsNear (level_unit c.args.m.now) l.x l.level (quantum_of c.args.m.now c.args.j l.level)) (sym ((c.renew.ensures.moved c.if-renew.true).0)) c.requires.near
+    subst (λ (l : Line). IsNear (level_unit c.args.m.now) l.x l.level (quantum_of c.args.m.now c.args.j l.level)) (sym ((c.renew.ensures.moved c.if-renew.true).0)) c.requires.ready.near
 
 pub returns-then-renew-clause-here : goal.returns-then-renew-clause-here
 returns-then-renew-clause-here g c =
@@ -24,7 +24,7 @@ returns-then-renew-clause-due g c =
     let m = c.args.m.now in
     let own_tick : c.renew.new.line.tick ≡ c.args.here.now.tick = ap (λ (l : Line). l.tick) ((c.renew.ensures.moved c.if-renew.true).0) in
     let held : due_at c.set.new.self c.args.j ≡ c.leaving.result =
-    ap (λ due. due_at due c.args.j) c.set.ensures ∙ get_or-set_same c.args.agenda.now c.args.j c.leaving.result None c.requires.place in
+    ap (λ due. due_at due c.args.j) c.set.ensures ∙ get_or-set_same c.args.agenda.now c.args.j c.leaving.result None c.requires.ready.place in
     subst (IsDue m c.args.here.now.tick c.args.j c.renew.new.line) (sym held) (subst (λ t. IsDue m t c.args.j c.renew.new.line c.leaving.result) own_tick c.leaving.ensures)
 
 pub returns-then-renew-clause-kept : goal.returns-then-renew-clause-kept

@@ -8,16 +8,20 @@ use Rattle.qss_machine.specs.Ticks.{is_overweight}
 use Rattle.qss_machine.specs.Uses.{reading_rows}
 use Rattle.qss_lines.specs.Overweights.{IsLeastPast}
 use Rattle.qss_lines.proofs.Least.{least_none, least_is}
+use Rattle.qss_lines.proofs.Shifting.{at_before}
 use Rattle.qss_quiet.proofs.KeptReaders.{rows_many, rows_below, rows_kept_all}
 use Rattle.qss_lines.proofs.Weighed.{many_after, weighed_passes, others_light, all_weighed}
 use Rattle.qss_lines.proofs.weighing.reweigh_handled.Goals as goal
 
+pub shift_sums-requires : goal.shift_sums-requires
+shift_sums-requires c = record { new = at_before c.args.at.now c.args.left.now c.requires.ready c.requires.left; many_lines = c.requires.lines; before = c.requires.before }
+
 pub weigh_readers-requires-clause-levels : goal.weigh_readers-requires-clause-levels
 weigh_readers-requires-clause-levels c = record {
   levels = c.requires.ready.levels;
-  discretes = c.requires.left.many_discretes;
+  discretes = c.requires.left.values.discretes;
   small_levels = c.requires.ready.small_levels;
-  small_discretes = c.requires.left.small_discretes;
+  small_discretes = c.requires.left.values.small_discretes;
 }
 
 pub weigh_readers-requires-clause-weights : goal.weigh_readers-requires-clause-weights
@@ -35,7 +39,7 @@ least_reader-least-requires-clause-rows c var h =
     (omega (
       arith,
       many_after m c.args.at.now.moved.now c.args.left.now.assigned.now c.requires.before.0 c.args.at.now.levels.now c.args.left.now.before.now c.args.left.now.discretes.now c.shift_sums.new.sums c.weigh_readers.new.weights
-          c.requires.ready.levels c.requires.left.many_before c.requires.left.many_discretes c.requires.left.assigned.others before.levels.off before.levels.light c.shift_sums.ensures c.weigh_readers.ensures,
+          c.requires.ready.levels c.requires.left.many_before c.requires.left.values.discretes c.requires.left.assigned.others before.levels.off before.levels.of_lines.light c.shift_sums.ensures c.weigh_readers.ensures,
     ))
 
 pub least_reader-requires-clause-variables : goal.least_reader-requires-clause-variables
@@ -49,7 +53,7 @@ least_reader-requires-clause-rows c var h =
     (omega (
       arith,
       many_after m c.args.at.now.moved.now c.args.left.now.assigned.now c.requires.before.0 c.args.at.now.levels.now c.args.left.now.before.now c.args.left.now.discretes.now c.shift_sums.new.sums c.weigh_readers.new.weights
-          c.requires.ready.levels c.requires.left.many_before c.requires.left.many_discretes c.requires.left.assigned.others before.levels.off before.levels.light c.shift_sums.ensures c.weigh_readers.ensures,
+          c.requires.ready.levels c.requires.left.many_before c.requires.left.values.discretes c.requires.left.assigned.others before.levels.off before.levels.of_lines.light c.shift_sums.ensures c.weigh_readers.ensures,
     ))
 
 pub returns : goal.returns
@@ -74,13 +78,13 @@ returns c =
     subst (λ (rows : List ℕ). IsLeastPast after (flat_map (reading_rows m) moved ++ rows) c.least_reader.result) kept_assigned (c.least_reader.ensures (flat_map (reading_rows m) moved) first) in
     let over : c.least_reader.result ≡ position (is_overweight m levels d) m.rows =
     least_is m levels d after looked
-    (many_after m moved assigned old levels pre d c.shift_sums.new.sums after c.requires.ready.levels c.requires.left.many_before c.requires.left.many_discretes c.requires.left.assigned.others before.levels.off before.levels.light c.shift_sums.ensures c.weigh_readers.ensures)
-    (weighed_passes m moved assigned old levels pre d c.shift_sums.new.sums after c.requires.ready.levels c.requires.left.many_before c.requires.left.many_discretes c.requires.left.assigned.others before.levels.off before.levels.light c.shift_sums.ensures c.weigh_readers.ensures)
-    (others_light m moved assigned old levels pre d c.shift_sums.new.sums after c.requires.ready.levels c.requires.left.many_before c.requires.left.many_discretes c.requires.left.assigned.others before.levels.off before.levels.light c.shift_sums.ensures c.weigh_readers.ensures)
+    (many_after m moved assigned old levels pre d c.shift_sums.new.sums after c.requires.ready.levels c.requires.left.many_before c.requires.left.values.discretes c.requires.left.assigned.others before.levels.off before.levels.of_lines.light c.shift_sums.ensures c.weigh_readers.ensures)
+    (weighed_passes m moved assigned old levels pre d c.shift_sums.new.sums after c.requires.ready.levels c.requires.left.many_before c.requires.left.values.discretes c.requires.left.assigned.others before.levels.off before.levels.of_lines.light c.shift_sums.ensures c.weigh_readers.ensures)
+    (others_light m moved assigned old levels pre d c.shift_sums.new.sums after c.requires.ready.levels c.requires.left.many_before c.requires.left.values.discretes c.requires.left.assigned.others before.levels.off before.levels.of_lines.light c.shift_sums.ensures c.weigh_readers.ensures)
     c.least_reader.result both in
     record {
       over = over;
       weights = λ none.
-          all_weighed m moved assigned old levels pre d c.shift_sums.new.sums after c.requires.ready.levels c.requires.left.many_before c.requires.left.many_discretes c.requires.left.assigned.others before.levels.off before.levels.light c.shift_sums.ensures c.weigh_readers.ensures
+          all_weighed m moved assigned old levels pre d c.shift_sums.new.sums after c.requires.ready.levels c.requires.left.many_before c.requires.left.values.discretes c.requires.left.assigned.others before.levels.off before.levels.of_lines.light c.shift_sums.ensures c.weigh_readers.ensures
           (sym over ∙ none);
     }

@@ -17,7 +17,7 @@ are_up_to_at-requires-2-clause-from c k none h = omega (arith, (c.requires.left.
 
 pub are_up_to_at-requires-2-clause-known : goal.are_up_to_at-requires-2-clause-known
 are_up_to_at-requires-2-clause-known c k none h =
-    omega (arith, (c.requires.left.assigned.known k none h).1, c.requires.ready.levels, c.requires.left.many_discretes)
+    omega (arith, (c.requires.left.assigned.known k none h).1, c.requires.ready.levels, c.requires.left.values.discretes)
 
 pub returns-then-not-are_up_to_at : goal.returns-then-not-are_up_to_at
 returns-then-not-are_up_to_at c = (

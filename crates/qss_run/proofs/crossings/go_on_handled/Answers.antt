@@ -13,7 +13,7 @@ use Rattle.qss_sched.specs.Ranks.{due_at}
 use Rattle.qss_hand.specs.Values.{Values}
 use Rattle.qss_watch.specs.declared.conditions.Conditions.{Conditions}
 use Rattle.qss_run.specs.declared.store.Store.{Store}
-use Rattle.qss_lines.specs.Variables.{AreAssignedFrom}
+use Rattle.qss_lines.specs.Variables.{AreAssignedFrom, AreWithin}
 use Rattle.qss_lines.specs.Visitings.{AreLevelsFor, HeldBefore}
 use Rattle.qss_watch.specs.Handlings.{AreWatchedUpTo}
 use Rattle.qss_watch.specs.Rewatchings.{watchings_of}
@@ -59,11 +59,8 @@ reslope_handled-requires g c =
         assigned = subst (λ (js : List ℕ). AreAssignedFrom m js c.as_slice-5.result.now c.as_slice-6.result.now) (sym of_assigned)
             (subst (λ (p : List ℤ). AreAssignedFrom m s.assigned.items p c.as_slice-6.result.now) (sym of_pre)
             (subst (AreAssignedFrom m s.assigned.items s.work.pre) (sym of_d) c.requires.assigned));
-        many_states = ap length of_x ∙ fits.values.states;
         many_before = ap length of_pre ∙ fits.before;
-        many_discretes = ap length of_d ∙ fits.values.discretes;
-        small_states = subst (All (IsWithin 88)) (sym of_x) fits.values.small_states;
-        small_discretes = subst (All (IsWithin 43)) (sym of_d) fits.values.small_discretes;
+        values = subst (λ (xs : List ℤ). AreWithin m xs c.as_slice-6.result.now) (sym of_x) (subst (AreWithin m s.work.x) (sym of_d) fits.values);
       };
       small_states = subst (All (IsWithin 88)) (sym same) c.requires.states.small;
       levels = subst (λ (xs : List ℤ). AreLevelsFor m xs c.as_slice-2.result.now c.as_slice-6.result.now) (sym same)

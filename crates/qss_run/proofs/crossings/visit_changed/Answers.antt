@@ -29,7 +29,7 @@ use Rattle.qss_watch.specs.Places.{watch_at, IsWatched}
 use Rattle.qss_lines.specs.Renewals.{renewals_from}
 use Rattle.qss_quiet.specs.Rules.{IsRuled}
 use Rattle.qss_quiet.specs.Sims.{condition_at}
-use Rattle.qss_quiet.proofs.Overs.{not_some}
+use Rattle.qss_quiet.proofs.Overs.{not_some, clash}
 use Rattle.qss_lines.specs.Kept.{AreWeights}
 use Rattle.qss_run.specs.Stores.{world_of}
 use Rattle.qss_run.specs.Touches.{touches_at}
@@ -66,22 +66,24 @@ handle-over-requires-clause-ready g c =
             (ap (λ ls. truth m (condition_at m place) (states_at ls t) s.work.d t) c.as_slice.ensures.value ∙ both.0, both.1);
       };
       lines = record {
-        as_many = ap length c.as_slice.ensures.value ∙ fits.lines;
-        later = λ j h.
-            let not_later = (taken.stands.stands_for.lines j (omega (arith, h, ap length c.as_slice.ensures.value, fits.lines))).not_later in
-            omega (arith, ap (λ ls. (line_at ls j).tick) c.as_slice.ensures.value, not_later);
-        in_time = omega (arith, c.requires.in_time, m.has_units.last_tick);
+        up_to = record {
+          as_many = ap length c.as_slice.ensures.value ∙ fits.lines;
+          later = λ j h.
+              let not_later = (taken.stands.stands_for.lines j (omega (arith, h, ap length c.as_slice.ensures.value, fits.lines))).not_later in
+              omega (arith, ap (λ ls. (line_at ls j).tick) c.as_slice.ensures.value, not_later);
+          in_time = omega (arith, c.requires.in_time, m.has_units.last_tick);
+        };
+        numbers = taken.due.numbers;
+        others_small = λ j h none.
+            subst (λ ls. IsWithin 88 (state_at (line_at ls j) t)) (sym c.as_slice.ensures.value) (rest_small m c.args.tick agenda s taken c.requires.in_time j h none);
       };
-      others_small = λ j h none.
-          subst (λ ls. IsWithin 88 (state_at (line_at ls j) t)) (sym c.as_slice.ensures.value) (rest_small m c.args.tick agenda s taken c.requires.in_time j h none);
       values = fits.values;
-      moved = taken.due.numbers;
       places = omega (arith, taken.without.as_many, fits.places);
       taken = record { later = later_dues m c.args.tick agenda s taken c.requires.in_time; none = taken.without.states };
     }
 
-pub returns-then-is_some-clause-stepped : goal.returns-then-is_some-clause-stepped
-returns-then-is_some-clause-stepped g c =
+pub returns-then-is_some : goal.returns-then-is_some
+returns-then-is_some g c =
     let m = c.args.m.now in
     let t = c.args.tick + 1 in
     let s : Store = c.args.s.now in
@@ -90,8 +92,14 @@ returns-then-is_some-clause-stepped g c =
     let is_h : h ≡ handling_at m t (world_of c.args.tick s) =
     handles_from m c.args.tick (record s { agenda = agenda }) c.requires.taken.1.stands c.as_slice.result.now s.conditions.arrived.items s.conditions.settled.items
     c.as_slice.ensures.value refl refl in
-    early (IsRuled c.args.q.now.name) m t (world_of c.args.tick s) _ c.handle-over.result (sym c.is_some.ensures ∙ c.if-is_some.true)
-    (c.handle-over.ensures.over ∙ ap (λ (k : Handling). k.overflow) is_h)
+    let some = sym c.is_some.ensures ∙ c.if-is_some.true in
+    record {
+      stepped = early (IsRuled c.args.q.now.name) m t (world_of c.args.tick s) _ c.handle-over.result some (c.handle-over.ensures.over ∙ ap (λ (k : Handling). k.overflow) is_h);
+      rows = λ none. clash c.handle-over.result some none;
+      stands = λ none. clash c.handle-over.result some none;
+      room = refl;
+      counted = omega arith;
+    }
 
 pub requantize_handled-over-requires-clause-ready : goal.requantize_handled-over-requires-clause-ready
 requantize_handled-over-requires-clause-ready g c =
@@ -128,13 +136,15 @@ requantize_handled-over-requires-clause-held g c =
     let stands = c.requires.taken.1.stands in
     record {
       levels = ap length c.as_mut_slice.ensures.value ∙ stands.fits.levels;
-      small_levels = subst (All (IsWithin 43)) (sym c.as_mut_slice.ensures.value) (levels_small m c.args.tick (record s { agenda = agenda }) stands);
-      light = ap (λ l. position (is_overweight m l new.pre) m.rows) c.as_mut_slice.ensures.value
-          ∙ ap (λ p. position (is_overweight m s.levels.items p) m.rows) of_pre ∙ stands.stands_for.left.light;
+      of_lines = record {
+        small = subst (All (IsWithin 43)) (sym c.as_mut_slice.ensures.value) (levels_small m c.args.tick (record s { agenda = agenda }) stands);
+        light = ap (λ l. position (is_overweight m l new.pre) m.rows) c.as_mut_slice.ensures.value
+            ∙ ap (λ p. position (is_overweight m s.levels.items p) m.rows) of_pre ∙ stands.stands_for.left.light;
+        own_levels = λ j inside.
+            ap (λ ls. (line_at ls j).level) c.as_slice-3.ensures.value ∙ (stands.stands_for.lines j inside).own_level ∙ ap (λ l. int_at l j) (sym c.as_mut_slice.ensures.value);
+      };
       weights = subst (λ p. AreWeights m c.as_mut_slice.result.now p s.weights) (sym of_pre)
           (subst (λ l. AreWeights m l s.work.d s.weights) (sym c.as_mut_slice.ensures.value) stands.own_weights);
-      own_levels = λ j inside.
-          ap (λ ls. (line_at ls j).level) c.as_slice-3.ensures.value ∙ (stands.stands_for.lines j inside).own_level ∙ ap (λ l. int_at l j) (sym c.as_mut_slice.ensures.value);
     }
 
 pub requantize_handled-over-requires-clause-room : goal.requantize_handled-over-requires-clause-room
@@ -159,8 +169,8 @@ requantize_handled-over-requires-clause-room g c =
       c.requires.taken.1.stands.fits.room.rows,
     )
 
-pub returns-then-is_some-2-clause-stepped : goal.returns-then-is_some-2-clause-stepped
-returns-then-is_some-2-clause-stepped g c =
+pub returns-then-is_some-2 : goal.returns-then-is_some-2
+returns-then-is_some-2 g c =
     let m = c.args.m.now in
     let t = c.args.tick + 1 in
     let s : Store = c.args.s.now in
@@ -186,7 +196,14 @@ returns-then-is_some-2-clause-stepped g c =
     subst (λ l. AreNextLevels (IsRuled c.args.q.now.name) m h.states l fresh) c.as_mut_slice.ensures.value (c.requantize_handled-over.ensures.taken.1.allowed h.states to) in
     let over : c.requantize_handled-over.result ≡ option_or (first_past 43 fresh) (position (is_overweight m fresh h.discretes) m.rows) =
     c.requantize_handled-over.ensures.taken.1.over_is ∙ ap (λ d. option_or (first_past 43 fresh) (position (is_overweight m fresh d) m.rows)) of_d in
-    late (IsRuled c.args.q.now.name) m t (world_of c.args.tick s) _ h fresh c.requantize_handled-over.result (sym c.is_some-2.ensures ∙ c.if-is_some-2.true) is_h calm_h allowed over
+    let some = sym c.is_some-2.ensures ∙ c.if-is_some-2.true in
+    record {
+      stepped = late (IsRuled c.args.q.now.name) m t (world_of c.args.tick s) _ h fresh c.requantize_handled-over.result some is_h calm_h allowed over;
+      rows = λ none. clash c.requantize_handled-over.result some none;
+      stands = λ none. clash c.requantize_handled-over.result some none;
+      room = c.requantize_handled-over.ensures.room;
+      counted = omega arith;
+    }
 
 pub go_on_handled-requires : goal.go_on_handled-requires
 go_on_handled-requires g c =

@@ -11,7 +11,7 @@ use Rattle.qss_hand.specs.Values.{Values}
 use Rattle.qss_watch.specs.declared.conditions.Conditions.{Conditions}
 use Rattle.qss_run.specs.declared.store.Store.{Store}
 use Rattle.qss_quiet.specs.Logs.{reinitialized_of}
-use Rattle.qss_quiet.specs.Among.{is_among}
+use Rattle.qss_quiet.specs.Among.{is_among, AreNumbers}
 use Rattle.qss_lines.specs.Variables.{AreSlopesOf}
 use Rattle.qss_watch.specs.Moves.{AreAlikeBut}
 use Rattle.qss_watch.specs.Places.{watch_at, IsWatched}
@@ -41,8 +41,8 @@ settle_handled-requires-clause-ready c =
       values = fits.values;
     }
 
-pub rewatch_of-requires-clause-ready : goal.rewatch_of-requires-clause-ready
-rewatch_of-requires-clause-ready c =
+pub rewatch_of-requires : goal.rewatch_of-requires
+rewatch_of-requires c =
     let m = c.args.m.now in
     let t = c.args.tick in
     let s : Store = c.args.s.now in
@@ -57,18 +57,22 @@ rewatch_of-requires-clause-ready c =
     (watchings_of c.settle_handled.new.self c.settle_handled.new.agenda) was.3 are in
     let many : length c.settle_handled.new.self.watches.items ≡ length (conditions m) = along.settled.many_watches ∙ fits.own_conditions.watches in
     record {
-      fits = settled_fits m s.conditions c.settle_handled.new.self fits.own_conditions along.rest along.settled.many_watches along.settled.many_truths along.noted.count;
-      places = omega (arith, along.settled.many_dues, fits.places);
-      small = record {
-        later = λ place h. (there place (omega (arith, h, many))).watched.not_later;
-        small = λ place h.
-            subst IsSmall (sym (there place (omega (arith, h, many))).watched.here)
-            (value_small m (condition_at m place).form full s.work.d t
-            (condition_bounded m s.conditions.branches.items fits.own_conditions.branches place (omega (arith, h, many, fits.own_conditions.branches.as_many))) c.requires.lines.small fits.values.small_discretes
-            c.requires.lines.up_to.in_time);
+      uses = fits.uses;
+      moved = subst (AreNumbers (state_count m)) (sym c.as_slice-5.ensures.value) c.requires.moved;
+      ready = record {
+        fits = settled_fits m s.conditions c.settle_handled.new.self fits.own_conditions along.rest along.settled.many_watches along.settled.many_truths along.noted.count;
+        places = omega (arith, along.settled.many_dues, fits.places);
+        small = record {
+          later = λ place h. (there place (omega (arith, h, many))).watched.not_later;
+          small = λ place h.
+              subst IsSmall (sym (there place (omega (arith, h, many))).watched.here)
+              (value_small m (condition_at m place).form full s.work.d t
+              (condition_bounded m s.conditions.branches.items fits.own_conditions.branches place (omega (arith, h, many, fits.own_conditions.branches.as_many))) c.requires.lines.small fits.values.small_discretes
+              c.requires.lines.up_to.in_time);
+        };
+        slopes_of = subst (AreSlopesOf m) (sym c.as_slice-6.ensures.value) c.requires.slopes;
+        in_time = c.requires.lines.up_to.in_time;
       };
-      slopes_of = subst (AreSlopesOf m) (sym c.as_slice-6.ensures.value) c.requires.slopes;
-      in_time = c.requires.lines.up_to.in_time;
     }
 
 pub returns : goal.returns

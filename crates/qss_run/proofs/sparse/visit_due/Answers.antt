@@ -22,7 +22,7 @@ use Rattle.qss_watch.specs.declared.conditions.Conditions.{Conditions}
 use Rattle.qss_run.specs.declared.store.Store.{Store}
 use Rattle.qss_machine.specs.Firing.{flag_at}
 use Rattle.qss_quiet.specs.Among.{is_among, AreNumbers, IsOff}
-use Rattle.qss_lines.specs.StateLines.{line_at, GoesOnFrom, states_at, AreLinesAt, MayMove}
+use Rattle.qss_lines.specs.StateLines.{line_at, GoesOnFrom, states_at, MayMove}
 use Rattle.qss_watch.specs.Places.{watch_at, IsWatched}
 use Rattle.qss_quiet.specs.Rules.{IsRuled}
 use Rattle.qss_quiet.specs.Sims.{IsDue}
@@ -50,27 +50,27 @@ requantize_moved-over-requires-clause-ready g c =
     let taken = c.requires.taken.1 in
     let fits = taken.stands.fits in
     record {
-      arrival = record {
-        uses = fits.uses;
-        lines = record {
+      uses = fits.uses;
+      lines = record {
+        up_to = record {
           as_many = ap length c.as_slice.ensures.value ∙ fits.lines;
           later = λ j h.
               let not_later = (taken.stands.stands_for.lines j (omega (arith, h, ap length c.as_slice.ensures.value, fits.lines))).not_later in
               omega (arith, ap (λ ls. (line_at ls j).tick) c.as_slice.ensures.value, not_later);
           in_time = omega (arith, c.requires.in_time, m.has_units.last_tick);
         };
-        moved = subst (AreNumbers (state_count m)) (sym c.as_slice-2.ensures.value) taken.due.numbers;
+        numbers = subst (AreNumbers (state_count m)) (sym c.as_slice-2.ensures.value) taken.due.numbers;
+        others_small = λ j h none.
+            subst (λ ls. IsWithin 88 (state_at (line_at ls j) t)) (sym c.as_slice.ensures.value)
+            (rest_small m c.args.tick agenda s taken c.requires.in_time j h (ap (λ l. is_among l j) (sym c.as_slice-2.ensures.value) ∙ none));
       };
       moved_away = λ j among.
-          subst (λ ls. HasLeft m j (state_at (line_at ls j) t) (int_at c.as_mut_slice.result.now j)) (sym c.as_slice.ensures.value)
-          (subst (λ l. HasLeft m j (state_at (line_at s.lines.items j) t) (int_at l j)) (sym c.as_mut_slice.ensures.value)
+          subst (λ ls. HasLeft m j (state_at (line_at ls j) t) (int_at c.as_mut_slice-levels.result.now j)) (sym c.as_slice.ensures.value)
+          (subst (λ l. HasLeft m j (state_at (line_at s.lines.items j) t) (int_at l j)) (sym c.as_mut_slice-levels.ensures.value)
           (due_left m c.args.tick agenda s taken c.requires.in_time j (ap (λ l. is_among l j) (sym c.as_slice-2.ensures.value) ∙ among)));
-      others_small = λ j h none.
-          subst (λ ls. IsWithin 88 (state_at (line_at ls j) t)) (sym c.as_slice.ensures.value)
-          (rest_small m c.args.tick agenda s taken c.requires.in_time j h (ap (λ l. is_among l j) (sym c.as_slice-2.ensures.value) ∙ none));
       others_near = λ j h none.
-          ap (λ ls. is_near m j (state_at (line_at ls j) t) (int_at c.as_mut_slice.result.now j)) c.as_slice.ensures.value
-          ∙ ap (λ l. is_near m j (state_at (line_at s.lines.items j) t) (int_at l j)) c.as_mut_slice.ensures.value
+          ap (λ ls. is_near m j (state_at (line_at ls j) t) (int_at c.as_mut_slice-levels.result.now j)) c.as_slice.ensures.value
+          ∙ ap (λ l. is_near m j (state_at (line_at s.lines.items j) t) (int_at l j)) c.as_mut_slice-levels.ensures.value
           ∙ rest_near m c.args.tick agenda s taken c.requires.in_time j h (ap (λ l. is_among l j) (sym c.as_slice-2.ensures.value) ∙ none);
     }
 
@@ -86,16 +86,18 @@ requantize_moved-over-requires-clause-held g c =
     let s : Store = c.args.s.now in
     let stands = c.requires.taken.1.stands in
     record {
-      levels = ap length c.as_mut_slice.ensures.value ∙ stands.fits.levels;
-      small_levels = subst (All (IsWithin 43)) (sym c.as_mut_slice.ensures.value) (levels_small m c.args.tick (record s { agenda = c.requires.taken.0 }) stands);
-      light = ap (λ l. position (is_overweight m l s.work.d) m.rows) c.as_mut_slice.ensures.value ∙ stands.stands_for.left.light;
-      weights = subst (λ l. AreWeights m l s.work.d s.weights) (sym c.as_mut_slice.ensures.value) stands.own_weights;
-      own_levels = λ j inside.
-          ap (λ ls. (line_at ls j).level) c.as_slice.ensures.value ∙ (stands.stands_for.lines j inside).own_level ∙ ap (λ l. int_at l j) (sym c.as_mut_slice.ensures.value);
+      levels = ap length c.as_mut_slice-levels.ensures.value ∙ stands.fits.levels;
+      of_lines = record {
+        small = subst (All (IsWithin 43)) (sym c.as_mut_slice-levels.ensures.value) (levels_small m c.args.tick (record s { agenda = c.requires.taken.0 }) stands);
+        light = ap (λ l. position (is_overweight m l s.work.d) m.rows) c.as_mut_slice-levels.ensures.value ∙ stands.stands_for.left.light;
+        own_levels = λ j inside.
+            ap (λ ls. (line_at ls j).level) c.as_slice.ensures.value ∙ (stands.stands_for.lines j inside).own_level ∙ ap (λ l. int_at l j) (sym c.as_mut_slice-levels.ensures.value);
+      };
+      weights = subst (λ l. AreWeights m l s.work.d s.weights) (sym c.as_mut_slice-levels.ensures.value) stands.own_weights;
     }
 
-pub returns-then-is_some-clause-stepped : goal.returns-then-is_some-clause-stepped
-returns-then-is_some-clause-stepped g c =
+pub returns-then-is_some-clause-visited : goal.returns-then-is_some-clause-visited
+returns-then-is_some-clause-visited g c =
     let m = c.args.m.now in
     let t = c.args.tick + 1 in
     let s : Store = c.args.s.now in
@@ -106,13 +108,20 @@ returns-then-is_some-clause-stepped g c =
     let is_h : h ≡ handling_at m t (world_of c.args.tick s) = sym (handled m c.args.tick agenda s c.requires.taken.1 c.requires.in_time c.requires.none_changes) in
     let allowed : first_past 88 x ≡ None → AreNextLevels (IsRuled c.args.q.now.name) m x s.levels.items fresh = λ none.
     subst (λ ls. AreNextLevels (IsRuled c.args.q.now.name) m (states_at ls t) s.levels.items fresh) c.as_slice.ensures.value
-    (subst (λ l. AreNextLevels (IsRuled c.args.q.now.name) m (states_at c.as_slice.result.now t) l fresh) c.as_mut_slice.ensures.value
+    (subst (λ l. AreNextLevels (IsRuled c.args.q.now.name) m (states_at c.as_slice.result.now t) l fresh) c.as_mut_slice-levels.ensures.value
     (c.requantize_moved-over.ensures.taken.1.allowed (ap (λ ls. first_past 88 (states_at ls t)) c.as_slice.ensures.value ∙ none))) in
     let over : c.requantize_moved-over.result ≡ option_or (first_past 88 x) (option_or (first_past 43 fresh) (position (is_overweight m fresh s.work.d) m.rows)) =
     c.requantize_moved-over.ensures.taken.1.over_is
     ∙ ap (λ ls. option_or (first_past 88 (states_at ls t)) (option_or (first_past 43 fresh) (position (is_overweight m fresh s.work.d) m.rows))) c.as_slice.ensures.value in
-    steps_or (IsRuled c.args.q.now.name) m t (world_of c.args.tick s) _ h fresh c.requantize_moved-over.result is_h allowed over
-    (λ none. clash c.requantize_moved-over.result (sym c.is_some.ensures ∙ c.if-is_some.true) none)
+    let some = sym c.is_some.ensures ∙ c.if-is_some.true in
+    record {
+      stepped = steps_or (IsRuled c.args.q.now.name) m t (world_of c.args.tick s) _ h fresh c.requantize_moved-over.result is_h allowed over
+          (λ none. clash c.requantize_moved-over.result some none);
+      rows = λ none. clash c.requantize_moved-over.result some none;
+      stands = λ none. clash c.requantize_moved-over.result some none;
+      room = c.requantize_moved-over.ensures.room;
+      counted = omega arith;
+    }
 
 pub returns-then-is_some-clause-kept : goal.returns-then-is_some-clause-kept
 returns-then-is_some-clause-kept g c none = clash c.requantize_moved-over.result (sym c.is_some.ensures ∙ c.if-is_some.true) none
@@ -131,33 +140,33 @@ go_on_moved-requires-clause-ready g c =
     let is_h : h ≡ handling_at m t (world_of c.args.tick s) = sym (handled m c.args.tick agenda s taken c.requires.in_time c.requires.none_changes) in
     let allowed : first_past 88 x ≡ None → AreNextLevels (IsRuled c.args.q.now.name) m x s.levels.items fresh = λ none.
     subst (λ ls. AreNextLevels (IsRuled c.args.q.now.name) m (states_at ls t) s.levels.items fresh) c.as_slice.ensures.value
-    (subst (λ l. AreNextLevels (IsRuled c.args.q.now.name) m (states_at c.as_slice.result.now t) l fresh) c.as_mut_slice.ensures.value
+    (subst (λ l. AreNextLevels (IsRuled c.args.q.now.name) m (states_at c.as_slice.result.now t) l fresh) c.as_mut_slice-levels.ensures.value
     (c.requantize_moved-over.ensures.taken.1.allowed (ap (λ ls. first_past 88 (states_at ls t)) c.as_slice.ensures.value ∙ none))) in
     let over : c.requantize_moved-over.result ≡ option_or (first_past 88 x) (option_or (first_past 43 fresh) (position (is_overweight m fresh s.work.d) m.rows)) =
     c.requantize_moved-over.ensures.taken.1.over_is
     ∙ ap (λ ls. option_or (first_past 88 (states_at ls t)) (option_or (first_past 43 fresh) (position (is_overweight m fresh s.work.d) m.rows))) c.as_slice.ensures.value in
     let none_both = both_none (first_past 88 x) (option_or (first_past 43 fresh) (position (is_overweight m fresh s.work.d) m.rows)) (sym calm ∙ over) in
-    let many : length c.requantize_moved-over.new.levels ≡ s.levels.len = c.requantize_moved-over.auto.levels ∙ c.as_mut_slice.ensures.len in
+    let many : length c.requantize_moved-over.new.levels ≡ s.levels.len = c.requantize_moved-over.auto.levels ∙ c.as_mut_slice-levels.ensures.len in
     let levels : c.as_slice-4.result.now ≡ fresh =
     c.as_slice-4.ensures.value ∙ with_items_is s.levels c.requantize_moved-over.new.levels many ∙ c.requantize_moved-over.ensures.taken.1.levels calm in
     let off : IsOff s.moved.items s.levels.items fresh =
-    subst (λ l. IsOff l s.levels.items fresh) c.as_slice-2.ensures.value (subst (λ l. IsOff c.as_slice-2.result.now l fresh) c.as_mut_slice.ensures.value c.requantize_moved-over.ensures.taken.1.others) in
+    subst (λ l. IsOff l s.levels.items fresh) c.as_slice-2.ensures.value (subst (λ l. IsOff c.as_slice-2.result.now l fresh) c.as_mut_slice-levels.ensures.value c.requantize_moved-over.ensures.taken.1.others) in
     let of_d : c.as_slice-5.result.now ≡ s.work.d = c.as_slice-5.ensures.value ∙ ap (λ (v : Values). v.d) c.work.view_is in
     let fits = taken.stands.fits in
     record {
       new = record {
-        taken = record {
-          uses = fits.uses;
-          moved = subst (AreNumbers (state_count m)) (sym c.as_slice-3.ensures.value) taken.due.numbers;
+        uses = fits.uses;
+        moved = subst (AreNumbers (state_count m)) (sym c.as_slice-3.ensures.value) taken.due.numbers;
+        values = record {
           levels = ap length c.as_slice-4.ensures.value ∙ same_length s.levels c.requantize_moved-over.new.levels ∙ fits.levels;
+          discretes = ap length of_d ∙ fits.values.discretes;
           small_levels = subst (All (IsWithin 43)) (sym (levels ∙ sym (c.requantize_moved-over.ensures.taken.1.levels calm))) (c.requantize_moved-over.ensures.small calm);
+          small_discretes = subst (All (IsWithin 43)) (sym of_d) fits.values.small_discretes;
         };
-        discretes = ap length of_d ∙ fits.values.discretes;
-        small_discretes = subst (All (IsWithin 43)) (sym of_d) fits.values.small_discretes;
       };
       levels = record {
         near = λ j inside.
-            subst (λ ls. IsNear (level_unit m) (int_at (states_at ls t) j) (int_at c.as_slice-4.result.now j) (quantum_of m j (int_at c.as_slice-4.result.now j))) (sym c.as_mut_slice-3.ensures.value)
+            subst (λ ls. IsNear (level_unit m) (int_at (states_at ls t) j) (int_at c.as_slice-4.result.now j) (quantum_of m j (int_at c.as_slice-4.result.now j))) (sym c.as_mut_slice-2.ensures.value)
             (subst (λ l. IsNear (level_unit m) (int_at x j) (int_at l j) (quantum_of m j (int_at l j))) (sym levels)
             (near_on_arrival m c.args.tick agenda s taken c.requires.in_time c.args.q.now.name fresh (allowed none_both.0) j inside));
         light = ap (λ l. position (is_overweight m l c.as_slice-5.result.now) m.rows) levels
@@ -165,37 +174,40 @@ go_on_moved-requires-clause-ready g c =
             ∙ (both_none (first_past 43 fresh) (position (is_overweight m fresh s.work.d) m.rows) (sym none_both.1)).1;
       };
       one_each = record {
-        slopes = ap length c.as_mut_slice-2.ensures.value ∙ fits.slopes;
-        lines = ap length c.as_mut_slice-3.ensures.value ∙ fits.lines;
+        slopes = ap length c.as_mut_slice.ensures.value ∙ fits.slopes;
+        lines = ap length c.as_mut_slice-2.ensures.value ∙ fits.lines;
         places = omega (arith, taken.without.as_many, fits.places);
       };
       held = record {
-        may_move = subst (MayMove t) (sym c.as_mut_slice-3.ensures.value) (may_move (lines_then m c.args.tick agenda s taken c.requires.in_time none_both.0));
+        may_move = subst (MayMove t) (sym c.as_mut_slice-2.ensures.value) (may_move (lines_then m c.args.tick agenda s taken c.requires.in_time none_both.0));
         before = (
           s.levels.items,
-          subst (λ js. AreSumsBefore Slope m js c.as_slice-4.result.now c.as_slice-5.result.now c.as_mut_slice-2.result.now c.as_mut_slice-3.result.now s.levels.items) (sym c.as_slice-3.ensures.value)
-              (subst (λ l. AreSumsBefore Slope m s.moved.items l c.as_slice-5.result.now c.as_mut_slice-2.result.now c.as_mut_slice-3.result.now s.levels.items) (sym levels)
-              (subst (λ d. AreSumsBefore Slope m s.moved.items fresh d c.as_mut_slice-2.result.now c.as_mut_slice-3.result.now s.levels.items) (sym of_d)
-              (subst (λ v. AreSumsBefore Slope m s.moved.items fresh s.work.d v c.as_mut_slice-3.result.now s.levels.items) (sym c.as_mut_slice-2.ensures.value)
-              (subst (λ ls. AreSumsBefore Slope m s.moved.items fresh s.work.d s.slopes.items ls s.levels.items) (sym c.as_mut_slice-3.ensures.value)
+          subst (λ js. AreSumsBefore Slope m js c.as_slice-4.result.now c.as_slice-5.result.now c.as_mut_slice.result.now c.as_mut_slice-2.result.now s.levels.items) (sym c.as_slice-3.ensures.value)
+              (subst (λ l. AreSumsBefore Slope m s.moved.items l c.as_slice-5.result.now c.as_mut_slice.result.now c.as_mut_slice-2.result.now s.levels.items) (sym levels)
+              (subst (λ d. AreSumsBefore Slope m s.moved.items fresh d c.as_mut_slice.result.now c.as_mut_slice-2.result.now s.levels.items) (sym of_d)
+              (subst (λ v. AreSumsBefore Slope m s.moved.items fresh s.work.d v c.as_mut_slice-2.result.now s.levels.items) (sym c.as_mut_slice.ensures.value)
+              (subst (λ ls. AreSumsBefore Slope m s.moved.items fresh s.work.d s.slopes.items ls s.levels.items) (sym c.as_mut_slice-2.ensures.value)
               (levels_before m c.args.tick agenda s taken c.requires.in_time s.moved.items fresh off))))),
         );
         own_slope = λ j inside.
-            ap (λ ls. (line_at ls j).slope) c.as_mut_slice-3.ensures.value
+            ap (λ ls. (line_at ls j).slope) c.as_mut_slice-2.ensures.value
             ∙ own_slope m c.args.tick agenda s taken c.requires.in_time j inside
-            ∙ ap (λ l. int_at l j) (sym c.as_mut_slice-2.ensures.value);
+            ∙ ap (λ l. int_at l j) (sym c.as_mut_slice.ensures.value);
         due = λ j inside none own.
-            subst (λ ls. IsDue m t j (line_at ls j) (due_at s.agenda j)) (sym c.as_mut_slice-3.ensures.value)
+            subst (λ ls. IsDue m t j (line_at ls j) (due_at s.agenda j)) (sym c.as_mut_slice-2.ensures.value)
             (kept_due m c.args.tick agenda s taken c.requires.in_time c.args.q.now.name fresh (allowed none_both.0) j inside (ap (λ js. is_among js j) (sym c.as_slice-3.ensures.value) ∙ none)
-            (ap (λ ls. (line_at ls j).level) (sym c.as_mut_slice-3.ensures.value) ∙ own ∙ ap (λ l. int_at l j) levels));
+            (ap (λ ls. (line_at ls j).level) (sym c.as_mut_slice-2.ensures.value) ∙ own ∙ ap (λ l. int_at l j) levels));
       };
       earlier = λ j inside.
           let not_later = (taken.stands.stands_for.lines j inside).not_later in
-          omega (arith, ap (λ ls. (line_at ls j).tick) c.as_mut_slice-3.ensures.value, not_later);
+          omega (arith, ap (λ ls. (line_at ls j).tick) c.as_mut_slice-2.ensures.value, not_later);
     }
 
-pub go_on_moved-requires-clause-lines : goal.go_on_moved-requires-clause-lines
-go_on_moved-requires-clause-lines g c =
+pub go_on_moved-requires-clause-in_time : goal.go_on_moved-requires-clause-in_time
+go_on_moved-requires-clause-in_time g c = omega (arith, c.requires.in_time, c.args.m.now.has_units.last_tick)
+
+pub go_on_moved-requires-clause-small : goal.go_on_moved-requires-clause-small
+go_on_moved-requires-clause-small g c =
     let m = c.args.m.now in
     let t = c.args.tick + 1 in
     let s : Store = c.args.s.now in
@@ -205,7 +217,7 @@ go_on_moved-requires-clause-lines g c =
     c.requantize_moved-over.ensures.taken.1.over_is
     ∙ ap (λ ls. option_or (first_past 88 (states_at ls t)) (option_or (first_past 43 fresh) (position (is_overweight m fresh s.work.d) m.rows))) c.as_slice.ensures.value in
     let none = both_none (first_past 88 (states_at s.lines.items t)) (option_or (first_past 43 fresh) (position (is_overweight m fresh s.work.d) m.rows)) (sym calm ∙ over) in
-    subst (AreLinesAt m t) (sym c.as_mut_slice-3.ensures.value) (lines_then m c.args.tick c.requires.taken.0 s c.requires.taken.1 c.requires.in_time none.0)
+    subst (λ ls. All (IsWithin 88) (states_at ls t)) (sym c.as_mut_slice-2.ensures.value) (lines_then m c.args.tick c.requires.taken.0 s c.requires.taken.1 c.requires.in_time none.0).small
 
 pub go_on_moved-requires-clause-watched : goal.go_on_moved-requires-clause-watched
 go_on_moved-requires-clause-watched g c place inside =
@@ -215,8 +227,8 @@ go_on_moved-requires-clause-watched g c place inside =
     let agenda : List (Option ℕ) = c.requires.taken.0 in
     let x : List ℤ = states_at s.lines.items t in
     let of_d : c.as_slice-5.result.now ≡ s.work.d = c.as_slice-5.ensures.value ∙ ap (λ (v : Values). v.d) c.work.view_is in
-    subst (λ ls. IsWatched m t (states_at ls t) c.as_slice-5.result.now c.as_mut_slice-2.result.now place (watch_at s.conditions.watches.items place) (due_at s.agenda (state_count m + place))) (sym c.as_mut_slice-3.ensures.value)
-    (subst (λ v. IsWatched m t x c.as_slice-5.result.now v place (watch_at s.conditions.watches.items place) (due_at s.agenda (state_count m + place))) (sym c.as_mut_slice-2.ensures.value)
+    subst (λ ls. IsWatched m t (states_at ls t) c.as_slice-5.result.now c.as_mut_slice.result.now place (watch_at s.conditions.watches.items place) (due_at s.agenda (state_count m + place))) (sym c.as_mut_slice-2.ensures.value)
+    (subst (λ v. IsWatched m t x c.as_slice-5.result.now v place (watch_at s.conditions.watches.items place) (due_at s.agenda (state_count m + place))) (sym c.as_mut_slice.ensures.value)
     (subst (λ d. IsWatched m t x d s.slopes.items place (watch_at s.conditions.watches.items place) (due_at s.agenda (state_count m + place))) (sym of_d)
     (watched m c.args.tick agenda s c.requires.taken.1 c.requires.in_time c.requires.none_changes place inside)))
 
@@ -252,13 +264,13 @@ returns g c =
     let is_h : h ≡ handling_at m t (world_of c.args.tick s) = sym (handled m c.args.tick agenda s taken c.requires.in_time c.requires.none_changes) in
     let allowed : first_past 88 x ≡ None → AreNextLevels (IsRuled c.args.q.now.name) m x s.levels.items fresh = λ none.
     subst (λ ls. AreNextLevels (IsRuled c.args.q.now.name) m (states_at ls t) s.levels.items fresh) c.as_slice.ensures.value
-    (subst (λ l. AreNextLevels (IsRuled c.args.q.now.name) m (states_at c.as_slice.result.now t) l fresh) c.as_mut_slice.ensures.value
+    (subst (λ l. AreNextLevels (IsRuled c.args.q.now.name) m (states_at c.as_slice.result.now t) l fresh) c.as_mut_slice-levels.ensures.value
     (c.requantize_moved-over.ensures.taken.1.allowed (ap (λ ls. first_past 88 (states_at ls t)) c.as_slice.ensures.value ∙ none))) in
     let over : c.requantize_moved-over.result ≡ option_or (first_past 88 x) (option_or (first_past 43 fresh) (position (is_overweight m fresh s.work.d) m.rows)) =
     c.requantize_moved-over.ensures.taken.1.over_is
     ∙ ap (λ ls. option_or (first_past 88 (states_at ls t)) (option_or (first_past 43 fresh) (position (is_overweight m fresh s.work.d) m.rows))) c.as_slice.ensures.value in
     let none_both = both_none (first_past 88 x) (option_or (first_past 43 fresh) (position (is_overweight m fresh s.work.d) m.rows)) (sym calm ∙ over) in
-    let many : length c.requantize_moved-over.new.levels ≡ s.levels.len = c.requantize_moved-over.auto.levels ∙ c.as_mut_slice.ensures.len in
+    let many : length c.requantize_moved-over.new.levels ≡ s.levels.len = c.requantize_moved-over.auto.levels ∙ c.as_mut_slice-levels.ensures.len in
     let levels : c.as_slice-4.result.now ≡ fresh =
     c.as_slice-4.ensures.value ∙ with_items_is s.levels c.requantize_moved-over.new.levels many ∙ c.requantize_moved-over.ensures.taken.1.levels calm in
     let of_d : c.as_slice-5.result.now ≡ s.work.d = c.as_slice-5.ensures.value ∙ ap (λ (v : Values). v.d) c.work.view_is in
@@ -283,7 +295,7 @@ returns g c =
       levels = same_length s.levels c.requantize_moved-over.new.levels ∙ fits.levels;
       slopes = same_length s.slopes c.go_on_moved.new.slopes ∙ fits.slopes;
       weights = (c.requantize_moved-over.ensures.weights calm).as_many;
-      places = c.go_on_moved.ensures.places ∙ taken.without.as_many ∙ fits.places;
+      places = c.go_on_moved.ensures.gone_on.places ∙ taken.without.as_many ∙ fits.places;
       values = fits.values;
       before = fits.before;
       room = record {
@@ -296,8 +308,8 @@ returns g c =
         rows = omega (arith, c.requantize_moved-over.ensures.room, fits.room.rows);
       };
     } in
-    let of_slopes : next.slopes.items ≡ c.go_on_moved.new.slopes = with_items_is s.slopes c.go_on_moved.new.slopes (c.go_on_moved.auto.slopes ∙ c.as_mut_slice-2.ensures.len) in
-    let of_lines : next.lines.items ≡ c.go_on_moved.new.lines = with_items_is s.lines c.go_on_moved.new.lines (c.go_on_moved.auto.lines ∙ c.as_mut_slice-3.ensures.len) in
+    let of_slopes : next.slopes.items ≡ c.go_on_moved.new.slopes = with_items_is s.slopes c.go_on_moved.new.slopes (c.go_on_moved.auto.slopes ∙ c.as_mut_slice.ensures.len) in
+    let of_lines : next.lines.items ≡ c.go_on_moved.new.lines = with_items_is s.lines c.go_on_moved.new.lines (c.go_on_moved.auto.lines ∙ c.as_mut_slice-2.ensures.len) in
     let of_arrived : next.conditions.arrived.items ≡ s.conditions.settled.items =
     with_items_is own.arrived c.catch_up.new.arrived (c.catch_up.auto.arrived ∙ c.as_mut_slice-arrived.ensures.len) ∙ c.catch_up.ensures.arrived ∙ c.as_slice-settled.ensures.value ∙ own_settled in
     let own_levels : next.levels.items ≡ c.as_slice-4.result.now = sym c.as_slice-4.ensures.value in
@@ -307,7 +319,7 @@ returns g c =
     let many_states : length x ≡ state_count m = length-map-range_with_len (λ j. state_at (line_at s.lines.items j) t) 0 (length s.lines.items) ∙ fits.lines in
     let settled : s.conditions.settled.items ≡ truths m x next.work.d t = same_truths m c.args.tick agenda s taken c.requires.in_time c.requires.none_changes in
     let slopes : c.go_on_moved.new.slopes ≡ tabulate (state_count m) (λ j. slope_at m j next.levels.items next.work.d) =
-    c.go_on_moved.ensures.slopes
+    c.go_on_moved.ensures.gone_on.slopes
     ∙ ap (λ d. tabulate (state_count m) (λ j. slope_at m j c.as_slice-4.result.now d)) of_d
     ∙ ap (λ l. tabulate (state_count m) (λ j. slope_at m j l next.work.d)) (sym own_levels) in
     let again = stands_again m t next x many_states good
@@ -321,14 +333,14 @@ returns g c =
     subst (λ ls. GoesOnFrom m t (int_at x j) (int_at next.levels.items j) (slope_at m j next.levels.items next.work.d) j (line_at ls j) (due_at next.agenda j)) (sym of_lines)
     (subst (λ l. GoesOnFrom m t (int_at x j) (int_at l j) (slope_at m j l next.work.d) j (line_at c.go_on_moved.new.lines j) (due_at next.agenda j)) (sym own_levels)
     (subst (λ y. GoesOnFrom m t y (int_at c.as_slice-4.result.now j) (slope_at m j c.as_slice-4.result.now next.work.d) j (line_at c.go_on_moved.new.lines j) (due_at next.agenda j))
-    (ap (λ ls. state_at (line_at ls j) t) c.as_mut_slice-3.ensures.value ∙ sym (leads m c.args.tick agenda s taken c.requires.in_time j inside))
-    (subst (λ d. GoesOnFrom m t (state_at (line_at c.as_mut_slice-3.result.now j) t) (int_at c.as_slice-4.result.now j) (slope_at m j c.as_slice-4.result.now d) j (line_at c.go_on_moved.new.lines j) (due_at next.agenda j))
-    of_d (c.go_on_moved.ensures.lines j inside)))))
+    (ap (λ ls. state_at (line_at ls j) t) c.as_mut_slice-2.ensures.value ∙ sym (leads m c.args.tick agenda s taken c.requires.in_time j inside))
+    (subst (λ d. GoesOnFrom m t (state_at (line_at c.as_mut_slice-2.result.now j) t) (int_at c.as_slice-4.result.now j) (slope_at m j c.as_slice-4.result.now d) j (line_at c.go_on_moved.new.lines j) (due_at next.agenda j))
+    of_d (c.go_on_moved.ensures.gone_on.lines j inside)))))
     (own_settled ∙ settled)
     (λ place inside.
     subst (λ sl. IsWatched m t x next.work.d sl place (watch_at own.watches.items place) (due_at next.agenda (state_count m + place))) (sym of_slopes)
-    (subst (λ ls. IsWatched m t (states_at ls t) next.work.d c.go_on_moved.new.slopes place (watch_at own.watches.items place) (due_at next.agenda (state_count m + place))) c.as_mut_slice-3.ensures.value
-    (subst (λ d. IsWatched m t (states_at c.as_mut_slice-3.result.now t) d c.go_on_moved.new.slopes place (watch_at own.watches.items place) (due_at next.agenda (state_count m + place))) of_d
+    (subst (λ ls. IsWatched m t (states_at ls t) next.work.d c.go_on_moved.new.slopes place (watch_at own.watches.items place) (due_at next.agenda (state_count m + place))) c.as_mut_slice-2.ensures.value
+    (subst (λ d. IsWatched m t (states_at c.as_mut_slice-2.result.now t) d c.go_on_moved.new.slopes place (watch_at own.watches.items place) (due_at next.agenda (state_count m + place))) of_d
     (c.go_on_moved.ensures.watches place inside))))
     (not_rising m c.args.tick agenda s taken c.requires.in_time c.requires.none_changes ∙ sym (none_rises_then (world_of c.args.tick s) (world_of t next) of_arrived own_settled))
     (rising m c.args.tick agenda s taken c.requires.in_time c.requires.none_changes next.agenda
@@ -350,21 +362,23 @@ returns g c =
     let few : count_by (is_among (reached m s.moved.items)) (range_with_len 0 (state_count m)) ≤ touches_at m t w (Ok (world_of t next)) =
     reached_touched m t w (world_of t next) s.moved.items taken.due.numbers changed in
     let counted : c.go_on_moved.new.steps ≤ c.args.steps.now + count_by (is_among (reached m s.moved.items)) (range_with_len 0 (state_count m)) =
-    subst (λ js. c.go_on_moved.new.steps ≤ c.args.steps.now + count_by (is_among (reached m js)) (range_with_len 0 (state_count m))) c.as_slice-3.ensures.value c.go_on_moved.ensures.counted in
+    subst (λ js. c.go_on_moved.new.steps ≤ c.args.steps.now + count_by (is_among (reached m js)) (range_with_len 0 (state_count m))) c.as_slice-3.ensures.value c.go_on_moved.ensures.gone_on.counted in
     record {
-      stepped = steps_or (IsRuled c.args.q.now.name) m t w (world_of t next) h fresh None is_h allowed (sym calm ∙ over) (λ none. end);
-      rows = λ none.
-          c.requantize_moved-over.ensures.rows calm
-          ∙ ap (λ l. level_rows t l c.requantize_moved-over.new.levels (states_at c.as_slice.result.now t)) c.as_mut_slice.ensures.value
-          ∙ ap (λ l. level_rows t s.levels.items l (states_at c.as_slice.result.now t)) (c.requantize_moved-over.ensures.taken.1.levels calm ∙ sym new_levels)
-          ∙ ap (λ ls. level_rows t s.levels.items next.levels.items (states_at ls t)) c.as_slice.ensures.value
-          ∙ ap (λ y. level_rows t s.levels.items next.levels.items y) (sym again.0)
-          ∙ sym (rows_then m c.args.tick agenda s taken c.requires.in_time c.requires.none_changes (world_of t next));
-      stands = λ none. again.1;
+      visited = record {
+        stepped = steps_or (IsRuled c.args.q.now.name) m t w (world_of t next) h fresh None is_h allowed (sym calm ∙ over) (λ none. end);
+        rows = λ none.
+            c.requantize_moved-over.ensures.rows calm
+            ∙ ap (λ l. level_rows t l c.requantize_moved-over.new.levels (states_at c.as_slice.result.now t)) c.as_mut_slice-levels.ensures.value
+            ∙ ap (λ l. level_rows t s.levels.items l (states_at c.as_slice.result.now t)) (c.requantize_moved-over.ensures.taken.1.levels calm ∙ sym new_levels)
+            ∙ ap (λ ls. level_rows t s.levels.items next.levels.items (states_at ls t)) c.as_slice.ensures.value
+            ∙ ap (λ y. level_rows t s.levels.items next.levels.items y) (sym again.0)
+            ∙ sym (rows_then m c.args.tick agenda s taken c.requires.in_time c.requires.none_changes (world_of t next));
+        stands = λ none. again.1;
+        room = c.requantize_moved-over.ensures.room;
+        counted = omega (arith, counted, few);
+      };
       kept = λ none j inside untouched.
           let left = c.go_on_moved.ensures.kept j inside
           (ap (λ js. is_among (reached m js) j) c.as_slice-3.ensures.value ∙ unreached m t w (world_of t next) s.moved.items taken.due.numbers changed j inside untouched) in
-          (ap (λ ls. line_at ls j) of_lines ∙ left.0 ∙ ap (λ ls. line_at ls j) c.as_mut_slice-3.ensures.value, left.1);
-      room = c.requantize_moved-over.ensures.room;
-      counted = omega (arith, counted, few);
+          (ap (λ ls. line_at ls j) of_lines ∙ left.0 ∙ ap (λ ls. line_at ls j) c.as_mut_slice-2.ensures.value, left.1);
     }

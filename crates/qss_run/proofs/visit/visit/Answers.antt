@@ -98,3 +98,13 @@ visit_changed-requires-clause-taken g c =
           c.call_risen.new.agenda c.take_due.new.agenda c.take_changed.new.agenda c.requires.stands states places c.as_slice-arrived.ensures.value c.as_slice-settled.ensures.value
           c.call_risen.ensures c.take_due.ensures.due c.take_due.ensures.without c.take_changed.ensures.changing c.take_changed.ensures.taken c.take_due.ensures.room c.take_changed.ensures.room,
     )
+
+pub returns-then-is_empty : goal.returns-then-is_empty
+returns-then-is_empty g c =
+    let visited = c.visit_due.ensures.visited in
+    record { stepped = visited.stepped; rows = visited.rows; stands = visited.stands; room = visited.room; counted = visited.counted }
+
+pub returns-else-is_empty : goal.returns-else-is_empty
+returns-else-is_empty g c =
+    let visited = c.visit_changed.ensures in
+    record { stepped = visited.stepped; rows = visited.rows; stands = visited.stands; room = visited.room; counted = visited.counted }

@@ -5,29 +5,23 @@ use Rattle.qss_lines.specs.Weighings.{AreSmall}
 use Rattle.qss_lines.proofs.Kept.{levels_still, light_up_to, not_kept, kept_anew}
 use Rattle.qss_lines.proofs.weights.Weights.follow.Goals as goal
 
-pub reweigh_of-requires-clause-before : goal.reweigh_of-requires-clause-before
-reweigh_of-requires-clause-before c =
-    let before = c.requires.before.1 in (
-      c.requires.before.0,
-      record {
-        levels = before.levels;
-        own_sums = c.as_mut_slice.ensures.value ∙ before.own.own c.if-self.true;
-      },
-    )
+pub reweigh_of-requires : goal.reweigh_of-requires
+reweigh_of-requires c =
+    let before = c.requires.before.1 in
+    record {
+      new = c.requires.ready;
+      many_lines = c.requires.lines;
+      before = (c.requires.before.0, record { levels = before.levels; own_sums = c.as_mut_slice.ensures.value ∙ before.own.own c.if-self.true });
+    }
 
 pub are_up_to_at-requires-clause-from : goal.are_up_to_at-requires-clause-from
 are_up_to_at-requires-clause-from c k none h = omega arith
 
 pub are_up_to_at-requires-clause-known : goal.are_up_to_at-requires-clause-known
-are_up_to_at-requires-clause-known c k none h = omega (arith, c.requires.ready.moved.below k none h, c.requires.ready.levels)
+are_up_to_at-requires-clause-known c k none h = omega (arith, c.requires.ready.moved.below k none h, c.requires.ready.values.levels)
 
 pub weigh_every-requires-clause-levels : goal.weigh_every-requires-clause-levels
-weigh_every-requires-clause-levels c = record {
-  levels = c.requires.ready.levels;
-  discretes = c.requires.discretes;
-  small_levels = c.requires.ready.small_levels;
-  small_discretes = c.requires.small_discretes;
-}
+weigh_every-requires-clause-levels c = c.requires.ready.values
 
 pub weigh_every-requires-clause-weights : goal.weigh_every-requires-clause-weights
 weigh_every-requires-clause-weights c = ap length c.as_mut_slice-2.ensures.value ∙ c.requires.before.1.own.as_many
@@ -61,7 +55,7 @@ returns-then-are_up_to_at c =
       small_discretes = were.small_discretes;
     } in
     record {
-      over = sym (light_up_to m self.bound levels d c.requires.ready.levels c.requires.discretes are);
+      over = sym (light_up_to m self.bound levels d c.requires.ready.values.levels c.requires.ready.values.discretes are);
       weights = λ none. not_kept m levels d self off before.own.as_many are;
       bound = refl;
       on = λ was. was;

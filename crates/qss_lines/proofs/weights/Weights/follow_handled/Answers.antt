@@ -18,9 +18,9 @@ reweigh_handled-requires-clause-before c =
 pub weigh_every-requires-clause-levels : goal.weigh_every-requires-clause-levels
 weigh_every-requires-clause-levels c = record {
   levels = c.requires.ready.levels;
-  discretes = c.requires.left.many_discretes;
+  discretes = c.requires.left.values.discretes;
   small_levels = c.requires.ready.small_levels;
-  small_discretes = c.requires.left.small_discretes;
+  small_discretes = c.requires.left.values.small_discretes;
 }
 
 pub weigh_every-requires-clause-weights : goal.weigh_every-requires-clause-weights
@@ -56,10 +56,10 @@ returns-then-are_handled_up_to c =
     let are : AreSmall m self.bound levels d = record {
       safe = were.safe;
       small_levels = levels_still self.bound c.args.at.now.moved.now old levels before.levels.off were.small_levels within.0;
-      small_discretes = values_still m self.bound c.args.left.now.assigned.now pre d left.many_before left.many_discretes left.assigned.others were.small_discretes within.1;
+      small_discretes = values_still m self.bound c.args.left.now.assigned.now pre d left.many_before left.values.discretes left.assigned.others were.small_discretes within.1;
     } in
     record {
-      over = sym (light_up_to m self.bound levels d c.requires.ready.levels left.many_discretes are);
+      over = sym (light_up_to m self.bound levels d c.requires.ready.levels left.values.discretes are);
       weights = λ none. not_kept m levels d self off before.own.as_many are;
       bound = refl;
       on = λ was. was;

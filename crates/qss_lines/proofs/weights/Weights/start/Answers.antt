@@ -1,5 +1,5 @@
 -- The weights are kept from the start on only where no bound was found.
-use Rattle.std.proofs.Common.{true, false, refl, ◌∙◌}
+use Rattle.std.proofs.Common.{true, false, length, refl, ◌∙◌, ap}
 use Rattle.qss_lines.specs.declared.weights.Weights.{Weights}
 use Rattle.qss_lines.proofs.Kept.{not_kept, kept_anew}
 use Rattle.qss_lines.proofs.weights.Weights.start.Goals as goal
@@ -11,6 +11,9 @@ returns-in-Some-clause-weights c =
 
 pub returns-in-Some-clause-bound : goal.returns-in-Some-clause-bound
 returns-in-Some-clause-bound c e = c.in-Some.ensures.found c.in-Some.bound refl
+
+pub weigh_all-requires : goal.weigh_all-requires
+weigh_all-requires c = record { values = c.requires.levels; one_each = ap length c.as_mut_slice.ensures.value ∙ c.requires.weights; light = c.requires.light }
 
 pub returns-clause-weights : goal.returns-clause-weights
 returns-clause-weights c =

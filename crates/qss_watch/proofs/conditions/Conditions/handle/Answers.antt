@@ -16,26 +16,35 @@ use Rattle.qss_watch.specs.declared.conditions.Conditions.{Conditions}
 use Rattle.qss_watch.specs.Handlings.{handling_of_fired, is_reinitialized, IsHandled, handling_from}
 use Rattle.qss_quiet.specs.Logs.{assigned_of}
 use Rattle.qss_quiet.specs.Among.{is_among, AreNumbers}
-use Rattle.qss_watch.specs.Moments.{AreSmallAt}
 use Rattle.qss_watch.specs.Places.{AreBranches, watch_at}
 use Rattle.qss_lines.specs.StateLines.{line_at, states_at}
 use Rattle.qss_watch.specs.PlaceSets.{PlaceList}
 use Rattle.qss_quiet.specs.Writes.{IsWritten}
 use Rattle.qss_quiet.proofs.Overs.{all_within, not_some}
-use Rattle.qss_watch.proofs.Arrivals.{small_then, fired_numbers, read_on_arrival, read_handling, rows_fired, known_states, is_handled}
+use Rattle.qss_watch.proofs.Arrivals.{may_be_read, fired_numbers, read_on_arrival, read_handling, rows_fired, known_states, is_handled}
 use Rattle.qss_watch.proofs.Handled.{over_early}
 use Rattle.qss_watch.proofs.OwnConditions.{arrived_anew}
 use Rattle.qss_lines.proofs.InPlace.{same_length}
 use Rattle.qss_watch.proofs.conditions.Conditions.handle.Goals as goal
 
+pub arrive_moved-passed-requires-clause-as_many : goal.arrive_moved-passed-requires-clause-as_many
+arrive_moved-passed-requires-clause-as_many c = c.requires.ready.values.states ∙ sym c.requires.ready.lines.up_to.as_many
+
+pub arrive_moved-passed-requires-clause-later : goal.arrive_moved-passed-requires-clause-later
+arrive_moved-passed-requires-clause-later c = c.requires.ready.lines.up_to.later
+
+pub arrive_moved-passed-requires-clause-in_time : goal.arrive_moved-passed-requires-clause-in_time
+arrive_moved-passed-requires-clause-in_time c = c.requires.ready.lines.up_to.in_time
+
 pub arrive_moved-passed-requires-clause-moved : goal.arrive_moved-passed-requires-clause-moved
 arrive_moved-passed-requires-clause-moved c =
     let ready = c.requires.ready in
-    subst (λ n. AreNumbers n c.as_slice.result.now) (sym ready.lines.as_many) (subst (AreNumbers (state_count c.args.at.now.machine.now)) (sym c.as_slice.ensures.value) ready.moved)
+    subst (λ n. AreNumbers n c.as_slice.result.now) (sym ready.lines.up_to.as_many)
+    (subst (AreNumbers (state_count c.args.at.now.machine.now)) (sym c.as_slice.ensures.value) ready.lines.numbers)
 
 pub arrive_moved-passed-requires-clause-others_small : goal.arrive_moved-passed-requires-clause-others_small
 arrive_moved-passed-requires-clause-others_small c j h none =
-    c.requires.ready.others_small j (omega (arith, h, c.requires.ready.lines.as_many)) (ap (λ js. is_among js j) (sym c.as_slice.ensures.value) ∙ none)
+    c.requires.ready.lines.others_small j (omega (arith, h, c.requires.ready.lines.up_to.as_many)) (ap (λ js. is_among js j) (sym c.as_slice.ensures.value) ∙ none)
 
 pub returns-then-is_some-clause-over : goal.returns-then-is_some-clause-over
 returns-then-is_some-clause-over c =
@@ -43,13 +52,12 @@ returns-then-is_some-clause-over c =
     over_early c.args.at.now.machine.now c.args.at.now.tick (states_at c.args.at.now.lines.now c.args.at.now.tick) c.args.work.now.d all.arrived.items all.settled.items
     c.arrive_moved-passed.result (sym c.is_some.ensures ∙ c.if-is_some.true) c.arrive_moved-passed.ensures.over
 
-pub list_fired-requires-clause-watches : goal.list_fired-requires-clause-watches
-list_fired-requires-clause-watches c =
-    ap length c.as_slice-watches.ensures.value ∙ c.requires.ready.known.fits.watches ∙ sym (ap length c.as_slice-settled.ensures.value ∙ c.requires.ready.known.fits.settled)
-
-pub list_fired-requires-clause-changed : goal.list_fired-requires-clause-changed
-list_fired-requires-clause-changed c =
-    subst (λ n. AreNumbers n c.args.at.now.changed.now) (sym (ap length c.as_slice-settled.ensures.value ∙ c.requires.ready.known.fits.settled)) c.requires.ready.known.changed
+pub list_fired-requires-clause-read : goal.list_fired-requires-clause-read
+list_fired-requires-clause-read c =
+    let calm : first_past 88 (states_at c.args.at.now.lines.now c.args.at.now.tick) ≡ None =
+    sym c.arrive_moved-passed.ensures.over ∙ not_some c.arrive_moved-passed.result (sym c.is_some.ensures ∙ c.if-is_some.false) in
+    may_be_read c.args.at.now c.args.self.now c.args.work.now.d c.as_slice-watches.result.now c.as_slice-settled.result.now c.requires.ready.known c.as_slice-watches.ensures.value
+    c.as_slice-settled.ensures.value calm c.requires.ready.lines.up_to.in_time
 
 pub list_fired-requires-clause-arrived : goal.list_fired-requires-clause-arrived
 list_fired-requires-clause-arrived c =
@@ -59,19 +67,12 @@ pub list_fired-requires-clause-room : goal.list_fired-requires-clause-room
 list_fired-requires-clause-room c =
     omega (arith, ap length c.as_slice-settled.ensures.value, c.requires.ready.known.fits.settled, c.requires.fired_room)
 
-pub list_fired-requires-clause-small : goal.list_fired-requires-clause-small
-list_fired-requires-clause-small c =
-    let x : List ℤ = states_at c.args.at.now.lines.now c.args.at.now.tick in
-    let calm : first_past 88 x ≡ None = sym c.arrive_moved-passed.ensures.over ∙ not_some c.arrive_moved-passed.result (sym c.is_some.ensures ∙ c.if-is_some.false) in
-    subst (AreSmallAt c.args.at.now.tick) (sym c.as_slice-watches.ensures.value) (small_then c.args.at.now c.args.self.now c.args.work.now.d c.requires.ready.known (all_within 88 x calm))
-
-pub read_changed-requires-clause-watches : goal.read_changed-requires-clause-watches
-read_changed-requires-clause-watches c =
-    ap length c.as_slice-watches.ensures.value ∙ c.requires.ready.known.fits.watches ∙ sym (ap length c.as_slice-settled.ensures.value ∙ c.requires.ready.known.fits.settled)
-
-pub read_changed-requires-clause-changed : goal.read_changed-requires-clause-changed
-read_changed-requires-clause-changed c =
-    subst (λ n. AreNumbers n c.args.at.now.changed.now) (sym (ap length c.as_slice-settled.ensures.value ∙ c.requires.ready.known.fits.settled)) c.requires.ready.known.changed
+pub read_changed-requires-clause-read : goal.read_changed-requires-clause-read
+read_changed-requires-clause-read c =
+    let calm : first_past 88 (states_at c.args.at.now.lines.now c.args.at.now.tick) ≡ None =
+    sym c.arrive_moved-passed.ensures.over ∙ not_some c.arrive_moved-passed.result (sym c.is_some.ensures ∙ c.if-is_some.false) in
+    may_be_read c.args.at.now c.args.self.now c.args.work.now.d c.as_slice-watches.result.now c.as_slice-settled.result.now c.requires.ready.known c.as_slice-watches.ensures.value
+    c.as_slice-settled.ensures.value calm c.requires.ready.lines.up_to.in_time
 
 pub read_changed-requires-clause-apart : goal.read_changed-requires-clause-apart
 read_changed-requires-clause-apart c =
@@ -84,12 +85,6 @@ read_changed-requires-clause-apart c =
           ∙ c.requires.ready.known.alike place (ap (λ these. is_among these place) (sym c.places-apart.ensures.places) ∙ none)
           ∙ sym (ap (λ flags. flag_at flags place) c.as_slice-settled.ensures.value);
     }
-
-pub read_changed-requires-clause-small : goal.read_changed-requires-clause-small
-read_changed-requires-clause-small c =
-    let x : List ℤ = states_at c.args.at.now.lines.now c.args.at.now.tick in
-    let calm : first_past 88 x ≡ None = sym c.arrive_moved-passed.ensures.over ∙ not_some c.arrive_moved-passed.result (sym c.is_some.ensures ∙ c.if-is_some.false) in
-    subst (AreSmallAt c.args.at.now.tick) (sym c.as_slice-watches.ensures.value) (small_then c.args.at.now c.args.self.now c.args.work.now.d c.requires.ready.known (all_within 88 x calm))
 
 pub handle_fired-over-requires-clause-branches : goal.handle_fired-over-requires-clause-branches
 handle_fired-over-requires-clause-branches c =
@@ -108,7 +103,7 @@ handle_fired-over-requires-clause-lines c =
     let ready = c.requires.ready in
     let x : List ℤ = states_at c.args.at.now.lines.now c.args.at.now.tick in
     let calm : first_past 88 x ≡ None = sym c.arrive_moved-passed.ensures.over ∙ not_some c.arrive_moved-passed.result (sym c.is_some.ensures ∙ c.if-is_some.false) in
-    record { up_to = ready.lines; small = all_within 88 x calm }
+    record { up_to = ready.lines.up_to; small = all_within 88 x calm }
 
 pub handle_fired-over-requires-clause-values : goal.handle_fired-over-requires-clause-values
 handle_fired-over-requires-clause-values c =
@@ -135,6 +130,9 @@ returns-then-is_some-2-clause-over c =
     c.arrive_moved-passed.new.work.d c.as_slice-2.result.now calm (ap (λ (v : Values). v.d) c.arrive_moved-passed.ensures.work) (c.as_slice-2.ensures.value ∙ c.list_fired.ensures.fired) in
     c.handle_fired-over.ensures.over ∙ ap (λ (h : Handling). h.overflow) same
 
+pub join_reinitialized-requires-clause-moved : goal.join_reinitialized-requires-clause-moved
+join_reinitialized-requires-clause-moved c = subst (λ n. AreNumbers n c.args.moved.now.items) (sym (ap length c.as_slice-3.ensures)) c.requires.ready.lines.numbers
+
 pub join_reinitialized-requires-clause-known : goal.join_reinitialized-requires-clause-known
 join_reinitialized-requires-clause-known c =
     let ready = c.requires.ready in
@@ -151,7 +149,7 @@ join_reinitialized-requires-clause-known c =
     let log : c.as_slice-log.result.now ≡ done.rows =
     c.as_slice-log.ensures.value ∙ ap (λ (v : Values). v.log) c.work.view_is ∙ ap (λ (v : Values). v.log) (c.handle_fired-over.ensures.work none) in
     λ j e. subst (λ n. j < n) (sym (ap length c.as_slice-3.ensures))
-    (known_states m tick lines c.args.moved.now.items c.as_slice-2.result.now c.args.work.now begun c.handle_fired-over.new.work ready.lines.as_many calm came j (subst (λ rows. is_reinitialized rows j ≡ true) log e))
+    (known_states m tick lines c.args.moved.now.items c.as_slice-2.result.now c.args.work.now begun c.handle_fired-over.new.work ready.lines.up_to.as_many calm came j (subst (λ rows. is_reinitialized rows j ≡ true) log e))
 
 pub list_assigned-requires : goal.list_assigned-requires
 list_assigned-requires c =
@@ -201,7 +199,7 @@ returns-clause-handled c =
     let did = c.handle_fired-over.ensures in
     let listed : c.list_assigned.new.assigned.items ≡ assigned_of done.rows = c.list_assigned.ensures.assigned ∙ ap assigned_of log in
     λ e. subst (IsHandled m tick lines c.args.moved.now.items c.join_reinitialized.new.moved.items c.list_assigned.new.assigned.items c.args.work.now c.handle_fired-over.new.work) same
-    (subst (λ assigned. IsHandled m tick lines c.args.moved.now.items c.join_reinitialized.new.moved.items assigned c.args.work.now c.handle_fired-over.new.work done) (sym listed) (is_handled m tick lines c.args.moved.now.items c.as_slice-2.result.now c.args.work.now begun c.handle_fired-over.new.work ready.lines.as_many calm came
+    (subst (λ assigned. IsHandled m tick lines c.args.moved.now.items c.join_reinitialized.new.moved.items assigned c.args.work.now c.handle_fired-over.new.work done) (sym listed) (is_handled m tick lines c.args.moved.now.items c.as_slice-2.result.now c.args.work.now begun c.handle_fired-over.new.work ready.lines.up_to.as_many calm came
     c.arrive_moved-passed.ensures.work (did.work none) (did.many none) (did.arrived none) (did.reinitialized none) c.join_reinitialized.new.moved.items
     (λ j. c.join_reinitialized.ensures.each j ∙ ap (λ (rows : List Row). is_among c.args.moved.now.items j || is_reinitialized rows j) log)
     (did.fits none) (subst (λ n. AreNumbers n c.join_reinitialized.new.moved.items) (ap length c.as_slice-3.ensures) c.join_reinitialized.ensures.numbers)))

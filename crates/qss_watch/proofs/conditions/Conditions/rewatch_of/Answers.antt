@@ -4,22 +4,17 @@ use Rattle.std.proofs.lemmas.Bool.{eqb-true}
 use Rattle.std.specs.Prelude.{vec_len}
 use Rattle.qss_watch.proofs.conditions.Conditions.rewatch_of.Goals as goal
 
-pub returns-then-is_empty-clause-watches : goal.returns-then-is_empty-clause-watches
-returns-then-is_empty-clause-watches c =
-    λ x d before place h was first.
-    let none : vec_len c.args.self.now.watches ≡ 0 = eqb-true (vec_len c.args.self.now.watches) 0 (sym c.is_empty.ensures ∙ c.if-is_empty.true) in
-    absurd (omega (arith, h, none, c.args.self.now.watches.ok.0, c.requires.ready.fits.watches))
-
-pub returns-then-is_empty-clause-goes_on : goal.returns-then-is_empty-clause-goes_on
-returns-then-is_empty-clause-goes_on c =
+pub returns-then-is_empty : goal.returns-then-is_empty
+returns-then-is_empty c =
     let none : vec_len c.args.self.now.watches ≡ 0 = eqb-true (vec_len c.args.self.now.watches) 0 (sym c.is_empty.ensures ∙ c.if-is_empty.true) in
     record {
-      as_many = refl;
-      places = refl;
-      each = λ place h. absurd (omega (arith, h, none, c.args.self.now.watches.ok.0));
-      others = λ place h. refl;
-      beyond = λ place h. refl;
+      watches = λ x d before place h was first. absurd (omega (arith, h, none, c.args.self.now.watches.ok.0, c.requires.ready.fits.watches));
+      goes_on = record {
+        as_many = refl;
+        places = refl;
+        each = λ place h. absurd (omega (arith, h, none, c.args.self.now.watches.ok.0));
+        others = λ place h. refl;
+        beyond = λ place h. refl;
+      };
+      same = refl;
     }
-
-pub returns-then-is_empty-clause-same : goal.returns-then-is_empty-clause-same
-returns-then-is_empty-clause-same c = refl

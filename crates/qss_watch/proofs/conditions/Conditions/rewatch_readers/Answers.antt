@@ -45,9 +45,8 @@ loop-state-preserved c =
           (subst (All (λ state. All (HasSpeed m slopes c.rewatch_states.new.self.watches.items) (slice_index_or c.args.uses.now.1 state []))) c.rows_of-states.ensures c.rewatch_states.ensures.speeds);
     }
 
-pub returns-clause-watches : goal.returns-clause-watches
-returns-clause-watches c =
-    λ x d before place h was first.
+pub returns : goal.returns
+returns c =
     let m = c.args.m.now in
     let watches = c.loop-state.self.watches.items in
     let Speeds = λ (uses : List (List ℕ) × List (List ℕ) × List (List ℤ)).
@@ -55,5 +54,10 @@ returns-clause-watches c =
     let own : Speeds c.args.uses.now =
     All-from_get_or (λ j. All (λ state. All (HasSpeed m c.args.slopes.now watches) (slice_index_or c.args.uses.now.1 state [])) (slice_index_or c.args.uses.now.0 j [])) c.args.moved.now 0
     (λ k below. c.loop-state.invariant.own_speeds k (omega (arith, below, c.loop-state-test.false))) in
-    watched_again m c.args.tick c.args.slopes.now c.args.moved.now c.args.self.now.watches.items watches c.args.agenda.now c.loop-state.agenda c.loop-state.invariant.going c.requires.moved
-    c.requires.ready.slopes_of.as_many c.requires.ready.fits.watches (subst Speeds c.requires.uses own) x d before place h was first
+    record {
+      watches = λ x d before place h was first.
+          watched_again m c.args.tick c.args.slopes.now c.args.moved.now c.args.self.now.watches.items watches c.args.agenda.now c.loop-state.agenda c.loop-state.invariant.going c.requires.moved
+          c.requires.ready.slopes_of.as_many c.requires.ready.fits.watches (subst Speeds c.requires.uses own) x d before place h was first;
+      goes_on = c.loop-state.invariant.going;
+      same = c.loop-state.invariant.rest;
+    }
