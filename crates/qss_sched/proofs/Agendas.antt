@@ -1,10 +1,12 @@
 -- What comes first among near and far due ticks, and after one of them has changed.
-use Rattle.std.proofs.Common.{◌≡◌, ℕ, zero, suc, ◌<◌, ◌≤◌, inl, inr, ◌⊎◌, List, [], ◌∷◌, Option, Some, None, length, refl, sym, ◌∙◌, ap, arith}
-use Rattle.std.proofs.lemmas.Bool.{cases_lt}
+use Rattle.std.proofs.Common.{◌≡◌, ℕ, zero, suc, ◌<◌, ◌≤◌, inl, inr, ◌⊎◌, List, [], ◌∷◌, Option, Some, None, length, refl, sym, ◌∙◌, ap, subst, arith}
+use Rattle.std.proofs.lemmas.Bool.{cases_eq, cases_lt}
+use Rattle.std.proofs.lemmas.List.{get_or-set_same, get_or-set_other}
+use Rattle.std.proofs.Math.ListN.{length-set}
 use Rattle.std.specs.Option.{unwrap_or}
 use Rattle.std.specs.Prelude.{slice_set}
 use Rattle.qss_sched.specs.Ranks.{due_at, IsLeast, HasNone}
-use Rattle.qss_sched.specs.Agendas.{nearer, joined, IsFirst, IsFirstAt, IsTaken, AreApart, HasNoneAt, IsBefore}
+use Rattle.qss_sched.specs.Agendas.{nearer, joined, IsFirst, IsFirstAt, IsTaken, IsTakenAt, AreApart, HasNoneAt, IsBefore}
 use Rattle.qss_sched.proofs.Least.{has_place}
 
 pub length_joined : (near far : List (Option ℕ)) → length near ≡ length far → length (joined near far) ≡ length near
@@ -193,3 +195,25 @@ pub neither_taken : (near far new : List (Option ℕ)) (tick places : ℕ) → A
     HasNoneAt (joined near far) tick places × (joined new far ≡ joined near far)
 neither_taken near far new tick places a none near_none =
     (λ place h e. elim (either_at near far a place tick e) [ inl g ↦ near_none.0 place h g | inr g ↦ none place h g ], ap (λ n. joined n far) near_none.1)
+
+-- where none is far that is due at a tick the near one is taken
+pub alone_taken : (near far new : List (Option ℕ)) (tick places : ℕ) (taken : Option ℕ) → AreApart near far →
+    ((other due : ℕ) → due_at (joined near far) other ≡ Some due → tick ≤ due) → HasNoneAt far tick places → IsTakenAt tick places near new taken →
+    IsTakenAt tick places (joined near far) (joined new far) taken
+alone_taken near far new tick places None a before none t = neither_taken near far new tick places a none t
+alone_taken near far new tick places (Some place) a before none t = near_taken near far new tick places place None a before none t
+
+-- a place that is taken has no far due tick either
+pub still_apart : (near far new : List (Option ℕ)) (tick places : ℕ) (taken : Option ℕ) → AreApart near far → IsTakenAt tick places near new taken → AreApart new far
+still_apart near far new tick places None a t = subst (λ n. AreApart n far) (sym t.1) a
+still_apart near far new tick places (Some place) a t = record {
+  as_many = ap length t.without ∙ (length-set near place None ∙ a.as_many);
+  apart = λ other due e.
+      elim (cases_eq other place) [
+        | inl same ↦
+            let none : due_at new other ≡ None =
+            ap (due_at new) same ∙ (ap (λ n. due_at n place) t.without ∙ get_or-set_same near place None None (has_place near place tick t.least.has)) in
+            absurd (cc)
+        | inr other_one ↦ a.apart other due (sym (ap (λ n. due_at n other) t.without ∙ get_or-set_other near place other None None other_one) ∙ e)
+      ];
+}

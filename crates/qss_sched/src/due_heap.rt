@@ -28,7 +28,7 @@ impl Model for DueHeap {
 }
 
 impl DueHeap {
-    ghost use Rattle.std.specs.Prelude.{◌≡◌, ℕ, ◌<◌, ◌≤◌, IfOk, MatchOption, Some, length, slice_set};
+    ghost use Rattle.std.specs.Prelude.{◌≡◌, ℕ, ◌<◌, ◌≤◌, ◌↔◌, IfOk, IsTrue, MatchOption, Some, length, slice_set};
     ghost use Rattle.qss_sched.specs.Ranks.{due_at, IsLeast, HasNone};
     ghost use Rattle.qss_sched.specs.Agendas.{IsFirstAt};
 
@@ -82,6 +82,18 @@ impl DueHeap {
             Some(tick) => Some((tick, place)),
             None => None,
         }
+    }
+
+    /// Whether a place is due at a tick, where nothing is due before it.
+    #[inline(always)]
+    pub(crate) fn is_due_at(&self, tick: u64) -> bool
+        requires { (place due : ℕ) → due_at self.now place ≡ Some due → tick ≤ due }
+        ensures { IsTrue result ↔ ((place : ℕ) × (due_at self.now place ≡ Some tick)) }
+    {
+        if self.ranks.is_empty() {
+            return false;
+        }
+        is_at(self.ranks[0], tick)
     }
 
     /// The least of the first `places` places that is due at a tick, where nothing is due before it.
