@@ -18,7 +18,7 @@ pub record MayReslope (m : Machine) (tick : ℕ) (level slope : ℤ) (j : ℕ) (
   pub near : IsNear (level_unit m) (state_at line tick) level (quantum_of m j level)
   pub due : line.level ≡ level → IsDue m tick j line found
 
--- a state may go on as another line from that one's tick on: its own line moves there, the other is near its level, and the state has a place in an agenda
+-- a state may go on as another line from that one's tick on: its own line may move there, the other is near its level, and the state has a place in an agenda
 pub record CanRenew (m : Machine) (j : ℕ) (here line : Line) (dues : List (Option ℕ)) : Type 0 where
   pub state : j < state_count m
   pub place : j < length dues

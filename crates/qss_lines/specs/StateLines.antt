@@ -28,7 +28,7 @@ pub record AreLinesAt (m : Machine) (tick : ℕ) (lines : List Line) : Type 0 wh
   pub up_to : AreLinesUpTo m tick lines
   pub small : All (IsWithin 88) (states_at lines tick)
 
--- lines up to a tick, and numbers of states that are due there: the others are within the limit where their lines lead
+-- lines up to a tick, and numbers of states: the others are within the limit where their lines lead there
 pub record AreLinesWithDue (m : Machine) (tick : ℕ) (lines : List Line) (due : List ℕ) : Type 0 where
   pub up_to : AreLinesUpTo m tick lines
   pub numbers : AreNumbers (state_count m) due

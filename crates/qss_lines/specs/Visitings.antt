@@ -1,4 +1,4 @@
--- What the parts of a visit are given.
+-- What the parts of a visit are given, and how all states have gone on.
 use Rattle.std.specs.Prelude.{◌≡◌, ℕ, ◌+◌, ◌<◌, ◌≤◌, true, false, List, length, All, ℤ, Option, None, position, count_by}
 use Rattle.std.specs.List.{range_with_len}
 use Rattle.mu_num.specs.Sizes.{IsWithin}
@@ -77,7 +77,7 @@ first_overweight at discretes =
 abbrev pub WereSums : RowSum → NewLevels → List ℤ → List ℤ → List Line → Type 0
 WereSums kind at discretes sums lines = HadSums kind at.machine.now at.moved.now at.levels.now discretes sums lines
 
--- sums of all rows at the levels before may follow where the moved states take these, from those of their lines, at discrete values
+-- sums of all rows at the levels before, which the lines have, may follow where the moved states take the new ones, at discrete values
 pub record CanFollow (kind : RowSum) (at : NewLevels) (discretes sums : List ℤ) (lines : List Line) : Type 0 where
   pub new : AreNewLevelsAt at discretes
   pub many_lines : length lines ≡ state_count at.machine.now
@@ -98,7 +98,7 @@ pub record AreHandled (m : Machine) (left : Handled) : Type 0 where
 abbrev pub HasLeft : Machine → ℕ → ℤ → ℤ → Type 0
 HasLeft m j state level = IsAway (level_unit m) state level (quantum_of m j level)
 
--- the moved states may arrive at a tick of a run: along their lines they leave the quanta of these levels, and the others pass no limit, and are near these levels
+-- with a machine's readers the moved states may arrive at a tick of a run: along their lines they leave the quanta of these levels, and the others pass no limit, and are near these levels
 pub record CanArrive (at : Arrival) (levels : List ℤ) : Type 0 where
   pub uses : at.uses.now ≡ uses_of at.machine.now
   pub lines : AreLinesWithDue at.machine.now at.tick at.lines.now at.moved.now
@@ -115,7 +115,7 @@ pub record CanRequantize (at : Arrival) (x levels_old : List ℤ) : Type 0 where
   pub small_states : (j : ℕ) → is_among at.moved.now j ≡ true → IsWithin 88 (int_at x j)
   pub small_levels : All (IsWithin 43) levels_old
 
--- a level of each state, which its line has, and the weights of all rows at these levels and at discrete values
+-- a level of each state, which its line has, within the limit, and the weights of all rows at these levels and at discrete values, none past its limit
 pub record HoldsLevels (m : Machine) (lines : List Line) (d levels_old : List ℤ) (weights_old : Weights) : Type 0 where
   pub levels : length levels_old ≡ state_count m
   pub of_lines : AreLevelsOfLines m lines levels_old d
@@ -129,7 +129,7 @@ pub record IsHandledArrival (at : HandledArrival) : Type 0 where
   pub assigned : AreAssignedFrom at.machine.now at.assigned.now at.work.now.pre at.work.now.d
   pub fits : AreValuesOf at.machine.now at.work.now
 
--- a machine's states may go on at their new levels and slopes, each with a line and a place in an agenda
+-- a machine's states may go on from a tick up to 2^32 at their new levels and slopes, each with a line and a place in an agenda
 pub record CanGoOn (at : NewSlopes) (lines_old : List Line) (dues_old : List (Option ℕ)) : Type 0 where
   pub new : AreNewLevels at.taken
   pub slopes_of : AreSlopesOf at.taken.machine.now at.slopes.now
@@ -173,7 +173,7 @@ pub record CanReslope (at : QuietLevels) (slopes_old : List ℤ) (lines_old : Li
   pub held : HeldBefore at.taken.machine.now at.taken.tick at.taken.moved.now at.taken.levels.now at.discretes.now slopes_old lines_old dues_old
   pub earlier : (j : ℕ) → j < state_count at.taken.machine.now → (line_at lines_old j).tick < at.taken.tick
 
--- all states have gone on from a tick, at the new levels and their slopes there, for no more moves of lines than the moved states and their readers are
+-- all states have gone on from a tick, at the new levels and the slopes of all rows there, in an agenda of as many places, for no more moves of lines than the moved states and their readers are
 pub record HaveGoneOn (at : QuietLevels) (slopes_new : List ℤ) (old new : Courses) (steps_old steps_new : ℕ) : Type 0 where
   pub slopes : slopes_new ≡ quiet_slopes at
   pub lines : (j : ℕ) → j < state_count at.taken.machine.now →

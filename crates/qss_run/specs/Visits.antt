@@ -58,7 +58,7 @@ IsRewatchedFrom old new =
       work = record old.work { x = new.work.x };
     }
 
--- what a visit of the tick after one makes of a store that stood at it: a step of the definition that gives the variable that overflows, if one does, for no more moves of lines than that tick touches; without an overflow the store stands there, with the rows of the tick
+-- what a visit of the tick after one makes of a store that stood at it: a step of the definition that gives the variable that overflows, if one does, for no more moves of lines than states are touched at that tick; without an overflow the store stands there, with the rows of the tick; the room for rows stays
 pub record IsVisited (m : Machine) (name : Option Rule) (tick : ℕ) (old new : Store) (over : Option ℕ) (steps_old steps_new : ℕ) : Type 0 where
   pub stepped : Step (IsRuled name) m (tick + 1) (world_of tick old) (world_unless over (world_of (tick + 1) new))
   pub rows : over ≡ None → new.rows.items ≡ tick_rows m (tick + 1) (world_of tick old) (world_of (tick + 1) new)

@@ -42,7 +42,7 @@ pub record IsFirstPlace (places : List ℕ) (slot place : ℕ) : Type 0 where
   pub there : place_bit places slot place ≡ 1
   pub first : (other : ℕ) → other < 4096 → place_bit places slot other ≡ 1 → place ≤ other
 
--- no place is at a slot
+-- no place is at any slot
 abbrev pub HasNoPlace : List ℕ → Type 0
 HasNoPlace places = (slot place : ℕ) → slot < 64 → place < 4096 → place_bit places slot place ≡ 0
 

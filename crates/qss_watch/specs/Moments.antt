@@ -25,7 +25,7 @@ pub record AreSmallAt (tick : ℕ) (watches : List Watch) : Type 0 where
   pub later : (place : ℕ) → place < length watches → (watch_at watches place).tick ≤ tick
   pub small : (place : ℕ) → place < length watches → IsSmall (value_at (watch_at watches place) tick)
 
--- numbers of conditions whose truths may be read from their watches at a tick: watches, small there, and truths after the last handlers are as many
+-- numbers of conditions whose truths may be read from their watches at a tick up to 2^32: watches, small there, and truths after the last handlers are as many
 pub record MayBeRead (tick : ℕ) (watches : List Watch) (settled : List Bool) (changed : List ℕ) : Type 0 where
   pub as_many : length watches ≡ length settled
   pub numbers : AreNumbers (length settled) changed
