@@ -1,7 +1,7 @@
 //! The line of a row.
 
-ghost use Rattle.std.specs.Prelude.{◌≡◌, [], OnOk, OnErr, IfOk};
-ghost use Rattle.qss_rows.specs.Held.{line_in};
+ghost use Rattle.std.specs.Prelude.{◌≡◌, ◌++◌, [], OnOk, OnErr, IfOk};
+ghost use Rattle.qss_rows.specs.Held.{lines_in};
 ghost use Rattle.qss_order2.specs.Lines as Spec;
 
 use crate::rows::{Kind2, Row2};
@@ -17,14 +17,15 @@ pub fn row2_bytes(alloc: Global, r: &Row2, m: &Machine) -> Result<Vec<u8>, Alloc
 {
     let mut lines = LineWriter::new(alloc);
     write_row2(&mut lines, r, m)?;
-    lines.line().to_vec(alloc)
+    lines.finish()?;
+    lines.text().to_vec(alloc)
 }
 
-/// Makes the line of a row of a machine. After an error the writer holds no line.
+/// Adds the line of a row of a machine. After an error the writer holds no line.
 pub fn write_row2(lines: &mut LineWriter, r: &Row2, m: &Machine) -> Result<(), AllocError>
     requires { Spec.HasVariable2 m.now r.now }
-    ensures ok { OnOk result (line_in lines.new ≡ Spec.line2_of m.now r.now) }
-    ensures err { OnErr result (line_in lines.new ≡ []) }
+    ensures ok { OnOk result (lines_in lines.new ≡ lines_in lines.old ++ Spec.line2_of m.now r.now) }
+    ensures err { OnErr result (lines_in lines.new ≡ []) }
 {
     let is_state = (r.var as usize) < m.states.as_slice().len();
     lines.write_fields(

@@ -1,8 +1,8 @@
 -- Lines that are written one after another.
-use Rattle.std.proofs.Common.{Bool, ◌≡◌, ◌<◌, ℕ, suc, ◌+◌, List, [], ◌∷◌, ◌++◌, length, take, drop, refl, sym, ap, ◌∙◌, subst, append_assoc, drop-cons, append-nil}
+use Rattle.std.proofs.Common.{Bool, ◌≡◌, ◌<◌, ℕ, zero, suc, ◌+◌, List, [], ◌∷◌, ◌++◌, length, take, refl, sym, ap, ◌∙◌, subst, append_assoc, append-nil, arith, rules}
 use Rattle.std.specs.Prelude.{Option, Some, None, IsSome}
 use Rattle.std.proofs.KnownBytes.{Appends-nil, Appends-trans}
-use Rattle.std.proofs.lemmas.List.{take_more, take-append-drop}
+use Rattle.std.proofs.lemmas.List.{take_more}
 use Rattle.std.proofs.lemmas.List.Concat.{flat_map-append}
 use Rattle.std.specs.Io.KnownBytes.{Appends}
 use Rattle.mu_io.specs.Faults.{Rose}
@@ -17,9 +17,16 @@ use Rattle.qss_play.specs.Writings.{IsWriting}
 pub text_in-append : (xs ys : List (Option (List ℕ))) → text_in (xs ++ ys) ≡ text_in xs ++ text_in ys
 text_in-append xs ys = flat_map-append bytes_in xs ys
 
-some_line : (o : Option (List ℕ)) → IsSome o → (line : List ℕ) × (o ≡ Some line)
-some_line (Some line) is = (line, refl)
-some_line None is = absurd (cc)
+-- one more line
+pub text_more : (lines : List (Option (List ℕ))) (i : ℕ) → i < length lines → text_in (take (i + 1) lines) ≡ text_in (take i lines) ++ bytes_in (line_at lines i)
+text_more lines i inside =
+    ap text_in (take_more lines i None inside) ∙ text_in-append (take i lines) (line_at lines i ∷ []) ∙ ap (λ (l : List ℕ). text_in (take i lines) ++ l) (append-nil (bytes_in (line_at lines i)))
+
+-- where lines have bytes one of them is there
+pub some_where : (lines : List (Option (List ℕ))) → 0 < length (text_in lines) → (i : ℕ) × IsSome (line_at lines i)
+some_where [] h = absurd (omega (arith, h))
+some_where (Some line ∷ rest) h = (0, search rules)
+some_where (None ∷ rest) h = let s = some_where rest h in (suc s.0, s.1)
 
 -- ---- prefixes
 
@@ -93,42 +100,23 @@ module _ {K : Type 0} (written : K → Option (List ℕ)) (faults : K → ℕ) (
     last = w.last;
   }
 
-  -- ---- lines, one after another
-
-  module _ (lines : List (Option (List ℕ))) (i : ℕ) (inside : i < length lines) (old mid new : K) (appended : Appends (written old) (written mid) (text_in (take i lines))) where
-    -- one more line is written
-    pub line_more : Appends (written mid) (written new) (bytes_in (line_at lines i)) → Appends (written old) (written new) (text_in (take (i + 1) lines))
-    line_more more =
-        subst (Appends (written old) (written new))
-        (sym (ap text_in (take_more lines i None inside) ∙ text_in-append (take i lines) (line_at lines i ∷ []) ∙ ap (λ (l : List ℕ). text_in (take i lines) ++ l) (append-nil (bytes_in (line_at lines i)))))
-        (Appends-trans (written old) (written mid) (written new) (text_in (take i lines)) (bytes_in (line_at lines i)) appended more)
-
-    lines_cut : lines ≡ take i lines ++ (line_at lines i ∷ drop (suc i) lines)
-    lines_cut = sym (take-append-drop i lines) ∙ ap (λ (l : List (Option (List ℕ))). take i lines ++ l) (drop-cons lines i None inside)
-
-    text_cut : text_in lines ≡ text_in (take i lines) ++ (bytes_in (line_at lines i) ++ text_in (drop (suc i) lines))
-    text_cut = ap text_in lines_cut ∙ text_in-append (take i lines) (line_at lines i ∷ drop (suc i) lines)
-
-    -- the writing stops in a line
-    pub line_stops : (s : Stop) → faults mid ≡ faults old → IsWriting written faults failed (Some s) mid new (bytes_in (line_at lines i)) → IsWriting written faults failed (Some s) old new (text_in lines)
-    line_stops s calm w =
-        subst (IsWriting written faults failed (Some s) old new) (sym text_cut)
-        (writes_later (Some s) old mid new (text_in (take i lines)) (bytes_in (line_at lines i) ++ text_in (drop (suc i) lines)) appended calm
-        (stops_early s mid new (bytes_in (line_at lines i)) (text_in (drop (suc i) lines)) w))
-
-    -- memory is not found for a line
-    pub stops_at : IsSome (line_at lines i) → StopsAtLine written [] lines old mid
-    stops_at wanted =
-        let is = some_line (line_at lines i) wanted in
-        record {
-          front = take i lines;
-          line = is.0;
-          rest = drop (suc i) lines;
-          parts = ap (λ (o : Option (List ℕ)). take i lines ++ (o ∷ drop (suc i) lines)) (sym is.1) ∙ sym lines_cut;
-          appended = appended;
-        }
+  -- the writing stops in a part of what is left
+  pub part_stops : (s : Stop) (old mid new : K) (done line more bytes : List ℕ) → done ++ (line ++ more) ≡ bytes → Appends (written old) (written mid) done → faults mid ≡ faults old →
+      IsWriting written faults failed (Some s) mid new line → IsWriting written faults failed (Some s) old new bytes
+  part_stops s old mid new done line more bytes parts appended calm w =
+      subst (IsWriting written faults failed (Some s) old new) parts
+      (writes_later (Some s) old mid new done (line ++ more) appended calm (stops_early s mid new line more w))
 
 module _ {K : Type 0} (written : K → Option (List ℕ)) where
+  -- a call that wrote nothing stopped before the first line, where there is one
+  pub stops_first : (lines : List (Option (List ℕ))) (i : ℕ) (sink : K) → IsSome (line_at lines i) → StopsAtLine written [] lines sink sink
+  stops_first [] i sink wanted = absurd (cc)
+  stops_first (Some line ∷ rest) i sink wanted = record { front = []; line = line; rest = rest; parts = refl; appended = Appends-nil (written sink) }
+  stops_first (None ∷ rest) zero sink wanted = absurd (cc)
+  stops_first (None ∷ rest) (suc i) sink wanted =
+      let s = stops_first rest i sink wanted in
+      record { front = None ∷ s.front; line = s.line; rest = s.rest; parts = ap (λ (l : List (Option (List ℕ))). None ∷ l) s.parts; appended = s.appended }
+
   -- a call that stopped at one of these lines stopped at one of more
   pub stops_sooner : (head : List ℕ) (lines more : List (Option (List ℕ))) (old new : K) → StopsAtLine written head lines old new → StopsAtLine written head (lines ++ more) old new
   stops_sooner head lines more old new s = record {

@@ -58,14 +58,13 @@ impl Simulation for CoupledRun {
         self.model.rows().len()
     }
 
-    fn make_line(&self, row: usize, lines: &mut LineWriter) -> Result<bool, AllocError> {
+    fn add_line(&self, row: usize, lines: &mut LineWriter) -> Result<(), AllocError> {
         let m = self.model.machine();
         let row = &self.model.rows()[row];
         if !self.filter.passes(row, m) {
-            return Ok(false);
+            return Ok(());
         }
-        lines.write(row, m)?;
-        Ok(true)
+        lines.write(row, m)
     }
 
     fn machine(&self) -> &Machine {

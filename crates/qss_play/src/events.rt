@@ -1,39 +1,33 @@
 //! The writing of a run, event by event.
 
-ghost use Rattle.std.specs.Prelude.{◌≡◌, ◌<◌, ◌++◌, [], None, Some, IsSome, IfOk, IfSome, length};
+ghost use Rattle.std.specs.Prelude.{◌≡◌, ℕ, ◌<◌, ◌++◌, [], true, None, Some, IsSome, IfOk, IfSome, OnOk, OnErr};
 ghost use Rattle.std.specs.Result.{result_err};
 ghost use Rattle.qss_play.specs.declared.run_end.RunEnd.{RunEnd};
-ghost use Rattle.qss_play.specs.Simulations.{line_at, bytes_in, text_in, StopsAtLine, IsEndIn};
+ghost use Rattle.qss_rows.specs.Held.{lines_in, is_finished};
+ghost use Rattle.qss_play.specs.Simulations.{line_at, text_in, StopsAtLine, IsEndIn};
 ghost use Rattle.qss_play.specs.Writings.{IsWriting};
 
 use crate::run_end::RunEnd;
 use crate::simulation::Simulation;
-use crate::written::{Stop, write_bytes};
+use crate::written::{Stop, write_lines};
 use mu_io::Sink;
 use qss_rows::LineWriter;
+use std::alloc::AllocError;
 
-// Writes the line of one of the present rows, none of it where memory was not found.
-fn write_row<S: Simulation, O: Sink>(
-    sim: &S,
-    row: usize,
-    lines: &mut LineWriter,
-    out: &mut O,
-) -> Result<(), Stop>
-    requires { row < length (S.present sim.now) }
-    ensures written { IsWriting O.written O.faults O.failed (result_err result) out.old out.new
-        (bytes_in (line_at (S.present sim.now) row)) }
-    ensures nothing { result_err result ≡ Some Stop.Memory → out.new ≡ out.old }
-    ensures wanted { result_err result ≡ Some Stop.Memory
-        → IsSome (line_at (S.present sim.now) row) }
+// Makes the lines of the present rows. Memory is wanting only where one of them is to be written.
+fn make_lines<S: Simulation>(sim: &S, lines: &mut LineWriter) -> Result<(), AllocError>
+    ensures made { OnOk result (lines_in lines.new ≡ text_in (S.present sim.now)) }
+    ensures finished { OnOk result (is_finished lines.new ≡ true) }
+    ensures wanted { OnErr result ((row : ℕ) × IsSome (line_at (S.present sim.now) row)) }
 {
-    match sim.make_line(row, lines) {
-        Ok(true) => write_bytes(lines.line(), out),
-        Ok(false) => Ok(()),
-        Err(_) => Err(Stop::Memory),
+    lines.clear();
+    for row in 0..sim.row_count() {
+        sim.add_line(row, lines)?;
     }
+    lines.finish()
 }
 
-// Writes the lines of the present rows, one after another.
+// Writes the lines of the present rows, none of them where memory was not found.
 fn write_rows<S: Simulation, O: Sink>(
     sim: &S,
     lines: &mut LineWriter,
@@ -44,10 +38,10 @@ fn write_rows<S: Simulation, O: Sink>(
     ensures stopped { result_err result ≡ Some Stop.Memory
         → StopsAtLine O.written [] (S.present sim.now) out.old out.new }
 {
-    for row in 0..sim.row_count() {
-        write_row(sim, row, lines, out)?;
+    match make_lines(sim, lines) {
+        Ok(()) => write_lines(lines.text(), out),
+        Err(_) => Err(Stop::Memory),
     }
-    Ok(())
 }
 
 // Goes on to the next event of a run, and writes its rows.

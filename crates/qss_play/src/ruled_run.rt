@@ -54,14 +54,13 @@ impl<L: Ledger> Simulation for RuledRun<L> {
         self.sim.rows().len()
     }
 
-    fn make_line(&self, row: usize, lines: &mut LineWriter) -> Result<bool, AllocError> {
+    fn add_line(&self, row: usize, lines: &mut LineWriter) -> Result<(), AllocError> {
         let m = self.sim.machine();
         let row = &self.sim.rows()[row];
         if !self.filter.passes(row, m) {
-            return Ok(false);
+            return Ok(());
         }
-        lines.write(row, m)?;
-        Ok(true)
+        lines.write(row, m)
     }
 
     fn machine(&self) -> &Machine {

@@ -49,9 +49,8 @@ impl Simulation for SecondRun {
         self.sim.rows().len()
     }
 
-    fn make_line(&self, row: usize, lines: &mut LineWriter) -> Result<bool, AllocError> {
-        write_row2(lines, &self.sim.rows()[row], self.sim.machine())?;
-        Ok(true)
+    fn add_line(&self, row: usize, lines: &mut LineWriter) -> Result<(), AllocError> {
+        write_row2(lines, &self.sim.rows()[row], self.sim.machine())
     }
 
     fn machine(&self) -> &Machine {

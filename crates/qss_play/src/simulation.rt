@@ -1,10 +1,10 @@
 //! Runs under way, by whichever simulator.
 
-ghost use Rattle.std.specs.Prelude.{◌≡◌, ◌<◌, ◌++◌, [], ℕ, List, Option, None, length, IfSome, IsSome, IfOk, OnErr};
+ghost use Rattle.std.specs.Prelude.{◌≡◌, ◌<◌, ◌++◌, [], ℕ, List, Option, None, length, IfSome, IsSome, OnOk, OnErr};
 ghost use Rattle.qss_machine.specs.declared.system.Machine.{Machine};
 ghost use Rattle.qss_play.specs.declared.run_end.RunEnd.{RunEnd};
-ghost use Rattle.qss_play.specs.Simulations.{line_if, line_at, IsEndIn};
-ghost use Rattle.qss_rows.specs.Held.{line_in};
+ghost use Rattle.qss_play.specs.Simulations.{line_at, bytes_in, IsEndIn};
+ghost use Rattle.qss_rows.specs.Held.{lines_in};
 
 use crate::run_end::RunEnd;
 use qss_machine::Machine;
@@ -45,11 +45,11 @@ pub(crate) trait Simulation {
     fn row_count(&self) -> usize
         ensures { result ≡ length (present self.now) };
 
-    /// Makes the line of one of these rows; false where it is not to be written.
-    fn make_line(&self, row: usize, lines: &mut LineWriter) -> Result<bool, AllocError>
+    /// Adds the line of one of these rows to those that are held, none of a row that is not to be written.
+    fn add_line(&self, row: usize, lines: &mut LineWriter) -> Result<(), AllocError>
         requires { row < length (present self.now) }
-        ensures made { IfOk result
-            (λ made. line_at (present self.now) row ≡ line_if made (line_in lines.new)) }
+        ensures added { OnOk result
+            (lines_in lines.new ≡ lines_in lines.old ++ bytes_in (line_at (present self.now) row)) }
         ensures wanted { OnErr result (IsSome (line_at (present self.now) row)) };
 
     /// Lends the machine.

@@ -1,13 +1,17 @@
--- The record and the line that their writers hold.
-use Rattle.std.specs.Prelude.{ℕ, List, drop}
-use Rattle.qss_rows.specs.Writers.{written_by}
+-- The records and the lines that their writers hold.
+use Rattle.std.specs.Prelude.{ℕ, Bool, List, drop}
+use Rattle.qss_rows.specs.Writers.{given_to}
 use Rattle.qss_rows.specs.declared.record_writer.RecordWriter.{RecordWriter}
 use Rattle.qss_rows.specs.declared.writer.LineWriter.{LineWriter}
 
--- the last record
-abbrev pub record_in : RecordWriter → List ℕ
-record_in w = drop w.from (written_by w.writer)
+-- the records since the writer was cleared
+abbrev pub records_in : RecordWriter → List ℕ
+records_in w = drop w.from (given_to w.writer)
 
--- the line of the last row
-abbrev pub line_in : LineWriter → List ℕ
-line_in w = record_in w.records
+-- the lines since the writer was cleared
+abbrev pub lines_in : LineWriter → List ℕ
+lines_in w = records_in w.records
+
+-- whether the lines can be read
+abbrev pub is_finished : LineWriter → Bool
+is_finished w = w.records.is_finished

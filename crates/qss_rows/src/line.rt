@@ -21,7 +21,8 @@ pub fn row_bytes(alloc: Global, r: &Row, m: &Machine) -> Result<Vec<u8>, AllocEr
 {
     let mut lines = LineWriter::new(alloc);
     lines.write(r, m)?;
-    lines.line().to_vec(alloc)
+    lines.finish()?;
+    lines.text().to_vec(alloc)
 }
 
 /// Law: where the name needs no quotes, the line of a row is its fields joined by commas, and a line

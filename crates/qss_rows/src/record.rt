@@ -1,10 +1,10 @@
 //! The records of rows, as `csv` writes them.
 
-ghost use Rattle.std.specs.Prelude.{◌≡◌, ◌+◌, ◌<◌, [], ◌∷◌, OnOk, map};
-ghost use Rattle.csv.specs.Writing.{default_writer, row_text};
+ghost use Rattle.std.specs.Prelude.{◌≡◌, ◌+◌, ◌<◌, [], ◌∷◌, OnOk};
+ghost use Rattle.csv.specs.Writing.{default_writer, row_text, writer_pending};
 ghost use Rattle.qss_machine.specs.Machines.{state_count, discrete_count};
 ghost use Rattle.qss_rows.specs.Lines as Spec;
-ghost use Rattle.qss_rows.specs.Writers.{IsBetween, Gains, written_by};
+ghost use Rattle.qss_rows.specs.Writers.{IsBetween, Gains, given_to};
 
 use csv::{Error, Writer, WriterBuilder};
 use itoa::{Buffer, write_digits};
@@ -17,7 +17,8 @@ pub(crate) const FIRING_LENGTH: usize = 21;
 /// A writer into memory that has written nothing.
 pub(crate) fn new_writer(alloc: Global) -> Writer<Vec<u8>>
     ensures between { IsBetween result }
-    ensures empty { written_by result ≡ [] }
+    ensures empty { given_to result ≡ [] }
+    ensures pending { writer_pending result ≡ [] }
 {
     WriterBuilder::new().from_writer(Vec::new(alloc))
 }
@@ -28,7 +29,8 @@ pub(crate) fn new_writer(alloc: Global) -> Writer<Vec<u8>>
 #[inline(never)]
 pub(crate) fn renew(alloc: Global, writer: &mut Writer<Vec<u8>>)
     ensures between { IsBetween writer.new }
-    ensures empty { written_by writer.new ≡ [] }
+    ensures empty { given_to writer.new ≡ [] }
+    ensures pending { writer_pending writer.new ≡ [] }
 {
     *writer = new_writer(alloc);
 }
@@ -77,7 +79,7 @@ fn want_of_memory(_error: &Error) -> AllocError {
     AllocError
 }
 
-/// Adds the record of five fields.
+/// Adds the record of five fields, which may be held back.
 pub(crate) fn add_fields<'a>(
     writer: &mut Writer<Vec<u8>>,
     tick: &'a [u8],
@@ -92,21 +94,23 @@ pub(crate) fn add_fields<'a>(
         (row_text default_writer
         (tick.now ∷ event.now ∷ name.now ∷ level.now ∷ state.now ∷ []))) }
 {
-    match add_record(writer, &[tick, event, name, level, state]) {
+    match writer.write_fields(&[tick, event, name, level, state]) {
         Ok(()) => Ok(()),
         Err(error) => Err(want_of_memory(&error)),
     }
 }
 
-// Adds a record, and holds nothing of it back.
-fn add_record(writer: &mut Writer<Vec<u8>>, fields: &[&[u8]]) -> Result<(), Error>
+/// Passes on what is held back.
+pub(crate) fn pass_on(writer: &mut Writer<Vec<u8>>) -> Result<(), AllocError>
     requires { IsBetween writer.old }
-    ensures { OnOk result
-        (Gains writer.old writer.new (row_text default_writer (map (λ f. f.now) fields.now))) }
+    ensures between { IsBetween writer.new }
+    ensures same { given_to writer.new ≡ given_to writer.old }
+    ensures pending { OnOk result (writer_pending writer.new ≡ []) }
 {
-    writer.write_fields(fields)?;
-    writer.flush()?;
-    Ok(())
+    match writer.flush() {
+        Ok(()) => Ok(()),
+        Err(error) => Err(want_of_memory(&error)),
+    }
 }
 
 /// The text of the level or of the discrete value, where a row of this kind prints one.

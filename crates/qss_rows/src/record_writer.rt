@@ -1,42 +1,70 @@
-//! Records of five fields, one at a time.
+//! Records of five fields, one after another.
 
-ghost use Rattle.std.specs.Prelude.{◌≤◌, length};
-ghost use Rattle.qss_rows.specs.Writers.{IsBetween, written_by};
+ghost use Rattle.std.specs.Prelude.{◌≡◌, ◌<◌, ◌≤◌, [], true, false, length};
+ghost use Rattle.csv.specs.Writing.{writer_pending};
+ghost use Rattle.qss_rows.specs.Writers.{IsBetween, given_to};
 
-use crate::record::{add_fields, new_writer, renew};
+use crate::record::{add_fields, new_writer, pass_on, renew};
 use csv::Writer;
 use std::alloc::{AllocError, Global};
 
 // How many bytes a writer of `csv` writes, about, before a new one takes its place.
 const RENEWED: usize = 1 << 16;
 
-/// Makes records of five fields, one at a time, by one writer of `csv` for many of them.
+/// Makes records of five fields, by one writer of `csv` for many of them, and holds those since it was cleared. They can be
+/// read once it has finished.
 #[derive(Drop)]
 pub(crate) struct RecordWriter {
     alloc: Global,
     writer: Writer<Vec<u8>>,
     from: usize,
+    pub(crate) is_finished: bool,
     ghost between: { IsBetween writer },
-    ghost within: { from ≤ length (written_by writer) },
+    ghost within: { from ≤ length (given_to writer) },
+    ghost passed_on: { is_finished ≡ true → writer_pending writer ≡ [] },
+    ghost some: { is_finished ≡ false → from < length (given_to writer) },
 }
 
 impl RecordWriter {
-    ghost use Rattle.std.specs.Prelude.{◌≡◌, [], ◌∷◌, OnOk, OnErr};
+    ghost use Rattle.std.specs.Prelude.{◌≡◌, ◌<◌, ◌++◌, [], ◌∷◌, true, length, OnOk, OnErr};
     ghost use Rattle.csv.specs.Writing.{default_writer, row_text};
-    ghost use Rattle.qss_rows.specs.Held.{record_in};
+    ghost use Rattle.qss_rows.specs.Held.{records_in};
 
     /// Holds no record yet.
     pub(crate) fn new(alloc: Global) -> RecordWriter
-        ensures { record_in result ≡ [] }
+        ensures { records_in result ≡ [] }
     {
         RecordWriter {
             alloc,
             writer: new_writer(alloc),
             from: 0,
+            is_finished: true,
         }
     }
 
-    /// Makes the record of these fields, as `csv` writes it. After an error it holds none.
+    // Holds no record any more, by a new writer.
+    #[cold]
+    fn begin_anew(&mut self)
+        ensures { records_in self.new ≡ [] }
+    {
+        renew(self.alloc, &mut self.writer);
+        self.from = 0;
+        self.is_finished = true;
+    }
+
+    /// Holds no record any more.
+    pub(crate) fn clear(&mut self)
+        ensures { records_in self.new ≡ [] }
+    {
+        let length = self.writer.get_ref().len();
+        if self.is_finished && length < RENEWED {
+            self.from = length;
+        } else {
+            self.begin_anew();
+        }
+    }
+
+    /// Adds the record of these fields, as `csv` writes it. After an error it holds none.
     #[inline(always)]
     pub(crate) fn write_fields(
         &mut self,
@@ -46,27 +74,48 @@ impl RecordWriter {
         level: &[u8],
         state: &[u8],
     ) -> Result<(), AllocError>
-        ensures ok { OnOk result (record_in self.new ≡ row_text default_writer
+        ensures ok { OnOk result (records_in self.new ≡ records_in self.old ++ row_text default_writer
             (tick.now ∷ event.now ∷ name.now ∷ level.now ∷ state.now ∷ [])) }
-        ensures err { OnErr result (record_in self.new ≡ []) }
+        ensures err { OnErr result (records_in self.new ≡ []) }
     {
-        if self.writer.get_ref().len() >= RENEWED {
-            renew(self.alloc, &mut self.writer);
-        }
-        self.from = self.writer.get_ref().len();
         match add_fields(&mut self.writer, tick, event, name, level, state) {
-            Ok(()) => Ok(()),
+            Ok(()) => {
+                self.is_finished = false;
+                Ok(())
+            }
             Err(e) => {
-                renew(self.alloc, &mut self.writer);
-                self.from = 0;
+                self.begin_anew();
                 Err(e)
             }
         }
     }
 
-    /// The last record.
-    pub(crate) fn last(&self) -> &[u8]
-        ensures { result.now ≡ record_in self.now }
+    /// Lets the records be read. After an error it holds none; that comes only where it held some.
+    pub(crate) fn finish(&mut self) -> Result<(), AllocError>
+        ensures ok { OnOk result (records_in self.new ≡ records_in self.old) }
+        ensures finished { OnOk result (self.new.is_finished ≡ true) }
+        ensures err { OnErr result (records_in self.new ≡ []) }
+        ensures wanted { OnErr result (0 < length (records_in self.old)) }
+    {
+        if self.is_finished {
+            return Ok(());
+        }
+        match pass_on(&mut self.writer) {
+            Ok(()) => {
+                self.is_finished = true;
+                Ok(())
+            }
+            Err(e) => {
+                self.begin_anew();
+                Err(e)
+            }
+        }
+    }
+
+    /// The records, once it has finished.
+    pub(crate) fn text(&self) -> &[u8]
+        requires { self.now.is_finished ≡ true }
+        ensures { result.now ≡ records_in self.now }
     {
         &self.writer.get_ref()[self.from..]
     }

@@ -7,8 +7,9 @@ use itoa::Buffer;
 use qss_machine::{Machine, Row};
 use std::alloc::{AllocError, Global};
 
-/// Makes the lines of rows, one at a time, by one writer of `csv` for many of them. The room for the numbers of a
-/// row is kept, and the digits of a tick are made once for the rows that follow each other at it.
+/// Makes the lines of rows, by one writer of `csv` for many of them, and holds those since it was cleared. They can be read once it
+/// has finished. The room for the numbers of a row is kept, and the digits of a tick are made once for the rows that follow each
+/// other at it.
 #[derive(Drop)]
 pub struct LineWriter {
     records: RecordWriter,
@@ -19,14 +20,14 @@ pub struct LineWriter {
 }
 
 impl LineWriter {
-    ghost use Rattle.std.specs.Prelude.{◌≡◌, [], ◌∷◌, OnOk, OnErr};
+    ghost use Rattle.std.specs.Prelude.{◌≡◌, ◌<◌, ◌++◌, [], ◌∷◌, true, length, OnOk, OnErr};
     ghost use Rattle.csv.specs.Writing.{default_writer, row_text};
-    ghost use Rattle.qss_rows.specs.Held.{line_in};
+    ghost use Rattle.qss_rows.specs.Held.{lines_in, is_finished};
     ghost use Rattle.qss_rows.specs.Lines as Spec;
 
     /// Holds no line yet.
     pub fn new(alloc: Global) -> LineWriter
-        ensures { line_in result ≡ [] }
+        ensures { lines_in result ≡ [] }
     {
         LineWriter {
             records: RecordWriter::new(alloc),
@@ -37,11 +38,19 @@ impl LineWriter {
         }
     }
 
-    /// Makes the line of a row of a machine. After an error it holds no line.
+    /// Holds no line any more.
+    pub fn clear(&mut self)
+        ensures { lines_in self.new ≡ [] }
+    {
+        self.records.clear();
+    }
+
+    /// Adds the line of a row of a machine. After an error it holds no line.
     pub fn write(&mut self, r: &Row, m: &Machine) -> Result<(), AllocError>
         requires { Spec.HasVariable m.now r.now }
-        ensures ok { OnOk result (line_in self.new ≡ Spec.line_of m.now r.now) }
-        ensures err { OnErr result (line_in self.new ≡ []) }
+        ensures ok { OnOk result
+            (lines_in self.new ≡ lines_in self.old ++ Spec.line_of m.now r.now) }
+        ensures err { OnErr result (lines_in self.new ≡ []) }
     {
         let is_state = (r.var as usize) < m.states.as_slice().len();
         self.tick.set(r.tick);
@@ -55,7 +64,7 @@ impl LineWriter {
         )
     }
 
-    /// Makes the line of a row with these fields, as `csv` writes a record. After an error it holds no line.
+    /// Adds the line of a row with these fields, as `csv` writes a record. After an error it holds no line.
     pub fn write_fields(
         &mut self,
         tick: &[u8],
@@ -64,17 +73,28 @@ impl LineWriter {
         level: &[u8],
         state: &[u8],
     ) -> Result<(), AllocError>
-        ensures ok { OnOk result (line_in self.new ≡ row_text default_writer
+        ensures ok { OnOk result (lines_in self.new ≡ lines_in self.old ++ row_text default_writer
             (tick.now ∷ event.now ∷ name.now ∷ level.now ∷ state.now ∷ [])) }
-        ensures err { OnErr result (line_in self.new ≡ []) }
+        ensures err { OnErr result (lines_in self.new ≡ []) }
     {
         self.records.write_fields(tick, event, name, level, state)
     }
 
-    /// The line of the last row.
-    pub fn line(&self) -> &[u8]
-        ensures { result.now ≡ line_in self.now }
+    /// Lets the lines be read. After an error it holds none; that comes only where it held some.
+    pub fn finish(&mut self) -> Result<(), AllocError>
+        ensures ok { OnOk result (lines_in self.new ≡ lines_in self.old) }
+        ensures finished { OnOk result (is_finished self.new ≡ true) }
+        ensures err { OnErr result (lines_in self.new ≡ []) }
+        ensures wanted { OnErr result (0 < length (lines_in self.old)) }
     {
-        self.records.last()
+        self.records.finish()
+    }
+
+    /// The lines, once it has finished.
+    pub fn text(&self) -> &[u8]
+        requires { is_finished self.now ≡ true }
+        ensures { result.now ≡ lines_in self.now }
+    {
+        self.records.text()
     }
 }

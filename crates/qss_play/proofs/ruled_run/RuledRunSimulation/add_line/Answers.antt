@@ -1,5 +1,5 @@
 use Rattle.qss_play.proofs.RuledRuns.{row_known}
-use Rattle.qss_play.proofs.ruled_run.RuledRunSimulation.make_line.Goals as goal
+use Rattle.qss_play.proofs.ruled_run.RuledRunSimulation.add_line.Goals as goal
 
 pub passes-requires : goal.passes-requires
 passes-requires g c =

@@ -1,7 +1,7 @@
 use Rattle.qss_coupled.specs.Calls.{standing_of}
 use Rattle.qss_quant.specs.declared.rule.Rule.TheVariants.{Floor}
 use Rattle.qss_play.proofs.RuledRuns.{row_known}
-use Rattle.qss_play.proofs.coupled_run.CoupledRunSimulation.make_line.Goals as goal
+use Rattle.qss_play.proofs.coupled_run.CoupledRunSimulation.add_line.Goals as goal
 
 pub passes-requires : goal.passes-requires
 passes-requires g c =
