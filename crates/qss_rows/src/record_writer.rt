@@ -84,7 +84,9 @@ impl RecordWriter {
                 Ok(())
             }
             Err(e) => {
-                self.begin_anew();
+                renew(self.alloc, &mut self.writer);
+                self.from = 0;
+                self.is_finished = true;
                 Err(e)
             }
         }
