@@ -1,8 +1,8 @@
 use Rattle.std.proofs.Common.{◌≡◌, ℕ, List, ◌++◌, take, drop, refl, sym, ◌∙◌, ap, subst, append_assoc, rules}
-use Rattle.std.specs.Prelude.{Err}
+use Rattle.std.specs.Prelude.{Err, None}
 use Rattle.std.specs.Result.{result_err}
 use Rattle.std.proofs.KnownBytes.{Appends-trans}
-use Rattle.std.proofs.lemmas.List.{take-append-drop}
+use Rattle.std.proofs.lemmas.List.{take-append-drop, take_rest}
 use Rattle.qss_play.specs.Writings.{IsWriting}
 use Rattle.qss_play.proofs.WrittenLines.{part_stops}
 use Rattle.qss_play.proofs.written.write_lines.Goals as goal
@@ -11,12 +11,15 @@ pub loop-rest-preserved : goal.loop-rest-preserved
 loop-rest-preserved g c =
     let before = c.loop-rest.invariant.done in
     let n = c.first_length-length.result in
+    let rest = c.loop-rest.rest.now in
     let w = c.in_ok-write_bytes.ensures.written in
     record {
       done = (
-        before.0 ++ take n c.loop-rest.rest.now,
-        (append_assoc before.0 (take n c.loop-rest.rest.now) (drop n c.loop-rest.rest.now) ∙ (ap (λ (l : List ℕ). before.0 ++ l) (take-append-drop n c.loop-rest.rest.now) ∙ before.1.0),
-        Appends-trans (g.O.Sink.written c.args.out.now) (g.O.Sink.written c.loop-rest.out) (g.O.Sink.written c.write_bytes.new.out) before.0 (take n c.loop-rest.rest.now) before.1.1 (w.whole refl)),
+        before.0 ++ take n rest,
+        (
+          ap (λ (l : List ℕ). (before.0 ++ take n rest) ++ l) (take_rest rest n) ∙ (append_assoc before.0 (take n rest) (drop n rest) ∙ (ap (λ (l : List ℕ). before.0 ++ l) (take-append-drop n rest) ∙ before.1.0)),
+          Appends-trans (g.O.Sink.written c.args.out.now) (g.O.Sink.written c.loop-rest.out) (g.O.Sink.written c.write_bytes.new.out) before.0 (take n rest) before.1.1 (w.whole (refl {a = None})),
+        ),
       );
       calm = w.calm (λ e. absurd (cc)) ∙ c.loop-rest.invariant.calm;
     }
