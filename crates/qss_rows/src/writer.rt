@@ -1,10 +1,10 @@
 //! The lines of many rows.
 
-use crate::record::{FIRING_LENGTH, level_text, name_text, state_text, word};
+use crate::record::{FIRING_LENGTH, level_text, name_text, state_text, variable_name, word};
 use crate::record_writer::RecordWriter;
 use crate::tick_text::TickText;
 use itoa::Buffer;
-use qss_machine::{Machine, Row};
+use qss_machine::{Machine, Row, RowKind};
 use std::alloc::{AllocError, Global};
 
 /// Makes the lines of rows, by one writer of `csv` for many of them, and holds those since it was cleared. They can be read once it
@@ -23,6 +23,7 @@ impl LineWriter {
     ghost use Rattle.std.specs.Prelude.{◌≡◌, ◌<◌, ◌++◌, [], ◌∷◌, true, length, OnOk, OnErr};
     ghost use Rattle.csv.specs.Writing.{default_writer, row_text};
     ghost use Rattle.qss_rows.specs.Held.{lines_in, is_finished};
+    ghost use Rattle.qss_machine.specs.declared.rows.RowKind.TheVariants as kind;
     ghost use Rattle.qss_rows.specs.Lines as Spec;
 
     /// Holds no line yet.
@@ -52,8 +53,40 @@ impl LineWriter {
             (lines_in self.new ≡ lines_in self.old ++ Spec.line_of m.now r.now) }
         ensures err { OnErr result (lines_in self.new ≡ []) }
     {
-        let is_state = (r.var as usize) < m.states.as_slice().len();
         self.tick.set(r.tick);
+        match r.kind {
+            RowKind::Level => self.write_level(r, m),
+            _ => self.write_any(r, m),
+        }
+    }
+
+    // The same of a row whose kind prints all fields, as nearly all rows do, where the text of its tick is made.
+    fn write_level(&mut self, r: &Row, m: &Machine) -> Result<(), AllocError>
+        requires kind { r.now.kind ≡ kind.Level }
+        requires variable { Spec.HasVariable m.now r.now }
+        requires tick { self.old.tick.tick ≡ r.now.tick }
+        ensures ok { OnOk result
+            (lines_in self.new ≡ lines_in self.old ++ Spec.line_of m.now r.now) }
+        ensures err { OnErr result (lines_in self.new ≡ []) }
+    {
+        self.records.write_fields(
+            self.tick.text(),
+            word(RowKind::Level),
+            variable_name(m, r.var),
+            self.level.format(r.level).as_bytes(),
+            self.state.format(r.state).as_bytes(),
+        )
+    }
+
+    // The same of any row, where the text of its tick is made.
+    fn write_any(&mut self, r: &Row, m: &Machine) -> Result<(), AllocError>
+        requires variable { Spec.HasVariable m.now r.now }
+        requires tick { self.old.tick.tick ≡ r.now.tick }
+        ensures ok { OnOk result
+            (lines_in self.new ≡ lines_in self.old ++ Spec.line_of m.now r.now) }
+        ensures err { OnErr result (lines_in self.new ≡ []) }
+    {
+        let is_state = (r.var as usize) < m.states.as_slice().len();
         let name = name_text(m, r, &mut self.firing);
         self.records.write_fields(
             self.tick.text(),
