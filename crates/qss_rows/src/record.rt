@@ -14,13 +14,29 @@ use std::alloc::{AllocError, Global};
 /// The most bytes that the numbers of a clause and of its branch take, with a point between them.
 pub(crate) const FIRING_LENGTH: usize = 21;
 
+/// How many bytes a writer of `csv` writes, about, before a new one takes its place.
+pub(crate) const RENEWED: usize = 1 << 16;
+
+// How many bytes a vector has room for from the start: as many again may be written at once before the writer is renewed.
+const ROOM: usize = 2 * RENEWED;
+
+// A vector with nothing in it, and with room for what a writer writes where memory is found for that.
+fn with_room(alloc: Global) -> Vec<u8>
+    ensures { result.items ≡ [] }
+{
+    match Vec::with_capacity(alloc, ROOM) {
+        Ok(bytes) => bytes,
+        Err(_) => Vec::new(alloc),
+    }
+}
+
 /// A writer into memory that has written nothing.
 pub(crate) fn new_writer(alloc: Global) -> Writer<Vec<u8>>
     ensures between { IsBetween result }
     ensures empty { given_to result ≡ [] }
     ensures pending { writer_pending result ≡ [] }
 {
-    WriterBuilder::new().from_writer(Vec::new(alloc))
+    WriterBuilder::new().from_writer(with_room(alloc))
 }
 
 /// Puts a writer that has written nothing in the place of one. It is a function of its own so that a row

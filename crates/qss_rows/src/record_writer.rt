@@ -4,12 +4,9 @@ ghost use Rattle.std.specs.Prelude.{◌≡◌, ◌<◌, ◌≤◌, [], true, fal
 ghost use Rattle.csv.specs.Writing.{writer_pending};
 ghost use Rattle.qss_rows.specs.Writers.{IsBetween, given_to};
 
-use crate::record::{add_fields, new_writer, pass_on, renew};
+use crate::record::{RENEWED, add_fields, new_writer, pass_on, renew};
 use csv::Writer;
 use std::alloc::{AllocError, Global};
-
-// How many bytes a writer of `csv` writes, about, before a new one takes its place.
-const RENEWED: usize = 1 << 16;
 
 /// Makes records of five fields, by one writer of `csv` for many of them, and holds those since it was cleared. They can be
 /// read once it has finished.
