@@ -17,10 +17,10 @@ pub(crate) const FIRING_LENGTH: usize = 21;
 /// How many bytes a writer of `csv` writes, about, before a new one takes its place.
 pub(crate) const RENEWED: usize = 1 << 16;
 
-// How many bytes a vector has room for from the start: as many again may be written at once before the writer is renewed.
+// The room of a writer's vector from the start: for what is written before it is renewed, and as much for the event that passes that.
 const ROOM: usize = 2 * RENEWED;
 
-// A vector with nothing in it, and with room for what a writer writes where memory is found for that.
+// A vector with nothing in it, and with room from the start where memory is found for it.
 fn with_room(alloc: Global) -> Vec<u8>
     ensures { result.items ≡ [] }
 {

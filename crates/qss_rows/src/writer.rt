@@ -60,7 +60,7 @@ impl LineWriter {
         }
     }
 
-    // The same of a row whose kind prints all fields, as nearly all rows do, where the text of its tick is made.
+    // The same of a row that tells a level, as nearly all do, where the text of its tick is made.
     fn write_level(&mut self, r: &Row, m: &Machine) -> Result<(), AllocError>
         requires kind { r.now.kind ≡ kind.Level }
         requires variable { Spec.HasVariable m.now r.now }
