@@ -9,7 +9,7 @@ ghost use Rattle.qss_play.specs.Writings.{IsWriting};
 
 use crate::run_end::RunEnd;
 use crate::simulation::Simulation;
-use crate::written::{Stop, write_bytes, write_lines};
+use crate::written::{Stop, write_lines};
 use mu_io::Sink;
 use qss_rows::LineWriter;
 use std::alloc::AllocError;
@@ -39,8 +39,7 @@ fn write_rows<S: Simulation, O: Sink>(
         → StopsAtLine O.written [] (S.present sim.now) out.old out.new }
 {
     match make_lines(sim, lines) {
-        Ok(()) if sim.row_count() == 1 => write_bytes(lines.text(), out),
-        Ok(()) => write_lines(lines.text(), out),
+        Ok(()) => write_lines(lines.text(), sim.row_count(), out),
         Err(_) => Err(Stop::Memory),
     }
 }

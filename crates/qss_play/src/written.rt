@@ -1,6 +1,6 @@
 //! The writing of bytes.
 
-ghost use Rattle.std.specs.Prelude.{◌≡◌, ◌≢◌, ◌<◌, ◌≤◌, Some, length};
+ghost use Rattle.std.specs.Prelude.{◌≡◌, ◌≢◌, ◌≤◌, Some, length};
 ghost use Rattle.std.specs.Result.{result_err};
 ghost use Rattle.qss_play.specs.Writings.{IsWriting};
 
@@ -28,9 +28,7 @@ pub fn write_bytes<O: Sink>(bytes: &[u8], out: &mut O) -> Result<(), Stop>
 
 // The length of the first line: up to its line feed, or of all where there is none.
 fn first_length(lines: &[u8]) -> usize
-    requires { 0 < length lines.now }
-    ensures some { 0 < result }
-    ensures within { result ≤ length lines.now }
+    ensures { result ≤ length lines.now }
 {
     match memchr(b'\n', lines) {
         Some(at) => at + 1,
@@ -38,17 +36,17 @@ fn first_length(lines: &[u8]) -> usize
     }
 }
 
-/// Writes lines, each by a write of its own, or a prefix of them where the sink fails.
-pub(crate) fn write_lines<O: Sink>(lines: &[u8], out: &mut O) -> Result<(), Stop>
+/// Writes lines, at most so many, each by a write of its own, or a prefix of them where the sink fails.
+pub(crate) fn write_lines<O: Sink>(lines: &[u8], count: usize, out: &mut O) -> Result<(), Stop>
     ensures written { IsWriting O.written O.faults O.failed (result_err result) out.old out.new
         lines.now }
     ensures no_memory { result_err result ≢ Some Stop.Memory }
 {
     let mut rest = lines;
-    while !rest.is_empty() {
+    for _ in 1..count {
         let length = first_length(rest);
         write_bytes(&rest[..length], out)?;
         rest = &rest[length..];
     }
-    Ok(())
+    write_bytes(rest, out)
 }
