@@ -1,6 +1,6 @@
 //! The writing of bytes.
 
-ghost use Rattle.std.specs.Prelude.{◌≡◌, ◌≢◌, ◌≤◌, Some, length};
+ghost use Rattle.std.specs.Prelude.{◌≡◌, ◌≢◌, ℕ, ◌+◌, ◌-◌, ◌<◌, ◌≤◌, Some, length, slice_index};
 ghost use Rattle.std.specs.Result.{result_err};
 ghost use Rattle.qss_play.specs.Writings.{IsWriting};
 
@@ -26,17 +26,23 @@ pub fn write_bytes<O: Sink>(bytes: &[u8], out: &mut O) -> Result<(), Stop>
     }
 }
 
+// What ends a line.
+const LINE_FEED: u8 = b'\n';
+
 // The length of the first line: up to its line feed, or of all where there is none.
 fn first_length(lines: &[u8]) -> usize
-    ensures { result ≤ length lines.now }
+    ensures within { result ≤ length lines.now }
+    ensures whole { result < length lines.now → slice_index lines.now (result - 1) ≡ LINE_FEED }
+    ensures one { (k : ℕ) → k + 1 < result → slice_index lines.now k ≢ LINE_FEED }
 {
-    match memchr(b'\n', lines) {
+    match memchr(LINE_FEED, lines) {
         Some(at) => at + 1,
         None => lines.len(),
     }
 }
 
 /// Writes lines, at most so many, each by a write of its own, or a prefix of them where the sink fails.
+#[inline(always)]
 pub(crate) fn write_lines<O: Sink>(lines: &[u8], count: usize, out: &mut O) -> Result<(), Stop>
     ensures written { IsWriting O.written O.faults O.failed (result_err result) out.old out.new
         lines.now }
