@@ -89,22 +89,43 @@ fn rounded_up(n: i128, d: i128) -> i128
 }
 
 // 1 for an odd number and 0 for an even one.
-fn odd_of(z: i128) -> i128
-    ensures { result ≡ pos (unsigned_abs z % 2) }
+fn odd_of(z: i128) -> u64
+    ensures { result ≡ unsigned_abs z % 2 }
 {
-    i128::from(z % 2 != 0)
+    u64::from(z % 2 != 0)
 }
 
-// The quotient rounded down, or one more where the rest is more than half of `d`, or half of it and the quotient
-// is odd.
-fn nearer(n: i128, d: i128, quotient: i128) -> i128
-    requires positive { pos 0 <ℤ d }
-    requires floor { IsFloor n d quotient }
-    requires value { quotient ≡ floor_of n d }
+// What a shift to the right takes away.
+fn low_bits(n: i128, bits: u32) -> u64
+    requires { bits < 64 }
+    ensures value { pos result ≡ n -ℤ pos (2 ^ bits) *ℤ floor_of n (pos (2 ^ bits)) }
+    ensures bound { result < 2 ^ bits }
+{
+    (n.cast_unsigned() % (1 << bits)) as u64
+}
+
+// The nearest quotient by a power of two: rounded down by a shift, or one more where what that takes away is more than
+// half of the power, or half of it and the quotient is odd.
+fn shifted_near(n: i128, bits: u32) -> i128
+    requires { bits < 64 }
+    ensures { result ≡ nearest_of n (pos (2 ^ bits)) }
+{
+    let quotient = shifted_down(n, bits);
+    let rest = low_bits(n, bits);
+    if rest + odd_of(quotient) > (1 << bits) - rest {
+        return quotient + 1;
+    }
+    quotient
+}
+
+// The same by any number.
+fn divided_near(n: i128, d: i128) -> i128
+    requires { pos 0 <ℤ d }
     ensures { result ≡ nearest_of n d }
 {
+    let quotient = divided(n, d);
     let rest = rest_of(n, d, quotient);
-    if rest + odd_of(quotient) > d - rest {
+    if rest + i128::from(odd_of(quotient)) > d - rest {
         return quotient + 1;
     }
     quotient
@@ -116,7 +137,7 @@ fn rounded(n: i128, d: i128) -> i128
     ensures { result ≡ nearest_of n d }
 {
     match bits_of(d) {
-        Some(bits) => nearer(n, 1 << bits, shifted_down(n, bits)),
-        None => nearer(n, d, divided(n, d)),
+        Some(bits) => shifted_near(n, bits),
+        None => divided_near(n, d),
     }
 }
