@@ -1,15 +1,18 @@
 -- That the quotients of Rounding are the numbers that their inequalities allow.
-use Rattle.std.proofs.Common.{Bool, true, false, ◌≡◌, ℕ, zero, suc, ◌+◌, ◌*◌, ◌%◌, ◌≤◌, ℤ, pos, negsuc, ◌+ℤ◌, ◌-ℤ◌, ◌*ℤ◌, ◌≤ℤ◌, ◌<ℤ◌, neg_ℤ, refl, sym, ◌∙◌, ap, arith, ◌≢◌}
-use Rattle.std.proofs.lemmas.Int.{ints, unsigned_abs-mul}
+use Rattle.std.proofs.Common.{Bool, true, false, ◌≡◌, ℕ, zero, suc, ◌+◌, ◌-◌, ◌*◌, ◌%◌, ◌^◌, ◌≤◌, ◌<◌, ℤ, pos, negsuc, ◌+ℤ◌, ◌-ℤ◌, ◌*ℤ◌, ◌≤ℤ◌, ◌<ℤ◌, neg_ℤ, refl, sym, ◌∙◌, ap, arith, ◌≢◌}
+use Rattle.std.proofs.lemmas.Int.{ints, unsigned_abs-mul, int_rem_euclid_is}
+use Rattle.std.proofs.lemmas.Nat.{pow-add, pow_pos}
 use Rattle.std.proofs.Math.Nat.{mul-le-mul_right}
 use Rattle.std.proofs.Math.IntN.{*ℤ-one}
 use Rattle.mu_num.proofs.Integers.{mul-add, mul-neg, mul-above}
 use Rattle.mu_num.proofs.Tests.{if_cases, int_lt-true, int_lt-false, eqb-true, eqb-false}
-use Rattle.std.specs.Int.RustNames.{unsigned_abs, int_lt}
+use Rattle.std.specs.Int.RustNames.{unsigned_abs, int_lt, FitsSigned}
 use Rattle.std.specs.Prelude.{if◌then◌else◌}
 use Rattle.std.specs.Int.{int_rem_euclid}
 use Rattle.std.specs.Int.Signed.{shr_z}
 use Rattle.mu_num.specs.Rounding.{IsFloor, IsCeiling, IsNearest, floor_of, ceiling_of, nearest_of, even_of}
+use mir.Syntax.{w128}
+use mir.Val.{of_z}
 
 pub floor_meets : (n d : ℤ) → pos 0 <ℤ d → IsFloor n d (floor_of n d)
 floor_meets (pos a) (pos b) h = record { at_most = omega (arith, ints); greatest = omega (arith, ints) }
@@ -71,6 +74,14 @@ rem_is n (negsuc b) h = absurd (omega (arith, ints))
 
 pub rest_is : (n d q r : ℤ) → pos 0 <ℤ d → q ≡ floor_of n d → r ≡ n -ℤ d *ℤ q → r ≡ int_rem_euclid n d
 rest_is n d q r positive quotient rest = rest ∙ ap (λ q. n -ℤ d *ℤ q) quotient ∙ sym (rem_is n d positive)
+
+-- what the bits of a number leave, divided by a power of two
+pub low_is : (n : ℤ) (k : ℕ) → FitsSigned w128 n → k < 128 → pos (of_z w128 n % 2 ^ k) ≡ int_rem_euclid n (pos (2 ^ k))
+low_is (pos a) k fits below = refl
+low_is (negsuc a) k fits below =
+    let all : (128 - k) + k ≡ 128 = omega arith in
+    let parts : 2 ^ (128 - k) * 2 ^ k ≡ 2 ^ 128 = sym (pow-add 2 (128 - k) k) ∙ ap (λ m. 2 ^ m) all in
+    sym (int_rem_euclid_is (negsuc a) (pos (2 ^ k)) (2 ^ k) (2 ^ (128 - k)) (of_z w128 (negsuc a)) (pow_pos k) refl (omega (arith, ints, parts)))
 
 -- a quotient rounded to the nearest is hardly larger than what is divided
 pub nearest_bound : (n d q : ℤ) → pos 0 <ℤ d → IsNearest n d q → unsigned_abs q ≤ unsigned_abs n + unsigned_abs d

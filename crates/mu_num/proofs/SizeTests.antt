@@ -1,6 +1,8 @@
 -- What the test of a size says.
-use Rattle.std.proofs.Common.{◌≡◌, ℕ, false, ℤ, arith}
+use Rattle.std.proofs.Common.{◌≡◌, ℕ, ◌^◌, true, false, ℤ, pos, neg_ℤ, ◌<ℤ◌, ◌≤ℤ◌, arith}
+use Rattle.std.proofs.lemmas.Int.{ints}
 use Rattle.std.proofs.lemmas.Bool.Decides.{nat_tests}
+use Rattle.std.specs.Int.RustNames.{int_lt}
 use Rattle.mu_num.specs.Sizes.{IsWithin, passes}
 
 -- what does not pass is within
@@ -10,3 +12,11 @@ passes-within bits z e = grind (arith, nat_tests)
 -- what is within does not pass
 pub within-passes : (bits : ℕ) (z : ℤ) → IsWithin bits z → passes bits z ≡ false
 within-passes bits z h = grind (arith, nat_tests)
+
+-- what is above the greatest number within passes
+pub above-passes : (bits : ℕ) (z : ℤ) → pos (2 ^ bits) <ℤ z → passes bits z ≡ true
+above-passes bits z h = grind (arith, ints, nat_tests)
+
+-- one that is not above it passes where it is below the least
+pub below-passes : (bits : ℕ) (z least : ℤ) → least ≡ neg_ℤ (pos (2 ^ bits)) → z ≤ℤ pos (2 ^ bits) → int_lt z least ≡ passes bits z
+below-passes bits z least e high = grind (arith, ints, nat_tests)

@@ -1,7 +1,9 @@
 // Quotients of whole numbers, rounded down, up and to the nearest.
 
-ghost use Rattle.std.specs.Prelude.{◌≡◌, pos, ◌-ℤ◌, ◌*ℤ◌, ◌<ℤ◌, ◌≤ℤ◌};
+ghost use Rattle.std.specs.Prelude.{◌≡◌, ◌^◌, ◌%◌, ◌<◌, pos, ◌-ℤ◌, ◌*ℤ◌, ◌<ℤ◌, ◌≤ℤ◌, unsigned_abs, MatchOption};
 ghost use Rattle.mu_num.specs.Rounding.{IsFloor, IsCeiling, IsNearest, floor_of, ceiling_of, nearest_of};
+
+use crate::sizes::is_short;
 
 /// The greatest whole number at most `n / d`.
 pub fn floor_div(n: i128, d: i128) -> i128
@@ -9,11 +11,10 @@ pub fn floor_div(n: i128, d: i128) -> i128
     ensures floor { IsFloor n d result }
     ensures value { result ≡ floor_of n d }
 {
-    let bits = d.trailing_zeros();
-    if bits < 127 && d == 1 << bits {
-        return n >> bits;
+    match bits_of(d) {
+        Some(bits) => shifted_down(n, bits),
+        None => divided(n, d),
     }
-    n.div_euclid(d)
 }
 
 /// The least whole number at least `n / d`.
@@ -32,6 +33,38 @@ pub fn near_div(n: i128, d: i128) -> i128
     ensures value { result ≡ nearest_of n d }
 {
     rounded(n, d)
+}
+
+// Which power of two a number is, where it is one below 2^64.
+fn bits_of(d: i128) -> Option<u32>
+    ensures { MatchOption result Unit (λ bits. (bits < 64) × (d ≡ pos (2 ^ bits))) }
+{
+    if !is_short(d) {
+        return None;
+    }
+    let bits = (d as u64).trailing_zeros() % u64::BITS;
+    if 1 << bits != d as u64 {
+        return None;
+    }
+    Some(bits)
+}
+
+// The quotient by a power of two, by a shift.
+fn shifted_down(n: i128, bits: u32) -> i128
+    requires { bits < 64 }
+    ensures floor { IsFloor n (pos (2 ^ bits)) result }
+    ensures value { result ≡ floor_of n (pos (2 ^ bits)) }
+{
+    n >> bits
+}
+
+// The quotient by any number, by a division.
+fn divided(n: i128, d: i128) -> i128
+    requires { pos 0 <ℤ d }
+    ensures floor { IsFloor n d result }
+    ensures value { result ≡ floor_of n d }
+{
+    n.div_euclid(d)
 }
 
 // What a quotient rounded down leaves; the product may pass the range of numbers where the rest does not.
@@ -55,22 +88,56 @@ fn rounded_up(n: i128, d: i128) -> i128
     quotient + 1
 }
 
-// The quotient, or one more where the rest is more than half of `d`, or half of it and the quotient is odd.
+// 1 for an odd number and 0 for an even one.
+fn odd_of(z: i128) -> u64
+    ensures { result ≡ unsigned_abs z % 2 }
+{
+    u64::from(z % 2 != 0)
+}
+
+// What a shift to the right takes away.
+fn low_bits(n: i128, bits: u32) -> u64
+    requires { bits < 64 }
+    ensures value { pos result ≡ n -ℤ pos (2 ^ bits) *ℤ floor_of n (pos (2 ^ bits)) }
+    ensures bound { result < 2 ^ bits }
+{
+    (n.cast_unsigned() % (1 << bits)) as u64
+}
+
+// The nearest quotient by a power of two: rounded down by a shift, or one more where what that takes away is more than
+// half of the power, or half of it and the quotient is odd.
+fn shifted_near(n: i128, bits: u32) -> i128
+    requires { bits < 64 }
+    ensures { result ≡ nearest_of n (pos (2 ^ bits)) }
+{
+    let quotient = shifted_down(n, bits);
+    let rest = low_bits(n, bits);
+    if rest + odd_of(quotient) > (1 << bits) - rest {
+        return quotient + 1;
+    }
+    quotient
+}
+
+// The same by any number.
+fn divided_near(n: i128, d: i128) -> i128
+    requires { pos 0 <ℤ d }
+    ensures { result ≡ nearest_of n d }
+{
+    let quotient = divided(n, d);
+    let rest = rest_of(n, d, quotient);
+    if rest + i128::from(odd_of(quotient)) > d - rest {
+        return quotient + 1;
+    }
+    quotient
+}
+
+// The nearest quotient, by a shift where `d` is a power of two.
 fn rounded(n: i128, d: i128) -> i128
     requires { pos 0 <ℤ d }
     ensures { result ≡ nearest_of n d }
 {
-    let quotient = floor_div(n, d);
-    let rest = rest_of(n, d, quotient);
-    let gap = d - rest;
-    if rest < gap {
-        return quotient;
+    match bits_of(d) {
+        Some(bits) => shifted_near(n, bits),
+        None => divided_near(n, d),
     }
-    if gap < rest {
-        return quotient + 1;
-    }
-    if quotient % 2 == 0 {
-        return quotient;
-    }
-    quotient + 1
 }

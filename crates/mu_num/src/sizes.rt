@@ -1,14 +1,22 @@
 // Sizes of whole numbers, and powers of 2.
 
-ghost use Rattle.std.specs.Prelude.{◌≡◌, ◌^◌, ◌≤◌, pos, ◌*ℤ◌, unsigned_abs};
+ghost use Rattle.std.specs.Prelude.{◌≡◌, ◌^◌, ◌≤◌, pos, ◌*ℤ◌, ◌<ℤ◌, ◌≤ℤ◌, unsigned_abs, IsTrue, ◌↔◌};
 ghost use Rattle.mu_num.specs.Sizes.{passes};
+
+/// Whether a number is one of 64 bits without a sign.
+pub(crate) fn is_short(z: i128) -> bool
+    ensures { IsTrue result ↔ (pos 0 ≤ℤ z) × (z <ℤ pos (2 ^ 64)) }
+{
+    z >= 0 && z <= i128::from(u64::MAX)
+}
 
 /// Whether a number is more than 2^bits in size.
 pub fn passes(z: i128, bits: u8) -> bool
     requires { bits ≤ 126 }
     ensures { result ≡ passes bits z }
 {
-    z.unsigned_abs() > 1u128 << bits
+    let most = unit(bits);
+    z > most || z < -most
 }
 
 /// How many units of 2^-bits a whole one has: 2^bits.
