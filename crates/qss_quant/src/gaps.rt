@@ -1,5 +1,15 @@
-ghost use Rattle.std.specs.Prelude.{◌≡◌, pos, ◌*ℤ◌, ◌-ℤ◌, ◌<ℤ◌, unsigned_abs, IsTrue, ◌↔◌};
+ghost use Rattle.std.specs.Prelude.{◌≡◌, pos, ◌*ℤ◌, ◌+ℤ◌, ◌-ℤ◌, ◌<ℤ◌, unsigned_abs, IsTrue, ◌↔◌};
 ghost use Rattle.mu_num.specs.Sizes.{IsWithin, IsPositiveWithin};
+
+// One multiplication, since both fit in 64 bits.
+fn product(unit: i128, levels: i64) -> i128
+    requires unit { IsPositiveWithin 44 unit }
+    requires levels { IsWithin 44 levels }
+    ensures value { result ≡ unit *ℤ levels }
+    ensures bound { IsWithin 88 result }
+{
+    i128::from(unit as i64) * i128::from(levels)
+}
 
 /// So many levels in units of a state, of which a level has `unit`.
 pub fn in_units(levels: i64, unit: i128) -> i128
@@ -8,7 +18,7 @@ pub fn in_units(levels: i64, unit: i128) -> i128
     ensures value { result ≡ unit *ℤ levels }
     ensures bound { IsWithin 87 result }
 {
-    unit * i128::from(levels)
+    product(unit, levels)
 }
 
 /// How far a state is above its level.
@@ -20,6 +30,30 @@ pub(crate) fn gap_of(x: i128, level: i64, unit: i128) -> i128
     ensures bound { IsWithin 90 result }
 {
     x - in_units(level, unit)
+}
+
+/// How far a state may rise until it is a quantum above its level.
+pub(crate) fn room_above(x: i128, level: i64, quantum: i64, unit: i128) -> i128
+    requires state { IsWithin 89 x }
+    requires level { IsWithin 43 level }
+    requires quantum { IsWithin 43 quantum }
+    requires unit { IsPositiveWithin 44 unit }
+    ensures value { result ≡ unit *ℤ quantum -ℤ (x -ℤ unit *ℤ level) }
+    ensures bound { IsWithin 90 result }
+{
+    product(unit, quantum + level) - x
+}
+
+/// How far a state may fall until it is a quantum below its level.
+pub(crate) fn room_below(x: i128, level: i64, quantum: i64, unit: i128) -> i128
+    requires state { IsWithin 89 x }
+    requires level { IsWithin 43 level }
+    requires quantum { IsWithin 43 quantum }
+    requires unit { IsPositiveWithin 44 unit }
+    ensures value { result ≡ unit *ℤ quantum +ℤ (x -ℤ unit *ℤ level) }
+    ensures bound { IsWithin 90 result }
+{
+    product(unit, quantum - level) + x
 }
 
 /// A quantum in units of a state.

@@ -1,8 +1,9 @@
-ghost use Rattle.std.specs.Prelude.{pos, ◌^◌, ◌+ℤ◌, ◌*ℤ◌, ◌<ℤ◌, ◌≤ℤ◌, unsigned_abs};
-ghost use Rattle.mu_num.specs.Ticks.{FirstAfter, tick_limit};
-ghost use Rattle.mu_num.specs.Sizes.{IsWithin};
+ghost use Rattle.std.specs.Prelude.{pos, ◌+ℤ◌, ◌-ℤ◌, ◌*ℤ◌, ◌≤ℤ◌, unsigned_abs};
+ghost use Rattle.mu_num.specs.Ticks.{FirstAfter};
+ghost use Rattle.mu_num.specs.Sizes.{IsWithin, IsPositiveWithin};
+ghost use Rattle.qss_quant.specs.Lines.{IsNear};
 
-use crate::gaps::{gap_of, limit_of};
+use crate::gaps::{room_above, room_below};
 use crate::steps::Steps;
 use mu_num::{first_tick, tick_later};
 use std::marker::Model;
@@ -29,18 +30,23 @@ impl Model for Integrator {
     ghost inverse = { λ i. record { tick = i.tick; x = i.x; slope = i.slope; level = i.level } };
 }
 
-// The first tick from 1 on at which a number that rises by `speed` a tick is not below `limit`, where it is now.
-fn first_leaving(gap: i128, speed: i128, limit: i128) -> Option<u64>
-    requires gap { IsWithin 90 gap }
+// The first tick from 1 on at which a state that rises by `speed` a tick is not within the quantum of its level, where
+// it is now.
+fn first_leaving(x: i128, level: i64, speed: i128, quantum: i64, unit: i128) -> Option<u64>
+    requires state { IsWithin 89 x }
+    requires level { IsWithin 43 level }
     requires speed { IsWithin 88 speed }
-    requires inside { pos (unsigned_abs gap) <ℤ limit }
-    requires limit { limit ≤ℤ pos (2 ^ 87) }
-    ensures { FirstAfter (λ n. limit ≤ℤ pos (unsigned_abs (gap +ℤ pos n *ℤ speed))) 0 result }
+    requires quantum { IsWithin 43 quantum }
+    requires unit { IsPositiveWithin 44 unit }
+    requires near { IsNear unit x level quantum }
+    ensures { FirstAfter
+        (λ n. (unit *ℤ quantum) ≤ℤ pos (unsigned_abs ((x -ℤ unit *ℤ level) +ℤ pos n *ℤ speed)))
+        0 result }
 {
     if speed < 0 {
-        first_tick(limit + gap, -speed)
+        first_tick(room_below(x, level, quantum, unit), -speed)
     } else {
-        first_tick(limit - gap, speed)
+        first_tick(room_above(x, level, quantum, unit), speed)
     }
 }
 
@@ -58,11 +64,8 @@ impl Integrator {
         ensures { FirstAfter (λ tick. IsAway unit (state_at self.now tick) self.now.level quantum)
             self.now.tick result }
     {
-        let gap = gap_of(self.x, self.level, unit);
-        tick_later(
-            self.tick,
-            first_leaving(gap, self.slope, limit_of(quantum, unit)),
-        )
+        let ticks = first_leaving(self.x, self.level, self.slope, quantum, unit);
+        tick_later(self.tick, ticks)
     }
 
     /// The state at a tick.

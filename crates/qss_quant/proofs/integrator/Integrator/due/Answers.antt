@@ -27,17 +27,13 @@ due_from i unit quantum ticks h =
         let e : (i.tick + n) - i.tick ≡ n = omega arith in
         rw e (moved_gap i.x (pos n *ℤ i.slope) (unit *ℤ i.level))
 
-pub first_leaving-requires-clause-inside : goal.first_leaving-requires-clause-inside
-first_leaving-requires-clause-inside c =
+pub first_leaving-ticks-requires-clause-near : goal.first_leaving-ticks-requires-clause-near
+first_leaving-ticks-requires-clause-near c =
     let of_x : FitsSigned w128 c.self.inside.x = omega (arith, ints, c.self.invariant.small_state) in
     let of_level : FitsSigned w64 c.self.inside.level = omega (arith, ints, c.self.invariant.small_level) in
     let of_quantum = c.ranges.quantum in
     let of_unit = c.ranges.unit in
-    let of_gap : FitsSigned w128 c.gap_of-gap.result = record { sfits = c.gap_of-gap.type_inv } in
-    let of_limit : FitsSigned w128 c.limit_of.result = record { sfits = c.limit_of.type_inv } in
-    let gap : c.gap_of-gap.result ≡ c.self.inside.x -ℤ c.args.unit *ℤ c.self.inside.level = simp to_z-of_z at c.gap_of-gap.ensures.value in
-    let limit : c.limit_of.result ≡ c.args.unit *ℤ c.args.quantum = simp to_z-of_z at c.limit_of.ensures.value in
-    rw (to_z-of_z w128 c.gap_of-gap.result of_gap, to_z-of_z w128 c.limit_of.result of_limit, gap, limit) (rw (← c.self.view_is) at c.requires.near)
+    simp to_z-of_z (rw (← c.self.view_is) at c.requires.near)
 
 pub returns : goal.returns
 returns c =
@@ -46,10 +42,5 @@ returns c =
     let of_level : FitsSigned w64 c.self.inside.level = omega (arith, ints, c.self.invariant.small_level) in
     let of_quantum = c.ranges.quantum in
     let of_unit = c.ranges.unit in
-    let of_gap : FitsSigned w128 c.gap_of-gap.result = record { sfits = c.gap_of-gap.type_inv } in
-    let of_limit : FitsSigned w128 c.limit_of.result = record { sfits = c.limit_of.type_inv } in
-    let gap : c.gap_of-gap.result ≡ c.self.inside.x -ℤ c.args.unit *ℤ c.self.inside.level = simp to_z-of_z at c.gap_of-gap.ensures.value in
-    let limit : c.limit_of.result ≡ c.args.unit *ℤ c.args.quantum = simp to_z-of_z at c.limit_of.ensures.value in
-    let first : FirstAfter (λ n. c.limit_of.result ≤ℤ pos (unsigned_abs (c.gap_of-gap.result +ℤ pos n *ℤ c.self.inside.slope))) 0 c.first_leaving.result = simp to_z-of_z at c.first_leaving.ensures in
     let i : Line = record { tick = c.self.inside.tick; x = c.self.inside.x; slope = c.self.inside.slope; level = c.self.inside.level } in
-    rw (← c.self.view_is, c.tick_later.ensures) (due_from i c.args.unit c.args.quantum c.first_leaving.result (rw (gap, limit) at first))
+    rw (← c.self.view_is, c.tick_later.ensures) (due_from i c.args.unit c.args.quantum c.first_leaving-ticks.result (simp to_z-of_z at c.first_leaving-ticks.ensures))
