@@ -8,7 +8,7 @@ ghost use Rattle.qss_machine.specs.Limits.{IsRow};
 
 use crate::parts::SlopeRow;
 use crate::sums::{coefficient_among, product_sum};
-use mu_num::{near_div, passes, unit};
+use mu_num::{near_div, passes};
 
 /// A sum of products in units of a coefficient.
 pub(crate) fn scaled_down(sum: i128, level_bits: u8) -> i128
@@ -17,7 +17,7 @@ pub(crate) fn scaled_down(sum: i128, level_bits: u8) -> i128
     ensures value { result ≡ nearest_of sum (pos (2 ^ level_bits)) }
     ensures bound { unsigned_abs result ≤ 2 ^ 111 + 2 ^ 24 }
 {
-    near_div(sum, unit(level_bits))
+    near_div(sum, i128::from(1u64 << level_bits))
 }
 
 /// The coefficient of a state under these discrete values, from its own in the row.
@@ -43,6 +43,9 @@ pub(crate) fn mode_coefficient_from(
         return own;
     }
     let sum = product_sum(products, state_count, discretes, state);
+    if sum == 0 {
+        return own;
+    }
     own + scaled_down(sum, level_bits)
 }
 
