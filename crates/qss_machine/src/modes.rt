@@ -8,6 +8,7 @@ ghost use Rattle.qss_machine.specs.Limits.{IsRow};
 
 use crate::parts::SlopeRow;
 use crate::sums::{coefficient_among, product_sum};
+use crate::units::short_unit;
 use mu_num::{near_div, passes};
 
 // A sum of products in units of a coefficient.
@@ -17,7 +18,7 @@ fn scaled_down(sum: i128, level_bits: u8) -> i128
     ensures value { result ≡ nearest_of sum (pos (2 ^ level_bits)) }
     ensures bound { unsigned_abs result ≤ 2 ^ 111 + 2 ^ 24 }
 {
-    near_div(sum, i128::from(1u64 << level_bits))
+    near_div(sum, short_unit(level_bits))
 }
 
 /// The rounded products of a state. Most rows have none, so that this is not inlined where a row may have some.

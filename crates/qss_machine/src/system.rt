@@ -9,6 +9,7 @@ use crate::parts::{ClauseInfo, DiscreteInfo, Form, SlopeRow, StateInfo};
 use crate::quanta::quantum_from;
 use crate::slopes::row_slope;
 use crate::sums::coefficient_among;
+use crate::units::short_unit;
 use crate::weights::row_weight;
 use mu_io::Items;
 
@@ -128,7 +129,7 @@ impl Machine {
     pub fn level_unit(&self) -> i128
         ensures { result ≡ level_unit self.now }
     {
-        i128::from(1u64 << (self.p + self.k))
+        short_unit(self.p + self.k)
     }
 
     /// The quantum of a state at a level: the greater of its own and of the machine's share of the level's size.
