@@ -131,6 +131,9 @@ pub fn time_part(time: i64, tick: u64, bits: u8) -> i128
     ensures value { result ≡ time *ℤ pos (tick * 2 ^ bits) }
     ensures bound { unsigned_abs result ≤ unsigned_abs time * 2 ^ 88 }
 {
+    if time == 0 {
+        return 0;
+    }
     coefficient_times(time, moment(tick, bits))
 }
 

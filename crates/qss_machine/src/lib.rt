@@ -12,6 +12,7 @@ mod rows;
 mod slopes;
 mod sums;
 mod system;
+mod units;
 mod uses;
 mod weights;
 

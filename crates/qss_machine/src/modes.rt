@@ -3,21 +3,47 @@
 ghost use Rattle.std.specs.Prelude.{◌≡◌, ℕ, ◌+◌, ◌*◌, ◌^◌, ◌<◌, ◌≤◌, length, All, pos, unsigned_abs};
 ghost use Rattle.mu_num.specs.Rounding.{nearest_of};
 ghost use Rattle.mu_num.specs.Sizes.{IsWithin};
-ghost use Rattle.qss_machine.specs.Slopes.{coefficient_of, mode_coefficient, mode_fits};
+ghost use Rattle.qss_machine.specs.Slopes.{coefficient_of, products_of, mode_coefficient, mode_fits};
 ghost use Rattle.qss_machine.specs.Limits.{IsRow};
 
 use crate::parts::SlopeRow;
 use crate::sums::{coefficient_among, product_sum};
-use mu_num::{near_div, passes, unit};
+use crate::units::short_unit;
+use mu_num::{near_div, passes};
 
-/// A sum of products in units of a coefficient.
-pub(crate) fn scaled_down(sum: i128, level_bits: u8) -> i128
+// A sum of products in units of a coefficient.
+fn scaled_down(sum: i128, level_bits: u8) -> i128
     requires sum { IsWithin 111 sum }
     requires bits { level_bits ≤ 24 }
     ensures value { result ≡ nearest_of sum (pos (2 ^ level_bits)) }
     ensures bound { unsigned_abs result ≤ 2 ^ 111 + 2 ^ 24 }
 {
-    near_div(sum, unit(level_bits))
+    near_div(sum, short_unit(level_bits))
+}
+
+/// The rounded products of a state. Most rows have none, so that this is not inlined where a row may have some.
+#[inline(never)]
+pub(crate) fn rounded_products(
+    row: &SlopeRow,
+    level_bits: u8,
+    state_count: usize,
+    discretes: &[i64],
+    state: u32,
+) -> i128
+    requires bits { level_bits ≤ 24 }
+    requires few { state_count + length discretes.now ≤ 4096 }
+    requires row { IsRow state_count (length discretes.now) row.now }
+    requires small { All (IsWithin 43) discretes.now }
+    ensures value { result
+        ≡ nearest_of (products_of row.now.products state_count discretes.now state)
+        (pos (2 ^ level_bits)) }
+    ensures bound { unsigned_abs result ≤ 2 ^ 111 + 2 ^ 24 }
+{
+    let sum = product_sum(row.products.as_slice(), state_count, discretes, state);
+    if sum == 0 {
+        return 0;
+    }
+    scaled_down(sum, level_bits)
 }
 
 /// The coefficient of a state under these discrete values, from its own in the row.
@@ -38,12 +64,10 @@ pub(crate) fn mode_coefficient_from(
     ensures bound { IsWithin 112 result }
 {
     let own = i128::from(own);
-    let products = row.products.as_slice();
-    if products.is_empty() {
+    if row.products.as_slice().is_empty() {
         return own;
     }
-    let sum = product_sum(products, state_count, discretes, state);
-    own + scaled_down(sum, level_bits)
+    own + rounded_products(row, level_bits, state_count, discretes, state)
 }
 
 /// The coefficient of a state under these discrete values.

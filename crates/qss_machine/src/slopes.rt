@@ -8,31 +8,9 @@ ghost use Rattle.qss_machine.specs.Slopes.{products_of, mode_fits, slope_of};
 ghost use Rattle.qss_machine.specs.Limits.{IsRow};
 
 use crate::forms::add_three;
-use crate::modes::scaled_down;
+use crate::modes::rounded_products;
 use crate::parts::SlopeRow;
-use crate::sums::{entry_sum, product_sum};
-
-// The rounded products of a state.
-fn rounded_products(
-    row: &SlopeRow,
-    level_bits: u8,
-    state_count: usize,
-    discretes: &[i64],
-    state: u32,
-) -> i128
-    requires bits { level_bits ≤ 24 }
-    requires few { state_count + length discretes.now ≤ 4096 }
-    requires row { IsRow state_count (length discretes.now) row.now }
-    requires small { All (IsWithin 43) discretes.now }
-    ensures { result
-        ≡ nearest_of (products_of row.now.products state_count discretes.now state)
-        (pos (2 ^ level_bits)) }
-{
-    scaled_down(
-        product_sum(row.products.as_slice(), state_count, discretes, state),
-        level_bits,
-    )
-}
+use crate::sums::entry_sum;
 
 /// A number of at most 2^45 times a level.
 pub(crate) fn wide_term(coef: i128, level: i64) -> i128

@@ -114,9 +114,41 @@ fn product_term(product: Product, first: usize, discretes: &[i64]) -> i128
     )
 }
 
-/// The products of a state, each with the value of its discrete variable, added up. It halves the products to find
-/// the first of the state's.
+// The same where the product is of this state, else 0.
+fn term_of(product: Product, first: usize, discretes: &[i64], state: u32) -> i128
+    requires small { IsWithin 44 product.coef }
+    requires from { first ≤ product.discrete }
+    requires to { product.discrete < first + length discretes.now }
+    requires values { All (IsWithin 43) discretes.now }
+    ensures value { result
+        ≡ (if product.state == state then product.coef
+        *ℤ int_at discretes.now (product.discrete - first) else pos 0) }
+    ensures bound { unsigned_abs result ≤ 2 ^ 87 }
+{
+    if product.state == state {
+        product_term(product, first, discretes)
+    } else {
+        0
+    }
+}
+
+/// The products of a state, each with the value of its discrete variable, added up.
 pub(crate) fn product_sum(products: &[Product], first: usize, discretes: &[i64], state: u32) -> i128
+    requires few { length products.now ≤ 2 ^ 24 }
+    requires products { AreProducts first (length discretes.now) products.now }
+    requires small { All (λ product. IsWithin 44 product.coef) products.now }
+    requires values { All (IsWithin 43) discretes.now }
+    ensures value { result ≡ products_of products.now first discretes.now state }
+    ensures bound { IsWithin 111 result }
+{
+    if products.len() == 1 {
+        return term_of(products[0], first, discretes, state);
+    }
+    halved_sum(products, first, discretes, state)
+}
+
+// The same. It halves the products to find the first of the state's.
+fn halved_sum(products: &[Product], first: usize, discretes: &[i64], state: u32) -> i128
     requires few { length products.now ≤ 2 ^ 24 }
     requires products { AreProducts first (length discretes.now) products.now }
     requires small { All (λ product. IsWithin 44 product.coef) products.now }

@@ -6,12 +6,12 @@ ghost use Rattle.qss_machine.specs.Limits.{HasUnits, AreVariables, AreRows, AreC
 use crate::forms::{add_three, constant_part, form_sum, time_part};
 use crate::modes::{mode_coefficient_from, mode_coefficient_of, modes_fit};
 use crate::parts::{ClauseInfo, DiscreteInfo, Form, SlopeRow, StateInfo};
-use crate::quanta::{greater_of, share_of};
+use crate::quanta::quantum_from;
 use crate::slopes::row_slope;
 use crate::sums::coefficient_among;
+use crate::units::short_unit;
 use crate::weights::row_weight;
 use mu_io::Items;
-use mu_num::unit;
 
 /// A compiled model of whole numbers, within all its limits.
 #[derive(Drop)]
@@ -129,7 +129,7 @@ impl Machine {
     pub fn level_unit(&self) -> i128
         ensures { result ≡ level_unit self.now }
     {
-        unit(self.p + self.k)
+        short_unit(self.p + self.k)
     }
 
     /// The quantum of a state at a level: the greater of its own and of the machine's share of the level's size.
@@ -139,7 +139,7 @@ impl Machine {
         ensures { result ≡ quantum_of self.now state level }
     {
         let own = self.states.as_slice()[state as usize].quantum;
-        greater_of(own, share_of(level, self.relative))
+        quantum_from(own, level, self.relative)
     }
 
     /// The value of a form at states, discrete values, discrete values before the tick, and a tick, in units of
