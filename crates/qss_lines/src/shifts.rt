@@ -3,7 +3,7 @@
 ghost use Rattle.std.specs.Prelude.{◌≡◌, ℕ, ◌<◌, pos, ◌-ℤ◌, ◌*ℤ◌, length};
 ghost use Rattle.mu_num.specs.Sizes.{IsWithin};
 ghost use Rattle.qss_machine.specs.Numbers.{int_at};
-ghost use Rattle.qss_machine.specs.Machines.{state_count, row_at, row_coefficient, mode_coefficient_at};
+ghost use Rattle.qss_machine.specs.Machines.{state_count, row_coefficient, mode_coefficient_at};
 ghost use Rattle.qss_machine.specs.Uses.{reading_rows, uses_of};
 ghost use Rattle.qss_lines.specs.RowSums.{taken_by, HasFollowed};
 ghost use Rattle.qss_quiet.specs.Writes.{IsWritten};
@@ -11,7 +11,7 @@ ghost use Rattle.qss_lines.specs.declared.shifts.RowSum.TheVariants as sum;
 ghost use Rattle.qss_lines.specs.Visitings.{IsMode, CanShift, CanFollow, new_sums, new_slopes};
 
 use crate::visiting::{Mode, NewLevels};
-use qss_machine::{SlopeRow, Uses};
+use qss_machine::Uses;
 use qss_quant::Integrator;
 
 /// A sum of a row over levels, in units of 2^-(f+p+k): its slope, or its weight, which takes the sizes of all numbers.
@@ -57,9 +57,9 @@ fn shift(coefficient: i64, old: i64, new: i64) -> i128
     i128::from(coefficient) * i128::from(change)
 }
 
-// The mode coefficient of a state in a row, from its own there.
+// The mode coefficient of a state in a row, from its own there, which it is if the row has no products.
 #[inline(always)]
-fn mode_from(at: &Mode, own: i64, row: u32, state: u32) -> i64
+fn mode_in(at: &Mode, own: i64, row: u32, state: u32) -> i64
     requires mode { IsMode at.now }
     requires row { row < state_count at.now.machine.now }
     requires state { state < state_count at.now.machine.now }
@@ -68,30 +68,38 @@ fn mode_from(at: &Mode, own: i64, row: u32, state: u32) -> i64
         ≡ mode_coefficient_at at.now.machine.now row state at.now.discretes.now }
     ensures bound { IsWithin 44 result }
 {
-    at.machine.mode_coef_from(own, row, state, at.discretes) as i64
-}
-
-// The same where the row's right side is given: it is its own if there are no products.
-#[inline(always)]
-fn mode_in(at: &Mode, right_side: &SlopeRow, own: i64, row: u32, state: u32) -> i64
-    requires mode { IsMode at.now }
-    requires right_side { right_side.now ≡ row_at at.now.machine.now row }
-    requires row { row < state_count at.now.machine.now }
-    requires state { state < state_count at.now.machine.now }
-    requires own { own ≡ row_coefficient at.now.machine.now row state }
-    ensures value { result
-        ≡ mode_coefficient_at at.now.machine.now row state at.now.discretes.now }
-    ensures bound { IsWithin 44 result }
-{
+    let right_side = &at.machine.rows.as_slice()[row as usize];
     if right_side.products.as_slice().is_empty() {
         return own;
     }
-    mode_from(at, own, row, state)
+    at.machine.mode_coef_from(own, row, state, at.discretes) as i64
 }
 
-/// The sums of the rows that read a state follow where it takes another level.
+/// How much a row's sum changes where a state, of this coefficient there, takes another level.
 #[inline(always)]
-pub(crate) fn shift_rows(
+pub(crate) fn shift_of(
+    kind: RowSum,
+    at: &Mode,
+    own: i64,
+    row: u32,
+    state: u32,
+    old: i64,
+    new: i64,
+) -> i128
+    requires can { CanShift at.now state old new }
+    requires row { row < state_count at.now.machine.now }
+    requires own { own ≡ row_coefficient at.now.machine.now row state }
+    ensures value { result
+        ≡ taken_by kind (mode_coefficient_at at.now.machine.now row state at.now.discretes.now)
+        *ℤ (new -ℤ old) }
+    ensures bound { IsWithin 88 result }
+{
+    let mode = mode_in(at, own, row, state);
+    shift(taken_mode(kind, mode), old, new)
+}
+
+// The sums of the rows that read a state follow where it takes another level.
+fn shift_rows(
     kind: RowSum,
     at: &Mode,
     uses: &Uses,
@@ -111,12 +119,9 @@ pub(crate) fn shift_rows(
 {
     let rows = uses.rows_of(state);
     let coefficients = uses.coefficients_of(state);
-    let right_sides = at.machine.rows.as_slice();
     for place in 0..rows.len() {
         let row = rows[place];
-        let right_side = &right_sides[row as usize];
-        let mode = mode_in(at, right_side, coefficients[place], row, state);
-        let change = shift(taken_mode(kind, mode), old, new);
+        let change = shift_of(kind, at, coefficients[place], row, state, old, new);
         sums[row as usize] += change;
     }
 }

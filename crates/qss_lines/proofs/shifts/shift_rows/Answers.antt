@@ -48,13 +48,21 @@ bounds-coefficients-place c =
       readers_as_many c.args.at.now.machine.now c.args.state c.rows_of-rows.result.now c.coefficients_of-coefficients.result.now (rows_are read) (coefficients_are read),
     )
 
-pub mode_in-mode-requires-clause-own : goal.mode_in-mode-requires-clause-own
-mode_in-mode-requires-clause-own c =
+pub shift_of-change-requires-clause-can : goal.shift_of-change-requires-clause-can
+shift_of-change-requires-clause-can c = record {
+  mode = c.requires.can.mode;
+  known = c.requires.can.known;
+  small_old = rw (to_z-of_z w64 c.args.old c.ranges.old) c.requires.can.small_old;
+  small_new = rw (to_z-of_z w64 c.args.new c.ranges.new) c.requires.can.small_new;
+}
+
+pub shift_of-change-requires-clause-own : goal.shift_of-change-requires-clause-own
+shift_of-change-requires-clause-own c =
     let m = c.args.at.now.machine.now in
     let rows : List ℕ = c.rows_of-rows.result.now in
     let coefficients : List ℤ = c.coefficients_of-coefficients.result.now in
     let place = c.loop-place.place in
-    let read = (goal.at.mode_in-mode-requires-clause-own c).After-coefficients_of-coefficients in
+    let read = (goal.at.shift_of-change-requires-clause-own c).After-coefficients_of-coefficients in
     let own : int_at coefficients place ≡ row_coefficient m (get_or rows place 0) c.args.state =
     own_coefficient m c.args.state rows coefficients (rows_are read) (coefficients_are read) place c.loop-place-test.true in
     let small : IsWithin 44 (int_at coefficients place) =
@@ -71,9 +79,9 @@ overflow_add-sums c =
     let same : int_at c.loop-place.sums row ≡ int_at c.args.sums.now row = c.loop-place.invariant.written.others row (not_before rows i c.loop-place.invariant.known.rising c.loop-place-test.true) in
     let small : IsWithin 100 (int_at c.args.sums.now row) = c.requires.small_sums row known in
     let fits : FitsSigned w128 (int_at c.loop-place.sums row) = omega (arith, ints, same, small) in
-    let change : FitsSigned w128 c.shift-change.result = record { sfits = c.shift-change.type_inv } in
-    let bound : unsigned_abs c.shift-change.result ≤ 2 ^ 88 = c.shift-change.ensures.bound in
-    rw (to_z-of_z w128 (int_at c.loop-place.sums row) fits, to_z-of_z w128 c.shift-change.result change) (omega (arith, ints, same, small, bound))
+    let change : FitsSigned w128 c.shift_of-change.result = record { sfits = c.shift_of-change.type_inv } in
+    let bound : unsigned_abs c.shift_of-change.result ≤ 2 ^ 88 = c.shift_of-change.ensures.bound in
+    rw (to_z-of_z w128 (int_at c.loop-place.sums row) fits, to_z-of_z w128 c.shift_of-change.result change) (omega (arith, ints, same, small, bound))
 
 pub loop-place-preserved : goal.loop-place-preserved
 loop-place-preserved c =
@@ -86,22 +94,18 @@ loop-place-preserved c =
     let same : int_at c.loop-place.sums row ≡ int_at c.args.sums.now row = inv.written.others row (not_before rows i c.loop-place.invariant.known.rising c.loop-place-test.true) in
     let small : IsWithin 100 (int_at c.args.sums.now row) = c.requires.small_sums row known in
     let fits : FitsSigned w128 (int_at c.loop-place.sums row) = omega (arith, ints, same, small) in
-    let change : FitsSigned w128 c.shift-change.result = record { sfits = c.shift-change.type_inv } in
-    let bound : unsigned_abs c.shift-change.result ≤ 2 ^ 88 = c.shift-change.ensures.bound in
-    let sum : FitsSigned w128 (int_at c.loop-place.sums row +ℤ c.shift-change.result) = omega (arith, ints, same, small, bound) in
+    let change : FitsSigned w128 c.shift_of-change.result = record { sfits = c.shift_of-change.type_inv } in
+    let bound : unsigned_abs c.shift_of-change.result ≤ 2 ^ 88 = c.shift_of-change.ensures.bound in
+    let sum : FitsSigned w128 (int_at c.loop-place.sums row +ℤ c.shift_of-change.result) = omega (arith, ints, same, small, bound) in
     let inside : row < length c.loop-place.sums = omega (arith, known, inv.as_many) in
     let old : ℤ = to_z w64 (of_z w64 c.args.old) in
     let new : ℤ = to_z w64 (of_z w64 c.args.new) in
-    let value : ℤ = to_z w128 (of_z w128 (to_z w128 (of_z w128 (int_at c.loop-place.sums row)) +ℤ to_z w128 (of_z w128 c.shift-change.result))) in
-    let is : value ≡ int_at c.loop-place.sums row +ℤ c.shift-change.result =
-    rw (to_z-of_z w128 (int_at c.loop-place.sums row) fits, to_z-of_z w128 c.shift-change.result change) (to_z-of_z w128 (int_at c.loop-place.sums row +ℤ c.shift-change.result) sum) in
-    let taken : FitsSigned w64 c.taken_mode.result = record { sfits = c.taken_mode.type_inv } in
-    let mode : FitsSigned w64 c.mode_in-mode.result = record { sfits = c.mode_in-mode.type_inv } in
-    let coefficient : to_z w64 (of_z w64 c.taken_mode.result) ≡ taken_by c.args.kind (mode_coefficient_at m row c.args.state c.args.at.now.discretes.now) =
-    to_z-of_z w64 c.taken_mode.result taken ∙ c.taken_mode.ensures.value ∙ ap (taken_by c.args.kind) (to_z-of_z w64 c.mode_in-mode.result mode ∙ c.mode_in-mode.ensures.value) in
-    let own : c.shift-change.result ≡ taken_by c.args.kind (mode_coefficient_at m row c.args.state c.args.at.now.discretes.now) *ℤ (new -ℤ old) = c.shift-change.ensures.value ∙ ap (λ z. z *ℤ (new -ℤ old)) coefficient in
+    let value : ℤ = to_z w128 (of_z w128 (to_z w128 (of_z w128 (int_at c.loop-place.sums row)) +ℤ to_z w128 (of_z w128 c.shift_of-change.result))) in
+    let is : value ≡ int_at c.loop-place.sums row +ℤ c.shift_of-change.result =
+    rw (to_z-of_z w128 (int_at c.loop-place.sums row) fits, to_z-of_z w128 c.shift_of-change.result change) (to_z-of_z w128 (int_at c.loop-place.sums row +ℤ c.shift_of-change.result) sum) in
+    let own : c.shift_of-change.result ≡ taken_by c.args.kind (mode_coefficient_at m row c.args.state c.args.at.now.discretes.now) *ℤ (new -ℤ old) = c.shift_of-change.ensures.value in
     let here : HasFollowed c.args.kind m c.args.state old new c.args.at.now.discretes.now c.args.sums.now row value =
-    (is ∙ ap (λ z. z +ℤ c.shift-change.result) same ∙ ap (λ z. int_at c.args.sums.now row +ℤ z) own, omega (arith, ints, is, same, bound)) in
+    (is ∙ ap (λ z. z +ℤ c.shift_of-change.result) same ∙ ap (λ z. int_at c.args.sums.now row +ℤ z) own, omega (arith, ints, is, same, bound)) in
     record {
       written = written_more (pos 0) (HasFollowed c.args.kind m c.args.state old new c.args.at.now.discretes.now c.args.sums.now) rows c.args.sums.now c.loop-place.sums i value c.loop-place-test.true inside inv.written here;
       as_many = length-set c.loop-place.sums row value ∙ inv.as_many;
