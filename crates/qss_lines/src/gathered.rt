@@ -17,7 +17,7 @@ ghost use Rattle.qss_lines.specs.RowSums.{HasFollowed};
 ghost use Rattle.qss_lines.specs.declared.shifts.RowSum.TheVariants as sum;
 ghost use Rattle.qss_lines.specs.Visitings.{AreNewLevelsAt, CanGoOn, CanReslope, HaveGoneOn, quiet_slopes, WereSums};
 
-use crate::shifts::{RowSum, shift_rows};
+use crate::shifts::{RowSum, shift_of};
 use crate::visiting::{Mode, NewSlopes, QuietLevels};
 use qss_quant::{Integrator, Steps};
 use qss_quiet::leaving;
@@ -67,26 +67,56 @@ fn gather<L: Ledger>(
     }
 }
 
-// These states move to a tick and join the touched ones, unless they are there.
-fn gather_each<L: Ledger>(
-    tick: u64,
-    states: &[u32],
+// The slopes of the rows that read a state follow where it takes its level, from this one, and the states of these rows are
+// gathered.
+fn follow_rows<L: Ledger>(
+    at: &QuietLevels,
+    state: u32,
+    old: i64,
+    slopes: &mut [i128],
     lines: &mut [Integrator],
     touched: &mut Vec<u32>,
     steps: &mut Steps<L>,
 )
-    requires can { CanGather tick lines.old touched.old.items (vec_capacity touched.old) }
-    requires known { All (λ j. j < length lines.old) states.now }
-    ensures can { CanGather tick lines.new touched.new.items (vec_capacity touched.new) }
-    ensures gathered { AreGathered tick states.now
+    requires new { AreNewLevelsAt at.now.taken at.now.discretes.now }
+    requires state { state < state_count at.now.taken.machine.now }
+    requires old { IsWithin 43 old }
+    requires modes { (row : ℕ) → row < state_count at.now.taken.machine.now
+        → mode_fits at.now.taken.machine.now.f (state_count at.now.taken.machine.now)
+        (row_at at.now.taken.machine.now row) at.now.discretes.now ≡ true }
+    requires slopes { length slopes.old ≡ state_count at.now.taken.machine.now }
+    requires small_slopes { (j : ℕ) → j < state_count at.now.taken.machine.now
+        → IsWithin 100 (int_at slopes.old j) }
+    requires lines { length lines.old ≡ state_count at.now.taken.machine.now }
+    requires can { CanGather at.now.taken.tick lines.old touched.old.items
+        (vec_capacity touched.old) }
+    ensures slopes { IsWritten (pos 0)
+        (HasFollowed sum.Slope at.now.taken.machine.now state old
+        (int_at at.now.taken.levels.now state) at.now.discretes.now slopes.old)
+        (reading_rows at.now.taken.machine.now state) slopes.old slopes.new }
+    ensures can { CanGather at.now.taken.tick lines.new touched.new.items
+        (vec_capacity touched.new) }
+    ensures gathered { AreGathered at.now.taken.tick
+        (reading_rows at.now.taken.machine.now state)
         (record { lines = lines.old; touched = touched.old.items })
         (record { lines = lines.new; touched = touched.new.items }) }
     ensures counted { steps.new + length touched.old.items
         ≡ steps.old + length touched.new.items }
     ensures room { vec_capacity touched.new ≡ vec_capacity touched.old }
 {
-    for j in states {
-        gather(tick, *j, lines, touched, steps);
+    let mode = Mode {
+        machine: at.taken.machine,
+        discretes: at.discretes,
+    };
+    let rows = at.taken.uses.rows_of(state);
+    let coefficients = at.taken.uses.coefficients_of(state);
+    let new = at.taken.levels[state as usize];
+    for place in 0..rows.len() {
+        let row = rows[place];
+        let own = coefficients[place];
+        let change = shift_of(RowSum::Slope, &mode, own, row, state, old, new);
+        slopes[row as usize] += change;
+        gather(at.taken.tick, row, lines, touched, steps);
     }
 }
 
@@ -125,18 +155,10 @@ fn follow_level<L: Ledger>(
         ≡ steps.old + length touched.new.items }
     ensures room { vec_capacity touched.new ≡ vec_capacity touched.old }
 {
-    let j = state as usize;
-    let line = &lines[j];
+    let line = &lines[state as usize];
     let old = line.level;
-    let new = at.taken.levels[j];
-    let rows = at.taken.uses.rows_of(state);
-    let mode = Mode {
-        machine: at.taken.machine,
-        discretes: at.discretes,
-    };
-    shift_rows(RowSum::Slope, &mode, at.taken.uses, state, old, new, slopes);
     gather(at.taken.tick, state, lines, touched, steps);
-    gather_each(at.taken.tick, rows, lines, touched, steps);
+    follow_rows(at, state, old, slopes, lines, touched, steps);
 }
 
 // The slopes of all rows follow where the moved states take their levels, from those of their lines, and these states and those

@@ -8,7 +8,7 @@ ghost use Rattle.qss_machine.specs.Uses.{reading_rows, uses_of};
 ghost use Rattle.qss_lines.specs.RowSums.{taken_by, HasFollowed};
 ghost use Rattle.qss_quiet.specs.Writes.{IsWritten};
 ghost use Rattle.qss_lines.specs.declared.shifts.RowSum.TheVariants as sum;
-ghost use Rattle.qss_lines.specs.Visitings.{CanShift, CanFollow, new_sums, new_slopes};
+ghost use Rattle.qss_lines.specs.Visitings.{IsMode, CanShift, CanFollow, new_sums, new_slopes};
 
 use crate::visiting::{Mode, NewLevels};
 use qss_machine::Uses;
@@ -34,7 +34,7 @@ fn taken_level(kind: RowSum, level: i64) -> i64
 }
 
 // A mode coefficient as a sum takes it.
-fn taken_mode(kind: RowSum, coefficient: i128) -> i128
+fn taken_mode(kind: RowSum, coefficient: i64) -> i64
     requires { IsWithin 44 coefficient }
     ensures value { result ≡ taken_by kind coefficient }
     ensures bound { IsWithin 44 result }
@@ -46,7 +46,7 @@ fn taken_mode(kind: RowSum, coefficient: i128) -> i128
 }
 
 // A mode coefficient times the change of a level.
-fn shift(coefficient: i128, old: i64, new: i64) -> i128
+fn shift(coefficient: i64, old: i64, new: i64) -> i128
     requires coefficient { IsWithin 44 coefficient }
     requires old { IsWithin 43 old }
     requires new { IsWithin 43 new }
@@ -54,12 +54,38 @@ fn shift(coefficient: i128, old: i64, new: i64) -> i128
     ensures bound { IsWithin 88 result }
 {
     let change = new - old;
-    // One multiplication, since both fit in 64 bits.
-    i128::from(coefficient as i64) * i128::from(change)
+    i128::from(coefficient) * i128::from(change)
 }
 
-// How much a row's sum changes where a state, of this coefficient there, takes another level.
-fn shift_of(kind: RowSum, at: &Mode, own: i64, row: u32, state: u32, old: i64, new: i64) -> i128
+// The mode coefficient of a state in a row, from its own there, which it is if the row has no products.
+#[inline(always)]
+fn mode_in(at: &Mode, own: i64, row: u32, state: u32) -> i64
+    requires mode { IsMode at.now }
+    requires row { row < state_count at.now.machine.now }
+    requires state { state < state_count at.now.machine.now }
+    requires own { own ≡ row_coefficient at.now.machine.now row state }
+    ensures value { result
+        ≡ mode_coefficient_at at.now.machine.now row state at.now.discretes.now }
+    ensures bound { IsWithin 44 result }
+{
+    let right_side = &at.machine.rows.as_slice()[row as usize];
+    if right_side.products.as_slice().is_empty() {
+        return own;
+    }
+    at.machine.mode_coef_from(own, row, state, at.discretes) as i64
+}
+
+/// How much a row's sum changes where a state, of this coefficient there, takes another level.
+#[inline(always)]
+pub(crate) fn shift_of(
+    kind: RowSum,
+    at: &Mode,
+    own: i64,
+    row: u32,
+    state: u32,
+    old: i64,
+    new: i64,
+) -> i128
     requires can { CanShift at.now state old new }
     requires row { row < state_count at.now.machine.now }
     requires own { own ≡ row_coefficient at.now.machine.now row state }
@@ -68,12 +94,12 @@ fn shift_of(kind: RowSum, at: &Mode, own: i64, row: u32, state: u32, old: i64, n
         *ℤ (new -ℤ old) }
     ensures bound { IsWithin 88 result }
 {
-    let mode = at.machine.mode_coef_from(own, row, state, at.discretes);
+    let mode = mode_in(at, own, row, state);
     shift(taken_mode(kind, mode), old, new)
 }
 
-/// The sums of the rows that read a state follow where it takes another level.
-pub(crate) fn shift_rows(
+// The sums of the rows that read a state follow where it takes another level.
+fn shift_rows(
     kind: RowSum,
     at: &Mode,
     uses: &Uses,
