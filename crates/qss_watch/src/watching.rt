@@ -1,9 +1,11 @@
 //! Conditions at new speeds, where few states moved.
 
-ghost use Rattle.std.specs.Prelude.{◌≡◌, ℕ, ◌<◌, ◌≤◌, All, length, slice_index_or, []};
+ghost use Rattle.std.specs.Prelude.{◌≡◌, ℕ, ◌<◌, ◌≤◌, ◌^◌, All, length, slice_index_or, [], unsigned_abs};
+ghost use Rattle.mu_num.specs.Sizes.{IsWithin};
 ghost use Rattle.mu_num.specs.Ticks.{tick_limit};
 ghost use Rattle.qss_machine.specs.Handlers.{conditions};
-ghost use Rattle.qss_machine.specs.Machines.{state_count};
+ghost use Rattle.qss_machine.specs.Limits.{IsBounded};
+ghost use Rattle.qss_machine.specs.Machines.{state_count, speed_of};
 ghost use Rattle.qss_machine.specs.Uses.{uses_of};
 ghost use Rattle.qss_cross.specs.Crossing.{IsSmall, value_at};
 ghost use Rattle.qss_sched.specs.Ranks.{due_at};
@@ -12,8 +14,28 @@ ghost use Rattle.qss_watch.specs.Speeds.{HasSpeed, GoesOn, AreGoingOn, AreRewatc
 
 use crate::conditions::Conditions;
 use qss_cross::Detector;
-use qss_machine::{Machine, Uses};
+use qss_machine::{Form, Machine, Uses, coefficient_times};
 use qss_sched::Agenda;
+
+// How much a form changes in a tick at these slopes. Most forms are of one state, and not of time.
+#[inline(always)]
+fn speed_at(m: &Machine, form: &Form, slopes: &[i128]) -> i128
+    requires form { IsBounded form.now }
+    requires as_many { length slopes.now ≡ state_count m.now }
+    requires small { All (IsWithin 88) slopes.now }
+    ensures value { result ≡ speed_of m.now form.now slopes.now }
+    ensures bound { unsigned_abs result < 2 ^ 127 }
+{
+    if form.time == 0 {
+        if let [entry] = form.entries.as_slice() {
+            let var = entry.var as usize;
+            if var < slopes.len() {
+                return coefficient_times(entry.coef, slopes[var]);
+            }
+        }
+    }
+    m.form_speed(form, slopes)
+}
 
 // A watch goes on from a tick at a speed, and the agenda has the tick of its first change, if it had. Where it has the speed already,
 // it is left as it is.
@@ -50,7 +72,7 @@ impl Conditions {
         ensures same { self.new ≡ record self.old { watches = self.new.watches } }
     {
         let condition = self.condition(m, place);
-        let speed = m.form_speed(&condition.form, slopes);
+        let speed = speed_at(m, &condition.form, slopes);
         let entry = (slopes.len() + place as usize) as u32;
         let watches = self.watches.as_mut_slice();
         respeed(&mut watches[place as usize], tick, speed, entry, agenda);

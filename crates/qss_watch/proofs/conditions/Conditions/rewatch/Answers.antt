@@ -30,9 +30,9 @@ returns-clause-goes_on c =
     let ready = c.requires.ready in
     let n : length c.args.slopes.now ≡ state_count m = ready.slopes_of.as_many in
     let inside : place < length all.watches.items = omega (arith, ready.fits.watches, c.requires.place) in
-    let fits : FitsSigned w128 c.form_speed-speed.result = record { sfits = c.form_speed-speed.type_inv } in
+    let fits : FitsSigned w128 c.speed_at-speed.result = record { sfits = c.speed_at-speed.type_inv } in
     let own : c.condition-condition.result.now ≡ condition_at m place = c.condition-condition.ensures.value in
-    let speed = to_z-of_z w128 c.form_speed-speed.result fits ∙ c.form_speed-speed.ensures.value ∙ ap (λ (condition : Condition). speed_of m condition.form c.args.slopes.now) own in
+    let speed = to_z-of_z w128 c.speed_at-speed.result fits ∙ c.speed_at-speed.ensures.value ∙ ap (λ (condition : Condition). speed_of m condition.form c.args.slopes.now) own in
     let held : c.as_mut_slice-watches.result.now ≡ all.watches.items = c.as_mut_slice-watches.ensures.value in
     let read : get_or c.as_mut_slice-watches.result.now place c.index-watches-place.result ≡ watch_at all.watches.items place =
     ap (λ ws. get_or ws place c.index-watches-place.result) held ∙ get_or_default all.watches.items place c.index-watches-place.result no_watch inside in
@@ -44,7 +44,7 @@ returns-clause-goes_on c =
     λ entry e.
     subst (λ k. GoesOn c.args.tick (speed_of m (condition_at m place).form c.args.slopes.now) (watch_at all.watches.items place) c.respeed.new.watch (due_at c.args.agenda.now k) (due_at c.respeed.new.agenda k)) e
     (subst (λ z. GoesOn c.args.tick z (watch_at all.watches.items place) c.respeed.new.watch (due_at c.args.agenda.now (length c.args.slopes.now + place)) (due_at c.respeed.new.agenda (length c.args.slopes.now + place))) speed
-    (subst (λ (w : Watch). GoesOn c.args.tick (to_z w128 (of_z w128 c.form_speed-speed.result)) w c.respeed.new.watch (due_at c.args.agenda.now (length c.args.slopes.now + place)) (due_at c.respeed.new.agenda (length c.args.slopes.now + place))) read
+    (subst (λ (w : Watch). GoesOn c.args.tick (to_z w128 (of_z w128 c.speed_at-speed.result)) w c.respeed.new.watch (due_at c.args.agenda.now (length c.args.slopes.now + place)) (due_at c.respeed.new.agenda (length c.args.slopes.now + place))) read
     c.respeed.ensures.goes_on)) in
     subst (λ ws. AreGoingOn m c.args.tick c.args.slopes.now all.watches.items ws c.args.agenda.now c.respeed.new.agenda) (sym watches)
     (going_on_at m c.args.tick c.args.slopes.now all.watches.items c.args.agenda.now c.respeed.new.agenda place c.respeed.new.watch inside ready.small.later c.respeed.ensures.places
