@@ -5,7 +5,7 @@ use Rattle.std.proofs.lemmas.List.{get_or-set_same, get_or-set_other}
 use Rattle.std.proofs.Math.ListN.{length-set}
 use Rattle.std.specs.Option.{unwrap_or}
 use Rattle.std.specs.Prelude.{slice_set}
-use Rattle.qss_sched.specs.Ranks.{due_at, IsLeast, HasNone}
+use Rattle.qss_sched.specs.Ranks.{due_at, IsLeast, IsNextTick, HasNone}
 use Rattle.qss_sched.specs.Agendas.{nearer, joined, IsFirst, IsFirstAt, IsTaken, IsTakenAt, AreApart, HasNoneAt, IsBefore}
 use Rattle.qss_sched.proofs.Least.{has_place}
 
@@ -142,6 +142,26 @@ only_far near far (Some d) a n f = record {
   has = far_at near far a d.1 d.0 f.has;
   least = λ other t e. elim (either_at near far a other t e) [ inl g ↦ let none = n other in absurd (cc) | inr g ↦ f.least other t g ];
   first = λ other e. elim (either_at near far a other d.0 e) [ inl g ↦ let none = n other in absurd (cc) | inr g ↦ f.first other g ];
+}
+
+-- the next of the near due ticks up to the next of the far ones is the next of all
+pub next_joined : (near far : List (Option ℕ)) (last between tick : ℕ) → AreApart near far → IsNextTick far last between → IsNextTick near between tick →
+    IsNextTick (joined near far) last tick
+next_joined near far last between tick a f n = record {
+  at_most = omega (arith, n.at_most, f.at_most);
+  none_before = λ place later e.
+      elim (either_at near far a place later e) [
+        | inl g ↦ n.none_before place later g
+        | inr g ↦ let late = f.none_before place later g in omega (arith, late, n.at_most)
+      ];
+  reached = λ early.
+      elim (cases_lt tick between) [
+        | inl less ↦ let due = n.reached less in (due.0, near_at near far a due.0 tick due.1)
+        | inr past ↦
+            let same : between ≡ tick = omega (arith, past, n.at_most) in
+            let due = f.reached (omega (arith, same, early)) in
+            (due.0, far_at near far a due.0 tick (due.1 ∙ ap Some same))
+      ];
 }
 
 -- a near place that is taken before the first far one is the first of all

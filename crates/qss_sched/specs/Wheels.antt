@@ -50,9 +50,8 @@ HasNoPlace places = (slot place : ℕ) → slot < 64 → place < 4096 → place_
 abbrev pub HasNoPlaceAt : List ℕ → ℕ → Type 0
 HasNoPlaceAt places slot = (place : ℕ) → place < 4096 → place_bit places slot place ≡ 0
 
--- of the slots from one on, and on from the first after the last, the place is the first at the first slot that has one
-pub record IsEarliest (places : List ℕ) (from place : ℕ) : Type 0 where
-  pub later : ℕ
+-- of the slots from one on, and on from the first after the last, the first that has a place is so many later, and the place is the first at it
+pub record IsEarliest (places : List ℕ) (from later place : ℕ) : Type 0 where
   pub within : later < 64
   pub none : (fewer other : ℕ) → fewer < later → other < 4096 → place_bit places ((from + fewer) % 64) other ≡ 0
   pub is_first : IsFirstPlace places ((from + later) % 64) place

@@ -3,7 +3,7 @@ ghost use Rattle.std.specs.Prelude.{ℕ, Option};
 use crate::heap::replace;
 use crate::ranks::{
     is_at, is_same, no_ticks, numbers_below, place_of, put_tick, rank_of, ranks_without_ticks,
-    tick_of,
+    tick_before, tick_of,
 };
 use std::alloc::{AllocError, Global};
 use std::marker::Model;
@@ -29,7 +29,7 @@ impl Model for DueHeap {
 
 impl DueHeap {
     ghost use Rattle.std.specs.Prelude.{◌≡◌, ℕ, ◌<◌, ◌≤◌, ◌↔◌, IfOk, IsTrue, MatchOption, Some, length, slice_set};
-    ghost use Rattle.qss_sched.specs.Ranks.{due_at, IsLeast, HasNone};
+    ghost use Rattle.qss_sched.specs.Ranks.{due_at, IsLeast, IsNextTick, HasNone};
     ghost use Rattle.qss_sched.specs.Agendas.{IsFirstAt};
 
     /// A heap of n places without due ticks. It takes all the memory that it ever needs.
@@ -82,6 +82,17 @@ impl DueHeap {
             Some(tick) => Some((tick, place)),
             None => None,
         }
+    }
+
+    /// The least due tick, or `last` where none is due before it.
+    #[inline(always)]
+    pub(crate) fn next_tick(&self, last: u64) -> u64
+        ensures { IsNextTick self.now last result }
+    {
+        if self.ranks.is_empty() {
+            return last;
+        }
+        tick_before(self.ranks[0], last)
     }
 
     /// Whether a place is due at a tick, where nothing is due before it.

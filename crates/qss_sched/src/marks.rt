@@ -146,17 +146,20 @@ impl Marks {
         self.slots &= !(1u64 << slot);
     }
 
-    /// The first place at the first slot that has one, from a slot on and round to the one before.
+    /// How many slots after one the first slot that has a place comes, round to the one before, and
+    /// the first place at it.
     #[inline(always)]
-    pub(crate) fn first(&self, from: u32) -> Option<u32>
+    pub(crate) fn first(&self, from: u32) -> Option<(u32, u32)>
         requires { from < 64 }
-        ensures { MatchOption result (HasNoPlace self.now) (IsEarliest self.now from) }
+        ensures { MatchOption result (HasNoPlace self.now)
+            (λ first. IsEarliest self.now from first.0 first.1) }
     {
         if self.slots == 0 {
             return None;
         }
-        let slot = (from + first_slot(self.slots, from)) % SLOTS;
-        Some(first_place(&self.places, &self.groups, slot))
+        let later = first_slot(self.slots, from);
+        let slot = (from + later) % SLOTS;
+        Some((later, first_place(&self.places, &self.groups, slot)))
     }
 
     /// The first place at a slot.

@@ -106,7 +106,7 @@ fn take_first(due: &mut [Option<u64>], marks: &mut Marks, base: u64, places: u32
 
 impl Wheel {
     ghost use Rattle.std.specs.Prelude.{◌≡◌, ◌<◌, ◌≤◌, ℕ, if◌then◌else◌, IfOk, None, Some, length, slice_set};
-    ghost use Rattle.qss_sched.specs.Ranks.{due_at, IsLeast, HasNone};
+    ghost use Rattle.qss_sched.specs.Ranks.{due_at, IsLeast, IsNextTick, HasNone};
     ghost use Rattle.qss_sched.specs.Agendas.{IsFirst, IsTakenAt};
 
     /// A wheel of n places without due ticks.
@@ -168,13 +168,20 @@ impl Wheel {
         ensures { IsFirst self.now result }
     {
         let from = (self.base % SLOTS as u64) as u32;
-        let place = match self.marks.first(from) {
-            Some(place) => place,
-            None => return None,
-        };
-        match tick_of(&self.due, place) {
-            Some(tick) => Some((tick, place)),
+        match self.marks.first(from) {
+            Some((later, place)) => Some((self.base + later as u64, place)),
             None => None,
+        }
+    }
+
+    /// The least near due tick, or `last` where none is due before it.
+    #[inline(always)]
+    pub(crate) fn next_tick(&self, last: u64) -> u64
+        ensures { IsNextTick self.now last result }
+    {
+        match self.first() {
+            Some((tick, _)) => last.min(tick),
+            None => last,
         }
     }
 }
