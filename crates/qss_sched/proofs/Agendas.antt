@@ -49,7 +49,7 @@ either : (n f : Option ℕ) (tick : ℕ) → nearer n f ≡ Some tick → (n ≡
 either (Some t) f tick e = inl e
 either None f tick e = inr e
 
-either_at : (near far : List (Option ℕ)) → AreApart near far → (place tick : ℕ) → due_at (joined near far) place ≡ Some tick →
+pub either_at : (near far : List (Option ℕ)) → AreApart near far → (place tick : ℕ) → due_at (joined near far) place ≡ Some tick →
     (due_at near place ≡ Some tick) ⊎ (due_at far place ≡ Some tick)
 either_at near far a place tick e = either (due_at near place) (due_at far place) tick (sym (due_joined near far a.as_many place) ∙ e)
 

@@ -1,7 +1,7 @@
-ghost use Rattle.std.specs.Prelude.{◌≡◌, ℕ, ◌+◌, ◌<◌, ◌≤◌, Option, None, Some, length, slice_set};
+ghost use Rattle.std.specs.Prelude.{◌≡◌, ◌≢◌, ℕ, ◌+◌, ◌^◌, ◌<◌, ◌≤◌, Option, None, Some, length, slice_set, vec_capacity};
 ghost use Rattle.qss_sched.specs.Ranks.{due_at};
 ghost use Rattle.qss_sched.specs.Wheels.{IsWheel};
-ghost use Rattle.qss_sched.specs.Agendas.{IsTakenAt};
+ghost use Rattle.qss_sched.specs.Agendas.{AreTaken, IsTakenAt};
 
 use crate::marks::{Marks, NEAR_PLACES, SLOTS};
 use crate::ranks::{is_same, no_ticks, put_tick, tick_of};
@@ -104,10 +104,38 @@ fn take_first(due: &mut [Option<u64>], marks: &mut Marks, base: u64, places: u32
     }
 }
 
+// Takes what is due at the base at `count` places after the first ones out, rising, where nothing is
+// due at those then.
+#[inline(always)]
+fn take_each(
+    due: &mut [Option<u64>],
+    marks: &mut Marks,
+    base: u64,
+    first: u32,
+    count: u32,
+    taken: &mut Vec<u32>,
+)
+    requires wheel { IsWheel due.old marks.old base }
+    requires room { count ≤ vec_capacity taken.old }
+    requires few { first + count < 2 ^ 32 }
+    requires none_first { (place : ℕ) → place < first → due_at due.old place ≢ Some base }
+    ensures wheel { IsWheel due.new marks.new base }
+    ensures taken { AreTaken first count base due.old due.new taken.new.items }
+    ensures room { vec_capacity taken.new ≡ vec_capacity taken.old }
+{
+    taken.clear();
+    for _ in 0..count {
+        match take_first(due, marks, base, first + count) {
+            Some(place) => taken.push_reserved(place - first),
+            None => return,
+        }
+    }
+}
+
 impl Wheel {
-    ghost use Rattle.std.specs.Prelude.{◌≡◌, ◌<◌, ◌≤◌, ℕ, if◌then◌else◌, IfOk, None, Some, length, slice_set};
+    ghost use Rattle.std.specs.Prelude.{◌≡◌, ◌≢◌, ◌+◌, ◌^◌, ◌<◌, ◌≤◌, ℕ, if◌then◌else◌, IfOk, None, Some, length, slice_set, vec_capacity};
     ghost use Rattle.qss_sched.specs.Ranks.{due_at, IsLeast, IsNextTick, HasNone};
-    ghost use Rattle.qss_sched.specs.Agendas.{IsFirst, IsTakenAt};
+    ghost use Rattle.qss_sched.specs.Agendas.{AreTaken, IsFirst, IsTakenAt};
 
     /// A wheel of n places without due ticks.
     pub(crate) fn with_places(alloc: Global, n: u32) -> Result<Wheel, AllocError>
@@ -135,6 +163,25 @@ impl Wheel {
         }
         self.base = tick;
         take_first(&mut self.due, &mut self.marks, tick, places)
+    }
+
+    /// Takes what is due at a tick at `count` places after the first ones out, rising, where nothing is
+    /// due before it, and at the first ones nothing at it.
+    #[inline(always)]
+    pub(crate) fn take_all(&mut self, tick: u64, first: u32, count: u32, taken: &mut Vec<u32>)
+        requires room { count ≤ vec_capacity taken.old }
+        requires few { first + count < 2 ^ 32 }
+        requires none_before { (place due : ℕ) → due_at self.old place ≡ Some due → tick ≤ due }
+        requires none_first { (place : ℕ) → place < first → due_at self.old place ≢ Some tick }
+        ensures taken { AreTaken first count tick self.old self.new taken.new.items }
+        ensures room { vec_capacity taken.new ≡ vec_capacity taken.old }
+    {
+        if self.base > tick {
+            taken.clear();
+            return;
+        }
+        self.base = tick;
+        take_each(&mut self.due, &mut self.marks, tick, first, count, taken);
     }
 
     /// Gives a place this due tick and says so, or says that the tick is not near: then nothing
