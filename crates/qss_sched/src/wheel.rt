@@ -1,4 +1,4 @@
-ghost use Rattle.std.specs.Prelude.{◌≡◌, ◌≢◌, ℕ, ◌+◌, ◌^◌, ◌<◌, ◌≤◌, Option, None, Some, length, slice_set, vec_capacity};
+ghost use Rattle.std.specs.Prelude.{◌≡◌, ◌≢◌, ℕ, ◌+◌, ◌^◌, ◌<◌, ◌≤◌, ◌↔◌, IsTrue, Option, None, Some, length, slice_set, vec_capacity};
 ghost use Rattle.qss_sched.specs.Ranks.{due_at};
 ghost use Rattle.qss_sched.specs.Wheels.{IsWheel};
 ghost use Rattle.qss_sched.specs.Agendas.{AreTaken, IsTakenAt};
@@ -26,6 +26,14 @@ impl Model for Wheel {
     ghost view = { λ w. w.due.items };
 
     ghost invariant = { λ w. IsWheel w.due.items w.marks w.base };
+}
+
+// Whether a place's due tick is near.
+#[inline(always)]
+fn is_near(base: u64, place: u32, tick: u64) -> bool
+    ensures { IsTrue result ↔ ((place < 4096) × (base ≤ tick) × (tick < base + 64)) }
+{
+    place < NEAR_PLACES && tick >= base && tick - base < SLOTS as u64
 }
 
 // A place's near due tick goes.
@@ -70,8 +78,9 @@ fn put_in(due: &mut [Option<u64>], marks: &mut Marks, place: u32, tick: u64)
     marks.enter(place, (tick % SLOTS as u64) as u32);
 }
 
-// A place takes this near due tick in place of its own.
-#[inline(always)]
+// A place takes this near due tick in place of its own. Most ticks that are given are the place's own
+// or its first, so that this is not inlined.
+#[inline(never)]
 fn move_to(due: &mut [Option<u64>], marks: &mut Marks, place: u32, tick: u64)
     requires place { place < length due.old }
     requires near { place < 4096 }
@@ -184,6 +193,15 @@ impl Wheel {
         take_each(&mut self.due, &mut self.marks, tick, first, count, taken);
     }
 
+    /// A place's near due tick.
+    #[inline(always)]
+    pub(crate) fn tick(&self, place: u32) -> Option<u64>
+        requires { place < length self.now }
+        ensures { result ≡ due_at self.now place }
+    {
+        tick_of(&self.due, place)
+    }
+
     /// Gives a place this due tick and says so, or says that the tick is not near: then nothing
     /// changed.
     #[inline(always)]
@@ -191,12 +209,27 @@ impl Wheel {
         requires { place < length self.old }
         ensures { self.new ≡ (if result then slice_set self.old place (Some tick) else self.old) }
     {
-        if place >= NEAR_PLACES || tick < self.base || tick - self.base >= SLOTS as u64 {
+        if is_same(tick_of(&self.due, place), Some(tick)) {
+            return true;
+        }
+        if !is_near(self.base, place, tick) {
             return false;
         }
-        if !is_same(tick_of(&self.due, place), Some(tick)) {
-            move_to(&mut self.due, &mut self.marks, place, tick);
+        move_to(&mut self.due, &mut self.marks, place, tick);
+        true
+    }
+
+    /// The same, of a place that has no near due tick.
+    #[inline(always)]
+    pub(crate) fn enter(&mut self, place: u32, tick: u64) -> bool
+        requires place { place < length self.old }
+        requires none { due_at self.old place ≡ None }
+        ensures { self.new ≡ (if result then slice_set self.old place (Some tick) else self.old) }
+    {
+        if !is_near(self.base, place, tick) {
+            return false;
         }
+        put_in(&mut self.due, &mut self.marks, place, tick);
         true
     }
 
