@@ -8,16 +8,8 @@ use Rattle.std.specs.List.{All}
 use Rattle.std.specs.List.Sorted.{IsStrictlyIncreasing}
 use Rattle.std.specs.Prelude.{Option, Some, None}
 use Rattle.qss_sched.specs.Ranks.{due_at, IsLeast}
-use Rattle.qss_sched.specs.Agendas.{is_listed, joined, nearer, AreApart, AreRising, AreTaken, IsWithout}
+use Rattle.qss_sched.specs.Agendas.{is_listed, joined, nearer, AreApart, ArePartTaken, AreTaken, IsWithout}
 use Rattle.qss_sched.proofs.Agendas.{due_joined, length_joined, either_at, near_at}
-
--- of n places after the first ones some are taken that are due at a tick: those that are left come later, and are `count` or more after the first ones
-pub record ArePartTaken (first n count tick : ℕ) (old new : List (Option ℕ)) (found : List ℕ) : Type 0 where
-  pub numbers : AreRising n found
-  pub own : (j : ℕ) → is_listed found j ≡ true → due_at old (first + j) ≡ Some tick
-  pub out : IsWithout first found old new
-  pub ahead : (place : ℕ) → due_at new place ≡ Some tick → first + count ≤ place
-  pub beyond : (place : ℕ) → due_at new place ≡ Some tick → All (λ j. first + j < place) found
 
 -- one number more at the end
 listed_push : (numbers : List ℕ) (last j : ℕ) → is_listed (numbers ++ last ∷ []) j ≡ (is_listed numbers j || (eqb last j || false))

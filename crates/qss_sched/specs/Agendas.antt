@@ -1,5 +1,5 @@
 -- An agenda of near and far due ticks.
-use Rattle.std.specs.Prelude.{◌≡◌, ◌≢◌, ℕ, ◌+◌, ◌<◌, ◌⊎◌, Bool, true, false, ◌==◌, All, List, [], ◌∷◌, Option, Some, None, MatchOption, length, slice_set}
+use Rattle.std.specs.Prelude.{◌≡◌, ◌≢◌, ℕ, ◌+◌, ◌<◌, ◌≤◌, ◌⊎◌, Bool, true, false, ◌==◌, All, List, [], ◌∷◌, Option, Some, None, MatchOption, length, slice_set}
 use Rattle.std.specs.List.{list_any}
 use Rattle.std.specs.List.Sorted.{IsStrictlyIncreasing}
 use Rattle.qss_sched.specs.Ranks.{due_at, IsLeast, HasNone}
@@ -69,3 +69,11 @@ pub record AreTaken (first count tick : ℕ) (old new : List (Option ℕ)) (take
   pub own : (j : ℕ) → is_listed taken j ≡ true → due_at old (first + j) ≡ Some tick
   pub all : (j : ℕ) → j < count → due_at old (first + j) ≡ Some tick → is_listed taken j ≡ true
   pub out : IsWithout first taken old new
+
+-- of n places after the first ones some are taken that are due at a tick: those that are left come later, and are `count` or more after the first ones
+pub record ArePartTaken (first n count tick : ℕ) (old new : List (Option ℕ)) (found : List ℕ) : Type 0 where
+  pub numbers : AreRising n found
+  pub own : (j : ℕ) → is_listed found j ≡ true → due_at old (first + j) ≡ Some tick
+  pub out : IsWithout first found old new
+  pub ahead : (place : ℕ) → due_at new place ≡ Some tick → first + count ≤ place
+  pub beyond : (place : ℕ) → due_at new place ≡ Some tick → All (λ j. first + j < place) found

@@ -1,9 +1,9 @@
-ghost use Rattle.std.specs.Prelude.{◌≡◌, ◌≢◌, ℕ, ◌+◌, ◌^◌, ◌<◌, ◌≤◌, ◌↔◌, IsTrue, Option, None, Some, length, slice_set, vec_capacity};
+ghost use Rattle.std.specs.Prelude.{◌≡◌, ◌≢◌, ℕ, ◌+◌, ◌^◌, ◌<◌, ◌≤◌, ◌↔◌, ◌*◌, ◌%◌, IsTrue, List, Option, None, Some, length, slice_set, vec_len, vec_capacity};
 ghost use Rattle.qss_sched.specs.Ranks.{due_at};
-ghost use Rattle.qss_sched.specs.Wheels.{IsWheel};
-ghost use Rattle.qss_sched.specs.Agendas.{AreTaken, IsTakenAt};
+ghost use Rattle.qss_sched.specs.Wheels.{IsFirstGroup, IsWheel};
+ghost use Rattle.qss_sched.specs.Agendas.{ArePartTaken, AreTaken, IsTakenAt};
 
-use crate::marks::{Marks, NEAR_PLACES, SLOTS};
+use crate::marks::{Marks, NEAR_PLACES, SLOTS, WORD_BITS, lowest};
 use crate::ranks::{is_same, no_ticks, put_tick, tick_of};
 use std::alloc::{AllocError, Global};
 use std::marker::Model;
@@ -113,6 +113,47 @@ fn take_first(due: &mut [Option<u64>], marks: &mut Marks, base: u64, places: u32
     }
 }
 
+// Takes what is due at the base at the places of a group out, rising, as far as these are among
+// `count` places after the first ones. It gives those that are left, as bits.
+#[inline(always)]
+fn take_group(
+    due: &mut [Option<u64>],
+    marks: &Marks,
+    base: u64,
+    group: u32,
+    first: u32,
+    count: u32,
+    taken: &mut Vec<u32>,
+) -> u64
+    requires wheel { IsWheel due.old marks.now base }
+    requires group { IsFirstGroup marks.now (base % 64) group }
+    requires room { count ≤ vec_capacity taken.old }
+    requires few { first + count < 2 ^ 32 }
+    requires part { (old : List (Option ℕ))
+        × ArePartTaken first count (vec_len taken.old) base old due.old taken.old.items }
+    ensures wheel { IsWheel due.new (slice_set marks.now (64 * group + base % 64) result) base }
+    ensures part { (old : List (Option ℕ))
+        → ArePartTaken first count (vec_len taken.old) base old due.old taken.old.items
+        → ArePartTaken first count (vec_len taken.new) base old due.new taken.new.items }
+    ensures more { result ≡ 0 → vec_len taken.old < vec_len taken.new }
+    ensures rest { result ≢ 0
+        → (place : ℕ) → due_at due.new place ≡ Some base → first + count ≤ place }
+    ensures room { vec_capacity taken.new ≡ vec_capacity taken.old }
+{
+    let mut rest = marks.word(group, (base % SLOTS as u64) as u32);
+    while rest != 0 {
+        let bit = lowest(rest);
+        let place = WORD_BITS * group + bit;
+        if place >= first + count {
+            return rest;
+        }
+        put_tick(due, place, None);
+        taken.push_reserved(place - first);
+        rest &= !(1u64 << bit);
+    }
+    rest
+}
+
 // Takes what is due at the base at `count` places after the first ones out, rising, where nothing is
 // due at those then.
 #[inline(always)]
@@ -133,10 +174,16 @@ fn take_each(
     ensures room { vec_capacity taken.new ≡ vec_capacity taken.old }
 {
     taken.clear();
+    let slot = (base % SLOTS as u64) as u32;
     for _ in 0..count {
-        match take_first(due, marks, base, first + count) {
-            Some(place) => taken.push_reserved(place - first),
+        let group = match marks.group(slot) {
+            Some(group) => group,
             None => return,
+        };
+        let rest = take_group(due, marks, base, group, first, count, taken);
+        marks.keep(group, slot, rest);
+        if rest != 0 {
+            return;
         }
     }
 }

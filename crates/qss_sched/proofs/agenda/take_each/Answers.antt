@@ -1,8 +1,8 @@
 -- One more is taken.
 use Rattle.std.proofs.Common.{◌+◌, set, sym, ◌∙◌, subst, arith}
 use Rattle.std.specs.Prelude.{None}
-use Rattle.qss_sched.specs.Agendas.{joined}
-use Rattle.qss_sched.proofs.Takes.{ArePartTaken, none_before_still, one_taken}
+use Rattle.qss_sched.specs.Agendas.{joined, ArePartTaken}
+use Rattle.qss_sched.proofs.Takes.{none_before_still, one_taken}
 use Rattle.qss_sched.proofs.agenda.take_each.Goals as goal
 
 pub take_either-requires-clause-none_before : goal.take_either-requires-clause-none_before

@@ -1,7 +1,6 @@
 use Rattle.std.proofs.Common.{◌≡◌}
 use Rattle.std.specs.Prelude.{vec_len, vec_capacity}
-use Rattle.qss_sched.specs.Agendas.{joined, AreApart}
-use Rattle.qss_sched.proofs.Takes.{ArePartTaken}
+use Rattle.qss_sched.specs.Agendas.{joined, AreApart, ArePartTaken}
 use Rattle.qss_sched.proofs.agenda.take_each.Given as goal
 
 -- the places taken so far
