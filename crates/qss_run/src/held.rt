@@ -11,8 +11,5 @@ pub(crate) fn next_visit(agenda: &Agenda, last: u64) -> u64
     ensures none_before { (place tick : ℕ) → due_at agenda.now place ≡ Some tick → result ≤ tick }
     ensures reached { result < last → (place : ℕ) × (due_at agenda.now place ≡ Some result) }
 {
-    match agenda.next() {
-        Some((tick, _)) if tick < last => tick,
-        _ => last,
-    }
+    agenda.next_tick(last)
 }

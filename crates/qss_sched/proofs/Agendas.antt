@@ -1,11 +1,11 @@
 -- What comes first among near and far due ticks, and after one of them has changed.
-use Rattle.std.proofs.Common.{◌≡◌, ℕ, zero, suc, ◌<◌, ◌≤◌, inl, inr, ◌⊎◌, List, [], ◌∷◌, Option, Some, None, length, refl, sym, ◌∙◌, ap, subst, arith}
-use Rattle.std.proofs.lemmas.Bool.{cases_eq, cases_lt}
+use Rattle.std.proofs.Common.{Bool, true, false, ◌≡◌, ℕ, zero, suc, ◌<◌, ◌≤◌, inl, inr, ◌⊎◌, List, [], ◌∷◌, Option, Some, None, length, refl, sym, ◌∙◌, ap, subst, arith}
+use Rattle.std.proofs.lemmas.Bool.{both_ways, cases_eq, cases_lt}
 use Rattle.std.proofs.lemmas.List.{get_or-set_same, get_or-set_other}
 use Rattle.std.proofs.Math.ListN.{length-set}
 use Rattle.std.specs.Option.{unwrap_or}
-use Rattle.std.specs.Prelude.{slice_set}
-use Rattle.qss_sched.specs.Ranks.{due_at, IsLeast, HasNone}
+use Rattle.std.specs.Prelude.{is_some, if◌then◌else◌, slice_set}
+use Rattle.qss_sched.specs.Ranks.{due_at, IsLeast, IsNextTick, HasNone}
 use Rattle.qss_sched.specs.Agendas.{nearer, joined, IsFirst, IsFirstAt, IsTaken, IsTakenAt, AreApart, HasNoneAt, IsBefore}
 use Rattle.qss_sched.proofs.Least.{has_place}
 
@@ -28,13 +28,17 @@ set_joined (x ∷ near) [] e place n f inside = absurd (omega (arith, e))
 set_joined (x ∷ near) (y ∷ far) e zero n f inside = refl
 set_joined (x ∷ near) (y ∷ far) e (suc place) n f inside = ap (λ l. nearer x y ∷ l) (set_joined near far (omega (arith, e)) place n f (omega (arith, inside)))
 
--- a near due tick goes where there is no far one
-near_goes : (near far : List (Option ℕ)) → length near ≡ length far → (place : ℕ) → place < length near → due_at far place ≡ None →
-    joined (slice_set near place None) far ≡ slice_set (joined near far) place None
-near_goes [] far e place inside none = absurd (omega (arith, inside))
-near_goes (x ∷ near) [] e place inside none = absurd (omega (arith, e))
-near_goes (x ∷ near) (y ∷ far) e zero inside none = ap (λ d. d ∷ joined near far) none
-near_goes (x ∷ near) (y ∷ far) e (suc place) inside none = ap (λ l. nearer x y ∷ l) (near_goes near far (omega (arith, e)) place (omega (arith, inside)) none)
+nearer_none : (n : Option ℕ) → nearer n None ≡ n
+nearer_none (Some tick) = refl
+nearer_none None = refl
+
+-- a near due tick changes where there is no far one
+pub near_set : (near far : List (Option ℕ)) → length near ≡ length far → (place : ℕ) (n : Option ℕ) → place < length near → due_at far place ≡ None →
+    joined (slice_set near place n) far ≡ slice_set (joined near far) place n
+near_set [] far e place n inside none = absurd (omega (arith, inside))
+near_set (x ∷ near) [] e place n inside none = absurd (omega (arith, e))
+near_set (x ∷ near) (y ∷ far) e zero n inside none = ap (λ d. d ∷ joined near far) (ap (nearer n) none ∙ nearer_none n)
+near_set (x ∷ near) (y ∷ far) e (suc place) n inside none = ap (λ l. nearer x y ∷ l) (near_set near far (omega (arith, e)) place n (omega (arith, inside)) none)
 
 -- a far due tick goes where there is no near one
 far_goes : (near far : List (Option ℕ)) → length near ≡ length far → (place : ℕ) → place < length near → due_at near place ≡ None →
@@ -49,7 +53,7 @@ either : (n f : Option ℕ) (tick : ℕ) → nearer n f ≡ Some tick → (n ≡
 either (Some t) f tick e = inl e
 either None f tick e = inr e
 
-either_at : (near far : List (Option ℕ)) → AreApart near far → (place tick : ℕ) → due_at (joined near far) place ≡ Some tick →
+pub either_at : (near far : List (Option ℕ)) → AreApart near far → (place tick : ℕ) → due_at (joined near far) place ≡ Some tick →
     (due_at near place ≡ Some tick) ⊎ (due_at far place ≡ Some tick)
 either_at near far a place tick e = either (due_at near place) (due_at far place) tick (sym (due_joined near far a.as_many place) ∙ e)
 
@@ -144,6 +148,26 @@ only_far near far (Some d) a n f = record {
   first = λ other e. elim (either_at near far a other d.0 e) [ inl g ↦ let none = n other in absurd (cc) | inr g ↦ f.first other g ];
 }
 
+-- the next of the near due ticks up to the next of the far ones is the next of all
+pub next_joined : (near far : List (Option ℕ)) (last between tick : ℕ) → AreApart near far → IsNextTick far last between → IsNextTick near between tick →
+    IsNextTick (joined near far) last tick
+next_joined near far last between tick a f n = record {
+  at_most = omega (arith, n.at_most, f.at_most);
+  none_before = λ place later e.
+      elim (either_at near far a place later e) [
+        | inl g ↦ n.none_before place later g
+        | inr g ↦ let late = f.none_before place later g in omega (arith, late, n.at_most)
+      ];
+  reached = λ early.
+      elim (cases_lt tick between) [
+        | inl less ↦ let due = n.reached less in (due.0, near_at near far a due.0 tick due.1)
+        | inr past ↦
+            let same : between ≡ tick = omega (arith, past, n.at_most) in
+            let due = f.reached (omega (arith, same, early)) in
+            (due.0, far_at near far a due.0 tick (due.1 ∙ ap Some same))
+      ];
+}
+
 -- a near place that is taken before the first far one is the first of all
 pub near_taken : (near far new : List (Option ℕ)) (tick places place : ℕ) (later : Option ℕ) → AreApart near far →
     ((other due : ℕ) → due_at (joined near far) other ≡ Some due → tick ≤ due) → IsFirstAt far tick places later → IsTaken tick (unwrap_or later places) near new place →
@@ -157,7 +181,7 @@ near_taken near far new tick places place later a before f t = record {
   };
   without =
       ap (λ n. joined n far) t.without
-      ∙ near_goes near far a.as_many place (has_place near place tick t.least.has) (a.apart place tick t.least.has);
+      ∙ near_set near far a.as_many place None (has_place near place tick t.least.has) (a.apart place tick t.least.has);
 }
   where
     within : (l : Option ℕ) → IsFirstAt far tick places l → place < unwrap_or l places → place < places
@@ -217,3 +241,14 @@ still_apart near far new tick places (Some place) a t = record {
         | inr other_one ↦ a.apart other due (sym (ap (λ n. due_at n other) t.without ∙ get_or-set_other near place other None None other_one) ∙ e)
       ];
 }
+
+-- where a place has a near due tick it has no far one
+pub no_far : (near far : List (Option ℕ)) (place : ℕ) (due : Option ℕ) → AreApart near far → due ≡ due_at near place → is_some due ≡ true → due_at far place ≡ None
+no_far near far place None a e some = absurd (both_ways false refl some)
+no_far near far place (Some tick) a e some = a.apart place tick (sym e)
+
+-- a near due tick is given, or not
+pub near_given : (near far new : List (Option ℕ)) (place tick : ℕ) (given : Bool) → AreApart near far → place < length near → due_at far place ≡ None →
+    new ≡ (if given then slice_set near place (Some tick) else near) → joined new far ≡ (if given then slice_set (joined near far) place (Some tick) else joined near far)
+near_given near far new place tick true a inside none e = ap (λ n. joined n far) e ∙ near_set near far a.as_many place (Some tick) inside none
+near_given near far new place tick false a inside none e = ap (λ n. joined n far) e

@@ -147,9 +147,8 @@ no_place places groups slots a zero slot place hs small =
     unmarked_slot places groups slots a slot place hs small (ap (λ n. bit_at n slot) zero ∙ bit_at-zero slot)
 
 pub earliest : (places groups : List ℕ) (slots from later place : ℕ) → AreMarks places groups slots → IsFirstSlot slots from later → IsFirstPlace places ((from + later) % 64) place →
-    IsEarliest places from place
+    IsEarliest places from later place
 earliest places groups slots from later place a fs fp = record {
-  later = later;
   within = fs.within;
   none = λ fewer other h small. unmarked_slot places groups slots a ((from + fewer) % 64) other (omega arith) small (fs.first fewer h);
   is_first = fp;

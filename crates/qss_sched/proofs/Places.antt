@@ -1,5 +1,5 @@
 -- Places come to slots and leave them.
-use Rattle.std.proofs.Common.{◌≡◌, ◌≢◌, ℕ, ◌+◌, ◌*◌, ◌/◌, ◌%◌, ◌^◌, ◌<◌, inl, inr, List, bit_and, bit_or, sym, ◌∙◌, ap, arith, w64}
+use Rattle.std.proofs.Common.{◌≡◌, ◌≢◌, ℕ, ◌+◌, ◌*◌, ◌/◌, ◌%◌, ◌^◌, ◌<◌, inl, inr, List, length, bit_and, bit_or, sym, ◌∙◌, ap, arith, w64}
 use Rattle.std.proofs.lemmas.Bool.{cases_eq}
 use Rattle.std.proofs.lemmas.Nat.Bits.{bit_at-zero, bit_at_set_same, bit_at_set_other, bit_at_clear_same, bit_at_clear_other}
 use Rattle.std.specs.Prelude.{slice_index}
@@ -78,62 +78,62 @@ others_kept places new_places place slot value near mp s p hs hp apart =
       | inr n ↦ ap (λ w. bit_at w (p % 64)) (mp.apart (64 * (p / 64) + s) n)
     ]
 
--- a place leaves a word that has others
-left_grouped_some : (places groups new_places : List ℕ) (place slot : ℕ) → IsGrouped places groups → place < 4096 → slot < 64 →
-    IsBitPut places new_places (64 * (place / 64) + slot) (place % 64) 0 → place_bit places slot place ≡ 1 →
-    slice_index new_places (64 * (place / 64) + slot) ≢ 0 → IsGrouped new_places groups
-left_grouped_some places groups new_places place slot a small near mp there left = record {
-  many_places = mp.as_many ∙ a.many_places;
+-- a word changes, and some places stay
+pub kept_grouped : (places groups new_places : List ℕ) (group slot : ℕ) → IsGrouped places groups → group < 64 → slot < 64 →
+    length new_places ≡ length places → ((k : ℕ) → k ≢ 64 * group + slot → slice_index new_places k ≡ slice_index places k) →
+    slice_index places (64 * group + slot) ≢ 0 → slice_index new_places (64 * group + slot) ≢ 0 → IsGrouped new_places groups
+kept_grouped places groups new_places group slot a small near many apart before left = record {
+  many_places = many ∙ a.many_places;
   many_groups = a.many_groups;
   marked = λ s g hs hg some.
-      elim (cases_eq (64 * g + s) (64 * (place / 64) + slot)) [
-        | inl same ↦ a.marked s g hs hg (λ z. some_word (slice_index places (64 * (place / 64) + slot)) (place % 64) there (sym (ap (slice_index places) same) ∙ z))
-        | inr other ↦ a.marked s g hs hg (λ z. some (mp.apart (64 * g + s) other ∙ z))
+      elim (cases_eq (64 * g + s) (64 * group + slot)) [
+        | inl same ↦ a.marked s g hs hg (λ z. before (sym (ap (slice_index places) same) ∙ z))
+        | inr other ↦ a.marked s g hs hg (λ z. some (apart (64 * g + s) other ∙ z))
       ];
   some = λ s g hs hg bit.
-      elim (cases_eq (64 * g + s) (64 * (place / 64) + slot)) [
+      elim (cases_eq (64 * g + s) (64 * group + slot)) [
         | inl same ↦ λ z. left (sym (ap (slice_index new_places) same) ∙ z)
-        | inr other ↦ λ z. a.some s g hs hg bit (sym (mp.apart (64 * g + s) other) ∙ z)
+        | inr other ↦ λ z. a.some s g hs hg bit (sym (apart (64 * g + s) other) ∙ z)
       ];
 }
 
 -- the last place leaves a word
-left_grouped_none : (places groups new_places new_groups : List ℕ) (place slot : ℕ) → IsGrouped places groups → place < 4096 → slot < 64 →
-    IsBitPut places new_places (64 * (place / 64) + slot) (place % 64) 0 → IsBitPut groups new_groups slot (place / 64) 0 →
-    slice_index new_places (64 * (place / 64) + slot) ≡ 0 → IsGrouped new_places new_groups
-left_grouped_none places groups new_places new_groups place slot a small near mp mg none = record {
-  many_places = mp.as_many ∙ a.many_places;
+pub gone_grouped : (places groups new_places new_groups : List ℕ) (group slot : ℕ) → IsGrouped places groups → group < 64 → slot < 64 →
+    length new_places ≡ length places → ((k : ℕ) → k ≢ 64 * group + slot → slice_index new_places k ≡ slice_index places k) → IsBitPut groups new_groups slot group 0 →
+    slice_index new_places (64 * group + slot) ≡ 0 → IsGrouped new_places new_groups
+gone_grouped places groups new_places new_groups group slot a small near many apart mg none = record {
+  many_places = many ∙ a.many_places;
   many_groups = mg.as_many ∙ a.many_groups;
   marked = λ s g hs hg some.
-      elim (cases_eq (64 * g + s) (64 * (place / 64) + slot)) [
+      elim (cases_eq (64 * g + s) (64 * group + slot)) [
         | inl same ↦ absurd (some (ap (slice_index new_places) same ∙ none))
-        | inr other ↦ kept s g hs hg other ∙ a.marked s g hs hg (λ z. some (mp.apart (64 * g + s) other ∙ z))
+        | inr other ↦ kept s g hs hg other ∙ a.marked s g hs hg (λ z. some (apart (64 * g + s) other ∙ z))
       ];
   some = λ s g hs hg bit.
-      elim (cases_eq (64 * g + s) (64 * (place / 64) + slot)) [
+      elim (cases_eq (64 * g + s) (64 * group + slot)) [
         | inl same ↦ λ z. gone s g hs same bit
-        | inr other ↦ λ z. a.some s g hs hg (sym (kept s g hs hg other) ∙ bit) (sym (mp.apart (64 * g + s) other) ∙ z)
+        | inr other ↦ λ z. a.some s g hs hg (sym (kept s g hs hg other) ∙ bit) (sym (apart (64 * g + s) other) ∙ z)
       ];
 }
   where
-    kept : (s g : ℕ) → s < 64 → g < 64 → (64 * g + s ≢ 64 * (place / 64) + slot) → bit_at (slice_index new_groups s) g ≡ bit_at (slice_index groups s) g
+    kept : (s g : ℕ) → s < 64 → g < 64 → (64 * g + s ≢ 64 * group + slot) → bit_at (slice_index new_groups s) g ≡ bit_at (slice_index groups s) g
     kept s g hs hg other =
         elim (cases_eq s slot) [
           | inl e ↦
-              let apart : g ≢ place / 64 = λ f. other (omega (arith, e, f)) in
-              ap (λ k. bit_at (slice_index new_groups k) g) e ∙ (mg.others g hg apart ∙ sym (ap (λ k. bit_at (slice_index groups k) g) e))
+              let different : g ≢ group = λ f. other (omega (arith, e, f)) in
+              ap (λ k. bit_at (slice_index new_groups k) g) e ∙ (mg.others g hg different ∙ sym (ap (λ k. bit_at (slice_index groups k) g) e))
           | inr n ↦ ap (λ w. bit_at w g) (mg.apart s n)
         ]
 
-    gone : (s g : ℕ) → s < 64 → 64 * g + s ≡ 64 * (place / 64) + slot → bit_at (slice_index new_groups s) g ≡ 1 → ⊥
+    gone : (s g : ℕ) → s < 64 → 64 * g + s ≡ 64 * group + slot → bit_at (slice_index new_groups s) g ≡ 1 → ⊥
     gone s g hs same bit =
-        let es = word_slot (place / 64) slot g s near hs same in
-        let eg = word_group (place / 64) slot g s near hs same in
+        let es = word_slot group slot g s near hs same in
+        let eg = word_group group slot g s near hs same in
         let zero : bit_at (slice_index new_groups s) g ≡ 0 = ap (λ k. bit_at (slice_index new_groups k) g) es ∙ (ap (bit_at (slice_index new_groups slot)) eg ∙ mg.takes) in
         omega (arith, zero, bit)
 
 -- the last group of a slot is not left
-left_slotted_some : (groups new_groups : List ℕ) (slots slot group : ℕ) → IsSlotted groups slots → slot < 64 → IsBitPut groups new_groups slot group 0 →
+pub left_slotted_some : (groups new_groups : List ℕ) (slots slot group : ℕ) → IsSlotted groups slots → slot < 64 → IsBitPut groups new_groups slot group 0 →
     slice_index groups slot ≢ 0 → slice_index new_groups slot ≢ 0 → IsSlotted new_groups slots
 left_slotted_some groups new_groups slots slot group a near mg before left = record {
   marked = λ s hs some.
@@ -148,7 +148,7 @@ left_slotted_some groups new_groups slots slot group a near mg before left = rec
       ];
 }
 
-left_slotted_none : (groups new_groups : List ℕ) (slots new_slots slot group : ℕ) → IsSlotted groups slots → slot < 64 → IsBitPut groups new_groups slot group 0 →
+pub left_slotted_none : (groups new_groups : List ℕ) (slots new_slots slot group : ℕ) → IsSlotted groups slots → slot < 64 → IsBitPut groups new_groups slot group 0 →
     slice_index new_groups slot ≡ 0 → bit_at new_slots slot ≡ 0 → ((i : ℕ) → i < 64 → i ≢ slot → bit_at new_slots i ≡ bit_at slots i) → IsSlotted new_groups new_slots
 left_slotted_none groups new_groups slots new_slots slot group a near mg none own others = record {
   marked = λ s hs some.
@@ -178,7 +178,8 @@ pub left_word : (places groups new_places : List ℕ) (slots place slot : ℕ) �
     IsBitPut places new_places (64 * (place / 64) + slot) (place % 64) 0 → slice_index new_places (64 * (place / 64) + slot) ≢ 0 →
     AreMarks new_places groups slots
 left_word places groups new_places slots place slot a small near there mp some = record {
-  grouped = left_grouped_some places groups new_places place slot a.grouped small near mp there some;
+  grouped = kept_grouped places groups new_places (place / 64) slot a.grouped (omega (arith, small)) near mp.as_many mp.apart
+      (some_word (slice_index places (64 * (place / 64) + slot)) (place % 64) there) some;
   slotted = a.slotted;
 }
 
@@ -187,7 +188,7 @@ pub left_group : (places groups new_places new_groups : List ℕ) (slots place s
     IsBitPut places new_places (64 * (place / 64) + slot) (place % 64) 0 → slice_index new_places (64 * (place / 64) + slot) ≡ 0 →
     IsBitPut groups new_groups slot (place / 64) 0 → slice_index new_groups slot ≢ 0 → AreMarks new_places new_groups slots
 left_group places groups new_places new_groups slots place slot a small near there mp none mg some = record {
-  grouped = left_grouped_none places groups new_places new_groups place slot a.grouped small near mp mg none;
+  grouped = gone_grouped places groups new_places new_groups (place / 64) slot a.grouped (omega (arith, small)) near mp.as_many mp.apart mg none;
   slotted =
       let word = some_word (slice_index places (64 * (place / 64) + slot)) (place % 64) there in
       let group = a.grouped.marked slot (place / 64) near (omega (arith, small)) word in
@@ -200,7 +201,7 @@ pub left_slot : (places groups new_places new_groups : List ℕ) (slots place sl
     IsBitPut groups new_groups slot (place / 64) 0 → slice_index new_groups slot ≡ 0 →
     AreMarks new_places new_groups (bit_and slots (bit_not w64 (1 * 2 ^ slot % 2 ^ 64)))
 left_slot places groups new_places new_groups slots place slot a small near mp none mg last = record {
-  grouped = left_grouped_none places groups new_places new_groups place slot a.grouped small near mp mg none;
+  grouped = gone_grouped places groups new_places new_groups (place / 64) slot a.grouped (omega (arith, small)) near mp.as_many mp.apart mg none;
   slotted = left_slotted_none groups new_groups slots (bit_and slots (bit_not w64 (1 * 2 ^ slot % 2 ^ 64))) slot (place / 64) a.slotted near mg last
       (bit_at_clear_same w64 slots slot near) (bit_at_clear_other w64 slots slot near);
 }

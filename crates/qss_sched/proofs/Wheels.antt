@@ -127,28 +127,28 @@ none_due due places base a none place = by_due (due_at due place) refl
         let no = none (tick % 64) place (omega arith) (a.near place tick e).2 in
         absurd (omega (arith, a.held place tick e, no))
 
-pub first_due : (due : List (Option ℕ)) (places : List ℕ) (base place tick : ℕ) → IsWheel due places base →
-    IsEarliest places (base % 64) place → due_at due place ≡ Some tick → IsLeast due tick place
-first_due due places base place tick a f e = record {
-  has = e;
-  least = λ other t g. by_order other t g (cases_lt (t - base) f.later);
-  first = λ other g. f.is_first.first other (a.near other tick g).2 (ap (λ s. place_bit places s other) (sym same) ∙ a.held other tick g);
+-- the first place at the next slot comes first
+pub first_due : (due : List (Option ℕ)) (places : List ℕ) (base later place : ℕ) → IsWheel due places base → IsEarliest places (base % 64) later place → IsLeast due (base + later) place
+first_due due places base later place a f = record {
+  has = own;
+  least = λ other t g. by_order other t g (cases_lt (t - base) later);
+  first = λ other g. f.is_first.first other (a.near other (base + later) g).2 (ap (λ s. place_bit places s other) same ∙ a.held other (base + later) g);
 }
   where
-    same : tick % 64 ≡ (base % 64 + f.later) % 64
-    same =
-        let d = a.owed ((base % 64 + f.later) % 64) place (omega arith) f.is_first.within f.is_first.there in
-        let both : Some d.0 ≡ Some tick = sym d.1 ∙ e in
-        let ticks : d.0 ≡ tick = cc in
-        ap (λ t. t % 64) (sym ticks) ∙ d.2
+    same : (base % 64 + later) % 64 ≡ (base + later) % 64
+    same = omega arith
 
-    tick_is : tick ≡ base + f.later
-    tick_is = let n = a.near place tick e in omega (arith, n.0, n.1, f.within, same)
+    own : due_at due place ≡ Some (base + later)
+    own =
+        let d = a.owed ((base % 64 + later) % 64) place (omega arith) f.is_first.within f.is_first.there in
+        let n = a.near place d.0 d.1 in
+        let is : d.0 ≡ base + later = omega (arith, n.0, n.1, f.within, d.2) in
+        d.1 ∙ ap Some is
 
-    by_order : (other t : ℕ) → due_at due other ≡ Some t → (t - base < f.later) ⊎ (f.later ≤ t - base) → tick ≤ t
+    by_order : (other t : ℕ) → due_at due other ≡ Some t → (t - base < later) ⊎ (later ≤ t - base) → base + later ≤ t
     by_order other t g (inl early) =
         let n = a.near other t g in
         let slot_is : (base % 64 + (t - base)) % 64 ≡ t % 64 = omega (arith, n.0) in
         let none = f.none (t - base) other early n.2 in
         absurd (omega (arith, ap (λ s. place_bit places s other) slot_is, none, a.held other t g))
-    by_order other t g (inr late) = let n = a.near other t g in omega (arith, n.0, tick_is)
+    by_order other t g (inr late) = let n = a.near other t g in omega (arith, n.0, late)

@@ -1,5 +1,7 @@
 -- An agenda of near and far due ticks.
-use Rattle.std.specs.Prelude.{◌≡◌, ◌≢◌, ℕ, ◌<◌, ◌⊎◌, List, [], ◌∷◌, Option, Some, None, MatchOption, length, slice_set}
+use Rattle.std.specs.Prelude.{◌≡◌, ◌≢◌, ℕ, ◌+◌, ◌<◌, ◌≤◌, ◌⊎◌, Bool, true, false, ◌==◌, All, List, [], ◌∷◌, Option, Some, None, MatchOption, length, slice_set}
+use Rattle.std.specs.List.{list_any}
+use Rattle.std.specs.List.Sorted.{IsStrictlyIncreasing}
 use Rattle.qss_sched.specs.Ranks.{due_at, IsLeast, HasNone}
 
 -- the near due tick where there is one, else the far one
@@ -44,3 +46,34 @@ pub record IsTaken (tick places : ℕ) (old new : List (Option ℕ)) (place : �
 -- the place is taken, or none of the first places is due at a tick, and nothing changes
 abbrev pub IsTakenAt : ℕ → ℕ → List (Option ℕ) → List (Option ℕ) → Option ℕ → Type 0
 IsTakenAt tick places old new taken = MatchOption taken (HasNoneAt old tick places × (new ≡ old)) (IsTaken tick places old new)
+
+-- whether a number stands in a list
+abbrev pub is_listed : List ℕ → ℕ → Bool
+is_listed numbers j = list_any (λ i. i == j) numbers
+
+-- rising numbers below n
+pub record AreRising (n : ℕ) (numbers : List ℕ) : Type 0 where
+  pub rising : IsStrictlyIncreasing numbers
+  pub below : All (λ j. j < n) numbers
+
+-- the same due ticks, but without those of some places, which are counted from the first ones on
+pub record IsWithout (first : ℕ) (taken : List ℕ) (old new : List (Option ℕ)) : Type 0 where
+  pub as_many : length new ≡ length old
+  pub before : (place : ℕ) → place < first → due_at new place ≡ due_at old place
+  pub none : (j : ℕ) → is_listed taken j ≡ true → due_at new (first + j) ≡ None
+  pub others : (j : ℕ) → is_listed taken j ≡ false → due_at new (first + j) ≡ due_at old (first + j)
+
+-- of `count` places after the first ones those that are due at a tick are taken out, rising, and nothing else
+pub record AreTaken (first count tick : ℕ) (old new : List (Option ℕ)) (taken : List ℕ) : Type 0 where
+  pub numbers : AreRising count taken
+  pub own : (j : ℕ) → is_listed taken j ≡ true → due_at old (first + j) ≡ Some tick
+  pub all : (j : ℕ) → j < count → due_at old (first + j) ≡ Some tick → is_listed taken j ≡ true
+  pub out : IsWithout first taken old new
+
+-- of n places after the first ones some are taken that are due at a tick: those that are left come later, and are `count` or more after the first ones
+pub record ArePartTaken (first n count tick : ℕ) (old new : List (Option ℕ)) (found : List ℕ) : Type 0 where
+  pub numbers : AreRising n found
+  pub own : (j : ℕ) → is_listed found j ≡ true → due_at old (first + j) ≡ Some tick
+  pub out : IsWithout first found old new
+  pub ahead : (place : ℕ) → due_at new place ≡ Some tick → first + count ≤ place
+  pub beyond : (place : ℕ) → due_at new place ≡ Some tick → All (λ j. first + j < place) found

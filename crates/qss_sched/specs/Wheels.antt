@@ -36,6 +36,12 @@ pub record IsFirstSlot (slots from later : ℕ) : Type 0 where
   pub marked : bit_at slots ((from + later) % 64) ≡ 1
   pub first : (fewer : ℕ) → fewer < later → bit_at slots ((from + fewer) % 64) ≡ 0
 
+-- of the bits of a word the lowest that is set
+pub record IsLowest (word bit : ℕ) : Type 0 where
+  pub within : bit < 64
+  pub marked : bit_at word bit ≡ 1
+  pub none : (lower : ℕ) → lower < bit → bit_at word lower ≡ 0
+
 -- the place is the first at a slot
 pub record IsFirstPlace (places : List ℕ) (slot place : ℕ) : Type 0 where
   pub within : place < 4096
@@ -50,12 +56,17 @@ HasNoPlace places = (slot place : ℕ) → slot < 64 → place < 4096 → place_
 abbrev pub HasNoPlaceAt : List ℕ → ℕ → Type 0
 HasNoPlaceAt places slot = (place : ℕ) → place < 4096 → place_bit places slot place ≡ 0
 
--- of the slots from one on, and on from the first after the last, the place is the first at the first slot that has one
-pub record IsEarliest (places : List ℕ) (from place : ℕ) : Type 0 where
-  pub later : ℕ
+-- of the slots from one on, and on from the first after the last, the first that has a place is so many later, and the place is the first at it
+pub record IsEarliest (places : List ℕ) (from later place : ℕ) : Type 0 where
   pub within : later < 64
   pub none : (fewer other : ℕ) → fewer < later → other < 4096 → place_bit places ((from + fewer) % 64) other ≡ 0
   pub is_first : IsFirstPlace places ((from + later) % 64) place
+
+-- a group of 64 places has one at a slot, and no lesser group has
+pub record IsFirstGroup (places : List ℕ) (slot group : ℕ) : Type 0 where
+  pub within : group < 64
+  pub some : slice_index places (64 * group + slot) ≢ 0
+  pub first : (place : ℕ) → place < 4096 → place_bit places slot place ≡ 1 → 64 * group ≤ place
 
 -- what marks keep
 pub record AreMarks (places groups : List ℕ) (slots : ℕ) : Type 0 where

@@ -3,7 +3,7 @@ ghost use Rattle.std.specs.Prelude.{ℕ, Option};
 use crate::heap::replace;
 use crate::ranks::{
     is_at, is_same, no_ticks, numbers_below, place_of, put_tick, rank_of, ranks_without_ticks,
-    tick_of,
+    tick_before, tick_of,
 };
 use std::alloc::{AllocError, Global};
 use std::marker::Model;
@@ -14,22 +14,23 @@ pub(crate) struct DueHeap {
     due: Vec<Option<u64>>,
     ranks: Vec<u128>,
     positions: Vec<u32>,
+    first: u64,
 }
 
 impl Model for DueHeap {
     ghost use Rattle.std.specs.Prelude.{ℕ, List, Option};
-    ghost use Rattle.qss_sched.specs.Heaps.{IsDueHeap};
+    ghost use Rattle.qss_sched.specs.Heaps.{IsHeapFrom};
 
     ghost Value = { List (Option ℕ) };
 
     ghost view = { λ a. a.due.items };
 
-    ghost invariant = { λ a. IsDueHeap a.due.items a.ranks.items a.positions.items };
+    ghost invariant = { λ a. IsHeapFrom a.due.items a.ranks.items a.positions.items a.first };
 }
 
 impl DueHeap {
-    ghost use Rattle.std.specs.Prelude.{◌≡◌, ℕ, ◌<◌, ◌≤◌, ◌↔◌, IfOk, IsTrue, MatchOption, Some, length, slice_set};
-    ghost use Rattle.qss_sched.specs.Ranks.{due_at, IsLeast, HasNone};
+    ghost use Rattle.std.specs.Prelude.{◌≡◌, ◌≢◌, ℕ, ◌<◌, ◌≤◌, false, IfOk, MatchOption, Some, length, slice_set};
+    ghost use Rattle.qss_sched.specs.Ranks.{due_at, IsLeast, IsNextTick, HasNone};
     ghost use Rattle.qss_sched.specs.Agendas.{IsFirstAt};
 
     /// A heap of n places without due ticks. It takes all the memory that it ever needs.
@@ -44,6 +45,7 @@ impl DueHeap {
             due,
             ranks,
             positions,
+            first: u64::MAX,
         })
     }
 
@@ -66,6 +68,7 @@ impl DueHeap {
     {
         put_tick(&mut self.due, place, due);
         replace(&mut self.ranks, &mut self.positions, rank_of(due, place));
+        self.first = tick_before(self.ranks[0], u64::MAX);
     }
 
     /// The least due tick and the least place that has it.
@@ -84,16 +87,21 @@ impl DueHeap {
         }
     }
 
-    /// Whether a place is due at a tick, where nothing is due before it.
+    /// The least due tick, or `last` where none is due before it.
     #[inline(always)]
-    pub(crate) fn is_due_at(&self, tick: u64) -> bool
-        requires { (place due : ℕ) → due_at self.now place ≡ Some due → tick ≤ due }
-        ensures { IsTrue result ↔ ((place : ℕ) × (due_at self.now place ≡ Some tick)) }
+    pub(crate) fn next_tick(&self, last: u64) -> u64
+        ensures { IsNextTick self.now last result }
     {
-        if self.ranks.is_empty() {
-            return false;
-        }
-        is_at(self.ranks[0], tick)
+        last.min(self.first)
+    }
+
+    /// Whether a place may be due at a tick, where nothing is due before it.
+    #[inline(always)]
+    pub(crate) fn may_be_due_at(&self, tick: u64) -> bool
+        requires { (place due : ℕ) → due_at self.now place ≡ Some due → tick ≤ due }
+        ensures { result ≡ false → (place : ℕ) → due_at self.now place ≢ Some tick }
+    {
+        self.first == tick
     }
 
     /// The least of the first `places` places that is due at a tick, where nothing is due before it.

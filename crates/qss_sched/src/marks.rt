@@ -1,5 +1,5 @@
 ghost use Rattle.std.specs.Prelude.{◌≡◌, ◌≢◌, ℕ, ◌<◌, ◌↔◌, IsTrue, IfOk, length, slice_index, vec_len};
-ghost use Rattle.qss_sched.specs.Wheels.{IsBitPut, IsGrouped, IsFirstSlot, IsFirstPlace};
+ghost use Rattle.qss_sched.specs.Wheels.{IsBitPut, IsGrouped, IsFirstSlot, IsFirstPlace, IsLowest};
 
 use std::alloc::{AllocError, Global};
 use std::marker::Model;
@@ -68,6 +68,15 @@ fn unmark(words: &mut [u64], index: usize, bit: u32) -> bool
     word == 0
 }
 
+/// The lowest bit of a word that has one.
+#[inline(always)]
+pub(crate) fn lowest(word: u64) -> u32
+    requires { 0 < word }
+    ensures { IsLowest word result }
+{
+    word.trailing_zeros()
+}
+
 // How many slots after one the first marked one comes, where the first slot follows on the last.
 #[inline(always)]
 fn first_slot(slots: u64, from: u32) -> u32
@@ -97,8 +106,8 @@ fn first_place(places: &[u64], groups: &[u64], slot: u32) -> u32
 }
 
 impl Marks {
-    ghost use Rattle.std.specs.Prelude.{◌≡◌, ◌<◌, IfOk, MatchOption};
-    ghost use Rattle.qss_sched.specs.Wheels.{place_bit, AreOthersKept, HasNoPlace, HasNoPlaceAt, IsEarliest, IsFirstPlace};
+    ghost use Rattle.std.specs.Prelude.{◌≡◌, ◌≢◌, ◌+◌, ◌*◌, ◌<◌, IfOk, MatchOption, slice_index, slice_set};
+    ghost use Rattle.qss_sched.specs.Wheels.{place_bit, AreOthersKept, HasNoPlace, HasNoPlaceAt, IsEarliest, IsFirstGroup, IsFirstPlace};
 
     /// No place at any slot. It takes all the memory that it ever needs.
     pub(crate) fn without_places(alloc: Global) -> Result<Marks, AllocError>
@@ -146,17 +155,20 @@ impl Marks {
         self.slots &= !(1u64 << slot);
     }
 
-    /// The first place at the first slot that has one, from a slot on and round to the one before.
+    /// How many slots after one the first slot that has a place comes, round to the one before, and
+    /// the first place at it.
     #[inline(always)]
-    pub(crate) fn first(&self, from: u32) -> Option<u32>
+    pub(crate) fn first(&self, from: u32) -> Option<(u32, u32)>
         requires { from < 64 }
-        ensures { MatchOption result (HasNoPlace self.now) (IsEarliest self.now from) }
+        ensures { MatchOption result (HasNoPlace self.now)
+            (λ first. IsEarliest self.now from first.0 first.1) }
     {
         if self.slots == 0 {
             return None;
         }
-        let slot = (from + first_slot(self.slots, from)) % SLOTS;
-        Some(first_place(&self.places, &self.groups, slot))
+        let later = first_slot(self.slots, from);
+        let slot = (from + later) % SLOTS;
+        Some((later, first_place(&self.places, &self.groups, slot)))
     }
 
     /// The first place at a slot.
@@ -169,5 +181,43 @@ impl Marks {
             return None;
         }
         Some(first_place(&self.places, &self.groups, slot))
+    }
+
+    /// The first group of 64 places that has one at a slot.
+    #[inline(always)]
+    pub(crate) fn group(&self, slot: u32) -> Option<u32>
+        requires { slot < 64 }
+        ensures { MatchOption result (HasNoPlaceAt self.now slot) (IsFirstGroup self.now slot) }
+    {
+        let groups = self.groups[slot as usize];
+        if groups == 0 {
+            return None;
+        }
+        Some(lowest(groups))
+    }
+
+    /// Which places of a group are at a slot, as bits.
+    #[inline(always)]
+    pub(crate) fn word(&self, group: u32, slot: u32) -> u64
+        requires group { group < 64 }
+        requires slot { slot < 64 }
+        ensures { result ≡ slice_index self.now (64 * group + slot) }
+    {
+        self.places[(SLOTS * group + slot) as usize]
+    }
+
+    /// Of a group that has places at a slot these stay there.
+    #[inline(always)]
+    pub(crate) fn keep(&mut self, group: u32, slot: u32, word: u64)
+        requires group { group < 64 }
+        requires slot { slot < 64 }
+        requires some { slice_index self.old (64 * group + slot) ≢ 0 }
+        ensures { self.new ≡ slice_set self.old (64 * group + slot) word }
+    {
+        self.places[(SLOTS * group + slot) as usize] = word;
+        if word != 0 || !unmark(&mut self.groups, slot as usize, group) {
+            return;
+        }
+        self.slots &= !(1u64 << slot);
     }
 }

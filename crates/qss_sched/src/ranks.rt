@@ -1,4 +1,4 @@
-ghost use Rattle.std.specs.Prelude.{◌≡◌, ℕ, Option, ◌+◌, ◌/◌, ◌^◌, ◌<◌, ◌↔◌, IsTrue, IfOk, length, vec_len, slice_index, slice_set};
+ghost use Rattle.std.specs.Prelude.{◌≡◌, ℕ, Option, ◌+◌, ◌/◌, ◌^◌, ◌<◌, ◌↔◌, IsTrue, IfOk, min, length, vec_len, slice_index, slice_set};
 ghost use Rattle.qss_sched.specs.Ranks.{due_at, place_of, rank_of, AreTicks, HasNone};
 
 use std::alloc::{AllocError, Global};
@@ -36,6 +36,19 @@ pub(crate) fn is_at(rank: u128, tick: u64) -> bool
     ensures { IsTrue result ↔ (rank / 2 ^ 32 ≡ tick) }
 {
     rank / PLACES == tick as u128
+}
+
+/// The due tick of a rank, or `last` where it has none before that.
+#[inline(always)]
+pub(crate) fn tick_before(rank: u128, last: u64) -> u64
+    ensures { result ≡ min (rank / 2 ^ 32) last }
+{
+    let tick = rank / PLACES;
+    if tick < last as u128 {
+        tick as u64
+    } else {
+        last
+    }
 }
 
 /// The ranks of n places without due ticks, rising.

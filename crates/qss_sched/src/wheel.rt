@@ -1,9 +1,9 @@
-ghost use Rattle.std.specs.Prelude.{◌≡◌, ℕ, ◌+◌, ◌<◌, ◌≤◌, Option, None, Some, length, slice_set};
+ghost use Rattle.std.specs.Prelude.{◌≡◌, ◌≢◌, ℕ, ◌+◌, ◌^◌, ◌<◌, ◌≤◌, ◌↔◌, ◌*◌, ◌%◌, IsTrue, List, Option, None, Some, length, slice_set, vec_len, vec_capacity};
 ghost use Rattle.qss_sched.specs.Ranks.{due_at};
-ghost use Rattle.qss_sched.specs.Wheels.{IsWheel};
-ghost use Rattle.qss_sched.specs.Agendas.{IsTakenAt};
+ghost use Rattle.qss_sched.specs.Wheels.{IsFirstGroup, IsWheel};
+ghost use Rattle.qss_sched.specs.Agendas.{ArePartTaken, AreTaken, IsTakenAt};
 
-use crate::marks::{Marks, NEAR_PLACES, SLOTS};
+use crate::marks::{Marks, NEAR_PLACES, SLOTS, WORD_BITS, lowest};
 use crate::ranks::{is_same, no_ticks, put_tick, tick_of};
 use std::alloc::{AllocError, Global};
 use std::marker::Model;
@@ -26,6 +26,14 @@ impl Model for Wheel {
     ghost view = { λ w. w.due.items };
 
     ghost invariant = { λ w. IsWheel w.due.items w.marks w.base };
+}
+
+// Whether a place's due tick is near.
+#[inline(always)]
+fn is_near(base: u64, place: u32, tick: u64) -> bool
+    ensures { IsTrue result ↔ ((place < 4096) × (base ≤ tick) × (tick < base + 64)) }
+{
+    place < NEAR_PLACES && tick >= base && tick - base < SLOTS as u64
 }
 
 // A place's near due tick goes.
@@ -70,8 +78,9 @@ fn put_in(due: &mut [Option<u64>], marks: &mut Marks, place: u32, tick: u64)
     marks.enter(place, (tick % SLOTS as u64) as u32);
 }
 
-// A place takes this near due tick in place of its own.
-#[inline(always)]
+// A place takes this near due tick in place of its own. Most ticks that are given are the place's own
+// or its first, so that this is not inlined.
+#[inline(never)]
 fn move_to(due: &mut [Option<u64>], marks: &mut Marks, place: u32, tick: u64)
     requires place { place < length due.old }
     requires near { place < 4096 }
@@ -104,10 +113,85 @@ fn take_first(due: &mut [Option<u64>], marks: &mut Marks, base: u64, places: u32
     }
 }
 
+// Takes what is due at the base at the places of a group out, rising, as far as these are among
+// `count` places after the first ones. It gives those that are left, as bits.
+#[inline(always)]
+fn take_group(
+    due: &mut [Option<u64>],
+    marks: &Marks,
+    base: u64,
+    group: u32,
+    first: u32,
+    count: u32,
+    taken: &mut Vec<u32>,
+) -> u64
+    requires wheel { IsWheel due.old marks.now base }
+    requires group { IsFirstGroup marks.now (base % 64) group }
+    requires room { count ≤ vec_capacity taken.old }
+    requires few { first + count < 2 ^ 32 }
+    requires part { (old : List (Option ℕ))
+        × ArePartTaken first count (vec_len taken.old) base old due.old taken.old.items }
+    ensures wheel { IsWheel due.new (slice_set marks.now (64 * group + base % 64) result) base }
+    ensures part { (old : List (Option ℕ))
+        → ArePartTaken first count (vec_len taken.old) base old due.old taken.old.items
+        → ArePartTaken first count (vec_len taken.new) base old due.new taken.new.items }
+    ensures more { result ≡ 0 → vec_len taken.old < vec_len taken.new }
+    ensures rest { result ≢ 0
+        → (place : ℕ) → due_at due.new place ≡ Some base → first + count ≤ place }
+    ensures room { vec_capacity taken.new ≡ vec_capacity taken.old }
+{
+    let mut rest = marks.word(group, (base % SLOTS as u64) as u32);
+    while rest != 0 {
+        let bit = lowest(rest);
+        let place = WORD_BITS * group + bit;
+        if place >= first + count {
+            return rest;
+        }
+        put_tick(due, place, None);
+        taken.push_reserved(place - first);
+        rest &= !(1u64 << bit);
+    }
+    rest
+}
+
+// Takes what is due at the base at `count` places after the first ones out, rising, where nothing is
+// due at those then.
+#[inline(always)]
+fn take_each(
+    due: &mut [Option<u64>],
+    marks: &mut Marks,
+    base: u64,
+    first: u32,
+    count: u32,
+    taken: &mut Vec<u32>,
+)
+    requires wheel { IsWheel due.old marks.old base }
+    requires room { count ≤ vec_capacity taken.old }
+    requires few { first + count < 2 ^ 32 }
+    requires none_first { (place : ℕ) → place < first → due_at due.old place ≢ Some base }
+    ensures wheel { IsWheel due.new marks.new base }
+    ensures taken { AreTaken first count base due.old due.new taken.new.items }
+    ensures room { vec_capacity taken.new ≡ vec_capacity taken.old }
+{
+    taken.clear();
+    let slot = (base % SLOTS as u64) as u32;
+    for _ in 0..count {
+        let group = match marks.group(slot) {
+            Some(group) => group,
+            None => return,
+        };
+        let rest = take_group(due, marks, base, group, first, count, taken);
+        marks.keep(group, slot, rest);
+        if rest != 0 {
+            return;
+        }
+    }
+}
+
 impl Wheel {
-    ghost use Rattle.std.specs.Prelude.{◌≡◌, ◌<◌, ◌≤◌, ℕ, if◌then◌else◌, IfOk, None, Some, length, slice_set};
-    ghost use Rattle.qss_sched.specs.Ranks.{due_at, IsLeast, HasNone};
-    ghost use Rattle.qss_sched.specs.Agendas.{IsFirst, IsTakenAt};
+    ghost use Rattle.std.specs.Prelude.{◌≡◌, ◌≢◌, ◌+◌, ◌^◌, ◌<◌, ◌≤◌, ℕ, if◌then◌else◌, IfOk, None, Some, length, slice_set, vec_capacity};
+    ghost use Rattle.qss_sched.specs.Ranks.{due_at, IsLeast, IsNextTick, HasNone};
+    ghost use Rattle.qss_sched.specs.Agendas.{AreTaken, IsFirst, IsTakenAt};
 
     /// A wheel of n places without due ticks.
     pub(crate) fn with_places(alloc: Global, n: u32) -> Result<Wheel, AllocError>
@@ -137,6 +221,34 @@ impl Wheel {
         take_first(&mut self.due, &mut self.marks, tick, places)
     }
 
+    /// Takes what is due at a tick at `count` places after the first ones out, rising, where nothing is
+    /// due before it, and at the first ones nothing at it.
+    #[inline(always)]
+    pub(crate) fn take_all(&mut self, tick: u64, first: u32, count: u32, taken: &mut Vec<u32>)
+        requires room { count ≤ vec_capacity taken.old }
+        requires few { first + count < 2 ^ 32 }
+        requires none_before { (place due : ℕ) → due_at self.old place ≡ Some due → tick ≤ due }
+        requires none_first { (place : ℕ) → place < first → due_at self.old place ≢ Some tick }
+        ensures taken { AreTaken first count tick self.old self.new taken.new.items }
+        ensures room { vec_capacity taken.new ≡ vec_capacity taken.old }
+    {
+        if self.base > tick {
+            taken.clear();
+            return;
+        }
+        self.base = tick;
+        take_each(&mut self.due, &mut self.marks, tick, first, count, taken);
+    }
+
+    /// A place's near due tick.
+    #[inline(always)]
+    pub(crate) fn tick(&self, place: u32) -> Option<u64>
+        requires { place < length self.now }
+        ensures { result ≡ due_at self.now place }
+    {
+        tick_of(&self.due, place)
+    }
+
     /// Gives a place this due tick and says so, or says that the tick is not near: then nothing
     /// changed.
     #[inline(always)]
@@ -144,12 +256,27 @@ impl Wheel {
         requires { place < length self.old }
         ensures { self.new ≡ (if result then slice_set self.old place (Some tick) else self.old) }
     {
-        if place >= NEAR_PLACES || tick < self.base || tick - self.base >= SLOTS as u64 {
+        if is_same(tick_of(&self.due, place), Some(tick)) {
+            return true;
+        }
+        if !is_near(self.base, place, tick) {
             return false;
         }
-        if !is_same(tick_of(&self.due, place), Some(tick)) {
-            move_to(&mut self.due, &mut self.marks, place, tick);
+        move_to(&mut self.due, &mut self.marks, place, tick);
+        true
+    }
+
+    /// The same, of a place that has no near due tick.
+    #[inline(always)]
+    pub(crate) fn enter(&mut self, place: u32, tick: u64) -> bool
+        requires place { place < length self.old }
+        requires none { due_at self.old place ≡ None }
+        ensures { self.new ≡ (if result then slice_set self.old place (Some tick) else self.old) }
+    {
+        if !is_near(self.base, place, tick) {
+            return false;
         }
+        put_in(&mut self.due, &mut self.marks, place, tick);
         true
     }
 
@@ -168,13 +295,20 @@ impl Wheel {
         ensures { IsFirst self.now result }
     {
         let from = (self.base % SLOTS as u64) as u32;
-        let place = match self.marks.first(from) {
-            Some(place) => place,
-            None => return None,
-        };
-        match tick_of(&self.due, place) {
-            Some(tick) => Some((tick, place)),
+        match self.marks.first(from) {
+            Some((later, place)) => Some((self.base + later as u64, place)),
             None => None,
+        }
+    }
+
+    /// The least near due tick, or `last` where none is due before it.
+    #[inline(always)]
+    pub(crate) fn next_tick(&self, last: u64) -> u64
+        ensures { IsNextTick self.now last result }
+    {
+        match self.first() {
+            Some((tick, _)) => last.min(tick),
+            None => last,
         }
     }
 }

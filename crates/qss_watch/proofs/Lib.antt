@@ -1,7 +1,6 @@
 pub mod Watched
 pub mod Handled
 pub mod Branches
-pub mod Dues
 pub mod Called
 pub mod PlaceSets
 pub mod Apart

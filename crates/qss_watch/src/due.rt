@@ -7,27 +7,6 @@ ghost use Rattle.qss_watch.specs.Moves.{AreDue, AreChanging, IsTakenAfter, IsWit
 
 use qss_sched::Agenda;
 
-// Takes what is due at a tick at `count` places after the first ones out of the agenda, rising, where nothing is due at
-// those then.
-fn take(agenda: &mut Agenda, tick: u64, first: u32, count: u32, found: &mut Vec<u32>)
-    requires room { count ≤ vec_capacity found.old }
-    requires places { first + count ≤ length agenda.old }
-    requires few { first + count < 2 ^ 32 }
-    requires none_before { (place due : ℕ) → due_at agenda.old place ≡ Some due → tick ≤ due }
-    requires none_first { (j : ℕ) → j < first → due_at agenda.old j ≢ Some tick }
-    ensures changing { AreChanging first count tick agenda.old found.new.items }
-    ensures taken { IsTakenAfter first found.new.items agenda.old agenda.new }
-    ensures room { vec_capacity found.new ≡ vec_capacity found.old }
-{
-    found.clear();
-    for _ in 0..count {
-        match agenda.take(tick, first + count) {
-            Some(place) => found.push_reserved(place - first),
-            None => return,
-        }
-    }
-}
-
 /// Takes the states that are due at a tick out of the agenda, rising, where nothing is due before it.
 pub fn take_due(agenda: &mut Agenda, tick: u64, states: u32, moved: &mut Vec<u32>)
     requires room { states ≤ vec_capacity moved.old }
@@ -37,7 +16,7 @@ pub fn take_due(agenda: &mut Agenda, tick: u64, states: u32, moved: &mut Vec<u32
     ensures without { IsWithout moved.new.items agenda.old agenda.new }
     ensures room { vec_capacity moved.new ≡ vec_capacity moved.old }
 {
-    take(agenda, tick, 0, states, moved);
+    agenda.take_all(tick, 0, states, moved);
 }
 
 /// Takes the conditions that are due at a tick out of the agenda, rising, where none of the states before them is due then.
@@ -57,7 +36,7 @@ pub fn take_changed(
     ensures taken { IsTakenAfter states changed.new.items agenda.old agenda.new }
     ensures room { vec_capacity changed.new ≡ vec_capacity changed.old }
 {
-    take(agenda, tick, states, conditions, changed);
+    agenda.take_all(tick, states, conditions, changed);
 }
 
 /// Puts states back that were taken out.

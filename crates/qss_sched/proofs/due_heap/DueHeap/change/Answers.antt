@@ -1,16 +1,34 @@
 -- The place's rank in the heap is that of its new tick.
-use Rattle.std.proofs.Common.{◌≡◌, ◌∙◌, length, ap}
-use Rattle.std.proofs.lemmas.List.{take_at}
+use Rattle.std.proofs.Common.{◌≡◌, ◌-◌, ◌/◌, ◌^◌, ◌<◌, ◌∙◌, length, ap, arith}
+use Rattle.std.proofs.lemmas.List.{take_at, length-set}
+use Rattle.std.proofs.lemmas.Grind.{get_or_default_zero}
+use Rattle.std.specs.Prelude.{min, slice_index}
+use Rattle.qss_sched.specs.Heaps.{IsDueHeap}
 use Rattle.qss_sched.proofs.DueHeaps.{heap_after}
+use Rattle.qss_sched.proofs.Least.{next_of_first}
 use Rattle.qss_sched.proofs.due_heap.DueHeap.change.Goals as goal
 
 pub invariant_of-self : goal.invariant_of-self
 invariant_of-self c =
-    let many_due : length c.put_tick.new.due ≡ c.self.inside.due.len = c.put_tick.auto.due ∙ c.deref_mut.ensures.len in
-    let many : length c.replace.new.ranks ≡ c.self.inside.ranks.len = c.replace.auto.ranks ∙ c.deref_mut-2.ensures.len in
-    let many_positions : length c.replace.new.positions ≡ c.self.inside.positions.len = c.replace.auto.positions ∙ c.deref_mut-3.ensures.len in
-    rw (take_at c.put_tick.new.due _ _ many_due, take_at c.replace.new.ranks _ _ many, take_at c.replace.new.positions _ _ many_positions)
-    (heap_after c.self.inside.due.items c.put_tick.new.due c.self.inside.ranks.items c.self.inside.positions.items c.replace.new.ranks c.replace.new.positions
-    c.args.due c.args.place c.rank_of.result c.self.invariant (rw c.self.view_is c.requires) (rw c.deref_mut.ensures.value at c.put_tick.ensures.put) c.put_tick.ensures.small
+    let due = c.put_tick.new.due in
+    let ranks = c.replace.new.ranks in
+    let positions = c.replace.new.positions in
+    let many_due : length due ≡ c.self.inside.due.len = c.put_tick.auto.due ∙ c.deref_mut.ensures.len in
+    let many : length ranks ≡ c.self.inside.ranks.len = c.replace.auto.ranks ∙ c.deref_mut-2.ensures.len in
+    let many_positions : length positions ≡ c.self.inside.positions.len = c.replace.auto.positions ∙ c.deref_mut-3.ensures.len in
+    let heap : IsDueHeap due ranks positions =
+    heap_after c.self.inside.due.items due c.self.inside.ranks.items c.self.inside.positions.items ranks positions
+    c.args.due c.args.place c.rank_of.result c.self.invariant.heap (rw c.self.view_is c.requires) (rw c.deref_mut.ensures.value at c.put_tick.ensures.put) c.put_tick.ensures.small
     c.rank_of.ensures.rank c.rank_of.ensures.place (c.replace.auto.ranks ∙ ap length c.deref_mut-2.ensures.value) c.replace.ensures.indexed c.replace.ensures.ordered c.replace.ensures.takes
-    (rw (c.deref_mut-2.ensures.value, c.deref_mut-3.ensures.value) at c.replace.ensures.others))
+    (rw (c.deref_mut-2.ensures.value, c.deref_mut-3.ensures.value) at c.replace.ensures.others) in
+    let place : c.args.place < length c.self.inside.due.items = rw c.self.view_is c.requires in
+    let still : length due ≡ length c.self.inside.due.items =
+    ap length c.put_tick.ensures.put ∙ (length-set c.deref_mut.result.now c.args.place c.args.due ∙ ap length c.deref_mut.ensures.value) in
+    let some : 0 < length ranks = omega (arith, place, still, heap.as_many) in
+    let read = c.index.result.now in
+    let rank : read ≡ slice_index ranks 0 = (rw (take_at ranks _ _ many) at c.index.ensures) ∙ get_or_default_zero ranks 0 read some in
+    rw (take_at due _ _ many_due, take_at ranks _ _ many, take_at positions _ _ many_positions)
+    (record {
+      heap = heap;
+      next = next_of_first due ranks positions heap (2 ^ 64 - 1) c.tick_before-self-inside.result some (omega arith) (c.tick_before-self-inside.ensures ∙ ap (λ r. min (r / 2 ^ 32) (2 ^ 64 - 1)) rank);
+    })

@@ -13,7 +13,7 @@ returns-then-place-places c =
     let rank : c.index-rank.result.now ≡ slice_index h.ranks.items 0 = c.index-rank.ensures ∙ get_or_default_zero h.ranks.items 0 c.index-rank.result.now some in
     rw (← c.self.view_is) (
       c.if-place-places.true,
-      first_at_tick h.due.items h.ranks.items h.positions.items c.self.invariant c.args.tick c.index-rank.result.now c.place_of-place.result some rank
+      first_at_tick h.due.items h.ranks.items h.positions.items c.self.invariant.heap c.args.tick c.index-rank.result.now c.place_of-place.result some rank
           c.place_of-place.ensures c.ranges.tick.fits (c.if-is_at.ensures.0 refl),
     )
 
@@ -26,9 +26,9 @@ returns-else-is_at c =
     (elim c.else-is_at.branch [
       | else-is_at-via-then-is_at+else-place-places w ↦
           none_before_first h.due.items c.args.tick c.place_of-place.result c.args.places
-          (first_at_tick h.due.items h.ranks.items h.positions.items c.self.invariant c.args.tick c.index-rank.result.now c.place_of-place.result some rank
+          (first_at_tick h.due.items h.ranks.items h.positions.items c.self.invariant.heap c.args.tick c.index-rank.result.now c.place_of-place.result some rank
           c.place_of-place.ensures c.ranges.tick.fits (w.if-is_at.ensures.0 refl)) w.if-place-places.false
       | else-is_at-via-else-is_at w ↦
-          none_at_tick h.due.items h.ranks.items h.positions.items c.self.invariant c.args.tick c.index-rank.result.now c.place_of-place.result c.args.places some rank
+          none_at_tick h.due.items h.ranks.items h.positions.items c.self.invariant.heap c.args.tick c.index-rank.result.now c.place_of-place.result c.args.places some rank
           c.place_of-place.ensures (rw (← c.self.view_is) at c.requires) (λ b. let e = w.if-is_at.ensures.1 b in cc)
     ])

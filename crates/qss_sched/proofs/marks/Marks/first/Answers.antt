@@ -10,4 +10,4 @@ pub returns : goal.returns
 returns c =
     let m = c.self.inside in
     rw (← c.self.view_is)
-    (earliest m.places.items m.groups.items m.slots c.args.from c.first_slot.result _ c.self.invariant c.first_slot.ensures (rw c.deref.ensures.value at c.first_place.ensures))
+    (earliest m.places.items m.groups.items m.slots c.args.from c.first_slot-later.result _ c.self.invariant c.first_slot-later.ensures (rw c.deref.ensures.value at c.first_place.ensures))

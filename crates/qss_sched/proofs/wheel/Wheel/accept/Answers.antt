@@ -1,5 +1,5 @@
 -- The place moves to the slot of its new tick.
-use Rattle.std.proofs.Common.{◌≡◌, ◌∙◌, length, arith}
+use Rattle.std.proofs.Common.{◌≡◌, ◌∙◌, length, refl}
 use Rattle.std.proofs.lemmas.List.{take_at}
 use Rattle.qss_sched.proofs.wheel.Wheel.accept.Goals as goal
 
@@ -7,5 +7,6 @@ pub invariant_of-self : goal.invariant_of-self
 invariant_of-self c =
     let moved = c.move_to in
     let many : length moved.new.due ≡ c.self.inside.due.len = moved.auto.due ∙ c.deref_mut.ensures.len in
+    let near = c.if-not-is_near.ensures.0 refl in
     rw (take_at moved.new.due _ _ many)
-    ((rw c.deref_mut.ensures.value at moved.ensures.wheel) c.self.inside.base c.if-tick-self.false (omega (arith, c.if-tick-self-2.false)) c.self.invariant)
+    ((rw c.deref_mut.ensures.value at moved.ensures.wheel) c.self.inside.base near.1 near.2 c.self.invariant)

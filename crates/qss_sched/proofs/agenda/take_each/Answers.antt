@@ -1,0 +1,26 @@
+-- One more is taken.
+use Rattle.std.proofs.Common.{◌+◌, set, sym, ◌∙◌, subst, arith}
+use Rattle.std.specs.Prelude.{None}
+use Rattle.qss_sched.specs.Agendas.{joined, ArePartTaken}
+use Rattle.qss_sched.proofs.Takes.{none_before_still, one_taken}
+use Rattle.qss_sched.proofs.agenda.take_each.Goals as goal
+
+pub take_either-requires-clause-none_before : goal.take_either-requires-clause-none_before
+take_either-requires-clause-none_before c =
+    none_before_still c.args.first c.loop.taken.items c.args.tick (joined c.args.near.now c.args.far.now) (joined c.loop.near c.loop.far) c.requires.none_before c.loop.invariant.part.out
+
+pub loop-preserved : goal.loop-preserved
+loop-preserved c =
+    let inv = c.loop.invariant in
+    let place = c.in-Some.place in
+    let before = joined c.args.near.now c.args.far.now in
+    let now = joined c.loop.near c.loop.far in
+    let more = ArePartTaken c.args.first c.args.count (c.loop.counter + 1) c.args.tick before in
+    let part = one_taken c.args.first c.args.count c.loop.counter c.args.tick place before now c.loop.taken.items inv.part c.in-Some.ensures.taken.within c.in-Some.ensures.taken.least in
+    record {
+      apart = c.in-Some.ensures.apart;
+      part = subst (λ due. more due c.push_reserved.new.self.items) (sym c.in-Some.ensures.taken.without)
+          (subst (more (set now place None)) (sym c.push_reserved.ensures.items) part);
+      as_many = omega (arith, c.push_reserved.ensures.len, inv.as_many);
+      room = c.push_reserved.ensures.capacity ∙ inv.room;
+    }

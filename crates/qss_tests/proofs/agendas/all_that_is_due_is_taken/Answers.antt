@@ -1,0 +1,10 @@
+use Rattle.qss_tests.proofs.agendas.all_that_is_due_is_taken.Goals as goal
+
+pub unreachable-assert : goal.unreachable-assert
+unreachable-assert g c = c.assert-panic.result
+
+pub unreachable-assert-2 : goal.unreachable-assert-2
+unreachable-assert-2 g c = c.assert-panic-2.result
+
+pub unreachable-assert-3 : goal.unreachable-assert-3
+unreachable-assert-3 g c = c.assert-panic-3.result
