@@ -94,6 +94,12 @@ pub record AreHandled (m : Machine) (left : Handled) : Type 0 where
   pub many_before : length left.before.now ≡ discrete_count m
   pub values : AreWithin m left.states.now left.discretes.now
 
+-- new levels after handlers, what these left, and a line of each state
+pub record CanFollowHandled (at : NewLevels) (left : Handled) (lines : List Line) : Type 0 where
+  pub new : AreNewLevels at
+  pub handled : AreHandled at.machine.now left
+  pub many_lines : length lines ≡ state_count at.machine.now
+
 -- a state is at least the quantum away from its level
 abbrev pub HasLeft : Machine → ℕ → ℤ → ℤ → Type 0
 HasLeft m j state level = IsAway (level_unit m) state level (quantum_of m j level)
@@ -107,13 +113,20 @@ pub record CanArrive (at : Arrival) (levels : List ℤ) : Type 0 where
   pub others_near : (j : ℕ) → j < state_count at.machine.now → is_among at.moved.now j ≡ false →
       is_near at.machine.now j (state_at (line_at at.lines.now j) at.tick) (int_at levels j) ≡ true
 
--- the moved states may take new levels, from a level of each state, at these values of states: of the moved ones within the limit, and so all levels
-pub record CanRequantize (at : Arrival) (x levels_old : List ℤ) : Type 0 where
+-- the moved states may take new levels on such an arrival, from a level of each state, within the limit
+pub record CanTakeOnArrival (at : Arrival) (levels_old : List ℤ) : Type 0 where
+  pub arrival : CanArrive at levels_old
+  pub levels : length levels_old ≡ state_count at.machine.now
+  pub small_levels : All (IsWithin 43) levels_old
+
+-- the moved states may take new levels, from a level of each state, at these values of states: of the moved ones within the limit, and so all levels; beside the rows that were taken there is room for one of each state
+pub record CanRequantize (at : Arrival) (x levels_old : List ℤ) (taken capacity : ℕ) : Type 0 where
   pub states : length x ≡ state_count at.machine.now
   pub levels : length levels_old ≡ state_count at.machine.now
   pub moved : AreNumbers (state_count at.machine.now) at.moved.now
   pub small_states : (j : ℕ) → is_among at.moved.now j ≡ true → IsWithin 88 (int_at x j)
   pub small_levels : All (IsWithin 43) levels_old
+  pub room : taken + state_count at.machine.now ≤ capacity
 
 -- a level of each state, which its line has, within the limit, and the weights of all rows at these levels and at discrete values, none past its limit
 pub record HoldsLevels (m : Machine) (lines : List Line) (d levels_old : List ℤ) (weights_old : Weights) : Type 0 where

@@ -14,7 +14,7 @@ ghost use Rattle.qss_lines.specs.Reslopings.{CanRenew, IsRenewed, OneGoesOn, The
 ghost use Rattle.qss_lines.specs.RowSums.{CanAddUp};
 ghost use Rattle.qss_quiet.specs.Writes.{IsWritten};
 ghost use Rattle.qss_lines.specs.declared.shifts.RowSum.TheVariants as sum;
-ghost use Rattle.qss_lines.specs.Visitings.{AreNewLevels, AreHandled, AreStatesOf, CanGoOn, CanOneGoOn, CanReseat, first_overweight, new_slopes, states_left, WereSums};
+ghost use Rattle.qss_lines.specs.Visitings.{AreStatesOf, CanFollowHandled, CanGoOn, CanOneGoOn, CanReseat, first_overweight, new_slopes, states_left, WereSums};
 
 use crate::resloped::reslope_readers;
 use crate::shifts::shift_slopes;
@@ -60,9 +60,7 @@ fn slope_readers(
 
 // The slopes of all rows follow where the moved states take their levels and the assigned discrete variables their values.
 fn follow_slopes(at: &NewLevels, left: &Handled, lines: &[Integrator], slopes: &mut [i128])
-    requires ready { AreNewLevels at.now }
-    requires left { AreHandled at.now.machine.now left.now }
-    requires lines { length lines.now ≡ state_count at.now.machine.now }
+    requires can { CanFollowHandled at.now left.now lines.now }
     requires light { first_overweight at.now left.now.discretes.now ≡ None }
     requires before { WereSums sum.Slope at.now left.now.before.now slopes.old lines.now }
     ensures { slopes.new ≡ new_slopes at.now left.now.discretes.now }

@@ -17,6 +17,9 @@ use Rattle.qss_lines.proofs.GoingOn.{slopes_small}
 use Rattle.qss_quiet.proofs.Writes.{index_of}
 use Rattle.qss_lines.proofs.reseated.reslope_handled.Goals as goal
 
+pub follow_slopes-requires-clause-can : goal.follow_slopes-requires-clause-can
+follow_slopes-requires-clause-can g c = record { new = c.requires.new; handled = c.requires.handled; many_lines = c.requires.one_each.lines }
+
 pub seat_each-requires-clause-on : goal.seat_each-requires-clause-on
 seat_each-requires-clause-on g c = record {
   new = c.requires.new;
