@@ -88,6 +88,7 @@ pub(crate) fn visit_due<L: Ledger>(
         → is_touched m.now (tick + 1) (world_of tick s.old) (world_of (tick + 1) s.new) j ≡ false
         → (line_at s.new.lines.items j ≡ line_at s.old.lines.items j)
         × (due_at s.new.agenda j ≡ due_at s.old.agenda j) }
+    ensures touched_room { vec_capacity s.new.touched ≡ vec_capacity s.old.touched }
 {
     let arrival = Arrival {
         machine: m,

@@ -47,9 +47,9 @@ fn number_lists(
     conditions: usize,
 ) -> Result<(Vec<u32>, Vec<u32>, Vec<u32>), AllocError>
     ensures { IfOk result
-        (λ lists. (states ≤ vec_capacity lists.0)
-        × (conditions ≤ vec_capacity lists.1)
-        × (conditions ≤ vec_capacity lists.2)) }
+        (λ lists. (vec_capacity lists.0 ≡ states)
+        × (vec_capacity lists.1 ≡ conditions)
+        × (vec_capacity lists.2 ≡ conditions)) }
 {
     let moved = Vec::with_capacity(alloc, states)?;
     let changed = Vec::with_capacity(alloc, conditions)?;

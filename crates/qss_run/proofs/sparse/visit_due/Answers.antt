@@ -381,4 +381,5 @@ returns g c =
           let left = c.go_on_moved.ensures.kept j inside
           (ap (λ js. is_among (reached m js) j) c.as_slice-3.ensures.value ∙ unreached m t w (world_of t next) s.moved.items taken.due.numbers changed j inside untouched) in
           (ap (λ ls. line_at ls j) of_lines ∙ left.0 ∙ ap (λ ls. line_at ls j) c.as_mut_slice-2.ensures.value, left.1);
+      touched_room = c.go_on_moved.ensures.room;
     }
