@@ -3,12 +3,13 @@
 ghost use Rattle.std.specs.Prelude.{◌≡◌, ℕ, ◌+◌, ◌<◌, ◌≤◌, ◌&&◌, ◌||◌, ◌==◌, ◌∷◌, [], length};
 ghost use Rattle.qss_machine.specs.Firing.{flag_at};
 ghost use Rattle.qss_machine.specs.Limits.{IsBounded};
-ghost use Rattle.qss_machine.specs.Machines.{state_count, value_of, speed_of};
+ghost use Rattle.qss_machine.specs.Machines.{state_count, truth, value_of, speed_of};
 ghost use Rattle.qss_machine.specs.Handlers.{conditions, truths};
 ghost use Rattle.qss_sched.specs.Ranks.{due_at};
 ghost use Rattle.qss_watch.specs.Places.{AreConditionsOf, AreWatched};
 ghost use Rattle.qss_watch.specs.Moments.{CanWatch, IsPoint};
 ghost use Rattle.qss_quiet.specs.Among.{is_among};
+ghost use Rattle.qss_quiet.specs.Sims.{condition_at};
 ghost use Rattle.qss_watch.specs.Moves.{differ};
 ghost use Rattle.qss_watch.specs.Rewatchings.{AreAlikeButSettled, AreNoted, AreSettled, watchings_of};
 
@@ -78,6 +79,12 @@ impl Conditions {
             at.now.slopes.now (place ∷ []) (watchings_of self.old agenda.old)
             (watchings_of self.new agenda.new) }
         ensures noted { AreNoted (place ∷ []) self.old self.new }
+        ensures apart { (other : ℕ) → is_among self.new.apart.places other
+            ≡ (is_among self.old.apart.places other
+            || (place == other && differ
+            (truth m.now (condition_at m.now place) at.now.states.now at.now.discretes.now
+            at.now.tick)
+            (flag_at self.old.arrived.items place))) }
         ensures rest { AreAlikeButSettled self.old self.new }
     {
         let condition = self.condition(m, place);

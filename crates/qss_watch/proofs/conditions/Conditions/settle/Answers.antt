@@ -1,5 +1,5 @@
 -- One condition is settled.
-use Rattle.std.proofs.Common.{◌≡◌, ◌+◌, ◌==◌, ◌&&◌, ◌||◌, length, set, refl, sym, ◌∙◌, ap, arith}
+use Rattle.std.proofs.Common.{◌≡◌, Bool, ◌+◌, ◌==◌, ◌&&◌, ◌||◌, length, set, refl, sym, ◌∙◌, ap, arith}
 use Rattle.std.proofs.lemmas.List.{length-set, with_items_is}
 use Rattle.std.specs.Vec.{with_items}
 use Rattle.qss_machine.specs.declared.parts.Condition.{Condition}
@@ -63,3 +63,16 @@ returns-clause-noted c =
     ∙ ap (λ flags. set flags place holds) c.as_mut_slice-settled.ensures.value in
     one_noted place holds all _ (omega (arith, c.requires.place, c.requires.can.fits.settled)) refl settled c.note.ensures.count
     (λ other. c.note.ensures.places other ∙ ap (λ flags. is_among all.apart.places other || (place == other && differ holds (flag_at flags place))) c.as_slice-arrived.ensures.value)
+
+pub returns-clause-apart : goal.returns-clause-apart
+returns-clause-apart c other =
+    let m = c.args.m.now in
+    let at = c.args.at.now in
+    let place = c.args.place in
+    let all : Conditions = c.args.self.now in
+    let own : c.condition-condition.result.now ≡ condition_at m place = c.condition-condition.ensures.value in
+    let holds : c.truth-holds.result ≡ truth m (condition_at m place) at.states.now at.discretes.now at.tick =
+    c.truth-holds.ensures ∙ ap (λ (w : Watch). compares w.rel w.value) c.watch_of-watch.ensures ∙ ap (λ (condition : Condition). truth m condition at.states.now at.discretes.now at.tick) own in
+    c.note.ensures.places other
+    ∙ ap (λ flags. is_among all.apart.places other || (place == other && differ c.truth-holds.result (flag_at flags place))) c.as_slice-arrived.ensures.value
+    ∙ ap (λ (b : Bool). is_among all.apart.places other || (place == other && differ b (flag_at all.arrived.items place))) holds
