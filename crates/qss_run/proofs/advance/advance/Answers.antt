@@ -19,9 +19,6 @@ loop-tick-init g c = record {
   are_silent = ([], record { leads = tt; as_many = omega arith; reached = refl }, omega arith);
 }
 
-pub go_to_visit-visited-requires : goal.go_to_visit-visited-requires
-go_to_visit-visited-requires g c = record { stands = c.loop-tick.invariant.stands; in_time = c.loop-tick-test.true }
-
 pub returns-in-Some-clause-next : goal.returns-in-Some-clause-next
 returns-in-Some-clause-next g c =
     let Rule = IsRuled c.args.q.now.name in

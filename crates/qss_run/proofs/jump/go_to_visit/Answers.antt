@@ -7,9 +7,6 @@ use Rattle.qss_run.specs.Stores.{world_of}
 use Rattle.qss_run.specs.Touches.{touches_at}
 use Rattle.qss_run.proofs.jump.go_to_visit.Goals as goal
 
-pub visit-over-requires : goal.visit-over-requires
-visit-over-requires g c = record { stands = c.jump-before.ensures.stands; in_time = c.jump-before.ensures.before }
-
 pub returns-clause-visited : goal.returns-clause-visited
 returns-clause-visited g c =
     let quiet = c.jump-before.ensures.silent c.args.q.now.name in

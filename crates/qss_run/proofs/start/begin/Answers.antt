@@ -25,13 +25,6 @@ use Rattle.qss_lines.proofs.InPlace.{same_length}
 use Rattle.qss_run.proofs.Visits.{stands_again}
 use Rattle.qss_run.proofs.start.begin.Goals as goal
 
-pub set_out-requires-clause-one_each : goal.set_out-requires-clause-one_each
-set_out-requires-clause-one_each c = record {
-  slopes = ap length c.as_mut_slice.ensures.value ∙ c.requires.fits.slopes;
-  lines = ap length c.as_mut_slice-2.ensures.value ∙ c.requires.fits.lines;
-  places = omega (arith, c.requires.fits.places);
-}
-
 pub start-requires-clause-levels : goal.start-requires-clause-levels
 start-requires-clause-levels c = record {
   levels = ap length c.as_slice-2.ensures.value ∙ c.requires.fits.levels;

@@ -8,16 +8,14 @@ use Rattle.qss_machine.specs.declared.parts.DiscreteInfo.{DiscreteInfo}
 use Rattle.qss_machine.specs.declared.parts.StateInfo.{StateInfo}
 use Rattle.qss_machine.specs.declared.system.Machine.{Machine}
 use Rattle.qss_machine.specs.Numbers.{int_at}
-use Rattle.qss_machine.specs.Machines.{state_count, level_unit, quantum_of, slope_at, start_states, start_discretes}
+use Rattle.qss_machine.specs.Machines.{state_count, level_unit, quantum_of, start_states, start_discretes}
 use Rattle.qss_machine.specs.Handlers.{conditions}
 use Rattle.qss_machine.proofs.Near.{start_near}
 use Rattle.qss_quant.specs.Lines.{IsNear}
 use Rattle.qss_hand.specs.Values.{Values}
 use Rattle.qss_watch.specs.declared.conditions.Conditions.{Conditions}
 use Rattle.qss_watch.proofs.OwnConditions.{arrived_anew}
-use Rattle.qss_lines.specs.StateLines.{line_at, GoesOnFrom}
 use Rattle.qss_lines.specs.Variables.{AreWithin}
-use Rattle.qss_run.specs.Stores.{HaveSetOut}
 use Rattle.qss_lines.proofs.GoingOn.{slopes_small}
 use Rattle.qss_quiet.proofs.Starts.{states_start, discretes_start, levels_start, light_at, count_start}
 use Rattle.qss_lines.proofs.InPlace.{same_length}
@@ -76,20 +74,6 @@ rewatch_all-requires c =
 pub copy_from_slice-requires : goal.copy_from_slice-requires
 copy_from_slice-requires c =
     ap length c.as_mut_slice.ensures.value ∙ c.rewatch_all.ensures.fits.arrived ∙ sym c.rewatch_all.ensures.fits.settled ∙ sym (ap length c.as_slice-settled.ensures.value)
-
-pub returns-clause-set_out : goal.returns-clause-set_out
-returns-clause-set_out c =
-    let of_x = c.as_slice-x.ensures.value ∙ ap (λ (v : Values). v.x) c.work.view_is in
-    let of_d = c.as_slice-d.ensures.value ∙ ap (λ (v : Values). v.d) c.work.view_is in
-    let m = c.args.m.now in
-    subst (λ x. HaveSetOut m x c.args.levels.now c.args.work.now.d c.start_lines.new.slopes c.start_lines.new.lines c.rewatch_all.new.agenda) of_x
-    (subst (λ d. HaveSetOut m c.as_slice-x.result.now c.args.levels.now d c.start_lines.new.slopes c.start_lines.new.lines c.rewatch_all.new.agenda) of_d
-    (record {
-      slopes = c.start_lines.ensures.set_out.slopes;
-      lines = λ j h.
-          subst (GoesOnFrom m 0 (int_at c.as_slice-x.result.now j) (int_at c.args.levels.now j) (slope_at m j c.args.levels.now c.as_slice-d.result.now) j (line_at c.start_lines.new.lines j))
-          (sym (c.rewatch_all.ensures.others j h)) (c.start_lines.ensures.set_out.lines j h);
-    }))
 
 pub returns-clause-arrived : goal.returns-clause-arrived
 returns-clause-arrived c =
