@@ -1,8 +1,9 @@
 -- States of which some go on at new slopes, step by step.
-use Rattle.std.proofs.Common.{◌≡◌, ℕ, ◌<◌, true, false, List, [], ◌∷◌, ◌++◌, length, ℤ, sym, ◌∙◌, ap, subst, arith, inl, inr, ◌==◌}
-use Rattle.std.proofs.lemmas.Bool.{or_cases, cases_eq}
+use Rattle.std.proofs.Common.{◌≡◌, ℕ, ◌+◌, ◌<◌, true, false, eqb, List, [], ◌∷◌, ◌++◌, length, get_or, set, take, ℤ, refl, sym, ◌∙◌, ap, subst, arith, inl, inr, ◌==◌}
+use Rattle.std.proofs.lemmas.Bool.{or_cases, or_parts, cases_eq, eqb-false}
+use Rattle.std.proofs.lemmas.List.{length-set, get_or-set_other}
 use Rattle.std.proofs.lemmas.List.Folds.{list_any-append}
-use Rattle.std.specs.Prelude.{Option}
+use Rattle.std.specs.Prelude.{Option, None}
 use Rattle.mu_num.proofs.Tests.{eqb-true}
 use Rattle.mu_num.specs.Sizes.{IsWithin}
 use Rattle.qss_machine.specs.declared.system.Machine.{Machine}
@@ -11,9 +12,11 @@ use Rattle.qss_machine.specs.Numbers.{int_at}
 use Rattle.qss_quant.specs.Lines.{Line, state_at, IsNear}
 use Rattle.qss_sched.specs.Ranks.{due_at}
 use Rattle.qss_quiet.specs.Among.{is_among}
+use Rattle.qss_quiet.specs.Sims.{no_line}
+use Rattle.qss_quiet.proofs.Writes.{among_more}
 use Rattle.qss_lines.specs.StateLines.{line_at, GoesOnFrom}
 use Rattle.qss_lines.specs.Renewals.{goes_at}
-use Rattle.qss_lines.specs.Reslopings.{MayReslope, GoesOn, Courses, AreResloped}
+use Rattle.qss_lines.specs.Reslopings.{MayReslope, GoesOn, Courses, DuesStay, CoursesStay, OneGoesOn, TheseGoOn, AreResloped}
 
 -- ---- one state
 
@@ -48,22 +51,62 @@ module _ (m : Machine) (tick : ℕ) (level slope : ℤ) (j : ℕ) where
   goes_on_on a b c due_a due_b due_c (inl first) (inr second) = inr (subst (λ z. GoesOnFrom m tick z level slope j c due_c) (ap (λ (l : Line). state_at l tick) first.0) second)
   goes_on_on a b c due_a due_b due_c (inr first) second = inr (still_going (state_at a tick) b c due_b due_c first.here first second)
 
+-- a due tick is put in the place of one
+pub dues_set : (j : ℕ) (due : Option ℕ) (dues next : List (Option ℕ)) → next ≡ set dues j due → DuesStay (λ place. place ≡ j → ⊥) dues next
+dues_set j due dues next is = record {
+  places = ap length is ∙ length-set dues j due;
+  others = λ place other. ap (λ (ds : List (Option ℕ)). due_at ds place) is ∙ get_or-set_other dues j place due None other;
+}
+
+-- and a line too
+pub courses_set : (j : ℕ) (lines : List Line) (line : Line) (dues next : List (Option ℕ)) → DuesStay (λ place. place ≡ j → ⊥) dues next →
+    CoursesStay (λ k. k ≡ j → ⊥) (record { lines = lines; dues = dues }) (record { lines = set lines j line; dues = next })
+courses_set j lines line dues next others = record { lines = λ k other. get_or-set_other lines j k line no_line other; dues = others }
+
 -- ---- all states
 
 module _ (m : Machine) (tick : ℕ) (levels slopes : List ℤ) where
+  pub none_go_on : (x : ℕ → ℤ) (old : Courses) → TheseGoOn m tick levels slopes [] x old old
+  none_go_on x old = record { own = λ j among. absurd (cc); others = record { lines = λ j none. refl; dues = record { places = refl; others = λ place none. refl } } }
+
+  -- one more goes on
+  pub one_more : (x : ℕ → ℤ) (states : List ℕ) (i : ℕ) (old between new : Courses) → i < length states → TheseGoOn m tick levels slopes (take i states) x old between →
+      OneGoesOn m tick levels slopes (get_or states i 0) (x (get_or states i 0)) between new → TheseGoOn m tick levels slopes (take (i + 1) states) x old new
+  one_more x states i old between new h first one =
+      let j : ℕ = get_or states i 0 in
+      let Goes : ℕ → Line → Option ℕ → Type 0 = λ k line due. GoesOnFrom m tick (x k) (int_at levels k) (int_at slopes k) k line due in
+      let stay : (k : ℕ) → is_among (take (i + 1) states) k ≡ false → (is_among (take i states) k ≡ false) × (k ≡ j → ⊥) = λ k none.
+      let parts = or_parts (is_among (take i states) k) (eqb j k) (sym (among_more states i k h) ∙ none) in
+      (parts.0, λ e. eqb-false j k parts.1 (sym e)) in
+      record {
+        own = λ k among. elim (cases_eq k j) [
+          | inl same ↦ subst (λ (a : ℕ). Goes a (line_at new.lines a) (due_at new.dues a)) (sym same) one.own
+          | inr other ↦ elim (or_cases (is_among (take i states) k) (eqb j k) (sym (among_more states i k h) ∙ among)) [
+            | inl before ↦
+                subst (λ (l : Line). Goes k l (due_at new.dues k)) (sym (one.others.lines k other))
+                (subst (Goes k (line_at between.lines k)) (sym (one.others.dues.others k other)) (first.own k before))
+            | inr same ↦ absurd (other (sym (eqb-true j k same)))
+          ]
+        ];
+        others = record {
+          lines = λ k none. one.others.lines k (stay k none).1 ∙ first.others.lines k (stay k none).0;
+          dues = record {
+            places = one.others.dues.places ∙ first.others.dues.places;
+            others = λ k none. one.others.dues.others k (stay k none).1 ∙ first.others.dues.others k (stay k none).0;
+          };
+        };
+      }
+
   -- one state goes on at its slope
-  pub one_resloped : (j : ℕ) (old new : Courses) → j < state_count m →
-      GoesOnFrom m tick (state_at (line_at old.lines j) tick) (int_at levels j) (int_at slopes j) j (line_at new.lines j) (due_at new.dues j) →
-      ((k : ℕ) → (k ≡ j → ⊥) → line_at new.lines k ≡ line_at old.lines k) → length new.dues ≡ length old.dues →
-      ((place : ℕ) → (place ≡ j → ⊥) → due_at new.dues place ≡ due_at old.dues place) →
+  pub one_resloped : (j : ℕ) (old new : Courses) → j < state_count m → OneGoesOn m tick levels slopes j (state_at (line_at old.lines j) tick) old new →
       (goes_at (int_at levels j) (int_at slopes j) (line_at old.lines j) ≡ true → line_at new.lines j ≡ line_at old.lines j) → AreResloped m tick levels slopes (j ∷ []) old new
-  one_resloped j old new known goes_on lines places dues kept =
+  one_resloped j old new known one kept =
       let here = λ (k : ℕ) (same : j ≡ k).
-      subst (λ (i : ℕ). GoesOnFrom m tick (state_at (line_at old.lines i) tick) (int_at levels i) (int_at slopes i) i (line_at new.lines i) (due_at new.dues i)) same goes_on in
+      subst (λ (i : ℕ). GoesOnFrom m tick (state_at (line_at old.lines i) tick) (int_at levels i) (int_at slopes i) i (line_at new.lines i) (due_at new.dues i)) same one.own in
       record {
         each = λ k h. elim (cases_eq k j) [
           | inl same ↦ inr (here k (sym same))
-          | inr other ↦ inl (lines k other, dues k other)
+          | inr other ↦ inl (one.others.lines k other, one.others.dues.others k other)
         ];
         own = λ k h among. elim (or_cases (j == k) false among) [
           | inl same ↦ here k (eqb-true j k same)
@@ -72,10 +115,10 @@ module _ (m : Machine) (tick : ℕ) (levels slopes : List ℤ) where
         left = λ k h so. elim (cases_eq k j) [
           | inl same ↦ subst (λ (i : ℕ). line_at new.lines i ≡ line_at old.lines i) (sym same)
               (kept (subst (λ (i : ℕ). goes_at (int_at levels i) (int_at slopes i) (line_at old.lines i) ≡ true) same so))
-          | inr other ↦ lines k other
+          | inr other ↦ one.others.lines k other
         ];
-        as_many = places;
-        others = λ place past. dues place (λ e. omega (arith, e, past, known));
+        as_many = one.others.dues.places;
+        others = λ place past. one.others.dues.others place (λ e. omega (arith, e, past, known));
       }
 
   -- and then more do

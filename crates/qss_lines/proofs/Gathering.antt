@@ -24,7 +24,7 @@ use Rattle.qss_lines.specs.declared.shifts.RowSum.TheVariants.{Slope}
 use Rattle.qss_lines.specs.Gatherings.{Gathering, IsAlong, is_behind, behind, CanGather, AreGathered, reached}
 use Rattle.qss_lines.specs.StateLines.{line_at, GoesOnFrom}
 use Rattle.qss_lines.specs.RowSums.{AreSumsBefore}
-use Rattle.qss_lines.specs.Reslopings.{Courses}
+use Rattle.qss_lines.specs.Reslopings.{Courses, TheseGoOn}
 use Rattle.qss_lines.proofs.Counting.{one_if, count_few, count_less, count_one}
 use Rattle.qss_quiet.proofs.Lines.{line_here}
 
@@ -289,57 +289,19 @@ same_tick_on j first before after so_far here others k = elim (cases_eq k j) [
   | inr other ↦ ap (λ (l : Line). l.tick) (others k other) ∙ so_far k
 ]
 
--- these states go on from a tick, at their levels and slopes, from where their lines lead; the others are left
-pub record AreOn (m : Machine) (tick : ℕ) (levels slopes : List ℤ) (states : List ℕ) (old new : Courses) : Type 0 where
-  pub own : (j : ℕ) → is_among states j ≡ true → GoesOnFrom m tick (state_at (line_at old.lines j) tick) (int_at levels j) (int_at slopes j) j (line_at new.lines j) (due_at new.dues j)
-  pub lines : (j : ℕ) → is_among states j ≡ false → line_at new.lines j ≡ line_at old.lines j
-  pub places : length new.dues ≡ length old.dues
-  pub dues : (place : ℕ) → is_among states place ≡ false → due_at new.dues place ≡ due_at old.dues place
-
 module _ (m : Machine) (tick : ℕ) (levels slopes : List ℤ) where
-  pub none_on : (old : Courses) → AreOn m tick levels slopes [] old old
-  none_on old = record { own = λ j among. absurd (cc); lines = λ j none. refl; places = refl; dues = λ place none. refl }
-
   -- lines are where they were
-  pub still_there : (states : List ℕ) (old new : Courses) → AreOn m tick levels slopes states old new → (j : ℕ) → state_at (line_at new.lines j) tick ≡ state_at (line_at old.lines j) tick
+  pub still_there : (states : List ℕ) (old new : Courses) → TheseGoOn m tick levels slopes states (λ k. state_at (line_at old.lines k) tick) old new →
+      (j : ℕ) → state_at (line_at new.lines j) tick ≡ state_at (line_at old.lines j) tick
   still_there states old new on j = elim (cases_Bool (is_among states j)) [
     | inl among ↦ (on.own j among).here
-    | inr none ↦ ap (λ (l : Line). state_at l tick) (on.lines j none)
+    | inr none ↦ ap (λ (l : Line). state_at l tick) (on.others.lines j none)
   ]
-
-  -- one more goes on
-  pub on_more : (states : List ℕ) (j : ℕ) (old between new : Courses) → AreOn m tick levels slopes states old between →
-      GoesOnFrom m tick (state_at (line_at between.lines j) tick) (int_at levels j) (int_at slopes j) j (line_at new.lines j) (due_at new.dues j) →
-      ((k : ℕ) → (k ≡ j → ⊥) → line_at new.lines k ≡ line_at between.lines k) → length new.dues ≡ length between.dues →
-      ((place : ℕ) → (place ≡ j → ⊥) → due_at new.dues place ≡ due_at between.dues place) → AreOn m tick levels slopes (states ++ j ∷ []) old new
-  on_more states j old between new first here lines places dues =
-      let Goes : ℕ → Line → Option ℕ → Type 0 = λ k line due. GoesOnFrom m tick (state_at (line_at old.lines k) tick) (int_at levels k) (int_at slopes k) k line due in
-      let last : Goes j (line_at new.lines j) (due_at new.dues j) =
-      subst (λ (x : ℤ). GoesOnFrom m tick x (int_at levels j) (int_at slopes j) j (line_at new.lines j) (due_at new.dues j)) (still_there states old between first j) here in
-      let not_last : (k : ℕ) → is_among (states ++ j ∷ []) k ≡ false → k ≡ j → ⊥ = λ k none e.
-      let among : is_among (states ++ j ∷ []) k ≡ true = among_push states j k ∙ or_right (is_among states k) (eqb j k || false) (or_left (eqb j k) false (eq-eqb j k (sym e))) in
-      absurd (cc) in
-      let not_first : (k : ℕ) → is_among (states ++ j ∷ []) k ≡ false → is_among states k ≡ false = λ k none. elim (cases_Bool (is_among states k)) [
-        | inl sooner ↦
-            (let among : is_among (states ++ j ∷ []) k ≡ true = among_push states j k ∙ or_left (is_among states k) (eqb j k || false) sooner in absurd (cc))
-        | inr not_yet ↦ not_yet
-      ] in
-      record {
-        own = λ k among. elim (cases_eq k j) [
-          | inl same ↦ subst (λ (a : ℕ). Goes a (line_at new.lines a) (due_at new.dues a)) (sym same) last
-          | inr other ↦
-              subst (λ (l : Line). Goes k l (due_at new.dues k)) (sym (lines k other))
-              (subst (Goes k (line_at between.lines k)) (sym (dues k other)) (first.own k (listed_before states j k other among)))
-        ];
-        lines = λ k none. lines k (not_last k none) ∙ first.lines k (not_first k none);
-        places = places ∙ first.places;
-        dues = λ k none. dues k (not_last k none) ∙ first.dues k (not_first k none);
-      }
 
 -- ---- all states
 
 module _ (m : Machine) (tick : ℕ) (levels before discretes slopes_old slopes : List ℤ) (moved : List ℕ) (old between : Gathering) (dues : List (Option ℕ)) (new : Courses)
-    (gathered : AreGathered tick (reached m moved) old between) (on : AreOn m tick levels slopes between.touched (record { lines = between.lines; dues = dues }) new)
+    (gathered : AreGathered tick (reached m moved) old between) (on : TheseGoOn m tick levels slopes between.touched (λ k. state_at (line_at between.lines k) tick) (record { lines = between.lines; dues = dues }) new)
     (were : AreSumsBefore Slope m moved levels discretes slopes_old old.lines before) (are : slopes ≡ tabulate (state_count m) (λ j. slope_at m j levels discretes)) where
   -- each state goes on at its new slope, since that of one that reads no moved state is its old one
   pub all_on : (k : ℕ) → k < state_count m → k < length old.lines → (line_at old.lines k).tick ≤ tick → (line_at old.lines k).slope ≡ int_at slopes_old k →
@@ -359,8 +321,8 @@ module _ (m : Machine) (tick : ℕ) (levels before discretes slopes_old slopes :
             ap (λ xs. int_at xs k) were.own_sums ∙ int_at-tabulate (state_count m) (λ j. slope_at m j before discretes) k h
             ∙ sym (unread_slope m.f (row_at m k) moved before levels discretes (unread_at moved (row_at m k) (sym (among_readers m k h moved) ∙ parts.1)) were.levels.off) in
             let own_level : (line_at old.lines k).level ≡ int_at levels k = were.levels.of_lines.own_levels k h ∙ sym (were.levels.off.others k parts.0) in
-            let line : line_at new.lines k ≡ line_at old.lines k = on.lines k none ∙ gathered.others k none in
+            let line : line_at new.lines k ≡ line_at old.lines k = on.others.lines k none ∙ gathered.others k none in
             subst (λ (l : Line). GoesOnFrom m tick x (int_at levels k) (slope_at m k levels discretes) k l (due_at new.dues k)) (sym line)
-            (subst (GoesOnFrom m tick x (int_at levels k) (slope_at m k levels discretes) k (line_at old.lines k)) (sym (on.dues k none))
+            (subst (GoesOnFrom m tick x (int_at levels k) (slope_at m k levels discretes) k (line_at old.lines k)) (sym (on.others.dues.others k none))
             (record { not_later = not_later; here = refl; own_slope = own_slope ∙ same; own_level = own_level; is_due = due parts.0 own_level }))
       ]

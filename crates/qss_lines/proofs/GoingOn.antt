@@ -1,8 +1,10 @@
 -- A state's line at a new slope.
-use Rattle.std.proofs.Common.{◌≡◌, ◌≢◌, ℕ, ◌+◌, ◌<◌, Bool, true, length, get_or, set, List, ℤ, sym, ◌∙◌, ap, subst, arith, below_more}
-use Rattle.std.proofs.lemmas.List.{get_or-set_other, get_or-set_same}
+use Rattle.std.proofs.Common.{◌≡◌, ◌≢◌, ℕ, ◌+◌, ◌<◌, Bool, true, length, get_or, set, List, ℤ, pos, sym, ◌∙◌, ap, subst, arith, below_more}
+use Rattle.std.proofs.lemmas.Int.{ints, to_z-of_z}
+use Rattle.std.proofs.lemmas.List.{get_or-set_other, get_or-set_same, get_or_default}
 use Rattle.std.proofs.lemmas.List.FromFn.{length-map-range_with_len, get_or-map-range_with_len}
 use Rattle.std.specs.Bool.{IsTrue}
+use Rattle.std.specs.Int.RustNames.{FitsSigned}
 use Rattle.std.specs.Prelude.{Option, None, position, All}
 use Rattle.mu_num.specs.Sizes.{IsWithin}
 use Rattle.qss_machine.specs.declared.system.Machine.{Machine}
@@ -12,10 +14,12 @@ use Rattle.qss_machine.specs.Ticks.{is_overweight}
 use Rattle.qss_quant.specs.Lines.{Line, IsNear}
 use Rattle.qss_sched.specs.Ranks.{due_at}
 use Rattle.qss_lines.specs.StateLines.{line_at, GoesOnFrom}
-use Rattle.qss_lines.specs.Visitings.{CanGoOn}
+use Rattle.qss_lines.specs.Visitings.{CanGoOn, CanOneGoOn}
 use Rattle.qss_lines.specs.declared.visiting.NewSlopes.{NewSlopes}
 use Rattle.qss_quiet.specs.Sims.{no_line}
 use Rattle.qss_quiet.proofs.LightRows.{row_is_light}
+use mir.Syntax.{w64, w128}
+use mir.Val.{to_z, of_z}
 
 pub is_true : (b : Bool) → b ≡ true → IsTrue b
 is_true b e = search (e)
@@ -46,7 +50,35 @@ slopes_small m levels d e slopes light same is k z h =
 
 -- states that may go on still may where lines and agenda are as long as before
 pub still_on : (at : NewSlopes) (lines next : List Line) (dues after : List (Option ℕ)) → CanGoOn at lines dues → length next ≡ length lines → length after ≡ length dues → CanGoOn at next after
-still_on at lines next dues after on many places = record { new = on.new; slopes_of = on.slopes_of; lines = many ∙ on.lines; places = omega (arith, places, on.places); in_time = on.in_time }
+still_on at lines next dues after on many places = record {
+  new = on.new;
+  one_each = record { slopes = on.one_each.slopes; lines = many ∙ on.one_each.lines; places = omega (arith, places, on.one_each.places) };
+  small_slopes = on.small_slopes;
+  in_time = on.in_time;
+}
+
+-- a state that may go on has a line and a place, and its level and slope are read as they are
+module _ {at : NewSlopes} {j : ℕ} {lines : List Line} {dues : List (Option ℕ)} (can : CanOneGoOn at j lines dues) where
+  pub has_line : j < length lines
+  has_line = omega (arith, can.all.one_each.lines, can.known)
+
+  pub has_place : j < length dues
+  has_place = omega (arith, can.all.one_each.places, can.known)
+
+  pub line_read : (line : Line) → get_or lines j line ≡ line_at lines j
+  line_read line = get_or_default lines j line no_line has_line
+
+  pub small_level : IsWithin 43 (int_at at.taken.levels.now j)
+  small_level = can.all.new.small_levels j (pos 0) (omega (arith, can.all.new.levels, can.known))
+
+  pub small_slope : IsWithin 88 (int_at at.slopes.now j)
+  small_slope = can.all.small_slopes j (pos 0) (omega (arith, can.all.one_each.slopes, can.known))
+
+  pub level_read : to_z w64 (of_z w64 (int_at at.taken.levels.now j)) ≡ int_at at.taken.levels.now j
+  level_read = let fits : FitsSigned w64 (int_at at.taken.levels.now j) = omega (arith, ints, small_level) in to_z-of_z w64 (int_at at.taken.levels.now j) fits
+
+  pub slope_read : to_z w128 (of_z w128 (int_at at.slopes.now j)) ≡ int_at at.slopes.now j
+  slope_read = let fits : FitsSigned w128 (int_at at.slopes.now j) = omega (arith, ints, small_slope) in to_z-of_z w128 (int_at at.slopes.now j) fits
 
 -- a state near its level, in other words
 pub near_along : (m : Machine) (j : ℕ) (x y l k : ℤ) → x ≡ y → l ≡ k → IsNear (level_unit m) y k (quantum_of m j k) → IsNear (level_unit m) x l (quantum_of m j l)

@@ -18,13 +18,13 @@ use Rattle.qss_quiet.specs.Among.{is_among}
 use Rattle.qss_lines.specs.Renewals.{goes_at, goes_from, renewals, renewals_from}
 use Rattle.qss_lines.specs.RowSums.{AreSumsBefore}
 use Rattle.qss_quiet.specs.Sims.{IsDue}
-use Rattle.qss_lines.specs.Reslopings.{MayReslope, Courses, AreResloped}
+use Rattle.qss_lines.specs.Reslopings.{MayReslope, Courses, TheseGoOn, AreResloped}
 use Rattle.qss_lines.proofs.Assigned.{slope_stays}
 use Rattle.qss_lines.proofs.Counting.{count_same}
 use Rattle.qss_lines.proofs.Courses.{still_going, resloped_then}
 use Rattle.qss_quiet.proofs.Quiet.{int_at-tabulate}
 use Rattle.qss_lines.proofs.Renewed.{from_here}
-use Rattle.qss_lines.proofs.Seats.{AreSeated, still_begun}
+use Rattle.qss_lines.proofs.Seats.{still_begun}
 use Rattle.qss_quiet.proofs.Unread.{unread_at, unread_slope}
 use Rattle.qss_quiet.proofs.Among.{among_readers}
 use Rattle.qss_lines.specs.declared.shifts.RowSum.TheVariants.{Slope}
@@ -45,7 +45,7 @@ module _ (lines : List Line) (tick : ℕ) (moved : List ℕ) (x : List ℤ) (j :
 
 -- ---- where the moved states go on from where they are
 
-module _ (m : Machine) (tick : ℕ) (x levels slopes : List ℤ) (moved : List ℕ) (first between : Courses) (are : AreSeated m tick x levels slopes moved first between)
+module _ (m : Machine) (tick : ℕ) (x levels slopes : List ℤ) (moved : List ℕ) (first between : Courses) (on : TheseGoOn m tick levels slopes moved (int_at x) first between)
     (many : length first.lines ≡ state_count m) where
   abbrev states : List ℤ
   states = states_with first.lines tick moved x
@@ -55,18 +55,19 @@ module _ (m : Machine) (tick : ℕ) (x levels slopes : List ℤ) (moved : List �
   at_state j h =
       let inside : j < length first.lines = omega (arith, h, many) in
       elim (cases_Bool (is_among moved j)) [
-        | inl among ↦ (are.own j among).here ∙ sym (moved_state first.lines tick moved x j inside among)
-        | inr none ↦ ap (λ (l : Line). state_at l tick) (are.lines j none) ∙ sym (other_state first.lines tick moved x j inside none)
+        | inl among ↦ (on.own j among).here ∙ sym (moved_state first.lines tick moved x j inside among)
+        | inr none ↦ ap (λ (l : Line). state_at l tick) (on.others.lines j none) ∙ sym (other_state first.lines tick moved x j inside none)
       ]
 
   -- and a line that goes on so already is left
-  pub left_seated : (j : ℕ) → j < state_count m → goes_from tick (int_at states j) (int_at levels j) (int_at slopes j) (line_at first.lines j) ≡ true →
+  pub left_seated : ((j : ℕ) → goes_from tick (int_at x j) (int_at levels j) (int_at slopes j) (line_at first.lines j) ≡ true → line_at between.lines j ≡ line_at first.lines j) →
+      (j : ℕ) → j < state_count m → goes_from tick (int_at states j) (int_at levels j) (int_at slopes j) (line_at first.lines j) ≡ true →
       line_at between.lines j ≡ line_at first.lines j
-  left_seated j h so =
+  left_seated left j h so =
       let inside : j < length first.lines = omega (arith, h, many) in
       elim (cases_Bool (is_among moved j)) [
-        | inl among ↦ are.left j (subst (λ z. goes_from tick z (int_at levels j) (int_at slopes j) (line_at first.lines j) ≡ true) (moved_state first.lines tick moved x j inside among) so)
-        | inr none ↦ are.lines j none
+        | inl among ↦ left j (subst (λ z. goes_from tick z (int_at levels j) (int_at slopes j) (line_at first.lines j) ≡ true) (moved_state first.lines tick moved x j inside among) so)
+        | inr none ↦ on.others.lines j none
       ]
 
   -- and may go on at another slope
@@ -77,14 +78,14 @@ module _ (m : Machine) (tick : ℕ) (x levels slopes : List ℤ) (moved : List �
   may_reslope_seated small j h begun near due =
       let all : length states ≡ state_count m = length-map-range_with_len (λ k. if is_among moved k then int_at x k else state_at (line_at first.lines k) tick) 0 (length first.lines) ∙ many in
       record {
-        not_later = still_begun m tick x levels slopes moved first between are j begun;
+        not_later = still_begun m tick x levels slopes moved first between on j begun;
         small = subst (IsWithin 88) (sym (at_state j h)) (small j (pos 0) (omega (arith, h, all)));
         near = subst (λ z. IsNear (level_unit m) z (int_at levels j) (quantum_of m j (int_at levels j))) (sym (at_state j h)) near;
         due = λ own_level. elim (cases_Bool (is_among moved j)) [
-          | inl among ↦ (are.own j among).is_due
+          | inl among ↦ (on.own j among).is_due
           | inr none ↦
-              subst (λ (l : Line). IsDue m tick j l (due_at between.dues j)) (sym (are.lines j none))
-              (subst (IsDue m tick j (line_at first.lines j)) (sym (are.dues j none)) (due none (ap (λ (l : Line). l.level) (sym (are.lines j none)) ∙ own_level)))
+              subst (λ (l : Line). IsDue m tick j l (due_at between.dues j)) (sym (on.others.lines j none))
+              (subst (IsDue m tick j (line_at first.lines j)) (sym (on.others.dues.others j none)) (due none (ap (λ (l : Line). l.level) (sym (on.others.lines j none)) ∙ own_level)))
         ];
       }
 
@@ -130,17 +131,17 @@ module _ (m : Machine) (tick : ℕ) (x levels slopes : List ℤ) (moved : List �
         let slope : ℤ = int_at slopes j in
         let Goes : Line → Option ℕ → Type 0 = GoesOnFrom m tick (int_at states j) level slope j in
         let inside : j < length first.lines = omega (arith, h, many) in
-        let on : Goes (line_at between.lines j) (due_at between.dues j) → Goes (line_at last.lines j) (due_at last.dues j) = λ own.
+        let still : Goes (line_at between.lines j) (due_at between.dues j) → Goes (line_at last.lines j) (due_at last.dues j) = λ own.
         still_going m tick level slope j (int_at states j) (line_at between.lines j) (line_at last.lines j) (due_at between.dues j) (due_at last.dues j) (at_state j h) own (all.each j h) in
         subst (λ z. GoesOnFrom m tick (int_at states j) level z j (line_at last.lines j) (due_at last.dues j)) slope_new
         (elim (cases_Bool (is_among (xs ++ ys) j)) [
           | inl among ↦ subst (λ z. GoesOnFrom m tick z level slope j (line_at last.lines j) (due_at last.dues j)) (at_state j h) (all.own j h among)
-          | inr unread ↦ on (elim (cases_Bool (is_among moved j)) [
-            | inl among ↦ subst (λ z. GoesOnFrom m tick z level slope j (line_at between.lines j) (due_at between.dues j)) (sym (moved_state first.lines tick moved x j inside among)) (are.own j among)
+          | inr unread ↦ still (elim (cases_Bool (is_among moved j)) [
+            | inl among ↦ subst (λ z. GoesOnFrom m tick z level slope j (line_at between.lines j) (due_at between.dues j)) (sym (moved_state first.lines tick moved x j inside among)) (on.own j among)
             | inr none ↦
                 let own_level : (line_at first.lines j).level ≡ level = were.levels.of_lines.own_levels j h ∙ sym (were.levels.off.others j none) in
-                subst (λ (l : Line). Goes l (due_at between.dues j)) (sym (are.lines j none))
-                (subst (Goes (line_at first.lines j)) (sym (are.dues j none))
+                subst (λ (l : Line). Goes l (due_at between.dues j)) (sym (on.others.lines j none))
+                (subst (Goes (line_at first.lines j)) (sym (on.others.dues.others j none))
                 (record {
                   not_later = begun;
                   here = sym (other_state first.lines tick moved x j inside none);

@@ -1,6 +1,6 @@
 -- States that go on from where they are.
-use Rattle.std.proofs.Common.{◌≡◌, ◌≢◌, ℕ, ◌+◌, ◌-◌, ◌<◌, ◌≤◌, Bool, true, false, not, eqb, List, [], length, get_or, set, take, ℤ, pos, ◌+ℤ◌, ◌*ℤ◌, refl, sym, ◌∙◌, ap, subst, arith, inl, inr}
-use Rattle.std.proofs.lemmas.Bool.{not_from_true, or_cases, or_parts, cases_Bool, cases_eq, eqb-true, eqb-false}
+use Rattle.std.proofs.Common.{◌≡◌, ◌≢◌, ℕ, ◌+◌, ◌-◌, ◌<◌, ◌≤◌, Bool, true, false, not, List, length, set, ℤ, pos, ◌+ℤ◌, ◌*ℤ◌, sym, ◌∙◌, ap, subst, arith, inl, inr}
+use Rattle.std.proofs.lemmas.Bool.{not_from_true, cases_Bool, cases_eq}
 use Rattle.std.proofs.lemmas.Int.{ints}
 use Rattle.std.proofs.lemmas.List.{get_or-set_other, get_or-set_same}
 use Rattle.std.specs.Prelude.{Option}
@@ -11,15 +11,13 @@ use Rattle.qss_machine.specs.declared.system.Machine.{Machine}
 use Rattle.qss_machine.specs.Machines.{level_unit, quantum_of}
 use Rattle.qss_machine.specs.Numbers.{int_at}
 use Rattle.qss_quant.specs.Lines.{Line, state_at, IsAway}
-use Rattle.qss_sched.specs.Ranks.{due_at}
 use Rattle.qss_quiet.specs.Among.{is_among}
-use Rattle.qss_lines.specs.StateLines.{line_at, GoesOnFrom}
+use Rattle.qss_lines.specs.StateLines.{line_at}
 use Rattle.qss_lines.specs.Renewals.{goes_from, renewals_from}
 use Rattle.qss_quiet.specs.Sims.{IsDue, no_line}
-use Rattle.qss_lines.specs.Reslopings.{Courses}
+use Rattle.qss_lines.specs.Reslopings.{Courses, CoursesStay, TheseGoOn}
 use Rattle.qss_lines.proofs.Counting.{one_if, count_one}
 use Rattle.qss_lines.proofs.Renewed.{goes_so, from_here}
-use Rattle.qss_quiet.proofs.Writes.{among_more}
 
 -- ---- one line
 
@@ -61,64 +59,31 @@ seated n j tick states levels slopes lines line before after known inside here o
 
 -- ---- the moved states, step by step
 
--- the moved states go on from a tick where they are, and the others as they did
-pub record AreSeated (m : Machine) (tick : ℕ) (x levels slopes : List ℤ) (moved : List ℕ) (old new : Courses) : Type 0 where
-  pub own : (j : ℕ) → is_among moved j ≡ true → GoesOnFrom m tick (int_at x j) (int_at levels j) (int_at slopes j) j (line_at new.lines j) (due_at new.dues j)
-  pub lines : (j : ℕ) → is_among moved j ≡ false → line_at new.lines j ≡ line_at old.lines j
-  pub left : (j : ℕ) → goes_from tick (int_at x j) (int_at levels j) (int_at slopes j) (line_at old.lines j) ≡ true → line_at new.lines j ≡ line_at old.lines j
-  pub places : length new.dues ≡ length old.dues
-  pub dues : (place : ℕ) → is_among moved place ≡ false → due_at new.dues place ≡ due_at old.dues place
-
 module _ (m : Machine) (tick : ℕ) (x levels slopes : List ℤ) where
-  pub none_seated : (old : Courses) → AreSeated m tick x levels slopes [] old old
-  none_seated old = record { own = λ j among. absurd (cc); lines = λ j none. refl; left = λ j so. refl; places = refl; dues = λ place none. refl }
+  -- a line that goes on so already is left, and so it is where one more state goes on
+  pub left_more : (j : ℕ) (old between new : Courses) →
+      ((k : ℕ) → goes_from tick (int_at x k) (int_at levels k) (int_at slopes k) (line_at old.lines k) ≡ true → line_at between.lines k ≡ line_at old.lines k) →
+      CoursesStay (λ k. k ≡ j → ⊥) between new →
+      (goes_from tick (int_at x j) (int_at levels j) (int_at slopes j) (line_at between.lines j) ≡ true → line_at new.lines j ≡ line_at between.lines j) →
+      (k : ℕ) → goes_from tick (int_at x k) (int_at levels k) (int_at slopes k) (line_at old.lines k) ≡ true → line_at new.lines k ≡ line_at old.lines k
+  left_more j old between new left others kept k so =
+      let before = left k so in
+      let goes : ℕ → Line → Bool = λ a l. goes_from tick (int_at x a) (int_at levels a) (int_at slopes a) l in
+      elim (cases_eq k j) [
+        | inl same ↦ subst (λ (a : ℕ). line_at new.lines a ≡ line_at between.lines a) (sym same)
+            (kept (subst (λ (a : ℕ). goes a (line_at between.lines a) ≡ true) same (ap (goes k) before ∙ so)))
+        | inr other ↦ others.lines k other
+      ] ∙ before
 
-  -- one more moved state goes on from where it is
-  pub seated_more : (moved : List ℕ) (i : ℕ) (old between new : Courses) → i < length moved → AreSeated m tick x levels slopes (take i moved) old between →
-      GoesOnFrom m tick (int_at x (get_or moved i 0)) (int_at levels (get_or moved i 0)) (int_at slopes (get_or moved i 0)) (get_or moved i 0)
-      (line_at new.lines (get_or moved i 0)) (due_at new.dues (get_or moved i 0)) →
-      ((k : ℕ) → (k ≡ get_or moved i 0 → ⊥) → line_at new.lines k ≡ line_at between.lines k) →
-      (goes_from tick (int_at x (get_or moved i 0)) (int_at levels (get_or moved i 0)) (int_at slopes (get_or moved i 0)) (line_at between.lines (get_or moved i 0)) ≡ true →
-      line_at new.lines (get_or moved i 0) ≡ line_at between.lines (get_or moved i 0)) → length new.dues ≡ length between.dues →
-      ((place : ℕ) → (place ≡ get_or moved i 0 → ⊥) → due_at new.dues place ≡ due_at between.dues place) →
-      AreSeated m tick x levels slopes (take (i + 1) moved) old new
-  seated_more moved i old between new h first here lines kept places dues =
-      let j : ℕ = get_or moved i 0 in
-      let Goes : ℕ → Line → Option ℕ → Type 0 = λ k line due. GoesOnFrom m tick (int_at x k) (int_at levels k) (int_at slopes k) k line due in
-      record {
-        own = λ k among. elim (cases_eq k j) [
-          | inl same ↦ subst (λ (a : ℕ). Goes a (line_at new.lines a) (due_at new.dues a)) (sym same) here
-          | inr other ↦ elim (or_cases (is_among (take i moved) k) (eqb j k) (sym (among_more moved i k h) ∙ among)) [
-            | inl before ↦ subst (λ (l : Line). Goes k l (due_at new.dues k)) (sym (lines k other)) (subst (Goes k (line_at between.lines k)) (sym (dues k other)) (first.own k before))
-            | inr same ↦ absurd (other (sym (eqb-true j k same)))
-          ]
-        ];
-        lines = λ k none.
-            let parts = or_parts (is_among (take i moved) k) (eqb j k) (sym (among_more moved i k h) ∙ none) in
-            lines k (λ e. eqb-false j k parts.1 (sym e)) ∙ first.lines k parts.0;
-        left = λ k so.
-            let before = first.left k so in
-            let goes : ℕ → Line → Bool = λ a l. goes_from tick (int_at x a) (int_at levels a) (int_at slopes a) l in
-            elim (cases_eq k j) [
-              | inl same ↦ subst (λ (a : ℕ). line_at new.lines a ≡ line_at between.lines a) (sym same)
-                  (kept (subst (λ (a : ℕ). goes a (line_at between.lines a) ≡ true) same (ap (goes k) before ∙ so)))
-              | inr other ↦ lines k other
-            ] ∙ before;
-        places = places ∙ first.places;
-        dues = λ k none.
-            let parts = or_parts (is_among (take i moved) k) (eqb j k) (sym (among_more moved i k h) ∙ none) in
-            dues k (λ e. eqb-false j k parts.1 (sym e)) ∙ first.dues k parts.0;
-      }
-
-  module _ (moved : List ℕ) (old new : Courses) (are : AreSeated m tick x levels slopes moved old new) where
+  module _ (moved : List ℕ) (old new : Courses) (on : TheseGoOn m tick levels slopes moved (int_at x) old new) where
     pub still_begun : (j : ℕ) → (line_at old.lines j).tick ≤ tick → (line_at new.lines j).tick ≤ tick
     still_begun j begun = elim (cases_Bool (is_among moved j)) [
-      | inl among ↦ (are.own j among).not_later
-      | inr none ↦ omega (arith, begun, ap (λ (l : Line). l.tick) (are.lines j none))
+      | inl among ↦ (on.own j among).not_later
+      | inr none ↦ omega (arith, begun, ap (λ (l : Line). l.tick) (on.others.lines j none))
     ]
 
     pub still_small : (j : ℕ) → IsWithin 88 (int_at x j) → IsWithin 89 (state_at (line_at old.lines j) tick) → IsWithin 89 (state_at (line_at new.lines j) tick)
     still_small j small_x small = elim (cases_Bool (is_among moved j)) [
-      | inl among ↦ omega (arith, ints, small_x, (are.own j among).here)
-      | inr none ↦ subst (λ (l : Line). IsWithin 89 (state_at l tick)) (sym (are.lines j none)) small
+      | inl among ↦ omega (arith, ints, small_x, (on.own j among).here)
+      | inr none ↦ subst (λ (l : Line). IsWithin 89 (state_at l tick)) (sym (on.others.lines j none)) small
     ]

@@ -20,7 +20,9 @@ use Rattle.qss_lines.specs.declared.visiting.Handled.{Handled}
 use Rattle.qss_lines.specs.declared.visiting.NewLevels.{NewLevels}
 use Rattle.qss_quiet.specs.Among.{is_among, AreNumbers, IsOff}
 use Rattle.qss_lines.specs.RowSums.{taken_by, sum_at, HasFollowed}
-use Rattle.qss_lines.specs.Visitings.{AreNewLevels, AreNewLevelsAt, AreHandled}
+use Rattle.qss_quant.specs.Lines.{Line}
+use Rattle.qss_lines.specs.Variables.{AreLevelsOf}
+use Rattle.qss_lines.specs.Visitings.{AreNewLevelsAt, CanFollowHandled}
 use Rattle.qss_quiet.specs.Writes.{IsWritten}
 use Rattle.qss_quiet.proofs.Among.{among_rows}
 use Rattle.qss_quiet.proofs.Changes.{slopes_follow_levels}
@@ -107,11 +109,20 @@ along_all moved levels old off =
     ])
 
 -- new levels at the discrete values before handlers
-pub at_before : (at : NewLevels) (left : Handled) → AreNewLevels at → AreHandled at.machine.now left → AreNewLevelsAt at left.before.now
-at_before at left new handled = record {
-  uses = new.uses;
-  moved = new.moved;
-  values = record { levels = new.levels; discretes = handled.many_before; small_levels = new.small_levels; small_discretes = handled.assigned.small_before };
+pub at_before : {at : NewLevels} {left : Handled} {lines : List Line} → CanFollowHandled at left lines → AreNewLevelsAt at left.before.now
+at_before can = record {
+  uses = can.new.uses;
+  moved = can.new.moved;
+  values = record { levels = can.new.levels; discretes = can.handled.many_before; small_levels = can.new.small_levels; small_discretes = can.handled.assigned.small_before };
+}
+
+-- and at those after them
+pub levels_after : {at : NewLevels} {left : Handled} {lines : List Line} → CanFollowHandled at left lines → AreLevelsOf at.machine.now at.levels.now left.discretes.now
+levels_after can = record {
+  levels = can.new.levels;
+  discretes = can.handled.values.discretes;
+  small_levels = can.new.small_levels;
+  small_discretes = can.handled.values.small_discretes;
 }
 
 -- ---- sums that follow

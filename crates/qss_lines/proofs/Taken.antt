@@ -10,7 +10,6 @@ use Rattle.std.specs.Prelude.{Option, Some, None, All, if◌then◌else◌}
 use Rattle.mu_num.specs.Sizes.{IsWithin, passes}
 use Rattle.qss_machine.specs.declared.rows.Row.{Row}
 use Rattle.qss_machine.specs.declared.system.Machine.{Machine}
-use Rattle.qss_machine.specs.Machines.{state_count}
 use Rattle.qss_machine.specs.Numbers.{int_at, first_past}
 use Rattle.qss_machine.specs.Runs.{level_rows}
 use Rattle.qss_machine.specs.Ticks.{IsNextLevel}
@@ -22,7 +21,7 @@ use Rattle.qss_quiet.proofs.DueRows.{due_rows_more}
 use Rattle.qss_quiet.proofs.LevelRows.{row_of}
 use Rattle.qss_quiet.proofs.Writes.{among_more, index_of, written_more}
 use Rattle.qss_lines.specs.declared.visiting.Arrival.{Arrival}
-use Rattle.qss_lines.specs.Visitings.{AreMovedTo, CanArrive}
+use Rattle.qss_lines.specs.Visitings.{AreMovedTo, CanTakeOnArrival}
 use Rattle.qss_lines.specs.Levels.{taken_row, AreRequantized, AreRequantizedOnArrival}
 use Rattle.qss_lines.specs.StateLines.{states_at}
 use Rattle.qss_lines.proofs.DueLevels.{same_rows, levels_over, levels_allowed, rows_of_moved, written_off, arrived_at}
@@ -143,21 +142,21 @@ module _ (m : Machine) (name : Option Rule) (tick : ℕ) (states : List ℤ) (ol
 
 -- ---- what all states then do
 
-module _ (at : Arrival) (name : Option Rule) (old kept : List ℤ) (before rows : List Row) (over : Option ℕ) (ready : CanArrive at old) (many : length old ≡ state_count at.machine.now)
-    (small : All (IsWithin 43) old) (passed : (var : ℕ) → first_past 88 (states_at at.lines.now at.tick) ≡ Some var → over ≡ Some var)
+module _ (at : Arrival) (name : Option Rule) (old kept : List ℤ) (before rows : List Row) (over : Option ℕ) (can : CanTakeOnArrival at old)
+    (passed : (var : ℕ) → first_past 88 (states_at at.lines.now at.tick) ≡ Some var → over ≡ Some var)
     (taken : first_past 88 (states_at at.lines.now at.tick) ≡ None →
     (new : List ℤ) × AreRequantized at.machine.now name at.tick (states_at at.lines.now at.tick) at.moved.now old kept new before rows over) where
   abbrev states : List ℤ
   states = states_at at.lines.now at.tick
 
   are : AreMovedTo at.machine.now at.moved.now states old states
-  are = arrived_at at.machine.now at.tick at.lines.now at.moved.now old ready.lines.up_to.as_many ready.others_near
+  are = arrived_at at.machine.now at.tick at.lines.now at.moved.now old can.arrival.lines.up_to.as_many can.arrival.others_near
 
   off : (none : first_past 88 states ≡ None) → IsOff at.moved.now old (taken none).0
   off none = written_off at.moved.now _ old old (taken none).0 refl (taken none).1.allowed
 
   first : (none : first_past 88 states ≡ None) → over ≡ first_past 43 (taken none).0
-  first none = levels_over at.machine.now at.moved.now states old (taken none).0 ready.lines.numbers many (off none) over small (taken none).1.found
+  first none = levels_over at.machine.now at.moved.now states old (taken none).0 can.arrival.lines.numbers can.levels (off none) over can.small_levels (taken none).1.found
 
   -- the new levels, and what overflows
   pub on_arrival : (new : List ℤ) × AreRequantizedOnArrival at name old kept new (first_past 43 new) over
@@ -178,7 +177,7 @@ module _ (at : Arrival) (name : Option Rule) (old kept : List ℤ) (before rows 
         record {
           over_is = first e ∙ sym (ap (λ o. option_or o (first_past 43 (taken e).0)) e);
           allowed = λ none.
-              levels_allowed at.machine.now at.moved.now states old (taken e).0 ready.lines.numbers many (off e) states are (IsRuled name) (taken e).1.allowed.each;
+              levels_allowed at.machine.now at.moved.now states old (taken e).0 can.arrival.lines.numbers can.levels (off e) states are (IsRuled name) (taken e).1.allowed.each;
           others = off e;
           levels = (taken e).1.levels;
         },
@@ -203,5 +202,5 @@ module _ (at : Arrival) (name : Option Rule) (old kept : List ℤ) (before rows 
       let calm = none_passed none in
       (taken calm).1.own_rows none
       ∙ ap (λ (more : List Row). before ++ more)
-      (rows_of_moved at.machine.now at.moved.now states old (taken calm).0 ready.lines.numbers many (off calm) states are at.tick
+      (rows_of_moved at.machine.now at.moved.now states old (taken calm).0 can.arrival.lines.numbers can.levels (off calm) states are at.tick
       ∙ ap (λ (l : List ℤ). level_rows at.tick old l states) (sym ((taken calm).1.levels none)))

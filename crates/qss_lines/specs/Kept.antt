@@ -18,3 +18,8 @@ pub record AreWeights (m : Machine) (levels discretes : List ℤ) (weights : Wei
 pub record AreWeightsBefore (m : Machine) (moved : List ℕ) (new discretes : List ℤ) (weights : Weights) (lines : List Line) (old : List ℤ) : Type 0 where
   pub levels : AreLevelsBefore m moved new discretes lines old
   pub own : AreWeights m old discretes weights
+
+-- weights of the same bound, which are kept where they were before
+pub record StayKept (old new : Weights) : Type 0 where
+  pub bound : new.bound ≡ old.bound
+  pub on : old.kept ≡ true → new.kept ≡ true

@@ -1,13 +1,14 @@
 -- Levels that states take at a tick.
-use Rattle.std.specs.Prelude.{◌≡◌, ℕ, ◌++◌, List, [], ◌∷◌, ℤ, pos, Option, None, if◌then◌else◌}
+use Rattle.std.specs.Prelude.{◌≡◌, ℕ, ◌++◌, List, [], ◌∷◌, All, ℤ, pos, Option, None, if◌then◌else◌}
 use Rattle.std.specs.List.{flat_map}
 use Rattle.std.specs.Option.{option_or}
 use Rattle.std.specs.Ordering.{int_eq}
-use Rattle.mu_num.specs.Sizes.{passes}
+use Rattle.mu_num.specs.Sizes.{IsWithin, passes}
 use Rattle.qss_machine.specs.declared.rows.Row.{Row}
 use Rattle.qss_machine.specs.declared.rows.RowKind.TheVariants as kind
 use Rattle.qss_machine.specs.declared.system.Machine.{Machine}
 use Rattle.qss_machine.specs.Numbers.{int_at, first_past}
+use Rattle.qss_machine.specs.Runs.{level_rows}
 use Rattle.qss_machine.specs.Ticks.{IsNextLevel, AreNextLevels}
 use Rattle.qss_quant.specs.declared.rule.Rule.{Rule}
 use Rattle.qss_quiet.specs.Among.{IsOff}
@@ -36,6 +37,11 @@ pub record AreRequantizedOnArrival (at : Arrival) (name : Option Rule) (old kept
   pub allowed : first_past 88 (states_at at.lines.now at.tick) ≡ None → AreNextLevels (IsRuled name) at.machine.now (states_at at.lines.now at.tick) old new
   pub others : IsOff at.moved.now old new
   pub levels : over ≡ None → kept ≡ new
+
+-- levels within the limit that were taken on arrival, and a row for each that is another than before
+pub record AreTakenOnArrival (at : Arrival) (old new : List ℤ) (rows : List Row) : Type 0 where
+  pub small : All (IsWithin 43) new
+  pub own_rows : rows ≡ level_rows at.tick old new (states_at at.lines.now at.tick)
 
 -- new levels of which only the moved states, which are these, have others: allowed, and kept if nothing overflows
 pub record AreRequantizedAt (m : Machine) (name : Option Rule) (moved : List ℕ) (x old kept new : List ℤ) (later over : Option ℕ) : Type 0 where

@@ -1,5 +1,5 @@
 -- Lines that go on otherwise than they did.
-use Rattle.std.specs.Prelude.{ℕ, Bool, not, ◌&&◌, List, ℤ, count_by}
+use Rattle.std.specs.Prelude.{◌≡◌, ℕ, ◌+◌, Bool, not, ◌&&◌, List, ℤ, count_by}
 use Rattle.std.specs.List.{range_with_len}
 use Rattle.std.specs.Ordering.{int_eq}
 use Rattle.qss_machine.specs.Numbers.{int_at}
@@ -22,3 +22,11 @@ renewals n levels slopes lines = count_by (λ j. not (goes_at (int_at levels j) 
 abbrev pub renewals_from : ℕ → ℕ → List ℤ → List ℤ → List ℤ → List Line → ℕ
 renewals_from n tick x levels slopes lines =
     count_by (λ j. not (goes_from tick (int_at x j) (int_at levels j) (int_at slopes j) (line_at lines j))) (range_with_len 0 n)
+
+-- of n lines as many were moved as no longer go on at another level or slope than these
+abbrev pub IsCounted : ℕ → List ℤ → List ℤ → List Line → List Line → ℕ → ℕ → Type 0
+IsCounted n levels slopes old new steps_old steps_new = steps_new + renewals n levels slopes new ≡ steps_old + renewals n levels slopes old
+
+-- or as no longer do so, or are at another state than this at a tick
+abbrev pub IsCountedFrom : ℕ → ℕ → List ℤ → List ℤ → List ℤ → List Line → List Line → ℕ → ℕ → Type 0
+IsCountedFrom n tick x levels slopes old new steps_old steps_new = steps_new + renewals_from n tick x levels slopes new ≡ steps_old + renewals_from n tick x levels slopes old

@@ -1,5 +1,5 @@
 -- States of which some go on from a tick at new slopes, and the others as they were.
-use Rattle.std.specs.Prelude.{◌≡◌, ℕ, ◌<◌, ◌≤◌, ◌⊎◌, List, length, ℤ, Option, true}
+use Rattle.std.specs.Prelude.{◌≡◌, ℕ, ◌+◌, ◌<◌, ◌≤◌, ◌⊎◌, List, length, ℤ, Option, true, false, if◌then◌else◌}
 use Rattle.mu_num.specs.Sizes.{IsWithin}
 use Rattle.qss_machine.specs.declared.system.Machine.{Machine}
 use Rattle.qss_machine.specs.Machines.{state_count, level_unit, quantum_of}
@@ -8,7 +8,7 @@ use Rattle.qss_quant.specs.Lines.{Line, state_at, IsNear}
 use Rattle.qss_sched.specs.Ranks.{due_at}
 use Rattle.qss_quiet.specs.Among.{is_among}
 use Rattle.qss_lines.specs.StateLines.{line_at, GoesOnFrom}
-use Rattle.qss_lines.specs.Renewals.{goes_at}
+use Rattle.qss_lines.specs.Renewals.{goes_at, goes_from}
 use Rattle.qss_quiet.specs.Sims.{IsDue}
 
 -- a line that may go on from a tick at this level and slope: it is near the level, and its due tick holds where its level stays
@@ -26,6 +26,18 @@ pub record CanRenew (m : Machine) (j : ℕ) (here line : Line) (dues : List (Opt
   pub small : IsWithin 89 (state_at line here.tick)
   pub near : IsNear (level_unit m) here.x here.level (quantum_of m j here.level)
 
+-- the due ticks of such places are as they were, in an agenda of as many places
+pub record DuesStay (Such : ℕ → Type 0) (old new : List (Option ℕ)) : Type 0 where
+  pub places : length new ≡ length old
+  pub others : (place : ℕ) → Such place → due_at new place ≡ due_at old place
+
+-- a state goes on as another line, from that one's tick on, and no other due tick changes: its own line is left, and not counted, where it goes on so already
+pub record IsRenewed (m : Machine) (j : ℕ) (here old new : Line) (dues_old dues_new : List (Option ℕ)) (steps_old steps_new : ℕ) : Type 0 where
+  pub goes_on : GoesOnFrom m here.tick here.x here.level here.slope j new (due_at dues_new j)
+  pub dues : DuesStay (λ place. place ≡ j → ⊥) dues_old dues_new
+  pub kept : goes_from here.tick here.x here.level here.slope old ≡ true → new ≡ old
+  pub counted : steps_new ≡ steps_old + (if goes_from here.tick here.x here.level here.slope old then 0 else 1)
+
 -- a state's line and due tick are as they were, or it goes on from a tick at this level and slope
 abbrev pub GoesOn : Machine → ℕ → ℤ → ℤ → ℕ → Line → Line → Option ℕ → Option ℕ → Type 0
 GoesOn m tick level slope j old new due_old due_new = ((new ≡ old) × (due_new ≡ due_old)) ⊎ GoesOnFrom m tick (state_at old tick) level slope j new due_new
@@ -34,6 +46,21 @@ GoesOn m tick level slope j old new due_old due_new = ((new ≡ old) × (due_new
 pub record Courses : Type 0 where
   pub lines : List Line
   pub dues : List (Option ℕ)
+
+-- the lines and due ticks of such states are as they were
+pub record CoursesStay (Such : ℕ → Type 0) (old new : Courses) : Type 0 where
+  pub lines : (k : ℕ) → Such k → line_at new.lines k ≡ line_at old.lines k
+  pub dues : DuesStay Such old.dues new.dues
+
+-- one state goes on from a tick where it is, at its level and slope, and the others as they did
+pub record OneGoesOn (m : Machine) (tick : ℕ) (levels slopes : List ℤ) (j : ℕ) (x : ℤ) (old new : Courses) : Type 0 where
+  pub own : GoesOnFrom m tick x (int_at levels j) (int_at slopes j) j (line_at new.lines j) (due_at new.dues j)
+  pub others : CoursesStay (λ k. k ≡ j → ⊥) old new
+
+-- these states go on from a tick, each where it is, at their levels and slopes, and the others as they did
+pub record TheseGoOn (m : Machine) (tick : ℕ) (levels slopes : List ℤ) (states : List ℕ) (x : ℕ → ℤ) (old new : Courses) : Type 0 where
+  pub own : (j : ℕ) → is_among states j ≡ true → GoesOnFrom m tick (x j) (int_at levels j) (int_at slopes j) j (line_at new.lines j) (due_at new.dues j)
+  pub others : CoursesStay (λ k. is_among states k ≡ false) old new
 
 -- each state goes on as it did or at these levels and slopes, and these states do at these; a line that goes on so already is left
 pub record AreResloped (m : Machine) (tick : ℕ) (levels slopes : List ℤ) (states : List ℕ) (old new : Courses) : Type 0 where

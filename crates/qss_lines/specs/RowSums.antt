@@ -22,10 +22,14 @@ abbrev pub sum_at : RowSum → Machine → ℕ → List ℤ → List ℤ → ℤ
 sum_at Slope m j levels discretes = slope_at m j levels discretes
 sum_at Weight m j levels discretes = weight_at m j levels discretes
 
--- sums of all rows may be added up anew at levels and discrete values within the limit, at which no row passes its limits
-pub record CanAddUp (m : Machine) (levels discretes sums : List ℤ) : Type 0 where
+-- a sum of each row, and levels and discrete values within the limit
+pub record HasSums (m : Machine) (levels discretes sums : List ℤ) : Type 0 where
   pub values : AreLevelsOf m levels discretes
   pub one_each : length sums ≡ state_count m
+
+-- sums of all rows may be added up anew at levels and discrete values within the limit, at which no row passes its limits
+pub record CanAddUp (m : Machine) (levels discretes sums : List ℤ) : Type 0 where
+  pub of : HasSums m levels discretes sums
   pub light : position (is_overweight m levels discretes) m.rows ≡ None
 
 -- levels that the lines have, within their limit, at which, with these discrete values, no row passes its limits

@@ -1,13 +1,14 @@
 -- The lines of states, by number, and the states to which they lead.
-use Rattle.std.specs.Prelude.{ℕ, List, length, All, ℤ, false, if◌then◌else◌, ◌≡◌, ◌^◌, ◌<◌, ◌≤◌, Option, slice_index_or}
+use Rattle.std.specs.Prelude.{ℕ, List, length, All, ℤ, pos, false, if◌then◌else◌, ◌≡◌, ◌^◌, ◌<◌, ◌≤◌, Option, None, slice_index_or}
 use Rattle.mu_num.specs.Sizes.{IsWithin}
 use Rattle.mu_num.specs.Ticks.{tick_limit}
 use Rattle.qss_machine.specs.Machines.{state_count}
-use Rattle.qss_machine.specs.Numbers.{int_at, tabulate}
+use Rattle.qss_machine.specs.Numbers.{int_at, tabulate, first_past}
 use Rattle.qss_machine.specs.declared.system.Machine.{Machine}
 use Rattle.qss_quant.specs.Lines.{Line, state_at}
 use Rattle.qss_quiet.specs.Among.{is_among, AreNumbers}
 use Rattle.qss_quiet.specs.Sims.{IsDue, no_line}
+use Rattle.qss_quiet.specs.Writes.{IsWritten}
 
 -- the line of a state
 abbrev pub line_at : List Line → ℕ → Line
@@ -45,6 +46,21 @@ pub record MayArrive (tick : ℕ) (lines : List Line) (x : List ℤ) : Type 0 wh
   pub as_many : length x ≡ length lines
   pub later : (j : ℕ) → j < length lines → (line_at lines j).tick ≤ tick
   pub in_time : tick ≤ tick_limit
+
+-- a value of each state, within the limit, of which those of the due states may take where their lines lead at a tick below 2^32: no line is later, and the others lead within the limit there
+pub record CanArriveWithin (tick : ℕ) (lines : List Line) (due : List ℕ) (x : List ℤ) : Type 0 where
+  pub as_many : length x ≡ length lines
+  pub numbers : AreNumbers (length lines) due
+  pub later : (j : ℕ) → j < length lines → (line_at lines j).tick ≤ tick
+  pub in_time : tick < 2 ^ 32
+  pub others_small : (j : ℕ) → j < length lines → is_among due j ≡ false → IsWithin 88 (state_at (line_at lines j) tick)
+  pub small : All (IsWithin 88) x
+
+-- the due states have arrived, and the first that is past its limit there was found, if one is; if none is all values are within it
+pub record HaveArrivedWithin (tick : ℕ) (lines : List Line) (due : List ℕ) (x new : List ℤ) (over : Option ℕ) : Type 0 where
+  pub over_is : over ≡ first_past 88 (states_at lines tick)
+  pub arrived : IsWritten (pos 0) (λ j z. z ≡ state_at (line_at lines j) tick) due x new
+  pub small : over ≡ None → All (IsWithin 88) new
 
 -- the states at a tick: the moved ones are these, the others are where their lines lead
 abbrev pub states_with : List Line → ℕ → List ℕ → List ℤ → List ℤ

@@ -24,10 +24,10 @@ use Rattle.qss_lines.specs.declared.visiting.NewLevels.{NewLevels}
 use Rattle.qss_lines.specs.declared.visiting.NewSlopes.{NewSlopes}
 use Rattle.qss_lines.specs.declared.visiting.QuietLevels.{QuietLevels}
 use Rattle.qss_lines.specs.declared.weights.Weights.{Weights}
-use Rattle.qss_lines.specs.Variables.{AreAssignedFrom, AreWithin, AreLevelsOf, AreSlopesOf}
+use Rattle.qss_lines.specs.Variables.{AreAssignedFrom, AreWithin, AreLevelsOf}
 use Rattle.qss_lines.specs.StateLines.{states_at, states_with, line_at, AreLinesWithDue, MayMove, GoesOnFrom}
 use Rattle.qss_lines.specs.Gatherings.{reached}
-use Rattle.qss_lines.specs.Reslopings.{Courses}
+use Rattle.qss_lines.specs.Reslopings.{Courses, MayReslope}
 use Rattle.qss_lines.specs.Kept.{AreWeights, AreWeightsBefore}
 use Rattle.qss_lines.specs.RowSums.{sum_at, AreLevelsOfLines, HadSums}
 
@@ -94,6 +94,12 @@ pub record AreHandled (m : Machine) (left : Handled) : Type 0 where
   pub many_before : length left.before.now ≡ discrete_count m
   pub values : AreWithin m left.states.now left.discretes.now
 
+-- new levels after handlers, what these left, and a line of each state
+pub record CanFollowHandled (at : NewLevels) (left : Handled) (lines : List Line) : Type 0 where
+  pub new : AreNewLevels at
+  pub handled : AreHandled at.machine.now left
+  pub many_lines : length lines ≡ state_count at.machine.now
+
 -- a state is at least the quantum away from its level
 abbrev pub HasLeft : Machine → ℕ → ℤ → ℤ → Type 0
 HasLeft m j state level = IsAway (level_unit m) state level (quantum_of m j level)
@@ -107,13 +113,20 @@ pub record CanArrive (at : Arrival) (levels : List ℤ) : Type 0 where
   pub others_near : (j : ℕ) → j < state_count at.machine.now → is_among at.moved.now j ≡ false →
       is_near at.machine.now j (state_at (line_at at.lines.now j) at.tick) (int_at levels j) ≡ true
 
--- the moved states may take new levels, from a level of each state, at these values of states: of the moved ones within the limit, and so all levels
-pub record CanRequantize (at : Arrival) (x levels_old : List ℤ) : Type 0 where
+-- the moved states may take new levels on such an arrival, from a level of each state, within the limit
+pub record CanTakeOnArrival (at : Arrival) (levels_old : List ℤ) : Type 0 where
+  pub arrival : CanArrive at levels_old
+  pub levels : length levels_old ≡ state_count at.machine.now
+  pub small_levels : All (IsWithin 43) levels_old
+
+-- the moved states may take new levels, from a level of each state, at these values of states: of the moved ones within the limit, and so all levels; beside the rows that were taken there is room for one of each state
+pub record CanRequantize (at : Arrival) (x levels_old : List ℤ) (taken capacity : ℕ) : Type 0 where
   pub states : length x ≡ state_count at.machine.now
   pub levels : length levels_old ≡ state_count at.machine.now
   pub moved : AreNumbers (state_count at.machine.now) at.moved.now
   pub small_states : (j : ℕ) → is_among at.moved.now j ≡ true → IsWithin 88 (int_at x j)
   pub small_levels : All (IsWithin 43) levels_old
+  pub room : taken + state_count at.machine.now ≤ capacity
 
 -- a level of each state, which its line has, within the limit, and the weights of all rows at these levels and at discrete values, none past its limit
 pub record HoldsLevels (m : Machine) (lines : List Line) (d levels_old : List ℤ) (weights_old : Weights) : Type 0 where
@@ -129,13 +142,29 @@ pub record IsHandledArrival (at : HandledArrival) : Type 0 where
   pub assigned : AreAssignedFrom at.machine.now at.assigned.now at.work.now.pre at.work.now.d
   pub fits : AreValuesOf at.machine.now at.work.now
 
+-- a slope and a line of each state, and a place of each in an agenda
+pub record HasOneEach (m : Machine) (slopes_old : List ℤ) (lines_old : List Line) (dues_old : List (Option ℕ)) : Type 0 where
+  pub slopes : length slopes_old ≡ state_count m
+  pub lines : length lines_old ≡ state_count m
+  pub places : state_count m ≤ length dues_old
+
 -- a machine's states may go on from a tick up to 2^32 at their new levels and slopes, each with a line and a place in an agenda
 pub record CanGoOn (at : NewSlopes) (lines_old : List Line) (dues_old : List (Option ℕ)) : Type 0 where
   pub new : AreNewLevels at.taken
-  pub slopes_of : AreSlopesOf at.taken.machine.now at.slopes.now
-  pub lines : length lines_old ≡ state_count at.taken.machine.now
-  pub places : state_count at.taken.machine.now ≤ length dues_old
+  pub one_each : HasOneEach at.taken.machine.now at.slopes.now lines_old dues_old
+  pub small_slopes : All (IsWithin 88) at.slopes.now
   pub in_time : at.taken.tick ≤ tick_limit
+
+-- a state of a machine, whose states may go on so
+pub record CanOneGoOn (at : NewSlopes) (j : ℕ) (lines_old : List Line) (dues_old : List (Option ℕ)) : Type 0 where
+  pub known : j < state_count at.taken.machine.now
+  pub all : CanGoOn at lines_old dues_old
+
+-- a machine's states may go on so, or each be left where it goes on so already
+pub record CanAllReslope (at : NewSlopes) (lines_old : List Line) (dues_old : List (Option ℕ)) : Type 0 where
+  pub on : CanGoOn at lines_old dues_old
+  pub each : (j : ℕ) → j < state_count at.taken.machine.now →
+      MayReslope at.taken.machine.now at.taken.tick (int_at at.taken.levels.now j) (int_at at.slopes.now j) j (line_at lines_old j) (due_at dues_old j)
 
 -- a value of each state, within the limit
 pub record AreStatesOf (m : Machine) (x : List ℤ) : Type 0 where
@@ -150,12 +179,6 @@ quiet_slopes at = new_slopes at.taken at.discretes.now
 pub record AreLevelsFor (m : Machine) (states levels discretes : List ℤ) : Type 0 where
   pub near : (j : ℕ) → j < state_count m → IsNear (level_unit m) (int_at states j) (int_at levels j) (quantum_of m j (int_at levels j))
   pub light : position (is_overweight m levels discretes) m.rows ≡ None
-
--- a slope and a line of each state, and a place of each in an agenda
-pub record HasOneEach (m : Machine) (slopes_old : List ℤ) (lines_old : List Line) (dues_old : List (Option ℕ)) : Type 0 where
-  pub slopes : length slopes_old ≡ state_count m
-  pub lines : length lines_old ≡ state_count m
-  pub places : state_count m ≤ length dues_old
 
 -- slopes, lines and due ticks as they were at a tick before the moved states took these levels: a state that did not move and has its level still is due as the agenda says
 pub record HeldBefore (m : Machine) (tick : ℕ) (moved : List ℕ) (levels discretes slopes_old : List ℤ) (lines_old : List Line) (dues_old : List (Option ℕ)) : Type 0 where

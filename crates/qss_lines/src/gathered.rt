@@ -12,10 +12,11 @@ ghost use Rattle.qss_sched.specs.Ranks.{due_at};
 ghost use Rattle.qss_quiet.specs.Among.{is_among};
 ghost use Rattle.qss_quiet.specs.Writes.{IsWritten};
 ghost use Rattle.qss_lines.specs.Gatherings.{CanGather, AreGathered, MayGoOn, reached};
-ghost use Rattle.qss_lines.specs.StateLines.{line_at, GoesOnFrom};
+ghost use Rattle.qss_lines.specs.StateLines.{line_at};
+ghost use Rattle.qss_lines.specs.Reslopings.{OneGoesOn, TheseGoOn};
 ghost use Rattle.qss_lines.specs.RowSums.{HasFollowed};
 ghost use Rattle.qss_lines.specs.declared.shifts.RowSum.TheVariants as sum;
-ghost use Rattle.qss_lines.specs.Visitings.{AreNewLevelsAt, CanGoOn, CanReslope, HaveGoneOn, quiet_slopes, WereSums};
+ghost use Rattle.qss_lines.specs.Visitings.{AreNewLevelsAt, CanGoOn, CanOneGoOn, CanReslope, HaveGoneOn, quiet_slopes, WereSums};
 
 use crate::shifts::{RowSum, shift_of};
 use crate::visiting::{Mode, NewSlopes, QuietLevels};
@@ -205,19 +206,15 @@ fn go_on_at(line: &mut Integrator, slope: i128, level: i64)
 // A state, whose line is at a tick, goes on from it at its level and its slope, and the agenda has the tick at which it then
 // leaves its quantum.
 fn go_on(at: &NewSlopes, j: u32, lines: &mut [Integrator], agenda: &mut Agenda)
-    requires on { CanGoOn at.now lines.old agenda.old }
-    requires state { j < state_count at.now.taken.machine.now }
+    requires can { CanOneGoOn at.now j lines.old agenda.old }
     requires ready { MayGoOn at.now.taken.machine.now at.now.taken.tick j
         (int_at at.now.taken.levels.now j) (line_at lines.old j) }
-    ensures goes_on { GoesOnFrom at.now.taken.machine.now at.now.taken.tick
+    ensures goes_on { OneGoesOn at.now.taken.machine.now at.now.taken.tick
+        at.now.taken.levels.now at.now.slopes.now j
         (state_at (line_at lines.old j) at.now.taken.tick)
-        (int_at at.now.taken.levels.now j) (int_at at.now.slopes.now j) j (line_at lines.new j)
-        (due_at agenda.new j) }
+        (record { lines = lines.old; dues = agenda.old })
+        (record { lines = lines.new; dues = agenda.new }) }
     ensures same_tick { (line_at lines.new j).tick ≡ (line_at lines.old j).tick }
-    ensures lines { (k : ℕ) → (k ≡ j → ⊥) → line_at lines.new k ≡ line_at lines.old k }
-    ensures places { length agenda.new ≡ length agenda.old }
-    ensures dues { (place : ℕ) → (place ≡ j → ⊥)
-        → due_at agenda.new place ≡ due_at agenda.old place }
 {
     let slope = at.slopes[j as usize];
     let level = at.taken.levels[j as usize];
@@ -233,16 +230,11 @@ fn go_on_each(at: &NewSlopes, states: &[u32], lines: &mut [Integrator], agenda: 
     requires ready { (j : ℕ) → is_among states.now j ≡ true
         → MayGoOn at.now.taken.machine.now at.now.taken.tick j (int_at at.now.taken.levels.now j)
         (line_at lines.old j) }
-    ensures goes_on { (j : ℕ) → is_among states.now j ≡ true
-        → GoesOnFrom at.now.taken.machine.now at.now.taken.tick
-        (state_at (line_at lines.old j) at.now.taken.tick)
-        (int_at at.now.taken.levels.now j) (int_at at.now.slopes.now j) j (line_at lines.new j)
-        (due_at agenda.new j) }
-    ensures lines { (j : ℕ) → is_among states.now j ≡ false
-        → line_at lines.new j ≡ line_at lines.old j }
-    ensures places { length agenda.new ≡ length agenda.old }
-    ensures dues { (place : ℕ) → is_among states.now place ≡ false
-        → due_at agenda.new place ≡ due_at agenda.old place }
+    ensures { TheseGoOn at.now.taken.machine.now at.now.taken.tick
+        at.now.taken.levels.now at.now.slopes.now states.now
+        (λ j. state_at (line_at lines.old j) at.now.taken.tick)
+        (record { lines = lines.old; dues = agenda.old })
+        (record { lines = lines.new; dues = agenda.new }) }
 {
     for j in states {
         go_on(at, *j, lines, agenda);

@@ -1,6 +1,6 @@
 //! New levels of the states that are due at one tick.
 
-ghost use Rattle.std.specs.Prelude.{◌≡◌, ℕ, ◌+◌, ◌<◌, ◌≤◌, ◌^◌, ◌++◌, List, ℤ, All, None, Some, length, pos, false, vec_len, vec_capacity, if◌then◌else◌};
+ghost use Rattle.std.specs.Prelude.{◌≡◌, ℕ, ◌+◌, ◌<◌, ◌≤◌, ◌^◌, ◌++◌, List, ℤ, All, None, Some, length, pos, vec_len, vec_capacity, if◌then◌else◌};
 ghost use Rattle.std.specs.Option.{option_or};
 ghost use Rattle.mu_num.specs.Sizes.{IsWithin, passes};
 ghost use Rattle.mu_num.specs.Ticks.{tick_limit};
@@ -8,10 +8,10 @@ ghost use Rattle.qss_machine.specs.Numbers.{first_past};
 ghost use Rattle.qss_machine.specs.Machines.{state_count};
 ghost use Rattle.qss_machine.specs.Runs.{level_rows};
 ghost use Rattle.qss_quant.specs.Lines.{state_at};
-ghost use Rattle.qss_lines.specs.Visitings.{AreMovedTo, CanArrive, CanRequantize};
-ghost use Rattle.qss_quiet.specs.Among.{is_among, AreNumbers};
-ghost use Rattle.qss_lines.specs.Levels.{AreRequantized, AreRequantizedOnArrival, AreRequantizedAt};
-ghost use Rattle.qss_lines.specs.StateLines.{line_at, states_at, MayArrive};
+ghost use Rattle.qss_lines.specs.Visitings.{AreMovedTo, CanRequantize, CanTakeOnArrival};
+ghost use Rattle.qss_quiet.specs.Among.{AreNumbers};
+ghost use Rattle.qss_lines.specs.Levels.{AreRequantized, AreRequantizedOnArrival, AreRequantizedAt, AreTakenOnArrival};
+ghost use Rattle.qss_lines.specs.StateLines.{line_at, states_at, CanArriveWithin, HaveArrivedWithin, MayArrive};
 ghost use Rattle.qss_quiet.specs.Writes.{IsFirstOf, IsWritten};
 
 use crate::levels::take_within;
@@ -66,9 +66,7 @@ fn arrive_due(lines: &[Integrator], tick: u64, moved: &[u32], x: &mut [i128]) ->
 // each that is another level. It gives the least that is past its limit on arrival, if one is; else the least whose level is past
 // its limit, if one is.
 fn leave_due(at: &Arrival, q: &Quantizer, levels: &mut [i64], rows: &mut Vec<Row>) -> Option<u32>
-    requires ready { CanArrive at.now levels.old }
-    requires levels { length levels.old ≡ state_count at.now.machine.now }
-    requires small_levels { All (IsWithin 43) levels.old }
+    requires ready { CanTakeOnArrival at.now levels.old }
     requires room { vec_len rows.old + state_count at.now.machine.now ≤ vec_capacity rows.old }
     ensures passed { (var : ℕ) → first_past 88 (states_at at.now.lines.now at.now.tick) ≡ Some var
         → result ≡ Some var }
@@ -102,8 +100,7 @@ fn relevel_due(
     levels: &mut [i64],
     rows: &mut Vec<Row>,
 ) -> Option<u32>
-    requires ready { CanRequantize at.now x.now levels.old }
-    requires room { vec_len rows.old + state_count at.now.machine.now ≤ vec_capacity rows.old }
+    requires { CanRequantize at.now x.now levels.old (vec_len rows.old) (vec_capacity rows.old) }
     ensures taken { (new : List ℤ) × AreRequantized at.now.machine.now q.now.name at.now.tick x.now
         at.now.moved.now levels.old levels.new new rows.old.items rows.new.items result }
     ensures room { vec_capacity rows.new ≡ vec_capacity rows.old }
@@ -128,8 +125,7 @@ pub(crate) fn requantize_states(
     levels: &mut [i64],
     rows: &mut Vec<Row>,
 ) -> Option<u32>
-    requires ready { CanRequantize at.now x.now levels.old }
-    requires room { vec_len rows.old + state_count at.now.machine.now ≤ vec_capacity rows.old }
+    requires { CanRequantize at.now x.now levels.old (vec_len rows.old) (vec_capacity rows.old) }
     ensures taken { (new : List ℤ) × AreRequantizedAt at.now.machine.now q.now.name
         at.now.moved.now x.now levels.old levels.new new (first_past 43 new) result }
     ensures small { result ≡ None → All (IsWithin 43) levels.new }
@@ -144,18 +140,8 @@ pub(crate) fn requantize_states(
 /// The due states arrive along their lines at a tick below 2^32. It gives the least state that is more than 2^88 in size there, in
 /// units of 2^-(f+p+k), if one is; of the states that are not due none is.
 pub fn arrive_within(lines: &[Integrator], tick: u64, moved: &[u32], x: &mut [i128]) -> Option<u32>
-    requires states { length x.old ≡ length lines.now }
-    requires moved { AreNumbers (length lines.now) moved.now }
-    requires later { (j : ℕ) → j < length lines.now → (line_at lines.now j).tick ≤ tick }
-    requires in_time { tick < 2 ^ 32 }
-    requires others_small { (j : ℕ) → j < length lines.now
-        → is_among moved.now j ≡ false
-        → IsWithin 88 (state_at (line_at lines.now j) tick) }
-    requires small_x { All (IsWithin 88) x.old }
-    ensures over { result ≡ first_past 88 (states_at lines.now tick) }
-    ensures arrived { IsWritten (pos 0) (λ j z. z ≡ state_at (line_at lines.now j) tick) moved.now
-        x.old x.new }
-    ensures small_x { result ≡ None → All (IsWithin 88) x.new }
+    requires { CanArriveWithin tick lines.now moved.now x.old }
+    ensures { HaveArrivedWithin tick lines.now moved.now x.old x.new result }
 {
     arrive_due(lines, tick, moved, x)
 }
@@ -167,16 +153,12 @@ pub(crate) fn requantize_due(
     levels: &mut [i64],
     rows: &mut Vec<Row>,
 ) -> Option<u32>
-    requires ready { CanArrive at.now levels.old }
-    requires levels { length levels.old ≡ state_count at.now.machine.now }
-    requires small_levels { All (IsWithin 43) levels.old }
+    requires ready { CanTakeOnArrival at.now levels.old }
     requires room { state_count at.now.machine.now ≤ vec_capacity rows.old }
     ensures taken { (new : List ℤ) × AreRequantizedOnArrival at.now q.now.name
         levels.old levels.new new (first_past 43 new) result }
-    ensures small { result ≡ None → All (IsWithin 43) levels.new }
-    ensures rows { result ≡ None
-        → rows.new.items ≡ level_rows at.now.tick levels.old levels.new
-        (states_at at.now.lines.now at.now.tick) }
+    ensures kept { result ≡ None
+        → AreTakenOnArrival at.now levels.old levels.new rows.new.items }
     ensures room { vec_capacity rows.new ≡ vec_capacity rows.old }
 {
     rows.clear();

@@ -9,8 +9,7 @@ ghost use Rattle.qss_machine.specs.Runs.{level_rows};
 ghost use Rattle.qss_machine.specs.Ticks.{is_overweight};
 ghost use Rattle.qss_lines.specs.Visitings.{AreMovedTo, HoldsLevels, IsHandledArrival, CanArrive};
 ghost use Rattle.qss_lines.specs.Kept.{AreWeights};
-ghost use Rattle.qss_lines.specs.Levels.{AreRequantizedAt, AreRequantizedOnArrival};
-ghost use Rattle.qss_lines.specs.StateLines.{states_at};
+ghost use Rattle.qss_lines.specs.Levels.{AreRequantizedAt, AreRequantizedOnArrival, AreTakenOnArrival};
 
 use crate::relevel::{requantize_due, requantize_states};
 use crate::visiting::{Arrival, Handled, HandledArrival, NewLevels};
@@ -116,12 +115,10 @@ pub fn requantize_moved(
         (option_or (first_past 43 new)
         (position (is_overweight at.now.machine.now new work.now.d) at.now.machine.now.rows))
         result }
-    ensures small { result ≡ None → All (IsWithin 43) levels.new }
+    ensures kept { result ≡ None
+        → AreTakenOnArrival at.now levels.old levels.new rows.new.items }
     ensures weights { result ≡ None
         → AreWeights at.now.machine.now levels.new work.now.d weights.new }
-    ensures rows { result ≡ None
-        → rows.new.items ≡ level_rows at.now.tick levels.old levels.new
-        (states_at at.now.lines.now at.now.tick) }
     ensures room { vec_capacity rows.new ≡ vec_capacity rows.old }
 {
     let over = requantize_due(at, q, levels, rows);

@@ -1,6 +1,6 @@
 //! Lines at new states and slopes after handlers.
 
-ghost use Rattle.std.specs.Prelude.{◌≡◌, ℕ, ◌+◌, ◌<◌, ◌≤◌, List, ℤ, pos, All, None, length, true, false, flat_map, if◌then◌else◌};
+ghost use Rattle.std.specs.Prelude.{◌≡◌, ℕ, ◌+◌, ◌<◌, ◌≤◌, List, ℤ, pos, All, None, length, true, flat_map};
 ghost use Rattle.mu_num.specs.Sizes.{IsWithin};
 ghost use Rattle.qss_machine.specs.Numbers.{int_at};
 ghost use Rattle.qss_machine.specs.Machines.{state_count, discrete_count, level_unit, slope_at, quantum_of};
@@ -9,12 +9,12 @@ ghost use Rattle.qss_quant.specs.Lines.{state_at, IsNear};
 ghost use Rattle.qss_sched.specs.Ranks.{due_at};
 ghost use Rattle.qss_quiet.specs.Among.{is_among};
 ghost use Rattle.qss_lines.specs.StateLines.{line_at, MayMove, GoesOnFrom};
-ghost use Rattle.qss_lines.specs.Renewals.{goes_from, renewals_from};
-ghost use Rattle.qss_lines.specs.Reslopings.{CanRenew};
+ghost use Rattle.qss_lines.specs.Renewals.{goes_from, renewals_from, IsCountedFrom};
+ghost use Rattle.qss_lines.specs.Reslopings.{CanRenew, IsRenewed, OneGoesOn, TheseGoOn};
 ghost use Rattle.qss_lines.specs.RowSums.{CanAddUp};
 ghost use Rattle.qss_quiet.specs.Writes.{IsWritten};
 ghost use Rattle.qss_lines.specs.declared.shifts.RowSum.TheVariants as sum;
-ghost use Rattle.qss_lines.specs.Visitings.{AreNewLevels, AreHandled, AreStatesOf, CanGoOn, CanReseat, first_overweight, new_slopes, states_left, WereSums};
+ghost use Rattle.qss_lines.specs.Visitings.{AreStatesOf, CanFollowHandled, CanGoOn, CanOneGoOn, CanReseat, first_overweight, new_slopes, states_left, WereSums};
 
 use crate::resloped::reslope_readers;
 use crate::shifts::shift_slopes;
@@ -60,9 +60,7 @@ fn slope_readers(
 
 // The slopes of all rows follow where the moved states take their levels and the assigned discrete variables their values.
 fn follow_slopes(at: &NewLevels, left: &Handled, lines: &[Integrator], slopes: &mut [i128])
-    requires ready { AreNewLevels at.now }
-    requires left { AreHandled at.now.machine.now left.now }
-    requires lines { length lines.now ≡ state_count at.now.machine.now }
+    requires can { CanFollowHandled at.now left.now lines.now }
     requires light { first_overweight at.now left.now.discretes.now ≡ None }
     requires before { WereSums sum.Slope at.now left.now.before.now slopes.old lines.now }
     ensures { slopes.new ≡ new_slopes at.now left.now.discretes.now }
@@ -89,16 +87,8 @@ fn reseat<L: Ledger>(
     steps: &mut Steps<L>,
 )
     requires { CanRenew m.now j here.now line.old agenda.old }
-    ensures goes_on { GoesOnFrom m.now here.now.tick here.now.x here.now.level here.now.slope j
-        line.new (due_at agenda.new j) }
-    ensures as_many { length agenda.new ≡ length agenda.old }
-    ensures others { (place : ℕ) → (place ≡ j → ⊥)
-        → due_at agenda.new place ≡ due_at agenda.old place }
-    ensures kept { goes_from here.now.tick here.now.x here.now.level here.now.slope line.old ≡ true
-        → line.new ≡ line.old }
-    ensures counted { steps.new ≡ steps.old
-        + (if goes_from here.now.tick here.now.x here.now.level here.now.slope line.old
-        then 0 else 1) }
+    ensures { IsRenewed m.now j here.now line.old line.new agenda.old agenda.new steps.old
+        steps.new }
 {
     renew(line, here, steps);
     agenda.set(j, leaving(m, j, here));
@@ -113,32 +103,24 @@ fn seat<L: Ledger>(
     agenda: &mut Agenda,
     steps: &mut Steps<L>,
 )
-    requires state { j < state_count at.now.taken.machine.now }
-    requires on { CanGoOn at.now lines.old agenda.old }
+    requires can { CanOneGoOn at.now j lines.old agenda.old }
     requires states { AreStatesOf at.now.taken.machine.now x.now }
     requires later { (line_at lines.old j).tick ≤ at.now.taken.tick }
     requires small { IsWithin 89 (state_at (line_at lines.old j) at.now.taken.tick) }
     requires near { IsNear (level_unit at.now.taken.machine.now) (int_at x.now j)
         (int_at at.now.taken.levels.now j)
         (quantum_of at.now.taken.machine.now j (int_at at.now.taken.levels.now j)) }
-    ensures goes_on { GoesOnFrom at.now.taken.machine.now at.now.taken.tick (int_at x.now j)
-        (int_at at.now.taken.levels.now j)
-        (int_at at.now.slopes.now j) j (line_at lines.new j) (due_at agenda.new j) }
-    ensures lines { (k : ℕ) → (k ≡ j → ⊥) → line_at lines.new k ≡ line_at lines.old k }
+    ensures goes_on { OneGoesOn at.now.taken.machine.now at.now.taken.tick
+        at.now.taken.levels.now at.now.slopes.now j (int_at x.now j)
+        (record { lines = lines.old; dues = agenda.old })
+        (record { lines = lines.new; dues = agenda.new }) }
     ensures kept { goes_from at.now.taken.tick (int_at x.now j) (int_at at.now.taken.levels.now j)
         (int_at at.now.slopes.now j)
         (line_at lines.old j) ≡ true
         → line_at lines.new j ≡ line_at lines.old j }
-    ensures places { length agenda.new ≡ length agenda.old }
-    ensures dues { (place : ℕ) → (place ≡ j → ⊥)
-        → due_at agenda.new place ≡ due_at agenda.old place }
     ensures counted { (states : List ℤ) → int_at states j ≡ int_at x.now j
-        → steps.new + renewals_from
-        (state_count at.now.taken.machine.now) at.now.taken.tick states at.now.taken.levels.now
-        at.now.slopes.now lines.new
-        ≡ steps.old + renewals_from
-        (state_count at.now.taken.machine.now) at.now.taken.tick states at.now.taken.levels.now
-        at.now.slopes.now lines.old }
+        → IsCountedFrom (state_count at.now.taken.machine.now) at.now.taken.tick states
+        at.now.taken.levels.now at.now.slopes.now lines.old lines.new steps.old steps.new }
 {
     let slope = at.slopes[j as usize];
     let level = at.taken.levels[j as usize];
@@ -167,28 +149,19 @@ fn seat_each<L: Ledger>(
         → IsNear (level_unit at.now.taken.machine.now) (int_at x.now j)
         (int_at at.now.taken.levels.now j)
         (quantum_of at.now.taken.machine.now j (int_at at.now.taken.levels.now j)) }
-    ensures goes_on { (j : ℕ) → is_among at.now.taken.moved.now j ≡ true
-        → GoesOnFrom at.now.taken.machine.now at.now.taken.tick (int_at x.now j)
-        (int_at at.now.taken.levels.now j)
-        (int_at at.now.slopes.now j) j (line_at lines.new j) (due_at agenda.new j) }
-    ensures lines { (j : ℕ) → is_among at.now.taken.moved.now j ≡ false
-        → line_at lines.new j ≡ line_at lines.old j }
+    ensures go_on { TheseGoOn at.now.taken.machine.now at.now.taken.tick
+        at.now.taken.levels.now at.now.slopes.now at.now.taken.moved.now (int_at x.now)
+        (record { lines = lines.old; dues = agenda.old })
+        (record { lines = lines.new; dues = agenda.new }) }
     ensures kept { (j : ℕ)
         → goes_from at.now.taken.tick (int_at x.now j) (int_at at.now.taken.levels.now j)
         (int_at at.now.slopes.now j)
         (line_at lines.old j) ≡ true
         → line_at lines.new j ≡ line_at lines.old j }
-    ensures places { length agenda.new ≡ length agenda.old }
-    ensures dues { (place : ℕ) → is_among at.now.taken.moved.now place ≡ false
-        → due_at agenda.new place ≡ due_at agenda.old place }
     ensures counted { (states : List ℤ)
         → ((j : ℕ) → is_among at.now.taken.moved.now j ≡ true → int_at states j ≡ int_at x.now j)
-        → steps.new + renewals_from
-        (state_count at.now.taken.machine.now) at.now.taken.tick states at.now.taken.levels.now
-        at.now.slopes.now lines.new
-        ≡ steps.old + renewals_from
-        (state_count at.now.taken.machine.now) at.now.taken.tick states at.now.taken.levels.now
-        at.now.slopes.now lines.old }
+        → IsCountedFrom (state_count at.now.taken.machine.now) at.now.taken.tick states
+        at.now.taken.levels.now at.now.slopes.now lines.old lines.new steps.old steps.new }
 {
     for j in at.taken.moved {
         seat(at, *j, x, lines, agenda, steps);

@@ -1,15 +1,15 @@
 //! Lines at new slopes, of states whose rows read a variable that changed.
 
-ghost use Rattle.std.specs.Prelude.{◌≡◌, ℕ, ◌+◌, ◌<◌, All, length, true, flat_map};
+ghost use Rattle.std.specs.Prelude.{◌≡◌, ◌+◌, ◌<◌, All, true, flat_map};
 ghost use Rattle.qss_machine.specs.Numbers.{int_at};
 ghost use Rattle.qss_machine.specs.Machines.{state_count, discrete_count};
 ghost use Rattle.qss_machine.specs.Uses.{reading_rows};
 ghost use Rattle.qss_quant.specs.Lines.{state_at};
 ghost use Rattle.qss_sched.specs.Ranks.{due_at};
-ghost use Rattle.qss_lines.specs.StateLines.{line_at, GoesOnFrom};
-ghost use Rattle.qss_lines.specs.Renewals.{goes_at, renewals};
-ghost use Rattle.qss_lines.specs.Reslopings.{MayReslope, AreResloped};
-ghost use Rattle.qss_lines.specs.Visitings.{CanGoOn};
+ghost use Rattle.qss_lines.specs.StateLines.{line_at};
+ghost use Rattle.qss_lines.specs.Renewals.{goes_at, IsCounted};
+ghost use Rattle.qss_lines.specs.Reslopings.{MayReslope, OneGoesOn, AreResloped};
+ghost use Rattle.qss_lines.specs.Visitings.{CanAllReslope, CanOneGoOn};
 
 use crate::slopes::reslope;
 use crate::visiting::NewSlopes;
@@ -25,28 +25,21 @@ fn reslope_state<L: Ledger>(
     agenda: &mut Agenda,
     steps: &mut Steps<L>,
 )
-    requires state { j < state_count at.now.taken.machine.now }
-    requires on { CanGoOn at.now lines.old agenda.old }
+    requires can { CanOneGoOn at.now j lines.old agenda.old }
     requires ready { MayReslope at.now.taken.machine.now at.now.taken.tick
         (int_at at.now.taken.levels.now j) (int_at at.now.slopes.now j)
         j (line_at lines.old j) (due_at agenda.old j) }
-    ensures goes_on { GoesOnFrom at.now.taken.machine.now at.now.taken.tick
+    ensures goes_on { OneGoesOn at.now.taken.machine.now at.now.taken.tick
+        at.now.taken.levels.now at.now.slopes.now j
         (state_at (line_at lines.old j) at.now.taken.tick)
-        (int_at at.now.taken.levels.now j) (int_at at.now.slopes.now j) j (line_at lines.new j)
-        (due_at agenda.new j) }
-    ensures lines { (k : ℕ) → (k ≡ j → ⊥) → line_at lines.new k ≡ line_at lines.old k }
+        (record { lines = lines.old; dues = agenda.old })
+        (record { lines = lines.new; dues = agenda.new }) }
     ensures kept { goes_at (int_at at.now.taken.levels.now j) (int_at at.now.slopes.now j)
         (line_at lines.old j)
         ≡ true
         → line_at lines.new j ≡ line_at lines.old j }
-    ensures places { length agenda.new ≡ length agenda.old }
-    ensures dues { (place : ℕ) → (place ≡ j → ⊥)
-        → due_at agenda.new place ≡ due_at agenda.old place }
-    ensures counted { steps.new
-        + renewals (state_count at.now.taken.machine.now) at.now.taken.levels.now at.now.slopes.now
-        lines.new
-        ≡ steps.old + renewals
-        (state_count at.now.taken.machine.now) at.now.taken.levels.now at.now.slopes.now lines.old }
+    ensures counted { IsCounted (state_count at.now.taken.machine.now) at.now.taken.levels.now
+        at.now.slopes.now lines.old lines.new steps.old steps.new }
 {
     let slope = at.slopes[j as usize];
     let level = at.taken.levels[j as usize];
@@ -70,20 +63,14 @@ fn reslope_each<L: Ledger>(
     steps: &mut Steps<L>,
 )
     requires states { All (λ j. j < state_count at.now.taken.machine.now) states.now }
-    requires on { CanGoOn at.now lines.old agenda.old }
-    requires ready { (j : ℕ) → j < state_count at.now.taken.machine.now
-        → MayReslope at.now.taken.machine.now at.now.taken.tick (int_at at.now.taken.levels.now j)
-        (int_at at.now.slopes.now j) j (line_at lines.old j) (due_at agenda.old j) }
+    requires can { CanAllReslope at.now lines.old agenda.old }
     ensures resloped { AreResloped at.now.taken.machine.now at.now.taken.tick
         at.now.taken.levels.now at.now.slopes.now
         states.now
         (record { lines = lines.old; dues = agenda.old })
         (record { lines = lines.new; dues = agenda.new }) }
-    ensures counted { steps.new
-        + renewals (state_count at.now.taken.machine.now) at.now.taken.levels.now at.now.slopes.now
-        lines.new
-        ≡ steps.old + renewals
-        (state_count at.now.taken.machine.now) at.now.taken.levels.now at.now.slopes.now lines.old }
+    ensures counted { IsCounted (state_count at.now.taken.machine.now) at.now.taken.levels.now
+        at.now.slopes.now lines.old lines.new steps.old steps.new }
 {
     for j in states {
         reslope_state(at, *j, lines, agenda, steps);
@@ -101,20 +88,14 @@ pub(crate) fn reslope_readers<L: Ledger>(
     requires variables { All
         (λ var. var < state_count at.now.taken.machine.now
         + discrete_count at.now.taken.machine.now) variables.now }
-    requires on { CanGoOn at.now lines.old agenda.old }
-    requires ready { (j : ℕ) → j < state_count at.now.taken.machine.now
-        → MayReslope at.now.taken.machine.now at.now.taken.tick (int_at at.now.taken.levels.now j)
-        (int_at at.now.slopes.now j) j (line_at lines.old j) (due_at agenda.old j) }
+    requires can { CanAllReslope at.now lines.old agenda.old }
     ensures resloped { AreResloped at.now.taken.machine.now at.now.taken.tick
         at.now.taken.levels.now at.now.slopes.now
         (flat_map (reading_rows at.now.taken.machine.now) variables.now)
         (record { lines = lines.old; dues = agenda.old })
         (record { lines = lines.new; dues = agenda.new }) }
-    ensures counted { steps.new
-        + renewals (state_count at.now.taken.machine.now) at.now.taken.levels.now at.now.slopes.now
-        lines.new
-        ≡ steps.old + renewals
-        (state_count at.now.taken.machine.now) at.now.taken.levels.now at.now.slopes.now lines.old }
+    ensures counted { IsCounted (state_count at.now.taken.machine.now) at.now.taken.levels.now
+        at.now.slopes.now lines.old lines.new steps.old steps.new }
 {
     for var in variables {
         let readers = at.taken.uses.rows_of(*var);

@@ -1,12 +1,11 @@
 //! Lines at new slopes.
 
-ghost use Rattle.std.specs.Prelude.{◌≡◌, ℕ, ◌+◌, ◌≤◌, length, true, false, if◌then◌else◌};
+ghost use Rattle.std.specs.Prelude.{◌≡◌, ◌+◌, ◌≤◌, true, false};
 ghost use Rattle.mu_num.specs.Sizes.{IsWithin};
 ghost use Rattle.qss_quant.specs.Lines.{state_at};
 ghost use Rattle.qss_sched.specs.Ranks.{due_at};
 ghost use Rattle.qss_quiet.specs.Sims.{IsDue};
-ghost use Rattle.qss_lines.specs.Renewals.{goes_from};
-ghost use Rattle.qss_lines.specs.Reslopings.{CanRenew};
+ghost use Rattle.qss_lines.specs.Reslopings.{CanRenew, IsRenewed};
 
 use qss_machine::Machine;
 use qss_quant::{Integrator, Steps};
@@ -51,19 +50,8 @@ pub(crate) fn reslope<L: Ledger>(
     requires ready { CanRenew m.now j here.now line.old agenda.old }
     requires due { state_at line.old here.now.tick ≡ here.now.x → line.old.level ≡ here.now.level
         → IsDue m.now here.now.tick j line.old (due_at agenda.old j) }
-    ensures not_later { line.new.tick ≤ here.now.tick }
-    ensures here { state_at line.new here.now.tick ≡ here.now.x }
-    ensures own_slope { line.new.slope ≡ here.now.slope }
-    ensures own_level { line.new.level ≡ here.now.level }
-    ensures as_many { length agenda.new ≡ length agenda.old }
-    ensures others { (place : ℕ) → (place ≡ j → ⊥)
-        → due_at agenda.new place ≡ due_at agenda.old place }
-    ensures due { IsDue m.now here.now.tick j line.new (due_at agenda.new j) }
-    ensures kept { goes_from here.now.tick here.now.x here.now.level here.now.slope line.old ≡ true
-        → line.new ≡ line.old }
-    ensures counted { steps.new ≡ steps.old
-        + (if goes_from here.now.tick here.now.x here.now.level here.now.slope line.old
-        then 0 else 1) }
+    ensures { IsRenewed m.now j here.now line.old line.new agenda.old agenda.new steps.old
+        steps.new }
 {
     if renew(line, here, steps) {
         agenda.set(j, leaving(m, j, line));

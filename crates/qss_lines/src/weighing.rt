@@ -1,16 +1,16 @@
 //! Weights along the changes of levels and of discrete values.
 
-ghost use Rattle.std.specs.Prelude.{◌≡◌, ◌<◌, pos, All, None, length, flat_map, position};
+ghost use Rattle.std.specs.Prelude.{◌≡◌, ◌<◌, pos, All, None, flat_map, position};
 ghost use Rattle.qss_machine.specs.Machines.{state_count};
 ghost use Rattle.qss_machine.specs.Ticks.{is_overweight};
 ghost use Rattle.qss_machine.specs.Uses.{reading_rows, uses_of};
 ghost use Rattle.qss_lines.specs.Variables.{AreDiscretes, AreLevelsOf};
 ghost use Rattle.qss_lines.specs.Overweights.{IsWeighed};
-ghost use Rattle.qss_lines.specs.RowSums.{CanAddUp};
+ghost use Rattle.qss_lines.specs.RowSums.{CanAddUp, HasSums};
 ghost use Rattle.qss_quiet.specs.Sims.{weights_at};
 ghost use Rattle.qss_lines.specs.declared.shifts.RowSum.TheVariants as sum;
 ghost use Rattle.qss_quiet.specs.Writes.{IsWritten};
-ghost use Rattle.qss_lines.specs.Visitings.{AreNewLevels, AreHandled, CanFollow, first_overweight, WereSums};
+ghost use Rattle.qss_lines.specs.Visitings.{CanFollow, CanFollowHandled, first_overweight, WereSums};
 
 use crate::limits::WEIGHT_BITS;
 use crate::readers::least_reader;
@@ -52,8 +52,7 @@ fn weigh_row(m: &Machine, row: u32, levels: &[i64], d: &[i64]) -> i128
 // The weights of these rows are added up anew.
 fn weigh_rows(m: &Machine, rows: &[u32], levels: &[i64], d: &[i64], weights: &mut [i128])
     requires rows { All (λ row. row < state_count m.now) rows.now }
-    requires levels { AreLevelsOf m.now levels.now d.now }
-    requires weights { length weights.old ≡ state_count m.now }
+    requires can { HasSums m.now levels.now d.now weights.old }
     ensures { IsWritten (pos 0) (IsWeighed m.now levels.now d.now) rows.now weights.old
         weights.new }
 {
@@ -73,8 +72,7 @@ fn weigh_readers(
 )
     requires uses { uses.now ≡ uses_of m.now }
     requires assigned { AreDiscretes m.now assigned.now }
-    requires levels { AreLevelsOf m.now levels.now d.now }
-    requires weights { length weights.old ≡ state_count m.now }
+    requires can { HasSums m.now levels.now d.now weights.old }
     ensures { IsWritten (pos 0) (IsWeighed m.now levels.now d.now)
         (flat_map (reading_rows m.now) assigned.now) weights.old weights.new }
 {
@@ -91,9 +89,7 @@ pub(crate) fn reweigh_handled(
     lines: &[Integrator],
     weights: &mut [i128],
 ) -> Option<u32>
-    requires ready { AreNewLevels at.now }
-    requires left { AreHandled at.now.machine.now left.now }
-    requires lines { length lines.now ≡ state_count at.now.machine.now }
+    requires can { CanFollowHandled at.now left.now lines.now }
     requires before { WereSums sum.Weight at.now left.now.before.now weights.old lines.now }
     ensures over { result ≡ first_overweight at.now left.now.discretes.now }
     ensures weights { result ≡ None
@@ -120,8 +116,7 @@ pub(crate) fn weigh_every(
     d: &[i64],
     weights: &mut [i128],
 ) -> Option<u32>
-    requires levels { AreLevelsOf m.now levels.now d.now }
-    requires weights { length weights.old ≡ state_count m.now }
+    requires { HasSums m.now levels.now d.now weights.old }
     ensures over { result ≡ position (is_overweight m.now levels.now d.now) m.now.rows }
     ensures weights { result ≡ None → weights.new ≡ weights_at m.now levels.now d.now }
 {

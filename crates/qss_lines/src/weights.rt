@@ -4,8 +4,8 @@ ghost use Rattle.std.specs.Prelude.{◌≡◌, ◌↔◌, ℕ, All, IsTrue, None
 ghost use Rattle.qss_machine.specs.Machines.{state_count};
 ghost use Rattle.qss_machine.specs.Ticks.{is_overweight};
 ghost use Rattle.qss_lines.specs.Variables.{AreLevelsOf};
-ghost use Rattle.qss_lines.specs.Kept.{AreWeights};
-ghost use Rattle.qss_lines.specs.Visitings.{AreNewLevels, AreNewLevelsAt, AreHandled, first_overweight, WereWeights};
+ghost use Rattle.qss_lines.specs.Kept.{AreWeights, StayKept};
+ghost use Rattle.qss_lines.specs.Visitings.{AreNewLevels, AreNewLevelsAt, AreHandled, CanFollowHandled, first_overweight, WereWeights};
 ghost use Rattle.qss_lines.specs.Weighings.{IsUpTo, AreUpToAt, IsSafeBound};
 
 use crate::bounds::{are_up_to_at, bound_for};
@@ -73,8 +73,7 @@ impl Weights {
         ensures over { result ≡ first_overweight at.now d.now }
         ensures weights { result ≡ None
             → AreWeights at.now.machine.now at.now.levels.now d.now self.new }
-        ensures bound { self.new.bound ≡ self.old.bound }
-        ensures on { self.old.kept ≡ true → self.new.kept ≡ true }
+        ensures stay { StayKept self.old self.new }
         ensures off { self.old.kept ≡ false
             → AreUpToAt self.old.bound at.now.levels.now 0 at.now.moved.now
             → self.new.kept ≡ false }
@@ -98,16 +97,13 @@ impl Weights {
         left: &Handled,
         lines: &[Integrator],
     ) -> Option<u32>
-        requires ready { AreNewLevels at.now }
-        requires left { AreHandled at.now.machine.now left.now }
-        requires lines { length lines.now ≡ state_count at.now.machine.now }
+        requires can { CanFollowHandled at.now left.now lines.now }
         requires before { WereWeights at.now left.now.before.now self.old lines.now }
         ensures over { result ≡ first_overweight at.now left.now.discretes.now }
         ensures weights { result ≡ None
             → AreWeights at.now.machine.now
             at.now.levels.now left.now.discretes.now self.new }
-        ensures bound { self.new.bound ≡ self.old.bound }
-        ensures on { self.old.kept ≡ true → self.new.kept ≡ true }
+        ensures stay { StayKept self.old self.new }
         ensures off { self.old.kept ≡ false
             → AreUpToAt self.old.bound at.now.levels.now 0 at.now.moved.now
             → AreUpToAt self.old.bound left.now.discretes.now

@@ -1,16 +1,18 @@
 -- What a simulator keeps, and the world that it stands for.
-use Rattle.std.specs.Prelude.{◌≡◌, ℕ, ◌+◌, ◌≤◌, false, List, length, map, Option, None, vec_capacity}
+use Rattle.std.specs.Prelude.{◌≡◌, ℕ, ◌+◌, ◌<◌, ◌≤◌, false, List, length, ℤ, map, Option, None, vec_capacity}
 use Rattle.qss_machine.specs.declared.system.Machine.{Machine}
-use Rattle.qss_machine.specs.Machines.{state_count, discrete_count, level_unit, start_states, start_discretes}
+use Rattle.qss_machine.specs.Machines.{state_count, discrete_count, level_unit, slope_at, start_states, start_discretes}
+use Rattle.qss_machine.specs.Numbers.{int_at, tabulate}
 use Rattle.qss_machine.specs.Limits.{level_below}
 use Rattle.qss_machine.specs.Handlers.{conditions}
 use Rattle.qss_machine.specs.Ticks.{World}
 use Rattle.qss_machine.specs.Uses.{uses_of}
 use Rattle.qss_hand.specs.Works.{row_room}
 use Rattle.qss_sched.specs.Ranks.{due_at, HasNone}
+use Rattle.qss_quant.specs.Lines.{Line}
 use Rattle.qss_quiet.specs.declared.outcome.Outcome.{Outcome}
 use Rattle.qss_run.specs.declared.store.Store.{Store}
-use Rattle.qss_lines.specs.StateLines.{line_at, states_at}
+use Rattle.qss_lines.specs.StateLines.{line_at, states_at, GoesOnFrom}
 use Rattle.qss_lines.specs.Variables.{AreWithin}
 use Rattle.qss_watch.specs.Places.{watch_at, AreConditionsOf, KnowsApart}
 use Rattle.qss_lines.specs.Kept.{AreWeights}
@@ -59,12 +61,22 @@ pub record Stands (m : Machine) (tick : ℕ) (s : Store) : Type 0 where
   pub rising : s.rising ≡ rises (world_of tick s)
   pub alike : KnowsApart s.conditions
 
+-- a store stands at a tick before the last one
+pub record IsUnderWay (m : Machine) (tick : ℕ) (s : Store) : Type 0 where
+  pub stands : Stands m tick s
+  pub in_time : tick < m.last
+
 -- a store stood at a tick with this agenda; what is to be looked at at the next one, these states and conditions, was taken out
 pub record IsTaken (m : Machine) (tick : ℕ) (agenda : List (Option ℕ)) (s : Store) : Type 0 where
   pub stands : Stands m tick (record s { agenda = agenda })
   pub due : AreDue (state_count m) (tick + 1) agenda s.moved.items
   pub changing : AreLookedAt (state_count m) (length (conditions m)) (tick + 1) agenda (world_of tick s) s.changed.items
   pub without : IsTakenOut (state_count m) (length (conditions m)) s.moved.items s.changed.items agenda s.agenda
+
+-- it stood so with some agenda, at a tick before the last one
+pub record WasTaken (m : Machine) (tick : ℕ) (s : Store) : Type 0 where
+  pub taken : (agenda : List (Option ℕ)) × IsTaken m tick agenda s
+  pub in_time : tick < m.last
 
 -- a store with memory and the values of the start
 pub record IsBlank (m : Machine) (s : Store) : Type 0 where
@@ -74,6 +86,11 @@ pub record IsBlank (m : Machine) (s : Store) : Type 0 where
   pub levels : s.levels.items ≡ map (level_below (level_unit m)) (start_states m)
   pub no_dues : HasNone s.agenda
   pub not_rising : s.rising ≡ false
+
+-- all states have set out from tick 0, from where they are and at their levels, at the slopes of these and the discrete values
+pub record HaveSetOut (m : Machine) (x levels d slopes_new : List ℤ) (lines_new : List Line) (dues_new : List (Option ℕ)) : Type 0 where
+  pub slopes : slopes_new ≡ tabulate (state_count m) (λ j. slope_at m j levels d)
+  pub lines : (j : ℕ) → j < state_count m → GoesOnFrom m 0 (int_at x j) (int_at levels j) (slope_at m j levels d) j (line_at lines_new j) (due_at dues_new j)
 
 -- what a simulator keeps: a tick of the run, and until the end of the run a store that stands there
 pub record IsSim (m : Machine) (tick : ℕ) (end : Option Outcome) (s : Store) : Type 0 where

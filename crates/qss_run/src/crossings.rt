@@ -1,6 +1,6 @@
 //! A tick at which conditions are looked at.
 
-ghost use Rattle.std.specs.Prelude.{◌≡◌, ℕ, ◌+◌, ◌<◌, ◌^◌, List, Option, None, Some, length, if◌then◌else◌};
+ghost use Rattle.std.specs.Prelude.{◌≡◌, ℕ, ◌+◌, ◌<◌, ◌^◌, None, Some, length, if◌then◌else◌};
 ghost use Rattle.std.specs.List.{list_any};
 ghost use Rattle.qss_machine.specs.Handlers.{due_flags};
 ghost use Rattle.qss_machine.specs.Machines.{state_count, slope_at};
@@ -9,7 +9,7 @@ ghost use Rattle.qss_sched.specs.Ranks.{due_at};
 ghost use Rattle.qss_lines.specs.StateLines.{states_with};
 ghost use Rattle.qss_watch.specs.Places.{KnowsApart};
 ghost use Rattle.qss_lines.specs.Renewals.{renewals_from};
-ghost use Rattle.qss_run.specs.Stores.{world_of, Stands, IsTaken};
+ghost use Rattle.qss_run.specs.Stores.{world_of, Stands, WasTaken};
 ghost use Rattle.qss_run.specs.Visits.{CanGoOnHandled, world_left, IsVisited};
 
 use crate::rewatched::rewatch_handled;
@@ -102,8 +102,7 @@ pub(crate) fn visit_changed<L: Ledger>(
     s: &mut Store,
     steps: &mut Steps<L>,
 ) -> Option<u32>
-    requires taken { (agenda : List (Option ℕ)) × IsTaken m.now tick agenda s.old }
-    requires in_time { tick < m.now.last }
+    requires { WasTaken m.now tick s.old }
     ensures { IsVisited m.now q.now.name tick s.old s.new result steps.old steps.new }
 {
     let at = Changing {

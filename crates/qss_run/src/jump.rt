@@ -6,7 +6,7 @@ ghost use Rattle.qss_machine.specs.Runs.{last_world, tick_rows};
 ghost use Rattle.qss_quant.specs.declared.rule.Rule.{Rule};
 ghost use Rattle.qss_sched.specs.Ranks.{due_at};
 ghost use Rattle.qss_quiet.specs.Rules.{IsRuled};
-ghost use Rattle.qss_run.specs.Stores.{world_of, Stands};
+ghost use Rattle.qss_run.specs.Stores.{world_of, IsUnderWay, Stands};
 ghost use Rattle.qss_quiet.specs.Silent.{AreSilent, IsVisit};
 ghost use Rattle.qss_run.specs.Touches.{touches_at};
 
@@ -21,8 +21,7 @@ use std::sync::ledger::Ledger;
 
 // Goes to just before the next tick at which something happens, or just before the last one.
 fn jump(m: &Machine, tick: u64, s: &mut Store) -> u64
-    requires stands { Stands m.now tick s.old }
-    requires in_time { tick < m.now.last }
+    requires { IsUnderWay m.now tick s.old }
     ensures later { tick ≤ result }
     ensures before { result < m.now.last }
     ensures reached { result + 1 < m.now.last
@@ -52,8 +51,7 @@ pub(crate) fn go_to_visit<L: Ledger>(
     s: &mut Store,
     steps: &mut Steps<L>,
 ) -> Visited
-    requires stands { Stands m.now tick s.old }
-    requires in_time { tick < m.now.last }
+    requires { IsUnderWay m.now tick s.old }
     ensures later { tick < result.tick }
     ensures in_time { result.tick ≤ m.now.last }
     ensures due { result.tick < m.now.last

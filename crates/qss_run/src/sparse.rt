@@ -1,6 +1,6 @@
 //! A tick at which nothing but states is due.
 
-ghost use Rattle.std.specs.Prelude.{◌≡◌, ℕ, ◌+◌, ◌^◌, ◌<◌, ◌≤◌, All, [], false, length, List, Option, None, vec_capacity};
+ghost use Rattle.std.specs.Prelude.{◌≡◌, ℕ, ◌+◌, ◌^◌, ◌<◌, ◌≤◌, All, [], false, length, None, vec_capacity};
 ghost use Rattle.mu_num.specs.Sizes.{IsWithin};
 ghost use Rattle.qss_machine.specs.Counts.{is_touched};
 ghost use Rattle.qss_machine.specs.Handlers.{conditions};
@@ -10,7 +10,7 @@ ghost use Rattle.qss_quiet.specs.Among.{is_among};
 ghost use Rattle.qss_lines.specs.Gatherings.{reached};
 ghost use Rattle.qss_watch.specs.Places.{AreConditionsOf, AreWatched, HasPlaces};
 ghost use Rattle.qss_lines.specs.StateLines.{line_at, states_at};
-ghost use Rattle.qss_run.specs.Stores.{world_of, IsTaken};
+ghost use Rattle.qss_run.specs.Stores.{world_of, WasTaken};
 ghost use Rattle.qss_run.specs.Visits.{IsVisited};
 ghost use Rattle.qss_lines.specs.Visitings.{CanReslope, HaveGoneOn};
 
@@ -81,14 +81,14 @@ pub(crate) fn visit_due<L: Ledger>(
     s: &mut Store,
     steps: &mut Steps<L>,
 ) -> Option<u32>
-    requires taken { (agenda : List (Option ℕ)) × IsTaken m.now tick agenda s.old }
+    requires ready { WasTaken m.now tick s.old }
     requires none_changes { s.old.changed.items ≡ [] }
-    requires in_time { tick < m.now.last }
     ensures visited { IsVisited m.now q.now.name tick s.old s.new result steps.old steps.new }
     ensures kept { result ≡ None → (j : ℕ) → j < state_count m.now
         → is_touched m.now (tick + 1) (world_of tick s.old) (world_of (tick + 1) s.new) j ≡ false
         → (line_at s.new.lines.items j ≡ line_at s.old.lines.items j)
         × (due_at s.new.agenda j ≡ due_at s.old.agenda j) }
+    ensures touched_room { vec_capacity s.new.touched ≡ vec_capacity s.old.touched }
 {
     let arrival = Arrival {
         machine: m,

@@ -4,8 +4,8 @@ ghost use Rattle.std.specs.Prelude.{◌≡◌, ℕ, ◌+◌, ◌<◌, ◌≤◌,
 ghost use Rattle.mu_num.specs.Sizes.{IsWithin};
 ghost use Rattle.qss_machine.specs.declared.rows.RowKind.TheVariants as kind;
 ghost use Rattle.qss_machine.specs.Limits.{level_below};
-ghost use Rattle.qss_machine.specs.Numbers.{int_at, tabulate};
-ghost use Rattle.qss_machine.specs.Machines.{state_count, level_unit, slope_at, quantum_of, start_states, start_discretes};
+ghost use Rattle.qss_machine.specs.Numbers.{int_at};
+ghost use Rattle.qss_machine.specs.Machines.{state_count, level_unit, quantum_of, start_states, start_discretes};
 ghost use Rattle.qss_machine.specs.Ticks.{start_world, is_overweight};
 ghost use Rattle.qss_machine.specs.Handlers.{conditions, truths};
 ghost use Rattle.qss_machine.specs.Runs.{state_rows, discrete_rows, world_rows};
@@ -13,9 +13,9 @@ ghost use Rattle.qss_quant.specs.Lines.{IsNear};
 ghost use Rattle.qss_sched.specs.Ranks.{due_at, HasNone};
 ghost use Rattle.qss_lines.specs.Variables.{AreWithin};
 ghost use Rattle.qss_watch.specs.Places.{AreConditionsOf, AreWatched};
-ghost use Rattle.qss_lines.specs.StateLines.{line_at, GoesOnFrom};
+ghost use Rattle.qss_lines.specs.Visitings.{HasOneEach};
 ghost use Rattle.qss_quiet.specs.Sims.{IsDue};
-ghost use Rattle.qss_run.specs.Stores.{world_of, Stands, IsBlank};
+ghost use Rattle.qss_run.specs.Stores.{world_of, HaveSetOut, Stands, IsBlank};
 
 use crate::ends::set_world_rows;
 use crate::store::Store;
@@ -47,9 +47,9 @@ fn number_lists(
     conditions: usize,
 ) -> Result<(Vec<u32>, Vec<u32>, Vec<u32>), AllocError>
     ensures { IfOk result
-        (λ lists. (states ≤ vec_capacity lists.0)
-        × (conditions ≤ vec_capacity lists.1)
-        × (conditions ≤ vec_capacity lists.2)) }
+        (λ lists. (vec_capacity lists.0 ≡ states)
+        × (vec_capacity lists.1 ≡ conditions)
+        × (vec_capacity lists.2 ≡ conditions)) }
 {
     let moved = Vec::with_capacity(alloc, states)?;
     let changed = Vec::with_capacity(alloc, conditions)?;
@@ -133,19 +133,13 @@ fn start_lines(
 )
     requires values { AreWithin m.now x.now d.now }
     requires levels { length levels.now ≡ state_count m.now }
-    requires slopes { length slopes.old ≡ state_count m.now }
-    requires lines { length lines.old ≡ state_count m.now }
-    requires places { state_count m.now ≤ length agenda.old }
+    requires one_each { HasOneEach m.now slopes.old lines.old agenda.old }
     requires small_levels { All (IsWithin 43) levels.now }
     requires light { position (is_overweight m.now levels.now d.now) m.now.rows ≡ None }
     requires near { (j : ℕ) → j < state_count m.now
         → IsNear (level_unit m.now) (int_at x.now j) (int_at levels.now j)
         (quantum_of m.now j (int_at levels.now j)) }
-    ensures slopes { slopes.new
-        ≡ tabulate (state_count m.now) (λ j. slope_at m.now j levels.now d.now) }
-    ensures lines { (j : ℕ) → j < state_count m.now
-        → GoesOnFrom m.now 0 (int_at x.now j) (int_at levels.now j)
-        (slope_at m.now j levels.now d.now) j (line_at lines.new j) (due_at agenda.new j) }
+    ensures set_out { HaveSetOut m.now x.now levels.now d.now slopes.new lines.new agenda.new }
     ensures places { length agenda.new ≡ length agenda.old }
     ensures others { (place : ℕ) → state_count m.now ≤ place
         → due_at agenda.new place ≡ due_at agenda.old place }
@@ -171,15 +165,11 @@ fn set_out(
     requires states { work.now.x ≡ start_states m.now }
     requires discretes { work.now.d ≡ start_discretes m.now }
     requires levels { levels.now ≡ map (level_below (level_unit m.now)) (start_states m.now) }
-    requires slopes { length slopes.old ≡ state_count m.now }
-    requires lines { length lines.old ≡ state_count m.now }
+    requires one_each { HasOneEach m.now slopes.old lines.old agenda.old }
     requires places { length agenda.old ≡ state_count m.now + length (conditions m.now) + 1 }
     requires no_dues { HasNone agenda.old }
-    ensures slopes { slopes.new
-        ≡ tabulate (state_count m.now) (λ j. slope_at m.now j levels.now work.now.d) }
-    ensures lines { (j : ℕ) → j < state_count m.now
-        → GoesOnFrom m.now 0 (int_at work.now.x j) (int_at levels.now j)
-        (slope_at m.now j levels.now work.now.d) j (line_at lines.new j) (due_at agenda.new j) }
+    ensures set_out { HaveSetOut m.now work.now.x levels.now work.now.d slopes.new lines.new
+        agenda.new }
     ensures arrived { watched.new.arrived.items ≡ watched.new.settled.items }
     ensures settled { watched.new.settled.items ≡ truths m.now work.now.x work.now.d 0 }
     ensures watches { AreWatched m.now 0 work.now.x work.now.d slopes.new watched.new.watches.items

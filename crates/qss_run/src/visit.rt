@@ -1,7 +1,6 @@
 //! One tick.
 
-ghost use Rattle.std.specs.Prelude.{◌<◌};
-ghost use Rattle.qss_run.specs.Stores.{Stands};
+ghost use Rattle.qss_run.specs.Stores.{IsUnderWay};
 ghost use Rattle.qss_run.specs.Visits.{IsVisited};
 
 use crate::crossings::visit_changed;
@@ -21,8 +20,7 @@ pub(crate) fn visit<L: Ledger>(
     s: &mut Store,
     steps: &mut Steps<L>,
 ) -> Option<u32>
-    requires stands { Stands m.now tick s.old }
-    requires in_time { tick < m.now.last }
+    requires { IsUnderWay m.now tick s.old }
     ensures { IsVisited m.now q.now.name tick s.old s.new result steps.old steps.new }
 {
     let states = s.lines.len() as u32;

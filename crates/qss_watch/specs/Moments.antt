@@ -44,6 +44,12 @@ pub record IsPoint (m : Machine) (at : Point) : Type 0 where
   pub slopes : AreSlopesOf m at.slopes.now
   pub in_time : at.tick < 2 ^ 32
 
+-- a machine's conditions, with places in an agenda, may be watched at such values and slopes
+pub record CanWatch (m : Machine) (at : Point) (all : Conditions) (due : List (Option ℕ)) : Type 0 where
+  pub fits : AreConditionsOf m all
+  pub point : IsPoint m at
+  pub places : HasPlaces m due
+
 -- a machine's conditions, with places in an agenda, may go on from a tick at slopes: their watches are small there
 pub record CanRewatch (m : Machine) (tick : ℕ) (slopes : List ℤ) (all : Conditions) (due : List (Option ℕ)) : Type 0 where
   pub fits : AreConditionsOf m all

@@ -1,10 +1,15 @@
 -- States that are due at one tick, and what else has to be looked at then.
-use Rattle.std.specs.Prelude.{◌≡◌, ℕ, ◌+◌, ◌<◌, ◌⊎◌, Bool, true, false, not, List, length, All, Option, Some, None}
+use Rattle.std.specs.Prelude.{◌≡◌, ℕ, ◌+◌, ◌<◌, ◌≤◌, ◌⊎◌, Bool, true, false, not, List, length, All, Option, Some, None}
 use Rattle.qss_machine.specs.Firing.{flag_at}
 use Rattle.qss_machine.specs.Ticks.{World}
 use Rattle.qss_sched.specs.Ranks.{due_at}
 use Rattle.qss_quiet.specs.Among.{is_among, AreNumbers}
 use Rattle.qss_quiet.specs.Sims.{became_true}
+
+-- room for the numbers of n states, and a place of each in an agenda
+pub record HasRoomFor (n capacity : ℕ) (due : List (Option ℕ)) : Type 0 where
+  pub room : n ≤ capacity
+  pub places : n ≤ length due
 
 -- the states, of n, that are due at a tick, rising
 pub record AreDue (n tick : ℕ) (due : List (Option ℕ)) (moved : List ℕ) : Type 0 where

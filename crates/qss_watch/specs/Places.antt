@@ -9,6 +9,7 @@ use Rattle.qss_cross.specs.Crossing.{Watch, value_at}
 use Rattle.qss_sched.specs.Ranks.{due_at}
 use Rattle.qss_watch.specs.declared.conditions.BranchPlace.{BranchPlace}
 use Rattle.qss_watch.specs.declared.conditions.Conditions.{Conditions}
+use Rattle.qss_quiet.specs.Among.{AreNumbers}
 use Rattle.qss_quiet.specs.Sims.{condition_at, IsChange, no_watch}
 use Rattle.qss_watch.specs.Moves.{AreAlikeBut}
 
@@ -27,6 +28,11 @@ pub record IsBranchOf (m : Machine) (branch : BranchPlace) (place : ℕ) : Type 
 pub record AreBranches (m : Machine) (branches : List BranchPlace) : Type 0 where
   pub as_many : length branches ≡ length (conditions m)
   pub each : (place : ℕ) → place < length branches → IsBranchOf m (slice_index_or branches place (record { clause = 0; branch = 0 })) place
+
+-- the branches of a machine's conditions, and places of some of them, rising
+pub record AreBranchesAt (m : Machine) (branches : List BranchPlace) (places : List ℕ) : Type 0 where
+  pub of : AreBranches m branches
+  pub numbers : AreNumbers (length branches) places
 
 -- the conditions of a machine in source order: of each its branch, its watch, and its truths on arrival and after the handlers; places of some of them
 pub record AreConditionsOf (m : Machine) (all : Conditions) : Type 0 where

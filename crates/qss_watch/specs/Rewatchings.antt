@@ -50,6 +50,10 @@ pub record AreSettled (m : Machine) (tick : ℕ) (x d slopes : List ℤ) (places
   pub states : (place : ℕ) → place < state_count m → due_at new.dues place ≡ due_at old.dues place
   pub beyond : (place : ℕ) → state_count m + length old.watches ≤ place → due_at new.dues place ≡ due_at old.dues place
 
+-- conditions as they were, but for their watches, their truths after the handlers and which are apart
+abbrev pub AreAlikeButSettled : Conditions → Conditions → Type 0
+AreAlikeButSettled old new = new ≡ record old { watches = new.watches; settled = new.settled; apart = new.apart }
+
 -- of these conditions all are apart that are not after the handlers as on arrival, and so are those that were before
 pub record AreNoted (places : List ℕ) (old new : Conditions) : Type 0 where
   pub count : new.apart.count ≡ old.apart.count
@@ -94,7 +98,7 @@ one_reads m places j = list_any (λ place. condition_reads j (condition_at m pla
 pub record AreSettledAlong (at : Moment) (d : List ℤ) (places : List ℕ) (old new : Conditions) (old_dues new_dues : List (Option ℕ)) (x y : List ℤ) : Type 0 where
   pub settled : AreSettled at.machine.now at.tick (states_at at.lines.now at.tick) d at.slopes.now places (watchings_of old old_dues) (watchings_of new new_dues)
   pub noted : AreNoted places old new
-  pub rest : new ≡ record old { watches = new.watches; settled = new.settled; apart = new.apart }
+  pub rest : AreAlikeButSettled old new
   pub arrived : AreArrived (one_reads at.machine.now places) (states_at at.lines.now at.tick) x y
   pub small : All (IsWithin 88) y
 

@@ -3,14 +3,13 @@
 ghost use Rattle.std.specs.Prelude.{◌≡◌, ◌≢◌, ℕ, ◌+◌, ◌<◌, ◌≤◌, ◌^◌, All, Some, length, true, false, vec_capacity};
 ghost use Rattle.qss_sched.specs.Ranks.{due_at};
 ghost use Rattle.qss_quiet.specs.Among.{is_among};
-ghost use Rattle.qss_watch.specs.Moves.{AreDue, AreChanging, IsTakenAfter, IsWithout};
+ghost use Rattle.qss_watch.specs.Moves.{AreDue, AreChanging, HasRoomFor, IsTakenAfter, IsWithout};
 
 use qss_sched::Agenda;
 
 /// Takes the states that are due at a tick out of the agenda, rising, where nothing is due before it.
 pub fn take_due(agenda: &mut Agenda, tick: u64, states: u32, moved: &mut Vec<u32>)
-    requires room { states ≤ vec_capacity moved.old }
-    requires places { states ≤ length agenda.old }
+    requires has { HasRoomFor states (vec_capacity moved.old) agenda.old }
     requires none_before { (place due : ℕ) → due_at agenda.old place ≡ Some due → tick ≤ due }
     ensures due { AreDue states tick agenda.old moved.new.items }
     ensures without { IsWithout moved.new.items agenda.old agenda.new }

@@ -9,9 +9,8 @@ ghost use Rattle.qss_machine.specs.Machines.{state_count};
 ghost use Rattle.qss_machine.specs.Handlers.{run_clauses};
 ghost use Rattle.qss_hand.specs.Works.{AreValuesOf, handling_of, values_after, overflow_of, row_room};
 ghost use Rattle.qss_watch.specs.Handlings.{flags_of, handling_of_fired, is_reinitialized};
-ghost use Rattle.qss_quiet.specs.Among.{AreNumbers};
 ghost use Rattle.qss_lines.specs.Variables.{AreWithin};
-ghost use Rattle.qss_watch.specs.Places.{AreBranches};
+ghost use Rattle.qss_watch.specs.Places.{AreBranchesAt};
 ghost use Rattle.qss_lines.specs.StateLines.{states_at, AreLinesAt, MayArrive};
 ghost use Rattle.qss_watch.specs.Reads.{action_reads, fired_reads, AreArrived};
 
@@ -27,8 +26,7 @@ pub(crate) fn run_fired(
     fired: &[u32],
     w: &mut Work,
 ) -> Result<(), Over>
-    requires branches { AreBranches m.now branches.now }
-    requires fired { AreNumbers (length branches.now) fired.now }
+    requires due { AreBranchesAt m.now branches.now fired.now }
     requires fits { AreValuesOf m.now w.old }
     requires room { length w.old.log + row_room m.now.clauses ≤ w.old.room }
     ensures values { w.new
@@ -96,8 +94,7 @@ fn arrive_for(
     lines: &[Integrator],
     x: &mut [i128],
 )
-    requires branches { AreBranches m.now branches.now }
-    requires fired { AreNumbers (length branches.now) fired.now }
+    requires due { AreBranchesAt m.now branches.now fired.now }
     requires may_arrive { MayArrive tick lines.now x.old }
     ensures { AreArrived (λ j. fired_reads j m.now branches.now fired.now)
         (states_at lines.now tick) x.old x.new }
@@ -119,8 +116,7 @@ fn arrive_in_work(
     lines: &[Integrator],
     work: &mut Work,
 )
-    requires branches { AreBranches m.now branches.now }
-    requires fired { AreNumbers (length branches.now) fired.now }
+    requires due { AreBranchesAt m.now branches.now fired.now }
     requires may_arrive { MayArrive tick lines.now work.old.x }
     ensures work { work.new ≡ record work.old { x = work.new.x } }
     ensures states { AreArrived (λ j. fired_reads j m.now branches.now fired.now)
@@ -140,8 +136,7 @@ pub(crate) fn handle_fired(
     fired: &[u32],
     work: &mut Work,
 ) -> Option<u32>
-    requires branches { AreBranches m.now branches.now }
-    requires fired { AreNumbers (length branches.now) fired.now }
+    requires due { AreBranchesAt m.now branches.now fired.now }
     requires lines { AreLinesAt m.now tick lines.now }
     requires values { AreWithin m.now work.old.x work.old.d }
     requires room { row_room m.now.clauses ≤ work.old.room }

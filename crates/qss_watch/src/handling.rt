@@ -1,19 +1,14 @@
 //! The handlers of a tick at which conditions change.
 
-ghost use Rattle.std.specs.Prelude.{◌≡◌, ℕ, ◌<◌, ◌≤◌, ◌^◌, [], All, None, length, pos, false, vec_capacity};
-ghost use Rattle.mu_num.specs.Sizes.{IsWithin};
+ghost use Rattle.std.specs.Prelude.{◌≡◌, ◌≤◌, [], None, length, vec_capacity};
 ghost use Rattle.qss_machine.specs.Handlers.{conditions, truths};
-ghost use Rattle.qss_machine.specs.Numbers.{first_past};
 ghost use Rattle.qss_machine.specs.Machines.{state_count};
-ghost use Rattle.qss_quant.specs.Lines.{state_at};
 ghost use Rattle.qss_hand.specs.Works.{row_room};
 ghost use Rattle.qss_watch.specs.Handlings.{IsHandled, handling_from};
-ghost use Rattle.qss_quiet.specs.Among.{is_among, AreNumbers};
 ghost use Rattle.qss_watch.specs.Moves.{AreAlikeBut, IsWithout};
 ghost use Rattle.qss_watch.specs.Places.{AreConditionsOf};
-ghost use Rattle.qss_lines.specs.StateLines.{line_at, states_at};
+ghost use Rattle.qss_lines.specs.StateLines.{states_at, CanArriveWithin, HaveArrivedWithin};
 ghost use Rattle.qss_watch.specs.Moments.{CanHandle};
-ghost use Rattle.qss_quiet.specs.Writes.{IsWritten};
 
 use crate::conditions::Conditions;
 use crate::fired::handle_fired;
@@ -27,19 +22,9 @@ use qss_sched::Agenda;
 
 // The due states arrive among the values that handlers work on.
 fn arrive_moved(lines: &[Integrator], tick: u64, moved: &[u32], work: &mut Work) -> Option<u32>
-    requires as_many { length work.old.x ≡ length lines.now }
-    requires moved { AreNumbers (length lines.now) moved.now }
-    requires later { (j : ℕ) → j < length lines.now → (line_at lines.now j).tick ≤ tick }
-    requires in_time { tick < 2 ^ 32 }
-    requires others_small { (j : ℕ) → j < length lines.now
-        → is_among moved.now j ≡ false
-        → IsWithin 88 (state_at (line_at lines.now j) tick) }
-    requires small { All (IsWithin 88) work.old.x }
+    requires { CanArriveWithin tick lines.now moved.now work.old.x }
+    ensures arrived { HaveArrivedWithin tick lines.now moved.now work.old.x work.new.x result }
     ensures work { work.new ≡ record work.old { x = work.new.x } }
-    ensures arrived { IsWritten (pos 0) (λ j z. z ≡ state_at (line_at lines.now j) tick) moved.now
-        work.old.x work.new.x }
-    ensures over { result ≡ first_past 88 (states_at lines.now tick) }
-    ensures small { result ≡ None → All (IsWithin 88) work.new.x }
 {
     arrive_within(lines, tick, moved, work.x.as_mut_slice())
 }

@@ -7,7 +7,7 @@ ghost use Rattle.qss_sched.specs.Ranks.{due_at};
 ghost use Rattle.qss_watch.specs.Handlings.{is_reinitialized};
 ghost use Rattle.qss_quiet.specs.Logs.{is_set, assigned_of};
 ghost use Rattle.qss_quiet.specs.Among.{is_among, AreNumbers};
-ghost use Rattle.qss_watch.specs.Moves.{IsTakenFrom, IsWithout};
+ghost use Rattle.qss_watch.specs.Moves.{HasRoomFor, IsTakenFrom, IsWithout};
 
 use crate::due::{give_back, take_due};
 use qss_machine::{Row, RowKind};
@@ -58,8 +58,7 @@ pub(crate) fn join_reinitialized(
     log: &[Row],
     moved: &mut Vec<u32>,
 )
-    requires room { states ≤ vec_capacity moved.old }
-    requires places { states ≤ length agenda.old }
+    requires has { HasRoomFor states (vec_capacity moved.old) agenda.old }
     requires moved { AreNumbers states moved.old.items }
     requires known { (j : ℕ) → is_reinitialized log.now j ≡ true → j < states }
     requires taken { IsTakenFrom tick moved.old.items agenda.old }

@@ -3,14 +3,15 @@
 ghost use Rattle.std.specs.Prelude.{◌≡◌, ℕ, ◌+◌, ◌<◌, ◌≤◌, ◌&&◌, ◌||◌, ◌==◌, ◌∷◌, [], length};
 ghost use Rattle.qss_machine.specs.Firing.{flag_at};
 ghost use Rattle.qss_machine.specs.Limits.{IsBounded};
-ghost use Rattle.qss_machine.specs.Machines.{state_count, value_of, speed_of};
+ghost use Rattle.qss_machine.specs.Machines.{state_count, truth, value_of, speed_of};
 ghost use Rattle.qss_machine.specs.Handlers.{conditions, truths};
 ghost use Rattle.qss_sched.specs.Ranks.{due_at};
-ghost use Rattle.qss_watch.specs.Places.{AreConditionsOf, AreWatched, HasPlaces};
-ghost use Rattle.qss_watch.specs.Moments.{IsPoint};
+ghost use Rattle.qss_watch.specs.Places.{AreConditionsOf, AreWatched};
+ghost use Rattle.qss_watch.specs.Moments.{CanWatch, IsPoint};
 ghost use Rattle.qss_quiet.specs.Among.{is_among};
+ghost use Rattle.qss_quiet.specs.Sims.{condition_at};
 ghost use Rattle.qss_watch.specs.Moves.{differ};
-ghost use Rattle.qss_watch.specs.Rewatchings.{AreNoted, AreSettled, watchings_of};
+ghost use Rattle.qss_watch.specs.Rewatchings.{AreAlikeButSettled, AreNoted, AreSettled, watchings_of};
 
 use crate::conditions::Conditions;
 use crate::moment::Point;
@@ -72,20 +73,19 @@ fn watch_of(m: &Machine, condition: &Condition, at: &Point) -> Detector
 impl Conditions {
     /// A condition is watched from a tick on, and the agenda has the tick at which it changes.
     pub(crate) fn settle(&mut self, m: &Machine, at: &Point, place: u32, agenda: &mut Agenda)
-        requires fits { AreConditionsOf m.now self.old }
-        requires point { IsPoint m.now at.now }
+        requires can { CanWatch m.now at.now self.old agenda.old }
         requires place { place < length (conditions m.now) }
-        requires places { HasPlaces m.now agenda.old }
         ensures settled { AreSettled m.now at.now.tick at.now.states.now at.now.discretes.now
             at.now.slopes.now (place ∷ []) (watchings_of self.old agenda.old)
             (watchings_of self.new agenda.new) }
         ensures noted { AreNoted (place ∷ []) self.old self.new }
-        ensures rest { self.new
-            ≡ record self.old {
-              watches = self.new.watches;
-              settled = self.new.settled;
-              apart = self.new.apart;
-            } }
+        ensures apart { (other : ℕ) → is_among self.new.apart.places other
+            ≡ (is_among self.old.apart.places other
+            || (place == other && differ
+            (truth m.now (condition_at m.now place) at.now.states.now at.now.discretes.now
+            at.now.tick)
+            (flag_at self.old.arrived.items place))) }
+        ensures rest { AreAlikeButSettled self.old self.new }
     {
         let condition = self.condition(m, place);
         let watch = watch_of(m, condition, at);
@@ -101,19 +101,12 @@ impl Conditions {
 
     /// All conditions are watched from a tick on, and the agenda has the ticks at which they change.
     pub fn rewatch_all(&mut self, m: &Machine, at: &Point, agenda: &mut Agenda)
-        requires fits { AreConditionsOf m.now self.old }
-        requires point { IsPoint m.now at.now }
-        requires places { HasPlaces m.now agenda.old }
+        requires { CanWatch m.now at.now self.old agenda.old }
         ensures settled { self.new.settled.items
             ≡ truths m.now at.now.states.now at.now.discretes.now at.now.tick }
         ensures watches { AreWatched m.now at.now.tick at.now.states.now at.now.discretes.now
             at.now.slopes.now self.new.watches.items agenda.new }
-        ensures rest { self.new
-            ≡ record self.old {
-              watches = self.new.watches;
-              settled = self.new.settled;
-              apart = self.new.apart;
-            } }
+        ensures rest { AreAlikeButSettled self.old self.new }
         ensures fits { AreConditionsOf m.now self.new }
         ensures places { length agenda.new ≡ length agenda.old }
         ensures others { (place : ℕ) → place < state_count m.now

@@ -1,35 +1,35 @@
 -- One more state goes on.
 use Rattle.std.proofs.Common.{◌≡◌, ℕ, ℤ, List, take, get_or, refl, ◌∙◌, sym, subst, arith}
-use Rattle.std.proofs.lemmas.List.{take_all, take_more}
+use Rattle.std.proofs.lemmas.List.{take_all}
 use Rattle.qss_machine.specs.Machines.{level_unit, quantum_of}
 use Rattle.qss_machine.specs.Numbers.{int_at}
 use Rattle.qss_quant.specs.Lines.{state_at, IsNear}
 use Rattle.qss_lines.specs.StateLines.{line_at}
-use Rattle.qss_lines.specs.Reslopings.{Courses}
+use Rattle.qss_lines.specs.Reslopings.{Courses, OneGoesOn, TheseGoOn}
 use Rattle.qss_quiet.proofs.Writes.{among_at}
+use Rattle.qss_lines.proofs.Courses.{none_go_on, one_more}
 use Rattle.qss_lines.proofs.GoingOn.{still_on}
-use Rattle.qss_lines.proofs.Gathering.{AreOn, none_on, still_there, same_tick_on, on_more}
+use Rattle.qss_lines.proofs.Gathering.{still_there, same_tick_on}
 use Rattle.qss_lines.proofs.gathered.go_on_each.Goals as goal
 
 pub loop-j-init : goal.loop-j-init
 loop-j-init c = record {
-  on = none_on c.args.at.now.taken.machine.now c.args.at.now.taken.tick c.args.at.now.taken.levels.now c.args.at.now.slopes.now (record { lines = c.args.lines.now; dues = c.args.agenda.now });
+  on = none_go_on c.args.at.now.taken.machine.now c.args.at.now.taken.tick c.args.at.now.taken.levels.now c.args.at.now.slopes.now (λ k. state_at (line_at c.args.lines.now k) c.args.at.now.taken.tick)
+      (record { lines = c.args.lines.now; dues = c.args.agenda.now });
   same_tick = λ j. refl;
 }
 
-pub go_on-requires-clause-state : goal.go_on-requires-clause-state
-go_on-requires-clause-state c = c.requires.states c.loop-j.j-index 0 c.loop-j-test.true
-
-pub go_on-requires-clause-on : goal.go_on-requires-clause-on
-go_on-requires-clause-on c =
-    still_on c.args.at.now c.args.lines.now c.loop-j.lines c.args.agenda.now c.loop-j.agenda c.requires.on (omega (arith, c.loop-j.auto.lines)) c.loop-j.invariant.on.places
+pub go_on-requires-clause-can : goal.go_on-requires-clause-can
+go_on-requires-clause-can c = record {
+  known = c.requires.states c.loop-j.j-index 0 c.loop-j-test.true;
+  all = still_on c.args.at.now c.args.lines.now c.loop-j.lines c.args.agenda.now c.loop-j.agenda c.requires.on (omega (arith, c.loop-j.auto.lines)) c.loop-j.invariant.on.others.dues.places;
+}
 
 pub go_on-requires-clause-ready : goal.go_on-requires-clause-ready
 go_on-requires-clause-ready c =
     let m = c.args.at.now.taken.machine.now in
     let tick = c.args.at.now.taken.tick in
     let levels : List ℤ = c.args.at.now.taken.levels.now in
-    let slopes : List ℤ = c.args.at.now.slopes.now in
     let i = c.loop-j.j-index in
     let states : List ℕ = c.args.states.now in
     let j : ℕ = get_or states i 0 in
@@ -38,7 +38,7 @@ go_on-requires-clause-ready c =
     let before : Courses = record { lines = c.loop-j.lines; dues = c.loop-j.agenda } in
     let may = c.requires.ready j (among_at states i c.loop-j-test.true) in
     let there : state_at (line_at c.loop-j.lines j) tick ≡ state_at (line_at c.args.lines.now j) tick =
-    still_there m tick levels slopes (take i states) first before c.loop-j.invariant.on j in
+    still_there m tick levels c.args.at.now.slopes.now (take i states) first before c.loop-j.invariant.on j in
     record {
       here = c.loop-j.invariant.same_tick j ∙ may.here;
       near = subst (λ (x : ℤ). IsNear (level_unit m) x level (quantum_of m j level)) (sym there) may.near;
@@ -52,22 +52,21 @@ loop-j-preserved c =
     let slopes : List ℤ = c.args.at.now.slopes.now in
     let i = c.loop-j.j-index in
     let states : List ℕ = c.args.states.now in
+    let j : ℕ = get_or states i 0 in
     let first : Courses = record { lines = c.args.lines.now; dues = c.args.agenda.now } in
     let before : Courses = record { lines = c.loop-j.lines; dues = c.loop-j.agenda } in
     let after : Courses = record { lines = c.go_on.new.lines; dues = c.go_on.new.agenda } in
+    let one : OneGoesOn m tick levels slopes j (state_at (line_at first.lines j) tick) before after =
+    subst (λ (x : ℤ). OneGoesOn m tick levels slopes j x before after) (still_there m tick levels slopes (take i states) first before c.loop-j.invariant.on j) c.go_on.ensures.goes_on in
     record {
-      on = subst (λ (these : List ℕ). AreOn m tick levels slopes these first after) (sym (take_more states i 0 c.loop-j-test.true))
-          (on_more m tick levels slopes (take i states) (get_or states i 0) first before after c.loop-j.invariant.on c.go_on.ensures.goes_on c.go_on.ensures.lines c.go_on.ensures.places
-          c.go_on.ensures.dues);
-      same_tick = same_tick_on (get_or states i 0) c.args.lines.now c.loop-j.lines c.go_on.new.lines c.loop-j.invariant.same_tick c.go_on.ensures.same_tick c.go_on.ensures.lines;
+      on = one_more m tick levels slopes (λ k. state_at (line_at first.lines k) tick) states i first before after c.loop-j-test.true c.loop-j.invariant.on one;
+      same_tick = same_tick_on j c.args.lines.now c.loop-j.lines c.go_on.new.lines c.loop-j.invariant.same_tick c.go_on.ensures.same_tick c.go_on.ensures.goes_on.others.lines;
     }
 
 pub returns : goal.returns
 returns c =
-    let m = c.args.at.now.taken.machine.now in
+    let tick = c.args.at.now.taken.tick in
     let first : Courses = record { lines = c.args.lines.now; dues = c.args.agenda.now } in
     let last : Courses = record { lines = c.loop-j.lines; dues = c.loop-j.agenda } in
-    let on : AreOn m c.args.at.now.taken.tick c.args.at.now.taken.levels.now c.args.at.now.slopes.now c.args.states.now first last =
-    subst (λ (these : List ℕ). AreOn m c.args.at.now.taken.tick c.args.at.now.taken.levels.now c.args.at.now.slopes.now these first last) (take_all c.loop-j.j-index c.args.states.now c.loop-j-test.false)
-    c.loop-j.invariant.on in
-    record { goes_on = on.own; lines = on.lines; places = on.places; dues = on.dues }
+    subst (λ (these : List ℕ). TheseGoOn c.args.at.now.taken.machine.now tick c.args.at.now.taken.levels.now c.args.at.now.slopes.now these (λ k. state_at (line_at first.lines k) tick) first last)
+    (take_all c.loop-j.j-index c.args.states.now c.loop-j-test.false) c.loop-j.invariant.on

@@ -5,13 +5,14 @@ use Rattle.std.specs.List.{range_with_len}
 use Rattle.std.specs.Prelude.{All}
 use Rattle.qss_machine.specs.Machines.{state_count, level_unit, quantum_of}
 use Rattle.qss_machine.specs.Numbers.{int_at}
-use Rattle.qss_quant.specs.Lines.{IsNear}
+use Rattle.qss_quant.specs.Lines.{state_at, IsNear}
+use Rattle.qss_lines.specs.StateLines.{line_at}
 use Rattle.qss_quiet.specs.Among.{is_among}
 use Rattle.qss_quiet.proofs.Writes.{index_of}
 use Rattle.qss_lines.specs.Gatherings.{Gathering, behind, reached}
-use Rattle.qss_lines.specs.Reslopings.{Courses}
+use Rattle.qss_lines.specs.Reslopings.{Courses, TheseGoOn}
 use Rattle.qss_lines.proofs.DueLevels.{int_at-states_at}
-use Rattle.qss_lines.proofs.Gathering.{AreOn, behind_few, behind_may, all_on}
+use Rattle.qss_lines.proofs.Gathering.{behind_few, behind_may, all_on}
 use Rattle.qss_lines.proofs.GoingOn.{slopes_small}
 use Rattle.qss_lines.proofs.gathered.reslope_of.Goals as goal
 
@@ -44,13 +45,13 @@ go_on_each-requires-clause-on g c = record {
     levels = c.requires.ready.new.values.levels;
     small_levels = c.requires.ready.new.values.small_levels;
   };
-  slopes_of = record {
-    as_many = c.follow_levels.auto.slopes ∙ c.requires.ready.one_each.slopes;
-    small = slopes_small c.args.at.now.taken.machine.now c.args.at.now.taken.levels.now c.args.at.now.discretes.now c.args.at.now.discretes.now c.follow_levels.new.slopes c.requires.ready.levels.light refl
-        c.follow_levels.ensures.slopes;
+  one_each = record {
+    slopes = c.follow_levels.auto.slopes ∙ c.requires.ready.one_each.slopes;
+    lines = c.follow_levels.auto.lines ∙ c.requires.ready.one_each.lines;
+    places = c.requires.ready.one_each.places;
   };
-  lines = c.follow_levels.auto.lines ∙ c.requires.ready.one_each.lines;
-  places = c.requires.ready.one_each.places;
+  small_slopes = slopes_small c.args.at.now.taken.machine.now c.args.at.now.taken.levels.now c.args.at.now.discretes.now c.args.at.now.discretes.now c.follow_levels.new.slopes c.requires.ready.levels.light refl
+      c.follow_levels.ensures.slopes;
   in_time = c.requires.ready.held.may_move.in_time;
 }
 
@@ -84,12 +85,9 @@ returns-clause-gone_on g c =
     let first : Gathering = record { lines = c.args.lines.now; touched = c.clear.new.self.items } in
     let between : Gathering = record { lines = c.follow_levels.new.lines; touched = c.follow_levels.new.touched.items } in
     let last : Courses = record { lines = c.go_on_each.new.lines; dues = c.go_on_each.new.agenda } in
-    let on : AreOn m tick levels slopes between.touched (record { lines = between.lines; dues = c.args.agenda.now }) last = record {
-      own = λ j among. c.go_on_each.ensures.goes_on j (ap (λ xs. is_among xs j) c.as_slice.ensures.value ∙ among);
-      lines = λ j none. c.go_on_each.ensures.lines j (ap (λ xs. is_among xs j) c.as_slice.ensures.value ∙ none);
-      places = c.go_on_each.ensures.places;
-      dues = λ j none. c.go_on_each.ensures.dues j (ap (λ xs. is_among xs j) c.as_slice.ensures.value ∙ none);
-    } in
+    let on : TheseGoOn m tick levels slopes between.touched (λ k. state_at (line_at between.lines k) tick) (record { lines = between.lines; dues = c.args.agenda.now }) last =
+    subst (λ (these : List ℕ). TheseGoOn m tick levels slopes these (λ k. state_at (line_at between.lines k) tick) (record { lines = between.lines; dues = c.args.agenda.now }) last)
+    c.as_slice.ensures.value c.go_on_each.ensures in
     let held = c.requires.ready.held in
     let may = is_among (reached m c.args.at.now.taken.moved.now) in
     let count = c.follow_levels.ensures.gathered.counted may (λ j among. among) in
@@ -100,7 +98,7 @@ returns-clause-gone_on g c =
           let inside : k < length c.args.lines.now = omega (arith, h, c.requires.ready.one_each.lines) in
           all_on m tick levels held.before.0 c.args.at.now.discretes.now c.args.slopes.now slopes c.args.at.now.taken.moved.now first between c.args.agenda.now last
           c.follow_levels.ensures.gathered on held.before.1 c.follow_levels.ensures.slopes k h inside (held.may_move.later k inside) (held.own_slope k h) (held.due k h);
-      places = c.go_on_each.ensures.places;
+      places = c.go_on_each.ensures.others.dues.places;
       counted = omega (arith, count, fewer, c.follow_levels.ensures.counted, ap length c.clear.ensures.items);
     }
 
@@ -111,7 +109,7 @@ returns-clause-kept g c j unreached =
     let unlisted : is_among c.follow_levels.new.touched.items j ≡ false =
     gathered.listed j ∙ ap (λ (xs : List ℕ). is_among xs j || is_among (reached m c.args.at.now.taken.moved.now) j) c.clear.ensures.items ∙ unreached in
     let left : is_among c.as_slice.result.now j ≡ false = ap (λ xs. is_among xs j) c.as_slice.ensures.value ∙ unlisted in
-    (c.go_on_each.ensures.lines j left ∙ gathered.others j unlisted, c.go_on_each.ensures.dues j left)
+    (c.go_on_each.ensures.others.lines j left ∙ gathered.others j unlisted, c.go_on_each.ensures.others.dues.others j left)
 
 pub returns-clause-room : goal.returns-clause-room
 returns-clause-room g c = c.follow_levels.ensures.room ∙ c.clear.ensures.capacity

@@ -41,17 +41,17 @@ loop-state-init g c =
 pub arrival_of-value-requires-clause-known : goal.arrival_of-value-requires-clause-known
 arrival_of-value-requires-clause-known g c =
     let known : get_or c.args.at.now.moved.now c.loop-state.state-index 0 < state_count c.args.at.now.machine.now =
-    c.requires.ready.lines.numbers.below c.loop-state.state-index 0 c.loop-state-test.true in
-    omega (arith, known, c.requires.ready.lines.up_to.as_many)
+    c.requires.ready.arrival.lines.numbers.below c.loop-state.state-index 0 c.loop-state-test.true in
+    omega (arith, known, c.requires.ready.arrival.lines.up_to.as_many)
 
 pub arrival_of-value-requires-clause-later : goal.arrival_of-value-requires-clause-later
 arrival_of-value-requires-clause-later g c =
     let known : get_or c.args.at.now.moved.now c.loop-state.state-index 0 < state_count c.args.at.now.machine.now =
-    c.requires.ready.lines.numbers.below c.loop-state.state-index 0 c.loop-state-test.true in
-    c.requires.ready.lines.up_to.later (get_or c.args.at.now.moved.now c.loop-state.state-index 0) (omega (arith, known, c.requires.ready.lines.up_to.as_many))
+    c.requires.ready.arrival.lines.numbers.below c.loop-state.state-index 0 c.loop-state-test.true in
+    c.requires.ready.arrival.lines.up_to.later (get_or c.args.at.now.moved.now c.loop-state.state-index 0) (omega (arith, known, c.requires.ready.arrival.lines.up_to.as_many))
 
 pub arrival_of-value-requires-clause-in_time : goal.arrival_of-value-requires-clause-in_time
-arrival_of-value-requires-clause-in_time g c = omega (arith, c.requires.ready.lines.up_to.in_time)
+arrival_of-value-requires-clause-in_time g c = omega (arith, c.requires.ready.arrival.lines.up_to.in_time)
 
 pub returns-then-passes-clause-passed : goal.returns-then-passes-clause-passed
 returns-then-passes-clause-passed g c var e =
@@ -64,9 +64,9 @@ returns-then-passes-clause-passed g c var e =
     let past : passes 88 (state_at (line_at lines (get_or moved i 0)) tick) ≡ true =
     ap (passes 88) (sym c.arrival_of-value.ensures) ∙ sym (rw (to_z-of_z w128 value fits) at c.passes.ensures) ∙ c.if-passes.true in
     let over : Some (get_or moved i 0) ≡ first_past 88 (states_at lines tick) =
-    past_on_arrival tick lines moved (subst (λ n. AreNumbers n moved) (sym c.requires.ready.lines.up_to.as_many) c.requires.ready.lines.numbers) (Some (get_or moved i 0))
-    (λ j h none. c.requires.ready.lines.others_small j (omega (arith, h, c.requires.ready.lines.up_to.as_many)) none)
-    (first_of (λ j. passes 88 (state_at (line_at lines j) tick)) moved i c.requires.ready.lines.numbers.rising c.loop-state-test.true c.loop-state.invariant.none_past past) in
+    past_on_arrival tick lines moved (subst (λ n. AreNumbers n moved) (sym c.requires.ready.arrival.lines.up_to.as_many) c.requires.ready.arrival.lines.numbers) (Some (get_or moved i 0))
+    (λ j h none. c.requires.ready.arrival.lines.others_small j (omega (arith, h, c.requires.ready.arrival.lines.up_to.as_many)) none)
+    (first_of (λ j. passes 88 (state_at (line_at lines j) tick)) moved i c.requires.ready.arrival.lines.numbers.rising c.loop-state-test.true c.loop-state.invariant.none_past past) in
     over ∙ e
 
 pub returns-then-passes-clause-taken : goal.returns-then-passes-clause-taken
@@ -80,9 +80,9 @@ returns-then-passes-clause-taken g c none =
     let past : passes 88 (state_at (line_at lines (get_or moved i 0)) tick) ≡ true =
     ap (passes 88) (sym c.arrival_of-value.ensures) ∙ sym (rw (to_z-of_z w128 value fits) at c.passes.ensures) ∙ c.if-passes.true in
     let over : Some (get_or moved i 0) ≡ first_past 88 (states_at lines tick) =
-    past_on_arrival tick lines moved (subst (λ n. AreNumbers n moved) (sym c.requires.ready.lines.up_to.as_many) c.requires.ready.lines.numbers) (Some (get_or moved i 0))
-    (λ j h none. c.requires.ready.lines.others_small j (omega (arith, h, c.requires.ready.lines.up_to.as_many)) none)
-    (first_of (λ j. passes 88 (state_at (line_at lines j) tick)) moved i c.requires.ready.lines.numbers.rising c.loop-state-test.true c.loop-state.invariant.none_past past) in
+    past_on_arrival tick lines moved (subst (λ n. AreNumbers n moved) (sym c.requires.ready.arrival.lines.up_to.as_many) c.requires.ready.arrival.lines.numbers) (Some (get_or moved i 0))
+    (λ j h none. c.requires.ready.arrival.lines.others_small j (omega (arith, h, c.requires.ready.arrival.lines.up_to.as_many)) none)
+    (first_of (λ j. passes 88 (state_at (line_at lines j) tick)) moved i c.requires.ready.arrival.lines.numbers.rising c.loop-state-test.true c.loop-state.invariant.none_past past) in
     clash (Some (get_or moved i 0)) refl (over ∙ none)
 
 pub answer-fresh-requires : goal.answer-fresh-requires
@@ -92,12 +92,12 @@ answer-fresh-requires g c =
     let j : ℕ = get_or moved i 0 in
     let m = c.args.at.now.machine.now in
     let h : i < length moved = c.loop-state-test.true in
-    let inside : j < state_count m = c.requires.ready.lines.numbers.below i 0 h in
+    let inside : j < state_count m = c.requires.ready.arrival.lines.numbers.below i 0 h in
     let value : ℤ = c.arrival_of-value.result in
     let fits : FitsSigned w128 value = record { sfits = c.arrival_of-value.type_inv } in
     let small_x : IsWithin 88 value = passes-within 88 value (sym (rw (to_z-of_z w128 value fits) at c.passes.ensures) ∙ c.if-passes.false) in
-    let same : int_at c.loop-state.levels j ≡ int_at c.args.levels.now j = c.loop-state.invariant.taken.1.off.others j (not_before moved i c.requires.ready.lines.numbers.rising h) in
-    let small_level : IsWithin 43 (int_at c.loop-state.levels j) = subst (IsWithin 43) (sym same) (c.requires.small_levels j (pos 0) (omega (arith, c.requires.levels, inside))) in
+    let same : int_at c.loop-state.levels j ≡ int_at c.args.levels.now j = c.loop-state.invariant.taken.1.off.others j (not_before moved i c.requires.ready.arrival.lines.numbers.rising h) in
+    let small_level : IsWithin 43 (int_at c.loop-state.levels j) = subst (IsWithin 43) (sym same) (c.requires.ready.small_levels j (pos 0) (omega (arith, c.requires.ready.levels, inside))) in
     let level : FitsSigned w64 (int_at c.loop-state.levels j) = omega (arith, ints, small_level) in
     let unit : FitsSigned w128 c.level_unit-unit.result = record { sfits = c.level_unit-unit.type_inv } in
     record {
@@ -109,13 +109,13 @@ answer-fresh-requires g c =
 pub bounds-levels-j : goal.bounds-levels-j
 bounds-levels-j g c =
     let i = c.loop-state.state-index in
-    let known : get_or c.args.at.now.moved.now i 0 < state_count c.args.at.now.machine.now = c.requires.ready.lines.numbers.below i 0 c.loop-state-test.true in
-    omega (arith, known, c.requires.levels, c.loop-state.invariant.taken.1.off.as_many)
+    let known : get_or c.args.at.now.moved.now i 0 < state_count c.args.at.now.machine.now = c.requires.ready.arrival.lines.numbers.below i 0 c.loop-state-test.true in
+    omega (arith, known, c.requires.ready.levels, c.loop-state.invariant.taken.1.off.as_many)
 
 pub take_within-past-requires : goal.take_within-past-requires
 take_within-past-requires g c =
     let inv = c.loop-state.invariant in
-    omega (arith, inv.few, inv.room, c.requires.room, c.loop-state-test.true, few_numbers (state_count c.args.at.now.machine.now) c.args.at.now.moved.now c.requires.ready.lines.numbers)
+    omega (arith, inv.few, inv.room, c.requires.room, c.loop-state-test.true, few_numbers (state_count c.args.at.now.machine.now) c.args.at.now.moved.now c.requires.ready.arrival.lines.numbers)
 
 pub loop-state-preserved : goal.loop-state-preserved
 loop-state-preserved g c =
@@ -129,10 +129,10 @@ loop-state-preserved g c =
     let states : List ℤ = states_at lines tick in
     let olds : List ℤ = c.args.levels.now in
     let inv = c.loop-state.invariant in
-    let rising = c.requires.ready.lines.numbers.rising in
+    let rising = c.requires.ready.arrival.lines.numbers.rising in
     let h : i < length moved = c.loop-state-test.true in
-    let inside : j < state_count m = c.requires.ready.lines.numbers.below i 0 h in
-    let known : j < length lines = omega (arith, inside, c.requires.ready.lines.up_to.as_many) in
+    let inside : j < state_count m = c.requires.ready.arrival.lines.numbers.below i 0 h in
+    let known : j < length lines = omega (arith, inside, c.requires.ready.arrival.lines.up_to.as_many) in
     let value : ℤ = c.arrival_of-value.result in
     let fits : FitsSigned w128 value = record { sfits = c.arrival_of-value.type_inv } in
     let here : value ≡ state_at (line_at lines j) tick = c.arrival_of-value.ensures in
@@ -140,7 +140,7 @@ loop-state-preserved g c =
     let none : passes 88 (state_at (line_at lines j) tick) ≡ false =
     ap (passes 88) (sym here) ∙ sym (rw (to_z-of_z w128 value fits) at c.passes.ensures) ∙ c.if-passes.false in
     let same : int_at c.loop-state.levels j ≡ int_at olds j = inv.taken.1.off.others j (not_before moved i rising h) in
-    let small_level : IsWithin 43 (int_at c.loop-state.levels j) = subst (IsWithin 43) (sym same) (c.requires.small_levels j (pos 0) (omega (arith, c.requires.levels, inside))) in
+    let small_level : IsWithin 43 (int_at c.loop-state.levels j) = subst (IsWithin 43) (sym same) (c.requires.ready.small_levels j (pos 0) (omega (arith, c.requires.ready.levels, inside))) in
     let level : FitsSigned w64 (int_at c.loop-state.levels j) = omega (arith, ints, small_level) in
     let unit : FitsSigned w128 c.level_unit-unit.result = record { sfits = c.level_unit-unit.type_inv } in
     let fresh : ℤ = c.answer-fresh.result in
@@ -152,7 +152,7 @@ loop-state-preserved g c =
     (subst (λ (old : ℤ). IsAnswer name value old (level_unit m) fresh) same
     (subst (λ (u : ℤ). IsAnswer name value (int_at c.loop-state.levels j) u fresh) c.level_unit-unit.ensures raw)) in
     let left : HasLeft m j (int_at states j) (int_at olds j) =
-    subst (λ (x : ℤ). HasLeft m j x (int_at olds j)) (sym (int_at-states_at lines tick j known)) (c.requires.ready.moved_away j (among_at moved i h)) in
+    subst (λ (x : ℤ). HasLeft m j x (int_at olds j)) (sym (int_at-states_at lines tick j known)) (c.requires.ready.arrival.moved_away j (among_at moved i h)) in
     let next : IsNextLevel (IsRuled name) m j (int_at states j) (int_at olds j) fresh =
     next_by name m j (int_at states j) (int_at olds j) fresh (λ near. absurd (omega (arith, ints, near, left))) (λ away. own) in
     let past : passes 43 fresh ≡ c.take_within-past.result = sym (rw (to_z-of_z w128 fresh fresh_fits) at c.take_within-past.ensures.past) in
@@ -168,7 +168,7 @@ loop-state-preserved g c =
         subst (λ (first : Option ℕ). AreRequantized m name tick states (take (i + 1) moved) olds (set c.loop-state.levels j c.take_within-past.new.level) (set inv.taken.0 j fresh) c.args.rows.now.items
             c.take_within-past.new.rows.items first) (sym c.found_or-first.ensures)
             (taken_more m name tick states olds c.args.rows.now.items moved i c.loop-state.levels inv.taken.0 c.loop-state.rows.items c.take_within-past.new.rows.items c.loop-state.first fresh
-            c.take_within-past.new.level c.take_within-past.result h rising (omega (arith, inside, c.requires.levels)) inv.taken.1 next past
+            c.take_within-past.new.level c.take_within-past.result h rising (omega (arith, inside, c.requires.ready.levels)) inv.taken.1 next past
             (λ e. c.take_within-past.ensures.level e ∙ to_z-of_z w128 fresh fresh_fits) row),
       );
       few = omega (arith, inv.few, c.take_within-past.ensures.few);
@@ -181,8 +181,8 @@ returns-clause-passed g c var e =
     let lines = c.args.at.now.lines.now in
     let tick = c.args.at.now.tick in
     let none : None ≡ first_past 88 (states_at lines tick) =
-    past_on_arrival tick lines moved (subst (λ n. AreNumbers n moved) (sym c.requires.ready.lines.up_to.as_many) c.requires.ready.lines.numbers) None
-    (λ j h among. c.requires.ready.lines.others_small j (omega (arith, h, c.requires.ready.lines.up_to.as_many)) among)
+    past_on_arrival tick lines moved (subst (λ n. AreNumbers n moved) (sym c.requires.ready.arrival.lines.up_to.as_many) c.requires.ready.arrival.lines.numbers) None
+    (λ j h among. c.requires.ready.arrival.lines.others_small j (omega (arith, h, c.requires.ready.arrival.lines.up_to.as_many)) among)
     (none_of (λ j. passes 88 (state_at (line_at lines j) tick)) moved c.loop-state.state-index c.loop-state-test.false c.loop-state.invariant.none_past) in
     clash (Some var) refl (sym (none ∙ e))
 

@@ -28,12 +28,12 @@ loop-state-init g c =
     }
 
 pub next_level-fresh-requires-clause-state : goal.next_level-fresh-requires-clause-state
-next_level-fresh-requires-clause-state g c = c.requires.ready.moved.below c.loop-state.state-index 0 c.loop-state-test.true
+next_level-fresh-requires-clause-state g c = c.requires.moved.below c.loop-state.state-index 0 c.loop-state-test.true
 
 pub next_level-fresh-requires-clause-small_state : goal.next_level-fresh-requires-clause-small_state
 next_level-fresh-requires-clause-small_state g c =
     let j : ℕ = get_or c.args.at.now.moved.now c.loop-state.state-index 0 in
-    let small : IsWithin 88 (int_at c.args.x.now j) = c.requires.ready.small_states j (among_at c.args.at.now.moved.now c.loop-state.state-index c.loop-state-test.true) in
+    let small : IsWithin 88 (int_at c.args.x.now j) = c.requires.small_states j (among_at c.args.at.now.moved.now c.loop-state.state-index c.loop-state-test.true) in
     let fits : FitsSigned w128 (int_at c.args.x.now j) = omega (arith, ints, small) in
     rw (to_z-of_z w128 (int_at c.args.x.now j) fits) (omega (arith, small))
 
@@ -43,16 +43,16 @@ next_level-fresh-requires-clause-small_level g c =
     let moved : List ℕ = c.args.at.now.moved.now in
     let j : ℕ = get_or moved i 0 in
     let h : i < length moved = c.loop-state-test.true in
-    let inside : j < state_count c.args.at.now.machine.now = c.requires.ready.moved.below i 0 h in
-    let same : int_at c.loop-state.levels j ≡ int_at c.args.levels.now j = c.loop-state.invariant.taken.1.off.others j (not_before moved i c.requires.ready.moved.rising h) in
-    let small : IsWithin 43 (int_at c.loop-state.levels j) = subst (IsWithin 43) (sym same) (c.requires.ready.small_levels j (pos 0) (omega (arith, c.requires.ready.levels, inside))) in
+    let inside : j < state_count c.args.at.now.machine.now = c.requires.moved.below i 0 h in
+    let same : int_at c.loop-state.levels j ≡ int_at c.args.levels.now j = c.loop-state.invariant.taken.1.off.others j (not_before moved i c.requires.moved.rising h) in
+    let small : IsWithin 43 (int_at c.loop-state.levels j) = subst (IsWithin 43) (sym same) (c.requires.small_levels j (pos 0) (omega (arith, c.requires.levels, inside))) in
     let fits : FitsSigned w64 (int_at c.loop-state.levels j) = omega (arith, ints, small) in
     rw (to_z-of_z w64 (int_at c.loop-state.levels j) fits) small
 
 pub take_within-past-requires : goal.take_within-past-requires
 take_within-past-requires g c =
     let inv = c.loop-state.invariant in
-    omega (arith, inv.few, inv.room, c.requires.room, c.loop-state-test.true, few_numbers (state_count c.args.at.now.machine.now) c.args.at.now.moved.now c.requires.ready.moved)
+    omega (arith, inv.few, inv.room, c.requires.room, c.loop-state-test.true, few_numbers (state_count c.args.at.now.machine.now) c.args.at.now.moved.now c.requires.moved)
 
 pub loop-state-preserved : goal.loop-state-preserved
 loop-state-preserved g c =
@@ -65,13 +65,13 @@ loop-state-preserved g c =
     let states : List ℤ = c.args.x.now in
     let olds : List ℤ = c.args.levels.now in
     let inv = c.loop-state.invariant in
-    let rising = c.requires.ready.moved.rising in
+    let rising = c.requires.moved.rising in
     let h : i < length moved = c.loop-state-test.true in
-    let inside : j < state_count m = c.requires.ready.moved.below i 0 h in
-    let small_x : IsWithin 88 (int_at states j) = c.requires.ready.small_states j (among_at moved i h) in
+    let inside : j < state_count m = c.requires.moved.below i 0 h in
+    let small_x : IsWithin 88 (int_at states j) = c.requires.small_states j (among_at moved i h) in
     let x : FitsSigned w128 (int_at states j) = omega (arith, ints, small_x) in
     let same : int_at c.loop-state.levels j ≡ int_at olds j = inv.taken.1.off.others j (not_before moved i rising h) in
-    let small_level : IsWithin 43 (int_at c.loop-state.levels j) = subst (IsWithin 43) (sym same) (c.requires.ready.small_levels j (pos 0) (omega (arith, c.requires.ready.levels, inside))) in
+    let small_level : IsWithin 43 (int_at c.loop-state.levels j) = subst (IsWithin 43) (sym same) (c.requires.small_levels j (pos 0) (omega (arith, c.requires.levels, inside))) in
     let level : FitsSigned w64 (int_at c.loop-state.levels j) = omega (arith, ints, small_level) in
     let fresh : ℤ = c.next_level-fresh.result in
     let fresh_fits : FitsSigned w128 fresh = record { sfits = c.next_level-fresh.type_inv } in
@@ -90,7 +90,7 @@ loop-state-preserved g c =
         subst (λ (first : Option ℕ). AreRequantized m name tick states (take (i + 1) moved) olds (set c.loop-state.levels j c.take_within-past.new.level) (set inv.taken.0 j fresh) c.args.rows.now.items
             c.take_within-past.new.rows.items first) (sym c.found_or-first.ensures)
             (taken_more m name tick states olds c.args.rows.now.items moved i c.loop-state.levels inv.taken.0 c.loop-state.rows.items c.take_within-past.new.rows.items c.loop-state.first fresh
-            c.take_within-past.new.level c.take_within-past.result h rising (omega (arith, inside, c.requires.ready.levels)) inv.taken.1 next past
+            c.take_within-past.new.level c.take_within-past.result h rising (omega (arith, inside, c.requires.levels)) inv.taken.1 next past
             (λ e. c.take_within-past.ensures.level e ∙ to_z-of_z w128 fresh fresh_fits) row),
       );
       few = omega (arith, inv.few, c.take_within-past.ensures.few);

@@ -8,17 +8,16 @@ use Rattle.qss_lines.proofs.relevel.requantize_due.Goals as goal
 
 pub returns-clause-taken : goal.returns-clause-taken
 returns-clause-taken g c =
-    on_arrival c.args.at.now c.args.q.now.name c.args.levels.now c.leave_due.new.levels _ c.leave_due.new.rows.items c.leave_due.result c.requires.ready c.requires.levels c.requires.small_levels
-    c.leave_due.ensures.passed c.leave_due.ensures.taken
+    on_arrival c.args.at.now c.args.q.now.name c.args.levels.now c.leave_due.new.levels _ c.leave_due.new.rows.items c.leave_due.result c.requires.ready c.leave_due.ensures.passed
+    c.leave_due.ensures.taken
 
-pub returns-clause-small : goal.returns-clause-small
-returns-clause-small g c none =
-    small_then c.args.at.now c.args.q.now.name c.args.levels.now c.leave_due.new.levels _ c.leave_due.new.rows.items c.leave_due.result c.requires.ready c.requires.levels c.requires.small_levels
-    c.leave_due.ensures.passed c.leave_due.ensures.taken none
-
-pub returns-clause-rows : goal.returns-clause-rows
-returns-clause-rows g c none =
+pub returns-clause-kept : goal.returns-clause-kept
+returns-clause-kept g c none =
     let at = c.args.at.now in
-    rows_then at c.args.q.now.name c.args.levels.now c.leave_due.new.levels _ c.leave_due.new.rows.items c.leave_due.result c.requires.ready c.requires.levels c.requires.small_levels
-    c.leave_due.ensures.passed c.leave_due.ensures.taken none
-    ∙ ap (λ (items : List Row). items ++ level_rows at.tick c.args.levels.now c.leave_due.new.levels (states_at at.lines.now at.tick)) c.clear.ensures.items
+    record {
+      small = small_then at c.args.q.now.name c.args.levels.now c.leave_due.new.levels _ c.leave_due.new.rows.items c.leave_due.result c.requires.ready c.leave_due.ensures.passed
+          c.leave_due.ensures.taken none;
+      own_rows = rows_then at c.args.q.now.name c.args.levels.now c.leave_due.new.levels _ c.leave_due.new.rows.items c.leave_due.result c.requires.ready c.leave_due.ensures.passed
+          c.leave_due.ensures.taken none
+          ∙ ap (λ (items : List Row). items ++ level_rows at.tick c.args.levels.now c.leave_due.new.levels (states_at at.lines.now at.tick)) c.clear.ensures.items;
+    }

@@ -21,13 +21,13 @@ returns g c =
     let new : List ℤ = c.relevel_due.ensures.taken.0 in
     let done = c.relevel_due.ensures.taken.1 in
     let off : IsOff moved old new = written_off moved _ old old new refl done.allowed in
-    let over : c.relevel_due.result ≡ first_past 43 new = levels_over m moved x old new c.requires.ready.moved c.requires.ready.levels off c.relevel_due.result c.requires.ready.small_levels done.found in
+    let over : c.relevel_due.result ≡ first_past 43 new = levels_over m moved x old new c.requires.moved c.requires.levels off c.relevel_due.result c.requires.small_levels done.found in
     record {
       taken = (
         new,
         record {
           over_is = over;
-          allowed = λ states are. levels_allowed m moved x old new c.requires.ready.moved c.requires.ready.levels off states are (IsRuled c.args.q.now.name) done.allowed.each;
+          allowed = λ states are. levels_allowed m moved x old new c.requires.moved c.requires.levels off states are (IsRuled c.args.q.now.name) done.allowed.each;
           others = off;
           levels = done.levels;
         },
@@ -36,6 +36,6 @@ returns g c =
       rows = λ none states are.
           done.own_rows none
           ∙ ap (λ (more : List Row). c.args.rows.now.items ++ more)
-          (rows_of_moved m moved x old new c.requires.ready.moved c.requires.ready.levels off states are tick ∙ ap (λ (l : List ℤ). level_rows tick old l states) (sym (done.levels none)));
+          (rows_of_moved m moved x old new c.requires.moved c.requires.levels off states are tick ∙ ap (λ (l : List ℤ). level_rows tick old l states) (sym (done.levels none)));
       room = c.relevel_due.ensures.room;
     }

@@ -1,5 +1,5 @@
 -- The weights are those at the levels before.
-use Rattle.std.proofs.Common.{◌≡◌, ℕ, List, length, ℤ, pos, sym, ◌∙◌, ap, subst, arith}
+use Rattle.std.proofs.Common.{◌≡◌, ℕ, List, length, ℤ, pos, sym, ◌∙◌, ap, subst, arith, rules}
 use Rattle.std.specs.List.{position}
 use Rattle.std.specs.Prelude.{None, All}
 use Rattle.mu_num.specs.Sizes.{IsWithin}
@@ -16,8 +16,8 @@ use Rattle.qss_lines.proofs.DueLevels.{moved_inside}
 use Rattle.qss_lines.proofs.FirstOvers.{over_first, over_second}
 use Rattle.qss_lines.proofs.requantized.requantize_handled.Goals as goal
 
-pub requantize_states-over-requires-clause-ready : goal.requantize_states-over-requires-clause-ready
-requantize_states-over-requires-clause-ready g c =
+pub requantize_states-over-requires : goal.requantize_states-over-requires
+requantize_states-over-requires g c =
     let fits = c.requires.ready.fits in
     let n : ℕ = state_count c.args.at.now.machine.now in
     let moved : List ℕ = c.args.at.now.moved.now in
@@ -30,24 +30,34 @@ requantize_states-over-requires-clause-ready g c =
           subst (λ (xs : List ℤ). IsWithin 88 (int_at xs j)) (sym of_x)
           (fits.small_states j (pos 0) (omega (arith, moved_inside n moved c.requires.ready.moved j among, fits.states)));
       small_levels = c.requires.held.of_lines.small;
+      room = search rules;
     }
 
-pub follow_handled-requires-clause-left : goal.follow_handled-requires-clause-left
-follow_handled-requires-clause-left g c =
+pub follow_handled-requires-clause-can : goal.follow_handled-requires-clause-can
+follow_handled-requires-clause-can g c =
     let fits = c.requires.ready.fits in
     let of_x : c.as_slice-x.result.now ≡ c.args.at.now.work.now.x = c.as_slice-x.ensures.value ∙ ap (λ (v : Values). v.x) c.work.view_is in
     let of_pre : c.as_slice-pre.result.now ≡ c.args.at.now.work.now.pre = c.as_slice-pre.ensures.value ∙ ap (λ (v : Values). v.pre) c.work.view_is in
     let of_d : c.as_slice-d.result.now ≡ c.args.at.now.work.now.d = c.as_slice-d.ensures.value ∙ ap (λ (v : Values). v.d) c.work.view_is in
     record {
-      assigned = subst (AreAssignedFrom c.args.at.now.machine.now c.args.at.now.assigned.now c.as_slice-pre.result.now) (sym of_d)
-          (subst (λ (p : List ℤ). AreAssignedFrom c.args.at.now.machine.now c.args.at.now.assigned.now p c.args.at.now.work.now.d) (sym of_pre) c.requires.ready.assigned);
-      many_before = ap length of_pre ∙ fits.before;
-      values = record {
-        states = ap length of_x ∙ fits.states;
-        discretes = ap length of_d ∙ fits.discretes;
-        small_states = subst (All (IsWithin 88)) (sym of_x) fits.small_states;
-        small_discretes = subst (All (IsWithin 43)) (sym of_d) fits.small_discretes;
+      new = record {
+        uses = c.requires.ready.uses;
+        moved = c.requires.ready.moved;
+        levels = c.requantize_states-over.auto.levels ∙ c.requires.held.levels;
+        small_levels = c.requantize_states-over.ensures.small (not_some c.requantize_states-over.result (sym c.is_some.ensures ∙ c.if-is_some.false));
       };
+      handled = record {
+        assigned = subst (AreAssignedFrom c.args.at.now.machine.now c.args.at.now.assigned.now c.as_slice-pre.result.now) (sym of_d)
+            (subst (λ (p : List ℤ). AreAssignedFrom c.args.at.now.machine.now c.args.at.now.assigned.now p c.args.at.now.work.now.d) (sym of_pre) c.requires.ready.assigned);
+        many_before = ap length of_pre ∙ fits.before;
+        values = record {
+          states = ap length of_x ∙ fits.states;
+          discretes = ap length of_d ∙ fits.discretes;
+          small_states = subst (All (IsWithin 88)) (sym of_x) fits.small_states;
+          small_discretes = subst (All (IsWithin 43)) (sym of_d) fits.small_discretes;
+        };
+      };
+      many_lines = c.requires.ready.lines;
     }
 
 pub follow_handled-requires-clause-before : goal.follow_handled-requires-clause-before

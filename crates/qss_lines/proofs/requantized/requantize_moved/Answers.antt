@@ -12,8 +12,8 @@ use Rattle.qss_quiet.proofs.Overs.{not_some, clash}
 use Rattle.qss_lines.proofs.FirstOvers.{over_sooner, over_later}
 use Rattle.qss_lines.proofs.requantized.requantize_moved.Goals as goal
 
-pub requantize_due-over-requires-clause-small_levels : goal.requantize_due-over-requires-clause-small_levels
-requantize_due-over-requires-clause-small_levels g c = c.requires.held.of_lines.small
+pub requantize_due-over-requires-clause-ready : goal.requantize_due-over-requires-clause-ready
+requantize_due-over-requires-clause-ready g c = record { arrival = c.requires.ready; levels = c.requires.held.levels; small_levels = c.requires.held.of_lines.small }
 
 pub follow-requires-clause-ready : goal.follow-requires-clause-ready
 follow-requires-clause-ready g c =
@@ -25,7 +25,7 @@ follow-requires-clause-ready g c =
       values = record {
         levels = c.requantize_due-over.auto.levels ∙ c.requires.held.levels;
         discretes = ap length of_d ∙ c.requires.discretes;
-        small_levels = c.requantize_due-over.ensures.small (not_some c.requantize_due-over.result (sym c.is_some.ensures ∙ c.if-is_some.false));
+        small_levels = (c.requantize_due-over.ensures.kept (not_some c.requantize_due-over.result (sym c.is_some.ensures ∙ c.if-is_some.false))).small;
         small_discretes = subst (All (IsWithin 43)) (sym of_d) c.requires.small_discretes;
       };
     }

@@ -7,27 +7,24 @@ use Rattle.qss_machine.specs.Numbers.{int_at}
 use Rattle.qss_machine.specs.Uses.{reading_rows}
 use Rattle.qss_quiet.specs.Among.{is_among}
 use Rattle.qss_lines.proofs.Assigned.{slope_stays}
-use Rattle.qss_lines.proofs.Shifting.{at_before}
+use Rattle.qss_lines.proofs.Shifting.{at_before, levels_after}
 use Rattle.qss_quiet.proofs.Quiet.{int_at-tabulate}
 use Rattle.qss_quiet.proofs.Among.{among_readers}
 use Rattle.qss_lines.proofs.reseated.follow_slopes.Goals as goal
 
 pub shift_slopes-requires : goal.shift_slopes-requires
-shift_slopes-requires c = record { new = at_before c.args.at.now c.args.left.now c.requires.ready c.requires.left; many_lines = c.requires.lines; before = c.requires.before }
+shift_slopes-requires c = record { new = at_before c.requires.can; many_lines = c.requires.can.many_lines; before = c.requires.before }
 
 pub slope_readers-requires-clause-variables : goal.slope_readers-requires-clause-variables
-slope_readers-requires-clause-variables c i d h = (c.requires.left.assigned.known i d h).1
+slope_readers-requires-clause-variables c i d h = (c.requires.can.handled.assigned.known i d h).1
 
 pub slope_readers-requires-clause-can : goal.slope_readers-requires-clause-can
 slope_readers-requires-clause-can c = record {
-  values = record {
-    levels = c.requires.ready.levels;
-    discretes = c.requires.left.values.discretes;
-    small_levels = c.requires.ready.small_levels;
-    small_discretes = c.requires.left.values.small_discretes;
+  of = record {
+    values = levels_after c.requires.can;
+    one_each = ap length c.shift_slopes.ensures
+        ∙ length-map-range_with_len (λ j. slope_at c.args.at.now.machine.now j c.args.at.now.levels.now c.args.left.now.before.now) 0 (state_count c.args.at.now.machine.now);
   };
-  one_each = ap length c.shift_slopes.ensures
-      ∙ length-map-range_with_len (λ j. slope_at c.args.at.now.machine.now j c.args.at.now.levels.now c.args.left.now.before.now) 0 (state_count c.args.at.now.machine.now);
   light = c.requires.light;
 }
 
@@ -44,6 +41,6 @@ returns c =
           c.slope_readers.ensures.others j none
           ∙ ap (λ xs. int_at xs j) c.shift_slopes.ensures
           ∙ int_at-tabulate n (λ k. slope_at m k levels c.args.left.now.before.now) j h
-          ∙ sym (slope_stays m levels c.args.left.now.before.now c.args.left.now.discretes.now c.args.left.now.assigned.now c.requires.ready.levels c.requires.left.many_before c.requires.left.values.discretes c.requires.left.assigned.others j h
+          ∙ sym (slope_stays m levels c.args.left.now.before.now c.args.left.now.discretes.now c.args.left.now.assigned.now c.requires.can.new.levels c.requires.can.handled.many_before c.requires.can.handled.values.discretes c.requires.can.handled.assigned.others j h
           (sym (among_readers m j h c.args.left.now.assigned.now) ∙ none))
     ])

@@ -13,20 +13,18 @@ use Rattle.qss_lines.proofs.Courses.{may_reslope_again}
 use Rattle.qss_quiet.proofs.Quiet.{int_at-tabulate}
 use Rattle.qss_lines.proofs.Renewed.{none_left}
 use Rattle.qss_lines.proofs.Reseating.{moved_state, left_seated, may_reslope_seated, renewals_seated, reseated}
-use Rattle.qss_lines.proofs.Seats.{AreSeated}
 use Rattle.qss_lines.proofs.GoingOn.{slopes_small}
 use Rattle.qss_quiet.proofs.Writes.{index_of}
 use Rattle.qss_lines.proofs.reseated.reslope_handled.Goals as goal
 
+pub follow_slopes-requires-clause-can : goal.follow_slopes-requires-clause-can
+follow_slopes-requires-clause-can g c = record { new = c.requires.new; handled = c.requires.handled; many_lines = c.requires.one_each.lines }
+
 pub seat_each-requires-clause-on : goal.seat_each-requires-clause-on
 seat_each-requires-clause-on g c = record {
-  new = record { uses = c.requires.new.uses; moved = c.requires.new.moved; levels = c.requires.new.levels; small_levels = c.requires.new.small_levels };
-  slopes_of = record {
-    as_many = c.follow_slopes.auto.slopes ∙ c.requires.one_each.slopes;
-    small = slopes_small c.args.at.now.machine.now c.args.at.now.levels.now c.args.left.now.discretes.now c.args.left.now.discretes.now c.follow_slopes.new.slopes c.requires.levels.light refl c.follow_slopes.ensures;
-  };
-  lines = c.requires.one_each.lines;
-  places = c.requires.one_each.places;
+  new = c.requires.new;
+  one_each = record { slopes = c.follow_slopes.auto.slopes ∙ c.requires.one_each.slopes; lines = c.requires.one_each.lines; places = c.requires.one_each.places };
+  small_slopes = slopes_small c.args.at.now.machine.now c.args.at.now.levels.now c.args.left.now.discretes.now c.args.left.now.discretes.now c.follow_slopes.new.slopes c.requires.levels.light refl c.follow_slopes.ensures;
   in_time = c.requires.held.may_move.in_time;
 }
 
@@ -44,58 +42,46 @@ seat_each-requires-clause-near g c j among =
 pub seat_each-requires-clause-may_move : goal.seat_each-requires-clause-may_move
 seat_each-requires-clause-may_move g c = c.requires.held.may_move
 
-pub reslope_readers-requires-clause-on : goal.reslope_readers-requires-clause-on
-reslope_readers-requires-clause-on g c = record {
-  new = record { uses = c.requires.new.uses; moved = c.requires.new.moved; levels = c.requires.new.levels; small_levels = c.requires.new.small_levels };
-  slopes_of = record {
-    as_many = c.follow_slopes.auto.slopes ∙ c.requires.one_each.slopes;
-    small = slopes_small c.args.at.now.machine.now c.args.at.now.levels.now c.args.left.now.discretes.now c.args.left.now.discretes.now c.follow_slopes.new.slopes c.requires.levels.light refl c.follow_slopes.ensures;
-  };
-  lines = c.seat_each.auto.lines ∙ c.requires.one_each.lines;
-  places = omega (arith, c.seat_each.ensures.places, c.requires.one_each.places);
-  in_time = c.requires.held.may_move.in_time;
-}
-
-pub reslope_readers-requires-clause-ready : goal.reslope_readers-requires-clause-ready
-reslope_readers-requires-clause-ready g c j h =
+pub reslope_readers-requires-clause-can : goal.reslope_readers-requires-clause-can
+reslope_readers-requires-clause-can g c =
     let m = c.args.at.now.machine.now in
     let held = c.requires.held in
     let many = c.requires.one_each.lines in
     let first : Courses = record { lines = c.args.lines.now; dues = c.args.agenda.now } in
     let between : Courses = record { lines = c.seat_each.new.lines; dues = c.seat_each.new.agenda } in
-    let seats = c.seat_each.ensures in
-    let are : AreSeated m c.args.at.now.tick c.args.left.now.states.now c.args.at.now.levels.now c.follow_slopes.new.slopes c.args.at.now.moved.now first between =
-    record { own = seats.goes_on; lines = seats.lines; left = seats.kept; places = seats.places; dues = seats.dues } in
-    may_reslope_seated m c.args.at.now.tick c.args.left.now.states.now c.args.at.now.levels.now c.follow_slopes.new.slopes c.args.at.now.moved.now first between are many c.requires.small_states j h
-    (held.may_move.later j (omega (arith, h, many))) (c.requires.levels.near j h) (held.due j h)
+    record {
+      on = record {
+        new = c.requires.new;
+        one_each = record { slopes = c.follow_slopes.auto.slopes ∙ c.requires.one_each.slopes; lines = c.seat_each.auto.lines ∙ c.requires.one_each.lines; places = omega (arith, c.seat_each.ensures.go_on.others.dues.places, c.requires.one_each.places) };
+        small_slopes = slopes_small c.args.at.now.machine.now c.args.at.now.levels.now c.args.left.now.discretes.now c.args.left.now.discretes.now c.follow_slopes.new.slopes c.requires.levels.light refl c.follow_slopes.ensures;
+        in_time = c.requires.held.may_move.in_time;
+      };
+      each = λ j h.
+          may_reslope_seated m c.args.at.now.tick c.args.left.now.states.now c.args.at.now.levels.now c.follow_slopes.new.slopes c.args.at.now.moved.now first between c.seat_each.ensures.go_on many c.requires.small_states j h
+          (held.may_move.later j (omega (arith, h, many))) (c.requires.levels.near j h) (held.due j h);
+    }
 
-pub reslope_readers-requires-2-clause-on : goal.reslope_readers-requires-2-clause-on
-reslope_readers-requires-2-clause-on g c = record {
-  new = record { uses = c.requires.new.uses; moved = c.requires.new.moved; levels = c.requires.new.levels; small_levels = c.requires.new.small_levels };
-  slopes_of = record {
-    as_many = c.follow_slopes.auto.slopes ∙ c.requires.one_each.slopes;
-    small = slopes_small c.args.at.now.machine.now c.args.at.now.levels.now c.args.left.now.discretes.now c.args.left.now.discretes.now c.follow_slopes.new.slopes c.requires.levels.light refl c.follow_slopes.ensures;
-  };
-  lines = c.reslope_readers.auto.lines ∙ c.seat_each.auto.lines ∙ c.requires.one_each.lines;
-  places = omega (arith, c.reslope_readers.ensures.resloped.as_many, c.seat_each.ensures.places, c.requires.one_each.places);
-  in_time = c.requires.held.may_move.in_time;
-}
-
-pub reslope_readers-requires-2-clause-ready : goal.reslope_readers-requires-2-clause-ready
-reslope_readers-requires-2-clause-ready g c j h =
+pub reslope_readers-requires-2-clause-can : goal.reslope_readers-requires-2-clause-can
+reslope_readers-requires-2-clause-can g c =
     let m = c.args.at.now.machine.now in
     let held = c.requires.held in
     let many = c.requires.one_each.lines in
     let first : Courses = record { lines = c.args.lines.now; dues = c.args.agenda.now } in
     let between : Courses = record { lines = c.seat_each.new.lines; dues = c.seat_each.new.agenda } in
-    let seats = c.seat_each.ensures in
-    let are : AreSeated m c.args.at.now.tick c.args.left.now.states.now c.args.at.now.levels.now c.follow_slopes.new.slopes c.args.at.now.moved.now first between =
-    record { own = seats.goes_on; lines = seats.lines; left = seats.kept; places = seats.places; dues = seats.dues } in
-    let may : MayReslope m c.args.at.now.tick (int_at c.args.at.now.levels.now j) (int_at c.follow_slopes.new.slopes j) j (line_at c.seat_each.new.lines j) (due_at c.seat_each.new.agenda j) =
-    may_reslope_seated m c.args.at.now.tick c.args.left.now.states.now c.args.at.now.levels.now c.follow_slopes.new.slopes c.args.at.now.moved.now first between are many c.requires.small_states j h
-    (held.may_move.later j (omega (arith, h, many))) (c.requires.levels.near j h) (held.due j h) in
-    may_reslope_again m c.args.at.now.tick (int_at c.args.at.now.levels.now j) (int_at c.follow_slopes.new.slopes j) j (line_at c.seat_each.new.lines j) (line_at c.reslope_readers.new.lines j)
-    (due_at c.seat_each.new.agenda j) (due_at c.reslope_readers.new.agenda j) may (c.reslope_readers.ensures.resloped.each j h)
+    record {
+      on = record {
+        new = c.requires.new;
+        one_each = record { slopes = c.follow_slopes.auto.slopes ∙ c.requires.one_each.slopes; lines = c.reslope_readers.auto.lines ∙ c.seat_each.auto.lines ∙ c.requires.one_each.lines; places = omega (arith, c.reslope_readers.ensures.resloped.as_many, c.seat_each.ensures.go_on.others.dues.places, c.requires.one_each.places) };
+        small_slopes = slopes_small c.args.at.now.machine.now c.args.at.now.levels.now c.args.left.now.discretes.now c.args.left.now.discretes.now c.follow_slopes.new.slopes c.requires.levels.light refl c.follow_slopes.ensures;
+        in_time = c.requires.held.may_move.in_time;
+      };
+      each = λ j h.
+          let may : MayReslope m c.args.at.now.tick (int_at c.args.at.now.levels.now j) (int_at c.follow_slopes.new.slopes j) j (line_at c.seat_each.new.lines j) (due_at c.seat_each.new.agenda j) =
+          may_reslope_seated m c.args.at.now.tick c.args.left.now.states.now c.args.at.now.levels.now c.follow_slopes.new.slopes c.args.at.now.moved.now first between c.seat_each.ensures.go_on many c.requires.small_states j h
+          (held.may_move.later j (omega (arith, h, many))) (c.requires.levels.near j h) (held.due j h) in
+          may_reslope_again m c.args.at.now.tick (int_at c.args.at.now.levels.now j) (int_at c.follow_slopes.new.slopes j) j (line_at c.seat_each.new.lines j) (line_at c.reslope_readers.new.lines j)
+          (due_at c.seat_each.new.agenda j) (due_at c.reslope_readers.new.agenda j) may (c.reslope_readers.ensures.resloped.each j h);
+    }
 
 pub returns-clause-lines : goal.returns-clause-lines
 returns-clause-lines g c j h =
@@ -106,10 +92,7 @@ returns-clause-lines g c j h =
     let between : Courses = record { lines = c.seat_each.new.lines; dues = c.seat_each.new.agenda } in
     let next : Courses = record { lines = c.reslope_readers.new.lines; dues = c.reslope_readers.new.agenda } in
     let last : Courses = record { lines = c.reslope_readers-2.new.lines; dues = c.reslope_readers-2.new.agenda } in
-    let seats = c.seat_each.ensures in
-    let are : AreSeated m c.args.at.now.tick c.args.left.now.states.now c.args.at.now.levels.now c.follow_slopes.new.slopes c.args.at.now.moved.now first between =
-    record { own = seats.goes_on; lines = seats.lines; left = seats.kept; places = seats.places; dues = seats.dues } in
-    reseated m c.args.at.now.tick c.args.left.now.states.now c.args.at.now.levels.now c.follow_slopes.new.slopes c.args.at.now.moved.now first between are many
+    reseated m c.args.at.now.tick c.args.left.now.states.now c.args.at.now.levels.now c.follow_slopes.new.slopes c.args.at.now.moved.now first between c.seat_each.ensures.go_on many
     c.args.left.now.assigned.now held.before.0 c.args.left.now.before.now c.args.left.now.discretes.now c.args.slopes.now next last c.reslope_readers.ensures.resloped c.reslope_readers-2.ensures.resloped
     held.before.1 c.requires.handled.assigned.others c.follow_slopes.ensures c.requires.new.levels c.requires.handled.many_before c.requires.handled.values.discretes j h
     (held.may_move.later j (omega (arith, h, many))) (held.own_slope j h) (held.due j h)
@@ -122,10 +105,7 @@ returns-clause-kept g c j h so =
     let slopes = c.follow_slopes.new.slopes in
     let first : Courses = record { lines = c.args.lines.now; dues = c.args.agenda.now } in
     let between : Courses = record { lines = c.seat_each.new.lines; dues = c.seat_each.new.agenda } in
-    let seats = c.seat_each.ensures in
-    let are : AreSeated m c.args.at.now.tick c.args.left.now.states.now levels slopes c.args.at.now.moved.now first between =
-    record { own = seats.goes_on; lines = seats.lines; left = seats.kept; places = seats.places; dues = seats.dues } in
-    let seated = left_seated m c.args.at.now.tick c.args.left.now.states.now levels slopes c.args.at.now.moved.now first between are many j h so in
+    let seated = left_seated m c.args.at.now.tick c.args.left.now.states.now levels slopes c.args.at.now.moved.now first between c.seat_each.ensures.go_on many c.seat_each.ensures.kept j h so in
     let goes : Line → Bool = goes_at (int_at levels j) (int_at slopes j) in
     let at : goes (line_at c.args.lines.now j) ≡ true = (and_parts _ (goes (line_at c.args.lines.now j)) so).1 in
     let second = c.reslope_readers.ensures.resloped.left j h (ap goes seated ∙ at) in
@@ -135,7 +115,7 @@ pub returns-clause-others : goal.returns-clause-others
 returns-clause-others g c place past =
     let none : is_among c.args.at.now.moved.now place ≡ false = false_from_ne_true (is_among c.args.at.now.moved.now place) (λ among.
     let found = index_of c.args.at.now.moved.now place among in omega (arith, past, found.2, c.requires.new.moved.below found.0 0 found.1)) in
-    c.reslope_readers-2.ensures.resloped.others place past ∙ c.reslope_readers.ensures.resloped.others place past ∙ c.seat_each.ensures.dues place none
+    c.reslope_readers-2.ensures.resloped.others place past ∙ c.reslope_readers.ensures.resloped.others place past ∙ c.seat_each.ensures.go_on.others.dues.others place none
 
 pub returns-clause-counted : goal.returns-clause-counted
 returns-clause-counted g c =
@@ -149,17 +129,14 @@ returns-clause-counted g c =
     let between : Courses = record { lines = c.seat_each.new.lines; dues = c.seat_each.new.agenda } in
     let next : Courses = record { lines = c.reslope_readers.new.lines; dues = c.reslope_readers.new.agenda } in
     let last : Courses = record { lines = c.reslope_readers-2.new.lines; dues = c.reslope_readers-2.new.agenda } in
-    let seats = c.seat_each.ensures in
-    let are : AreSeated m c.args.at.now.tick c.args.left.now.states.now levels slopes c.args.at.now.moved.now first between =
-    record { own = seats.goes_on; lines = seats.lines; left = seats.kept; places = seats.places; dues = seats.dues } in
     let none : renewals n levels slopes c.reslope_readers-2.new.lines ≡ 0 = none_left n levels slopes c.reslope_readers-2.new.lines (λ j h.
-    let own = reseated m c.args.at.now.tick c.args.left.now.states.now levels slopes c.args.at.now.moved.now first between are many
+    let own = reseated m c.args.at.now.tick c.args.left.now.states.now levels slopes c.args.at.now.moved.now first between c.seat_each.ensures.go_on many
     c.args.left.now.assigned.now held.before.0 c.args.left.now.before.now c.args.left.now.discretes.now c.args.slopes.now next last c.reslope_readers.ensures.resloped c.reslope_readers-2.ensures.resloped
     held.before.1 c.requires.handled.assigned.others c.follow_slopes.ensures c.requires.new.levels c.requires.handled.many_before c.requires.handled.values.discretes j h
     (held.may_move.later j (omega (arith, h, many))) (held.own_slope j h) (held.due j h) in
     (own.own_level, own.own_slope ∙ sym (ap (λ zs. int_at zs j) c.follow_slopes.ensures ∙ int_at-tabulate n (λ k. slope_at m k levels c.args.left.now.discretes.now) j h))) in
-    let seated = seats.counted (states_with c.args.lines.now c.args.at.now.tick c.args.at.now.moved.now c.args.left.now.states.now) (λ j among.
+    let seated = c.seat_each.ensures.counted (states_with c.args.lines.now c.args.at.now.tick c.args.at.now.moved.now c.args.left.now.states.now) (λ j among.
     let found = index_of c.args.at.now.moved.now j among in
     moved_state c.args.lines.now c.args.at.now.tick c.args.at.now.moved.now c.args.left.now.states.now j (omega (arith, found.2, c.requires.new.moved.below found.0 0 found.1, many)) among) in
-    let same = renewals_seated m c.args.at.now.tick c.args.left.now.states.now levels slopes c.args.at.now.moved.now first between are many in
+    let same = renewals_seated m c.args.at.now.tick c.args.left.now.states.now levels slopes c.args.at.now.moved.now first between c.seat_each.ensures.go_on many in
     omega (arith, none, seated, same, c.reslope_readers.ensures.counted, c.reslope_readers-2.ensures.counted)

@@ -4,23 +4,27 @@ use Rattle.std.proofs.lemmas.List.{take_all}
 use Rattle.mu_num.specs.Sizes.{IsWithin}
 use Rattle.qss_machine.specs.Machines.{state_count}
 use Rattle.qss_machine.specs.Numbers.{int_at}
-use Rattle.qss_lines.specs.Reslopings.{Courses}
+use Rattle.qss_lines.specs.Reslopings.{Courses, TheseGoOn}
+use Rattle.qss_lines.proofs.Courses.{none_go_on, one_more}
 use Rattle.qss_lines.proofs.GoingOn.{still_on}
-use Rattle.qss_lines.proofs.Seats.{AreSeated, none_seated, seated_more, still_begun, still_small}
+use Rattle.qss_lines.proofs.Seats.{left_more, still_begun, still_small}
 use Rattle.qss_quiet.proofs.Writes.{among_at}
 use Rattle.qss_lines.proofs.reseated.seat_each.Goals as goal
 
 pub loop-j-init : goal.loop-j-init
 loop-j-init g c = record {
-  are_seated = none_seated c.args.at.now.taken.machine.now c.args.at.now.taken.tick c.args.x.now c.args.at.now.taken.levels.now c.args.at.now.slopes.now (record { lines = c.args.lines.now; dues = c.args.agenda.now });
-  line_count = c.requires.on.lines;
+  on = none_go_on c.args.at.now.taken.machine.now c.args.at.now.taken.tick c.args.at.now.taken.levels.now c.args.at.now.slopes.now (int_at c.args.x.now) (record { lines = c.args.lines.now; dues = c.args.agenda.now });
+  kept = λ j so. refl;
+  line_count = c.requires.on.one_each.lines;
   counted = λ states at. refl;
 }
 
-pub seat-requires-clause-on : goal.seat-requires-clause-on
-seat-requires-clause-on g c =
-    still_on c.args.at.now c.args.lines.now c.loop-j.lines c.args.agenda.now c.loop-j.agenda c.requires.on (omega (arith, c.loop-j.invariant.line_count, c.requires.on.lines))
-    c.loop-j.invariant.are_seated.places
+pub seat-requires-clause-can : goal.seat-requires-clause-can
+seat-requires-clause-can g c = record {
+  known = c.requires.on.new.moved.below c.loop-j.j-index 0 c.loop-j-test.true;
+  all = still_on c.args.at.now c.args.lines.now c.loop-j.lines c.args.agenda.now c.loop-j.agenda c.requires.on (omega (arith, c.loop-j.invariant.line_count, c.requires.on.one_each.lines))
+      c.loop-j.invariant.on.others.dues.places;
+}
 
 pub seat-requires-clause-later : goal.seat-requires-clause-later
 seat-requires-clause-later g c =
@@ -29,8 +33,8 @@ seat-requires-clause-later g c =
     let before : Courses = record { lines = c.loop-j.lines; dues = c.loop-j.agenda } in
     let j : ℕ = get_or c.args.at.now.taken.moved.now i 0 in
     let known : j < state_count c.args.at.now.taken.machine.now = c.requires.on.new.moved.below i 0 c.loop-j-test.true in
-    still_begun c.args.at.now.taken.machine.now c.args.at.now.taken.tick c.args.x.now c.args.at.now.taken.levels.now c.args.at.now.slopes.now (take i c.args.at.now.taken.moved.now) first before c.loop-j.invariant.are_seated j
-    (c.requires.may_move.later j (omega (arith, known, c.requires.on.lines)))
+    still_begun c.args.at.now.taken.machine.now c.args.at.now.taken.tick c.args.x.now c.args.at.now.taken.levels.now c.args.at.now.slopes.now (take i c.args.at.now.taken.moved.now) first before c.loop-j.invariant.on j
+    (c.requires.may_move.later j (omega (arith, known, c.requires.on.one_each.lines)))
 
 pub seat-requires-clause-small : goal.seat-requires-clause-small
 seat-requires-clause-small g c =
@@ -40,8 +44,8 @@ seat-requires-clause-small g c =
     let j : ℕ = get_or c.args.at.now.taken.moved.now i 0 in
     let known : j < state_count c.args.at.now.taken.machine.now = c.requires.on.new.moved.below i 0 c.loop-j-test.true in
     let small_x : IsWithin 88 (int_at c.args.x.now j) = c.requires.states.small j (pos 0) (omega (arith, known, c.requires.states.as_many)) in
-    still_small c.args.at.now.taken.machine.now c.args.at.now.taken.tick c.args.x.now c.args.at.now.taken.levels.now c.args.at.now.slopes.now (take i c.args.at.now.taken.moved.now) first before c.loop-j.invariant.are_seated j small_x
-    (c.requires.may_move.small j (omega (arith, known, c.requires.on.lines)))
+    still_small c.args.at.now.taken.machine.now c.args.at.now.taken.tick c.args.x.now c.args.at.now.taken.levels.now c.args.at.now.slopes.now (take i c.args.at.now.taken.moved.now) first before c.loop-j.invariant.on j small_x
+    (c.requires.may_move.small j (omega (arith, known, c.requires.on.one_each.lines)))
 
 pub seat-requires-clause-near : goal.seat-requires-clause-near
 seat-requires-clause-near g c =
@@ -56,8 +60,10 @@ loop-j-preserved g c =
     let before : Courses = record { lines = c.loop-j.lines; dues = c.loop-j.agenda } in
     let after : Courses = record { lines = c.seat.new.lines; dues = c.seat.new.agenda } in
     record {
-      are_seated = seated_more m c.args.at.now.taken.tick c.args.x.now c.args.at.now.taken.levels.now c.args.at.now.slopes.now c.args.at.now.taken.moved.now i first before after c.loop-j-test.true inv.are_seated
-          c.seat.ensures.goes_on c.seat.ensures.lines c.seat.ensures.kept c.seat.ensures.places c.seat.ensures.dues;
+      on = one_more m c.args.at.now.taken.tick c.args.at.now.taken.levels.now c.args.at.now.slopes.now (int_at c.args.x.now) c.args.at.now.taken.moved.now i first before after c.loop-j-test.true inv.on
+          c.seat.ensures.goes_on;
+      kept = left_more m c.args.at.now.taken.tick c.args.x.now c.args.at.now.taken.levels.now c.args.at.now.slopes.now (get_or c.args.at.now.taken.moved.now i 0) first before after inv.kept
+          c.seat.ensures.goes_on.others c.seat.ensures.kept;
       line_count = omega (arith, inv.line_count, c.seat.auto.lines);
       counted = λ states at.
           let own = inv.counted states at in
@@ -65,11 +71,8 @@ loop-j-preserved g c =
           omega (arith, own, one);
     }
 
-pub returns : goal.returns
-returns g c =
-    let first : Courses = record { lines = c.args.lines.now; dues = c.args.agenda.now } in
-    let last : Courses = record { lines = c.loop-j.lines; dues = c.loop-j.agenda } in
-    let are : AreSeated c.args.at.now.taken.machine.now c.args.at.now.taken.tick c.args.x.now c.args.at.now.taken.levels.now c.args.at.now.slopes.now c.args.at.now.taken.moved.now first last =
-    subst (λ (moved : List ℕ). AreSeated c.args.at.now.taken.machine.now c.args.at.now.taken.tick c.args.x.now c.args.at.now.taken.levels.now c.args.at.now.slopes.now moved first last)
-    (take_all c.loop-j.j-index c.args.at.now.taken.moved.now c.loop-j-test.false) c.loop-j.invariant.are_seated in
-    record { goes_on = are.own; lines = are.lines; kept = are.left; places = are.places; dues = are.dues; counted = c.loop-j.invariant.counted }
+pub returns-clause-go_on : goal.returns-clause-go_on
+returns-clause-go_on g c =
+    subst (λ (moved : List ℕ). TheseGoOn c.args.at.now.taken.machine.now c.args.at.now.taken.tick c.args.at.now.taken.levels.now c.args.at.now.slopes.now moved (int_at c.args.x.now)
+    (record { lines = c.args.lines.now; dues = c.args.agenda.now }) (record { lines = c.loop-j.lines; dues = c.loop-j.agenda }))
+    (take_all c.loop-j.j-index c.args.at.now.taken.moved.now c.loop-j-test.false) c.loop-j.invariant.on

@@ -21,7 +21,7 @@ slope_rows-requires-clause-rows c =
     subst (All (λ row. row < state_count m)) (sym c.rows_of.ensures) (rows_below m c.args.uses.now c.requires.uses var known (state_count m) (omega arith))
 
 pub slope_rows-requires-clause-can : goal.slope_rows-requires-clause-can
-slope_rows-requires-clause-can c = record { values = c.requires.can.values; one_each = c.loop-var.invariant.as_many; light = c.requires.can.light }
+slope_rows-requires-clause-can c = record { of = record { values = c.requires.can.of.values; one_each = c.loop-var.invariant.as_many }; light = c.requires.can.light }
 
 pub loop-var-preserved : goal.loop-var-preserved
 loop-var-preserved c =

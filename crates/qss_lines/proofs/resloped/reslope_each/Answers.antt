@@ -2,15 +2,27 @@
 use Rattle.std.proofs.Common.{◌<◌, ◌∷◌, [], ℕ, List, take, get_or, sym, subst, arith}
 use Rattle.std.proofs.lemmas.List.{take_more}
 use Rattle.qss_machine.specs.Machines.{state_count}
+use Rattle.qss_machine.specs.Numbers.{int_at}
+use Rattle.qss_sched.specs.Ranks.{due_at}
+use Rattle.qss_lines.specs.StateLines.{line_at}
 use Rattle.qss_lines.specs.Reslopings.{Courses, AreResloped}
-use Rattle.qss_lines.proofs.Courses.{one_resloped, resloped_then}
+use Rattle.qss_lines.proofs.Courses.{may_reslope_again, one_resloped, resloped_then}
 use Rattle.qss_lines.proofs.GoingOn.{still_on}
 use Rattle.qss_lines.proofs.resloped.reslope_each.Goals as goal
 
-pub reslope_state-requires-clause-on : goal.reslope_state-requires-clause-on
-reslope_state-requires-clause-on g c =
-    still_on c.args.at.now c.args.lines.now c.loop-j.lines c.args.agenda.now c.loop-j.agenda c.requires.on (omega (arith, c.loop-j.invariant.line_count, c.requires.on.lines))
-    c.loop-j.invariant.resloped.as_many
+pub reslope_state-requires-clause-can : goal.reslope_state-requires-clause-can
+reslope_state-requires-clause-can g c = record {
+  known = c.requires.states c.loop-j.j-index 0 c.loop-j-test.true;
+  all = still_on c.args.at.now c.args.lines.now c.loop-j.lines c.args.agenda.now c.loop-j.agenda c.requires.can.on (omega (arith, c.loop-j.invariant.line_count, c.requires.can.on.one_each.lines))
+      c.loop-j.invariant.resloped.as_many;
+}
+
+pub reslope_state-requires-clause-ready : goal.reslope_state-requires-clause-ready
+reslope_state-requires-clause-ready g c =
+    let k : ℕ = get_or c.args.states.now c.loop-j.j-index 0 in
+    let known : k < state_count c.args.at.now.taken.machine.now = c.requires.states c.loop-j.j-index 0 c.loop-j-test.true in
+    may_reslope_again c.args.at.now.taken.machine.now c.args.at.now.taken.tick (int_at c.args.at.now.taken.levels.now k) (int_at c.args.at.now.slopes.now k) k (line_at c.args.lines.now k) (line_at c.loop-j.lines k)
+    (due_at c.args.agenda.now k) (due_at c.loop-j.agenda k) (c.requires.can.each k known) (c.loop-j.invariant.resloped.each k known)
 
 pub loop-j-preserved : goal.loop-j-preserved
 loop-j-preserved g c =
@@ -23,7 +35,7 @@ loop-j-preserved g c =
     let before : Courses = record { lines = c.loop-j.lines; dues = c.loop-j.agenda } in
     let after : Courses = record { lines = c.reslope_state.new.lines; dues = c.reslope_state.new.agenda } in
     let one : AreResloped m c.args.at.now.taken.tick c.args.at.now.taken.levels.now c.args.at.now.slopes.now (state ∷ []) before after =
-    one_resloped m c.args.at.now.taken.tick c.args.at.now.taken.levels.now c.args.at.now.slopes.now state before after known c.reslope_state.ensures.goes_on c.reslope_state.ensures.lines c.reslope_state.ensures.places c.reslope_state.ensures.dues c.reslope_state.ensures.kept in
+    one_resloped m c.args.at.now.taken.tick c.args.at.now.taken.levels.now c.args.at.now.slopes.now state before after known c.reslope_state.ensures.goes_on c.reslope_state.ensures.kept in
     record {
       resloped = subst (λ (states : List ℕ). AreResloped m c.args.at.now.taken.tick c.args.at.now.taken.levels.now c.args.at.now.slopes.now states first after) (sym (take_more c.args.states.now i 0 c.loop-j-test.true))
           (resloped_then m c.args.at.now.taken.tick c.args.at.now.taken.levels.now c.args.at.now.slopes.now (take i c.args.states.now) (state ∷ []) first before after inv.resloped one);

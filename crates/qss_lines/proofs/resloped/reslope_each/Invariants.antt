@@ -1,6 +1,6 @@
-use Rattle.std.proofs.Common.{◌≡◌, ◌+◌, length, take}
+use Rattle.std.proofs.Common.{◌≡◌, length, take}
 use Rattle.qss_machine.specs.Machines.{state_count}
-use Rattle.qss_lines.specs.Renewals.{renewals}
+use Rattle.qss_lines.specs.Renewals.{IsCounted}
 use Rattle.qss_lines.specs.Reslopings.{AreResloped}
 use Rattle.qss_lines.proofs.resloped.reslope_each.Given as goal
 
@@ -9,5 +9,5 @@ abbrev pub invariant-loop-j : goal.invariant-loop-j
 invariant-loop-j g l = record {
   resloped : AreResloped l.at.taken.machine.now l.at.taken.tick l.at.taken.levels.now l.at.slopes.now (take l.j-index l.states) (record { lines = l.fn.lines; dues = l.fn.agenda }) (record { lines = l.lines; dues = l.agenda });
   line_count : length l.lines ≡ state_count l.at.taken.machine.now;
-  counted : l.steps + renewals (state_count l.at.taken.machine.now) l.at.taken.levels.now l.at.slopes.now l.lines ≡ l.fn.steps + renewals (state_count l.at.taken.machine.now) l.at.taken.levels.now l.at.slopes.now l.fn.lines;
+  counted : IsCounted (state_count l.at.taken.machine.now) l.at.taken.levels.now l.at.slopes.now l.fn.lines l.lines l.fn.steps l.steps;
 }

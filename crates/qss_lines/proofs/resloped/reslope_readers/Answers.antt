@@ -15,24 +15,23 @@ use Rattle.qss_quiet.proofs.KeptReaders.{rows_many, rows_kept, rows_below}
 use Rattle.qss_lines.proofs.resloped.reslope_readers.Goals as goal
 
 pub rows_of-readers-requires : goal.rows_of-readers-requires
-rows_of-readers-requires g c = omega (arith, c.requires.variables c.loop-var.var-index 0 c.loop-var-test.true, rows_many c.args.at.now.taken.machine.now c.args.at.now.taken.uses.now c.requires.on.new.uses)
+rows_of-readers-requires g c = omega (arith, c.requires.variables c.loop-var.var-index 0 c.loop-var-test.true, rows_many c.args.at.now.taken.machine.now c.args.at.now.taken.uses.now c.requires.can.on.new.uses)
 
 pub reslope_each-requires-clause-states : goal.reslope_each-requires-clause-states
 reslope_each-requires-clause-states g c =
     let m = c.args.at.now.taken.machine.now in
     let var : ℕ = get_or c.args.variables.now c.loop-var.var-index 0 in
     let known : var < state_count m + discrete_count m = c.requires.variables c.loop-var.var-index 0 c.loop-var-test.true in
-    subst (All (λ row. row < state_count m)) (sym c.rows_of-readers.ensures) (rows_below m c.args.at.now.taken.uses.now c.requires.on.new.uses var known (state_count m) (omega arith))
+    subst (All (λ row. row < state_count m)) (sym c.rows_of-readers.ensures) (rows_below m c.args.at.now.taken.uses.now c.requires.can.on.new.uses var known (state_count m) (omega arith))
 
-pub reslope_each-requires-clause-on : goal.reslope_each-requires-clause-on
-reslope_each-requires-clause-on g c =
-    still_on c.args.at.now c.args.lines.now c.loop-var.lines c.args.agenda.now c.loop-var.agenda c.requires.on (omega (arith, c.loop-var.invariant.line_count, c.requires.on.lines))
-    c.loop-var.invariant.resloped.as_many
-
-pub reslope_each-requires-clause-ready : goal.reslope_each-requires-clause-ready
-reslope_each-requires-clause-ready g c k h =
-    may_reslope_again c.args.at.now.taken.machine.now c.args.at.now.taken.tick (int_at c.args.at.now.taken.levels.now k) (int_at c.args.at.now.slopes.now k) k (line_at c.args.lines.now k) (line_at c.loop-var.lines k)
-    (due_at c.args.agenda.now k) (due_at c.loop-var.agenda k) (c.requires.ready k h) (c.loop-var.invariant.resloped.each k h)
+pub reslope_each-requires-clause-can : goal.reslope_each-requires-clause-can
+reslope_each-requires-clause-can g c = record {
+  on = still_on c.args.at.now c.args.lines.now c.loop-var.lines c.args.agenda.now c.loop-var.agenda c.requires.can.on (omega (arith, c.loop-var.invariant.line_count, c.requires.can.on.one_each.lines))
+      c.loop-var.invariant.resloped.as_many;
+  each = λ k h.
+      may_reslope_again c.args.at.now.taken.machine.now c.args.at.now.taken.tick (int_at c.args.at.now.taken.levels.now k) (int_at c.args.at.now.slopes.now k) k (line_at c.args.lines.now k) (line_at c.loop-var.lines k)
+      (due_at c.args.agenda.now k) (due_at c.loop-var.agenda k) (c.requires.can.each k h) (c.loop-var.invariant.resloped.each k h);
+}
 
 pub loop-var-preserved : goal.loop-var-preserved
 loop-var-preserved g c =
@@ -46,7 +45,7 @@ loop-var-preserved g c =
     let after : Courses = record { lines = c.reslope_each.new.lines; dues = c.reslope_each.new.agenda } in
     let more : AreResloped m c.args.at.now.taken.tick c.args.at.now.taken.levels.now c.args.at.now.slopes.now (reading_rows m var) before after =
     subst (λ (rows : List ℕ). AreResloped m c.args.at.now.taken.tick c.args.at.now.taken.levels.now c.args.at.now.slopes.now rows before after)
-    (c.rows_of-readers.ensures ∙ rows_kept m c.args.at.now.taken.uses.now c.requires.on.new.uses var known) c.reslope_each.ensures.resloped in
+    (c.rows_of-readers.ensures ∙ rows_kept m c.args.at.now.taken.uses.now c.requires.can.on.new.uses var known) c.reslope_each.ensures.resloped in
     record {
       resloped = subst (λ (states : List ℕ). AreResloped m c.args.at.now.taken.tick c.args.at.now.taken.levels.now c.args.at.now.slopes.now states first after)
           (sym (lists_more (reading_rows m) c.args.variables.now i c.loop-var-test.true))

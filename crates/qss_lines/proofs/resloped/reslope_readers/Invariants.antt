@@ -1,7 +1,7 @@
-use Rattle.std.proofs.Common.{◌≡◌, ◌+◌, length, take, flat_map}
+use Rattle.std.proofs.Common.{◌≡◌, length, take, flat_map}
 use Rattle.qss_machine.specs.Machines.{state_count}
 use Rattle.qss_machine.specs.Uses.{reading_rows}
-use Rattle.qss_lines.specs.Renewals.{renewals}
+use Rattle.qss_lines.specs.Renewals.{IsCounted}
 use Rattle.qss_lines.specs.Reslopings.{AreResloped}
 use Rattle.qss_lines.proofs.resloped.reslope_readers.Given as goal
 
@@ -10,5 +10,5 @@ abbrev pub invariant-loop-var : goal.invariant-loop-var
 invariant-loop-var g l = record {
   resloped : AreResloped l.at.taken.machine.now l.at.taken.tick l.at.taken.levels.now l.at.slopes.now (flat_map (reading_rows l.at.taken.machine.now) (take l.var-index l.variables)) (record { lines = l.fn.lines; dues = l.fn.agenda }) (record { lines = l.lines; dues = l.agenda });
   line_count : length l.lines ≡ state_count l.at.taken.machine.now;
-  counted : l.steps + renewals (state_count l.at.taken.machine.now) l.at.taken.levels.now l.at.slopes.now l.lines ≡ l.fn.steps + renewals (state_count l.at.taken.machine.now) l.at.taken.levels.now l.at.slopes.now l.fn.lines;
+  counted : IsCounted (state_count l.at.taken.machine.now) l.at.taken.levels.now l.at.slopes.now l.fn.lines l.lines l.fn.steps l.steps;
 }

@@ -15,6 +15,6 @@ loop-row-preserved c =
     let row : ℕ = get_or c.args.rows.now i 0 in
     let known : row < state_count m = c.requires.rows i 0 c.loop-row-test.true in
     let fits : FitsSigned w128 c.weigh_row.result = record { sfits = c.weigh_row.type_inv } in
-    let inside : row < length c.loop-row.weights = omega (arith, known, c.loop-row.invariant.as_many, c.requires.weights) in
+    let inside : row < length c.loop-row.weights = omega (arith, known, c.loop-row.invariant.as_many, c.requires.can.one_each) in
     written_more (pos 0) (IsWeighed m c.args.levels.now c.args.d.now) c.args.rows.now c.args.weights.now c.loop-row.weights i _ c.loop-row-test.true inside c.loop-row.invariant
     (subst (IsWeighed m c.args.levels.now c.args.d.now row) (sym (to_z-of_z w128 c.weigh_row.result fits)) c.weigh_row.ensures)

@@ -46,8 +46,8 @@ requantize_moved-over-requires-clause-ready g c =
     let m = c.args.m.now in
     let t = c.args.tick + 1 in
     let s : Store = c.args.s.now in
-    let agenda : List (Option ℕ) = c.requires.taken.0 in
-    let taken = c.requires.taken.1 in
+    let agenda : List (Option ℕ) = c.requires.ready.taken.0 in
+    let taken = c.requires.ready.taken.1 in
     let fits = taken.stands.fits in
     record {
       uses = fits.uses;
@@ -57,38 +57,38 @@ requantize_moved-over-requires-clause-ready g c =
           later = λ j h.
               let not_later = (taken.stands.stands_for.lines j (omega (arith, h, ap length c.as_slice.ensures.value, fits.lines))).not_later in
               omega (arith, ap (λ ls. (line_at ls j).tick) c.as_slice.ensures.value, not_later);
-          in_time = omega (arith, c.requires.in_time, m.has_units.last_tick);
+          in_time = omega (arith, c.requires.ready.in_time, m.has_units.last_tick);
         };
         numbers = subst (AreNumbers (state_count m)) (sym c.as_slice-2.ensures.value) taken.due.numbers;
         others_small = λ j h none.
             subst (λ ls. IsWithin 88 (state_at (line_at ls j) t)) (sym c.as_slice.ensures.value)
-            (rest_small m c.args.tick agenda s taken c.requires.in_time j h (ap (λ l. is_among l j) (sym c.as_slice-2.ensures.value) ∙ none));
+            (rest_small m c.args.tick agenda s taken c.requires.ready.in_time j h (ap (λ l. is_among l j) (sym c.as_slice-2.ensures.value) ∙ none));
       };
       moved_away = λ j among.
           subst (λ ls. HasLeft m j (state_at (line_at ls j) t) (int_at c.as_mut_slice-levels.result.now j)) (sym c.as_slice.ensures.value)
           (subst (λ l. HasLeft m j (state_at (line_at s.lines.items j) t) (int_at l j)) (sym c.as_mut_slice-levels.ensures.value)
-          (due_left m c.args.tick agenda s taken c.requires.in_time j (ap (λ l. is_among l j) (sym c.as_slice-2.ensures.value) ∙ among)));
+          (due_left m c.args.tick agenda s taken c.requires.ready.in_time j (ap (λ l. is_among l j) (sym c.as_slice-2.ensures.value) ∙ among)));
       others_near = λ j h none.
           ap (λ ls. is_near m j (state_at (line_at ls j) t) (int_at c.as_mut_slice-levels.result.now j)) c.as_slice.ensures.value
           ∙ ap (λ l. is_near m j (state_at (line_at s.lines.items j) t) (int_at l j)) c.as_mut_slice-levels.ensures.value
-          ∙ rest_near m c.args.tick agenda s taken c.requires.in_time j h (ap (λ l. is_among l j) (sym c.as_slice-2.ensures.value) ∙ none);
+          ∙ rest_near m c.args.tick agenda s taken c.requires.ready.in_time j h (ap (λ l. is_among l j) (sym c.as_slice-2.ensures.value) ∙ none);
     }
 
 pub requantize_moved-over-requires-clause-discretes : goal.requantize_moved-over-requires-clause-discretes
-requantize_moved-over-requires-clause-discretes g c = c.requires.taken.1.stands.fits.values.discretes
+requantize_moved-over-requires-clause-discretes g c = c.requires.ready.taken.1.stands.fits.values.discretes
 
 pub requantize_moved-over-requires-clause-small_discretes : goal.requantize_moved-over-requires-clause-small_discretes
-requantize_moved-over-requires-clause-small_discretes g c = c.requires.taken.1.stands.fits.values.small_discretes
+requantize_moved-over-requires-clause-small_discretes g c = c.requires.ready.taken.1.stands.fits.values.small_discretes
 
 pub requantize_moved-over-requires-clause-held : goal.requantize_moved-over-requires-clause-held
 requantize_moved-over-requires-clause-held g c =
     let m = c.args.m.now in
     let s : Store = c.args.s.now in
-    let stands = c.requires.taken.1.stands in
+    let stands = c.requires.ready.taken.1.stands in
     record {
       levels = ap length c.as_mut_slice-levels.ensures.value ∙ stands.fits.levels;
       of_lines = record {
-        small = subst (All (IsWithin 43)) (sym c.as_mut_slice-levels.ensures.value) (levels_small m c.args.tick (record s { agenda = c.requires.taken.0 }) stands);
+        small = subst (All (IsWithin 43)) (sym c.as_mut_slice-levels.ensures.value) (levels_small m c.args.tick (record s { agenda = c.requires.ready.taken.0 }) stands);
         light = ap (λ l. position (is_overweight m l s.work.d) m.rows) c.as_mut_slice-levels.ensures.value ∙ stands.stands_for.left.light;
         own_levels = λ j inside.
             ap (λ ls. (line_at ls j).level) c.as_slice.ensures.value ∙ (stands.stands_for.lines j inside).own_level ∙ ap (λ l. int_at l j) (sym c.as_mut_slice-levels.ensures.value);
@@ -101,11 +101,11 @@ returns-then-is_some-clause-visited g c =
     let m = c.args.m.now in
     let t = c.args.tick + 1 in
     let s : Store = c.args.s.now in
-    let agenda : List (Option ℕ) = c.requires.taken.0 in
+    let agenda : List (Option ℕ) = c.requires.ready.taken.0 in
     let x : List ℤ = states_at s.lines.items t in
     let fresh : List ℤ = c.requantize_moved-over.ensures.taken.0 in
     let h : Handling = record { states = x; discretes = s.work.d; rows = []; overflow = first_past 88 x } in
-    let is_h : h ≡ handling_at m t (world_of c.args.tick s) = sym (handled m c.args.tick agenda s c.requires.taken.1 c.requires.in_time c.requires.none_changes) in
+    let is_h : h ≡ handling_at m t (world_of c.args.tick s) = sym (handled m c.args.tick agenda s c.requires.ready.taken.1 c.requires.ready.in_time c.requires.none_changes) in
     let allowed : first_past 88 x ≡ None → AreNextLevels (IsRuled c.args.q.now.name) m x s.levels.items fresh = λ none.
     subst (λ ls. AreNextLevels (IsRuled c.args.q.now.name) m (states_at ls t) s.levels.items fresh) c.as_slice.ensures.value
     (subst (λ l. AreNextLevels (IsRuled c.args.q.now.name) m (states_at c.as_slice.result.now t) l fresh) c.as_mut_slice-levels.ensures.value
@@ -131,13 +131,13 @@ go_on_moved-requires-clause-ready g c =
     let m = c.args.m.now in
     let t = c.args.tick + 1 in
     let s : Store = c.args.s.now in
-    let agenda : List (Option ℕ) = c.requires.taken.0 in
-    let taken = c.requires.taken.1 in
+    let agenda : List (Option ℕ) = c.requires.ready.taken.0 in
+    let taken = c.requires.ready.taken.1 in
     let calm : c.requantize_moved-over.result ≡ None = not_some c.requantize_moved-over.result (sym c.is_some.ensures ∙ c.if-is_some.false) in
     let x : List ℤ = states_at s.lines.items t in
     let fresh : List ℤ = c.requantize_moved-over.ensures.taken.0 in
     let h : Handling = record { states = x; discretes = s.work.d; rows = []; overflow = first_past 88 x } in
-    let is_h : h ≡ handling_at m t (world_of c.args.tick s) = sym (handled m c.args.tick agenda s taken c.requires.in_time c.requires.none_changes) in
+    let is_h : h ≡ handling_at m t (world_of c.args.tick s) = sym (handled m c.args.tick agenda s taken c.requires.ready.in_time c.requires.none_changes) in
     let allowed : first_past 88 x ≡ None → AreNextLevels (IsRuled c.args.q.now.name) m x s.levels.items fresh = λ none.
     subst (λ ls. AreNextLevels (IsRuled c.args.q.now.name) m (states_at ls t) s.levels.items fresh) c.as_slice.ensures.value
     (subst (λ l. AreNextLevels (IsRuled c.args.q.now.name) m (states_at c.as_slice.result.now t) l fresh) c.as_mut_slice-levels.ensures.value
@@ -160,7 +160,7 @@ go_on_moved-requires-clause-ready g c =
         values = record {
           levels = ap length c.as_slice-4.ensures.value ∙ same_length s.levels c.requantize_moved-over.new.levels ∙ fits.levels;
           discretes = ap length of_d ∙ fits.values.discretes;
-          small_levels = subst (All (IsWithin 43)) (sym (levels ∙ sym (c.requantize_moved-over.ensures.taken.1.levels calm))) (c.requantize_moved-over.ensures.small calm);
+          small_levels = subst (All (IsWithin 43)) (sym (levels ∙ sym (c.requantize_moved-over.ensures.taken.1.levels calm))) (c.requantize_moved-over.ensures.kept calm).small;
           small_discretes = subst (All (IsWithin 43)) (sym of_d) fits.values.small_discretes;
         };
       };
@@ -168,7 +168,7 @@ go_on_moved-requires-clause-ready g c =
         near = λ j inside.
             subst (λ ls. IsNear (level_unit m) (int_at (states_at ls t) j) (int_at c.as_slice-4.result.now j) (quantum_of m j (int_at c.as_slice-4.result.now j))) (sym c.as_mut_slice-2.ensures.value)
             (subst (λ l. IsNear (level_unit m) (int_at x j) (int_at l j) (quantum_of m j (int_at l j))) (sym levels)
-            (near_on_arrival m c.args.tick agenda s taken c.requires.in_time c.args.q.now.name fresh (allowed none_both.0) j inside));
+            (near_on_arrival m c.args.tick agenda s taken c.requires.ready.in_time c.args.q.now.name fresh (allowed none_both.0) j inside));
         light = ap (λ l. position (is_overweight m l c.as_slice-5.result.now) m.rows) levels
             ∙ ap (λ d. position (is_overweight m fresh d) m.rows) of_d
             ∙ (both_none (first_past 43 fresh) (position (is_overweight m fresh s.work.d) m.rows) (sym none_both.1)).1;
@@ -179,7 +179,7 @@ go_on_moved-requires-clause-ready g c =
         places = omega (arith, taken.without.as_many, fits.places);
       };
       held = record {
-        may_move = subst (MayMove t) (sym c.as_mut_slice-2.ensures.value) (may_move (lines_then m c.args.tick agenda s taken c.requires.in_time none_both.0));
+        may_move = subst (MayMove t) (sym c.as_mut_slice-2.ensures.value) (may_move (lines_then m c.args.tick agenda s taken c.requires.ready.in_time none_both.0));
         before = (
           s.levels.items,
           subst (λ js. AreSumsBefore Slope m js c.as_slice-4.result.now c.as_slice-5.result.now c.as_mut_slice.result.now c.as_mut_slice-2.result.now s.levels.items) (sym c.as_slice-3.ensures.value)
@@ -187,15 +187,15 @@ go_on_moved-requires-clause-ready g c =
               (subst (λ d. AreSumsBefore Slope m s.moved.items fresh d c.as_mut_slice.result.now c.as_mut_slice-2.result.now s.levels.items) (sym of_d)
               (subst (λ v. AreSumsBefore Slope m s.moved.items fresh s.work.d v c.as_mut_slice-2.result.now s.levels.items) (sym c.as_mut_slice.ensures.value)
               (subst (λ ls. AreSumsBefore Slope m s.moved.items fresh s.work.d s.slopes.items ls s.levels.items) (sym c.as_mut_slice-2.ensures.value)
-              (levels_before m c.args.tick agenda s taken c.requires.in_time s.moved.items fresh off))))),
+              (levels_before m c.args.tick agenda s taken c.requires.ready.in_time s.moved.items fresh off))))),
         );
         own_slope = λ j inside.
             ap (λ ls. (line_at ls j).slope) c.as_mut_slice-2.ensures.value
-            ∙ own_slope m c.args.tick agenda s taken c.requires.in_time j inside
+            ∙ own_slope m c.args.tick agenda s taken c.requires.ready.in_time j inside
             ∙ ap (λ l. int_at l j) (sym c.as_mut_slice.ensures.value);
         due = λ j inside none own.
             subst (λ ls. IsDue m t j (line_at ls j) (due_at s.agenda j)) (sym c.as_mut_slice-2.ensures.value)
-            (kept_due m c.args.tick agenda s taken c.requires.in_time c.args.q.now.name fresh (allowed none_both.0) j inside (ap (λ js. is_among js j) (sym c.as_slice-3.ensures.value) ∙ none)
+            (kept_due m c.args.tick agenda s taken c.requires.ready.in_time c.args.q.now.name fresh (allowed none_both.0) j inside (ap (λ js. is_among js j) (sym c.as_slice-3.ensures.value) ∙ none)
             (ap (λ ls. (line_at ls j).level) (sym c.as_mut_slice-2.ensures.value) ∙ own ∙ ap (λ l. int_at l j) levels));
       };
       earlier = λ j inside.
@@ -204,7 +204,7 @@ go_on_moved-requires-clause-ready g c =
     }
 
 pub go_on_moved-requires-clause-in_time : goal.go_on_moved-requires-clause-in_time
-go_on_moved-requires-clause-in_time g c = omega (arith, c.requires.in_time, c.args.m.now.has_units.last_tick)
+go_on_moved-requires-clause-in_time g c = omega (arith, c.requires.ready.in_time, c.args.m.now.has_units.last_tick)
 
 pub go_on_moved-requires-clause-small : goal.go_on_moved-requires-clause-small
 go_on_moved-requires-clause-small g c =
@@ -217,23 +217,23 @@ go_on_moved-requires-clause-small g c =
     c.requantize_moved-over.ensures.taken.1.over_is
     ∙ ap (λ ls. option_or (first_past 88 (states_at ls t)) (option_or (first_past 43 fresh) (position (is_overweight m fresh s.work.d) m.rows))) c.as_slice.ensures.value in
     let none = both_none (first_past 88 (states_at s.lines.items t)) (option_or (first_past 43 fresh) (position (is_overweight m fresh s.work.d) m.rows)) (sym calm ∙ over) in
-    subst (λ ls. All (IsWithin 88) (states_at ls t)) (sym c.as_mut_slice-2.ensures.value) (lines_then m c.args.tick c.requires.taken.0 s c.requires.taken.1 c.requires.in_time none.0).small
+    subst (λ ls. All (IsWithin 88) (states_at ls t)) (sym c.as_mut_slice-2.ensures.value) (lines_then m c.args.tick c.requires.ready.taken.0 s c.requires.ready.taken.1 c.requires.ready.in_time none.0).small
 
 pub go_on_moved-requires-clause-watched : goal.go_on_moved-requires-clause-watched
 go_on_moved-requires-clause-watched g c place inside =
     let m = c.args.m.now in
     let t = c.args.tick + 1 in
     let s : Store = c.args.s.now in
-    let agenda : List (Option ℕ) = c.requires.taken.0 in
+    let agenda : List (Option ℕ) = c.requires.ready.taken.0 in
     let x : List ℤ = states_at s.lines.items t in
     let of_d : c.as_slice-5.result.now ≡ s.work.d = c.as_slice-5.ensures.value ∙ ap (λ (v : Values). v.d) c.work.view_is in
     subst (λ ls. IsWatched m t (states_at ls t) c.as_slice-5.result.now c.as_mut_slice.result.now place (watch_at s.conditions.watches.items place) (due_at s.agenda (state_count m + place))) (sym c.as_mut_slice-2.ensures.value)
     (subst (λ v. IsWatched m t x c.as_slice-5.result.now v place (watch_at s.conditions.watches.items place) (due_at s.agenda (state_count m + place))) (sym c.as_mut_slice.ensures.value)
     (subst (λ d. IsWatched m t x d s.slopes.items place (watch_at s.conditions.watches.items place) (due_at s.agenda (state_count m + place))) (sym of_d)
-    (watched m c.args.tick agenda s c.requires.taken.1 c.requires.in_time c.requires.none_changes place inside)))
+    (watched m c.args.tick agenda s c.requires.ready.taken.1 c.requires.ready.in_time c.requires.none_changes place inside)))
 
 pub go_on_moved-requires-clause-room : goal.go_on_moved-requires-clause-room
-go_on_moved-requires-clause-room g c = c.requires.taken.1.stands.fits.room.touched
+go_on_moved-requires-clause-room g c = c.requires.ready.taken.1.stands.fits.room.touched
 
 pub catch_up-requires-clause-as_many : goal.catch_up-requires-clause-as_many
 catch_up-requires-clause-as_many g c =
@@ -247,7 +247,7 @@ pub catch_up-requires-clause-alike : goal.catch_up-requires-clause-alike
 catch_up-requires-clause-alike g c = λ place none.
     let rest = c.go_on_moved.ensures.rest in
     ap (λ flags. flag_at flags place) (c.as_mut_slice-arrived.ensures.value ∙ ap (λ (all : Conditions). all.arrived.items) rest)
-    ∙ c.requires.taken.1.stands.alike place (ap (λ (all : Conditions). is_among all.apart.places place) (sym rest) ∙ none)
+    ∙ c.requires.ready.taken.1.stands.alike place (ap (λ (all : Conditions). is_among all.apart.places place) (sym rest) ∙ none)
     ∙ sym (ap (λ flags. flag_at flags place) (c.as_slice-settled.ensures.value ∙ ap (λ (all : Conditions). all.settled.items) rest))
 
 pub returns : goal.returns
@@ -255,13 +255,13 @@ returns g c =
     let m = c.args.m.now in
     let t = c.args.tick + 1 in
     let s : Store = c.args.s.now in
-    let agenda : List (Option ℕ) = c.requires.taken.0 in
-    let taken = c.requires.taken.1 in
+    let agenda : List (Option ℕ) = c.requires.ready.taken.0 in
+    let taken = c.requires.ready.taken.1 in
     let calm : c.requantize_moved-over.result ≡ None = not_some c.requantize_moved-over.result (sym c.is_some.ensures ∙ c.if-is_some.false) in
     let x : List ℤ = states_at s.lines.items t in
     let fresh : List ℤ = c.requantize_moved-over.ensures.taken.0 in
     let h : Handling = record { states = x; discretes = s.work.d; rows = []; overflow = first_past 88 x } in
-    let is_h : h ≡ handling_at m t (world_of c.args.tick s) = sym (handled m c.args.tick agenda s taken c.requires.in_time c.requires.none_changes) in
+    let is_h : h ≡ handling_at m t (world_of c.args.tick s) = sym (handled m c.args.tick agenda s taken c.requires.ready.in_time c.requires.none_changes) in
     let allowed : first_past 88 x ≡ None → AreNextLevels (IsRuled c.args.q.now.name) m x s.levels.items fresh = λ none.
     subst (λ ls. AreNextLevels (IsRuled c.args.q.now.name) m (states_at ls t) s.levels.items fresh) c.as_slice.ensures.value
     (subst (λ l. AreNextLevels (IsRuled c.args.q.now.name) m (states_at c.as_slice.result.now t) l fresh) c.as_mut_slice-levels.ensures.value
@@ -317,14 +317,14 @@ returns g c =
     ap (λ l. position (is_overweight m l next.work.d) m.rows) (own_levels ∙ levels)
     ∙ (both_none (first_past 43 fresh) (position (is_overweight m fresh s.work.d) m.rows) (sym none_both.1)).1 in
     let many_states : length x ≡ state_count m = length-map-range_with_len (λ j. state_at (line_at s.lines.items j) t) 0 (length s.lines.items) ∙ fits.lines in
-    let settled : s.conditions.settled.items ≡ truths m x next.work.d t = same_truths m c.args.tick agenda s taken c.requires.in_time c.requires.none_changes in
+    let settled : s.conditions.settled.items ≡ truths m x next.work.d t = same_truths m c.args.tick agenda s taken c.requires.ready.in_time c.requires.none_changes in
     let slopes : c.go_on_moved.new.slopes ≡ tabulate (state_count m) (λ j. slope_at m j next.levels.items next.work.d) =
     c.go_on_moved.ensures.gone_on.slopes
     ∙ ap (λ d. tabulate (state_count m) (λ j. slope_at m j c.as_slice-4.result.now d)) of_d
     ∙ ap (λ l. tabulate (state_count m) (λ j. slope_at m j l next.work.d)) (sym own_levels) in
     let again = stands_again m t next x many_states good
     (λ j inside. subst (λ l. IsWithin 43 (int_at l j)) (sym (own_levels ∙ levels ∙ sym (c.requantize_moved-over.ensures.taken.1.levels calm)))
-    (c.requantize_moved-over.ensures.small calm j (pos 0) (omega (arith, inside, many, s.levels.ok.0, fits.levels))))
+    ((c.requantize_moved-over.ensures.kept calm).small j (pos 0) (omega (arith, inside, many, s.levels.ok.0, fits.levels))))
     light
     (of_slopes ∙ slopes)
     (subst (λ l. AreWeights m l next.work.d next.weights) (sym (own_levels ∙ levels ∙ sym (c.requantize_moved-over.ensures.taken.1.levels calm)))
@@ -333,7 +333,7 @@ returns g c =
     subst (λ ls. GoesOnFrom m t (int_at x j) (int_at next.levels.items j) (slope_at m j next.levels.items next.work.d) j (line_at ls j) (due_at next.agenda j)) (sym of_lines)
     (subst (λ l. GoesOnFrom m t (int_at x j) (int_at l j) (slope_at m j l next.work.d) j (line_at c.go_on_moved.new.lines j) (due_at next.agenda j)) (sym own_levels)
     (subst (λ y. GoesOnFrom m t y (int_at c.as_slice-4.result.now j) (slope_at m j c.as_slice-4.result.now next.work.d) j (line_at c.go_on_moved.new.lines j) (due_at next.agenda j))
-    (ap (λ ls. state_at (line_at ls j) t) c.as_mut_slice-2.ensures.value ∙ sym (leads m c.args.tick agenda s taken c.requires.in_time j inside))
+    (ap (λ ls. state_at (line_at ls j) t) c.as_mut_slice-2.ensures.value ∙ sym (leads m c.args.tick agenda s taken c.requires.ready.in_time j inside))
     (subst (λ d. GoesOnFrom m t (state_at (line_at c.as_mut_slice-2.result.now j) t) (int_at c.as_slice-4.result.now j) (slope_at m j c.as_slice-4.result.now d) j (line_at c.go_on_moved.new.lines j) (due_at next.agenda j))
     of_d (c.go_on_moved.ensures.gone_on.lines j inside)))))
     (own_settled ∙ settled)
@@ -342,23 +342,23 @@ returns g c =
     (subst (λ ls. IsWatched m t (states_at ls t) next.work.d c.go_on_moved.new.slopes place (watch_at own.watches.items place) (due_at next.agenda (state_count m + place))) c.as_mut_slice-2.ensures.value
     (subst (λ d. IsWatched m t (states_at c.as_mut_slice-2.result.now t) d c.go_on_moved.new.slopes place (watch_at own.watches.items place) (due_at next.agenda (state_count m + place))) of_d
     (c.go_on_moved.ensures.watches place inside))))
-    (not_rising m c.args.tick agenda s taken c.requires.in_time c.requires.none_changes ∙ sym (none_rises_then (world_of c.args.tick s) (world_of t next) of_arrived own_settled))
-    (rising m c.args.tick agenda s taken c.requires.in_time c.requires.none_changes next.agenda
+    (not_rising m c.args.tick agenda s taken c.requires.ready.in_time c.requires.none_changes ∙ sym (none_rises_then (world_of c.args.tick s) (world_of t next) of_arrived own_settled))
+    (rising m c.args.tick agenda s taken c.requires.ready.in_time c.requires.none_changes next.agenda
     (c.go_on_moved.ensures.beyond (state_count m + length (conditions m)) (omega arith)))
     (λ place none. ap (λ flags. flag_at flags place) (of_arrived ∙ sym own_settled)) in
     let w : World = world_of c.args.tick s in
     let new_levels : next.levels.items ≡ fresh = own_levels ∙ levels in
     let still : s.conditions.settled.items ≡ truths m (moved_states m w) s.work.d t =
-    same_truths m c.args.tick agenda s taken c.requires.in_time c.requires.none_changes ∙ ap (λ y. truths m y s.work.d t) (arrived m c.args.tick agenda s taken c.requires.in_time) in
+    same_truths m c.args.tick agenda s taken c.requires.ready.in_time c.requires.none_changes ∙ ap (λ y. truths m y s.work.d t) (arrived m c.args.tick agenda s taken c.requires.ready.in_time) in
     let end : world_of t next ≡ end_of m t w h fresh =
     ap (λ (y : List ℤ). record { states = y; levels = next.levels.items; discretes = next.work.d; arrived = next.conditions.arrived.items; settled = next.conditions.settled.items }) again.0
     ∙ ap (λ (l : List ℤ). record { states = x; levels = l; discretes = next.work.d; arrived = next.conditions.arrived.items; settled = next.conditions.settled.items }) new_levels
     ∙ ap (λ (a : List Bool). record { states = x; levels = fresh; discretes = s.work.d; arrived = a; settled = next.conditions.settled.items }) (of_arrived ∙ still)
     ∙ ap (λ (b : List Bool). record { states = x; levels = fresh; discretes = s.work.d; arrived = truths m (moved_states m w) s.work.d t; settled = b })
-    (own_settled ∙ same_truths m c.args.tick agenda s taken c.requires.in_time c.requires.none_changes) in
+    (own_settled ∙ same_truths m c.args.tick agenda s taken c.requires.ready.in_time c.requires.none_changes) in
     let changed : (j : ℕ) → is_among s.moved.items j ≡ true → has_changed m w (world_of t next) j ≡ true = λ j among.
     changes m w (world_of t next) j (moved_inside (state_count m) s.moved.items taken.due.numbers j among) (λ same.
-    moved_changes m c.args.tick agenda s taken c.requires.in_time c.args.q.now.name fresh (allowed none_both.0) j among (ap (λ l. int_at l j) (sym new_levels) ∙ sym same)) in
+    moved_changes m c.args.tick agenda s taken c.requires.ready.in_time c.args.q.now.name fresh (allowed none_both.0) j among (ap (λ l. int_at l j) (sym new_levels) ∙ sym same)) in
     let few : count_by (is_among (reached m s.moved.items)) (range_with_len 0 (state_count m)) ≤ touches_at m t w (Ok (world_of t next)) =
     reached_touched m t w (world_of t next) s.moved.items taken.due.numbers changed in
     let counted : c.go_on_moved.new.steps ≤ c.args.steps.now + count_by (is_among (reached m s.moved.items)) (range_with_len 0 (state_count m)) =
@@ -367,12 +367,12 @@ returns g c =
       visited = record {
         stepped = steps_or (IsRuled c.args.q.now.name) m t w (world_of t next) h fresh None is_h allowed (sym calm ∙ over) (λ none. end);
         rows = λ none.
-            c.requantize_moved-over.ensures.rows calm
+            (c.requantize_moved-over.ensures.kept calm).own_rows
             ∙ ap (λ l. level_rows t l c.requantize_moved-over.new.levels (states_at c.as_slice.result.now t)) c.as_mut_slice-levels.ensures.value
             ∙ ap (λ l. level_rows t s.levels.items l (states_at c.as_slice.result.now t)) (c.requantize_moved-over.ensures.taken.1.levels calm ∙ sym new_levels)
             ∙ ap (λ ls. level_rows t s.levels.items next.levels.items (states_at ls t)) c.as_slice.ensures.value
             ∙ ap (λ y. level_rows t s.levels.items next.levels.items y) (sym again.0)
-            ∙ sym (rows_then m c.args.tick agenda s taken c.requires.in_time c.requires.none_changes (world_of t next));
+            ∙ sym (rows_then m c.args.tick agenda s taken c.requires.ready.in_time c.requires.none_changes (world_of t next));
         stands = λ none. again.1;
         room = c.requantize_moved-over.ensures.room;
         counted = omega (arith, counted, few);
@@ -381,4 +381,5 @@ returns g c =
           let left = c.go_on_moved.ensures.kept j inside
           (ap (λ js. is_among (reached m js) j) c.as_slice-3.ensures.value ∙ unreached m t w (world_of t next) s.moved.items taken.due.numbers changed j inside untouched) in
           (ap (λ ls. line_at ls j) of_lines ∙ left.0 ∙ ap (λ ls. line_at ls j) c.as_mut_slice-2.ensures.value, left.1);
+      touched_room = c.go_on_moved.ensures.room;
     }

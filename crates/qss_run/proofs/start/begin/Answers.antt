@@ -82,12 +82,12 @@ returns c =
     let again = stands_again m 0 next s.work.x fits.values.states good
     (λ j inside. subst (λ l. IsWithin 43 (int_at l j)) (sym blank.levels) (levels_start m j (pos 0) (omega (arith, inside, count_start m))))
     light
-    (of_slopes ∙ c.set_out.ensures.slopes ∙ ap (λ l. tabulate (state_count m) (λ j. slope_at m j l next.work.d)) levels)
+    (of_slopes ∙ c.set_out.ensures.set_out.slopes ∙ ap (λ l. tabulate (state_count m) (λ j. slope_at m j l next.work.d)) levels)
     (subst (λ d. AreWeights m s.levels.items d next.weights) of_d
     (subst (λ l. AreWeights m l c.as_slice-d.result.now next.weights) c.as_slice-2.ensures.value c.start.ensures.weights))
     (λ j inside.
     subst (λ ls. GoesOnFrom m 0 (int_at next.work.x j) (int_at next.levels.items j) (slope_at m j next.levels.items next.work.d) j (line_at ls j) (due_at next.agenda j)) (sym of_lines)
-    (subst (λ l. GoesOnFrom m 0 (int_at next.work.x j) (int_at l j) (slope_at m j l next.work.d) j (line_at c.set_out.new.lines j) (due_at next.agenda j)) levels (c.set_out.ensures.lines j inside)))
+    (subst (λ l. GoesOnFrom m 0 (int_at next.work.x j) (int_at l j) (slope_at m j l next.work.d) j (line_at c.set_out.new.lines j) (due_at next.agenda j)) levels (c.set_out.ensures.set_out.lines j inside)))
     c.set_out.ensures.settled
     (λ place inside.
     subst (λ sl. IsWatched m 0 next.work.x next.work.d sl place (watch_at next.conditions.watches.items place) (due_at next.agenda (state_count m + place))) (sym of_slopes)

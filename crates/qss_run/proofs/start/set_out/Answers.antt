@@ -1,35 +1,39 @@
 -- The values of the start are within the limits.
-use Rattle.std.proofs.Common.{ℕ, ◌+◌, ◌<◌, List, ℤ, length, refl, sym, ◌∙◌, ap, subst, arith}
+use Rattle.std.proofs.Common.{◌≡◌, ℕ, ◌+◌, ◌<◌, List, ℤ, length, refl, sym, ◌∙◌, ap, subst, arith}
 use Rattle.std.proofs.lemmas.List.{length-map, with_items_is}
 use Rattle.std.specs.Prelude.{All}
 use Rattle.std.specs.Vec.{with_items}
 use Rattle.mu_num.specs.Sizes.{IsWithin}
 use Rattle.qss_machine.specs.declared.parts.DiscreteInfo.{DiscreteInfo}
 use Rattle.qss_machine.specs.declared.parts.StateInfo.{StateInfo}
+use Rattle.qss_machine.specs.declared.system.Machine.{Machine}
 use Rattle.qss_machine.specs.Numbers.{int_at}
-use Rattle.qss_machine.specs.Machines.{state_count, level_unit, quantum_of, start_states}
+use Rattle.qss_machine.specs.Machines.{state_count, level_unit, quantum_of, start_states, start_discretes}
 use Rattle.qss_machine.specs.Handlers.{conditions}
 use Rattle.qss_machine.proofs.Near.{start_near}
 use Rattle.qss_quant.specs.Lines.{IsNear}
 use Rattle.qss_hand.specs.Values.{Values}
 use Rattle.qss_watch.specs.declared.conditions.Conditions.{Conditions}
 use Rattle.qss_watch.proofs.OwnConditions.{arrived_anew}
+use Rattle.qss_lines.specs.Variables.{AreWithin}
 use Rattle.qss_lines.proofs.GoingOn.{slopes_small}
 use Rattle.qss_quiet.proofs.Starts.{states_start, discretes_start, levels_start, light_at, count_start}
 use Rattle.qss_lines.proofs.InPlace.{same_length}
 use Rattle.qss_run.proofs.start.set_out.Goals as goal
 
+-- the values of the start, which are these, are within the limits
+start_within : (m : Machine) (x d : List ℤ) → x ≡ start_states m → d ≡ start_discretes m → AreWithin m x d
+start_within m x d of_x of_d = record {
+  states = ap length of_x ∙ length-map m.states (λ (s : StateInfo). s.x0);
+  discretes = ap length of_d ∙ length-map m.discretes (λ (i : DiscreteInfo). i.d0);
+  small_states = subst (All (IsWithin 88)) (sym of_x) (states_start m);
+  small_discretes = subst (All (IsWithin 43)) (sym of_d) (discretes_start m);
+}
+
 pub start_lines-requires-clause-values : goal.start_lines-requires-clause-values
 start_lines-requires-clause-values c =
-    let m = c.args.m.now in
-    let of_x = c.as_slice-x.ensures.value ∙ ap (λ (v : Values). v.x) c.work.view_is ∙ c.requires.states in
-    let of_d = c.as_slice-d.ensures.value ∙ ap (λ (v : Values). v.d) c.work.view_is ∙ c.requires.discretes in
-    record {
-      states = ap length of_x ∙ length-map m.states (λ (s : StateInfo). s.x0);
-      discretes = ap length of_d ∙ length-map m.discretes (λ (d : DiscreteInfo). d.d0);
-      small_states = subst (All (IsWithin 88)) (sym of_x) (states_start m);
-      small_discretes = subst (All (IsWithin 43)) (sym of_d) (discretes_start m);
-    }
+    start_within c.args.m.now c.as_slice-x.result.now c.as_slice-d.result.now (c.as_slice-x.ensures.value ∙ ap (λ (v : Values). v.x) c.work.view_is ∙ c.requires.states)
+    (c.as_slice-d.ensures.value ∙ ap (λ (v : Values). v.d) c.work.view_is ∙ c.requires.discretes)
 
 pub start_lines-requires-clause-levels : goal.start_lines-requires-clause-levels
 start_lines-requires-clause-levels c = ap length c.requires.levels ∙ count_start c.args.m.now
@@ -48,28 +52,24 @@ start_lines-requires-clause-near c =
     subst (λ x. near_by x c.args.levels.now) (sym (c.as_slice-x.ensures.value ∙ ap (λ (v : Values). v.x) c.work.view_is ∙ c.requires.states))
     (subst (near_by (start_states m)) (sym c.requires.levels) (start_near m))
 
-pub rewatch_all-requires-clause-point : goal.rewatch_all-requires-clause-point
-rewatch_all-requires-clause-point c =
+pub rewatch_all-requires : goal.rewatch_all-requires
+rewatch_all-requires c =
     let m = c.args.m.now in
     let of_x = c.as_slice-x.ensures.value ∙ ap (λ (v : Values). v.x) c.work.view_is ∙ c.requires.states in
     let of_d = c.as_slice-d.ensures.value ∙ ap (λ (v : Values). v.d) c.work.view_is ∙ c.requires.discretes in
     record {
-      values = record {
-        states = ap length of_x ∙ length-map m.states (λ (s : StateInfo). s.x0);
-        discretes = ap length of_d ∙ length-map m.discretes (λ (d : DiscreteInfo). d.d0);
-        small_states = subst (All (IsWithin 88)) (sym of_x) (states_start m);
-        small_discretes = subst (All (IsWithin 43)) (sym of_d) (discretes_start m);
+      fits = c.requires.fits;
+      point = record {
+        values = start_within m c.as_slice-x.result.now c.as_slice-d.result.now of_x of_d;
+        slopes = record {
+          as_many = c.start_lines.auto.slopes ∙ c.requires.one_each.slopes;
+          small = slopes_small m c.args.levels.now c.as_slice-d.result.now c.as_slice-d.result.now c.start_lines.new.slopes
+              (light_at m c.args.levels.now c.as_slice-d.result.now c.requires.levels of_d) refl c.start_lines.ensures.set_out.slopes;
+        };
+        in_time = omega arith;
       };
-      slopes = record {
-        as_many = c.start_lines.auto.slopes ∙ c.requires.slopes;
-        small = slopes_small m c.args.levels.now c.as_slice-d.result.now c.as_slice-d.result.now c.start_lines.new.slopes
-            (light_at m c.args.levels.now c.as_slice-d.result.now c.requires.levels of_d) refl c.start_lines.ensures.slopes;
-      };
-      in_time = omega arith;
+      places = omega (arith, c.start_lines.ensures.places, c.requires.places);
     }
-
-pub rewatch_all-requires-clause-places : goal.rewatch_all-requires-clause-places
-rewatch_all-requires-clause-places c = omega (arith, c.start_lines.ensures.places, c.requires.places)
 
 pub copy_from_slice-requires : goal.copy_from_slice-requires
 copy_from_slice-requires c =

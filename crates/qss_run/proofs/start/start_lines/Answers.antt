@@ -22,32 +22,32 @@ line_of x slope level = record { tick = 0; x = x; slope = slope; level = level }
 
 pub slope-slope-requires-clause-modes : goal.slope-slope-requires-clause-modes
 slope-slope-requires-clause-modes c =
-    is_true _ (row_is_light c.args.m.now c.args.levels.now c.args.d.now c.requires.light c.loop-j.j (omega (arith, c.requires.lines, c.loop-j-test.true))).modes
+    is_true _ (row_is_light c.args.m.now c.args.levels.now c.args.d.now c.requires.light c.loop-j.j (omega (arith, c.requires.one_each.lines, c.loop-j-test.true))).modes
 
 pub start_line-requires-clause-slope : goal.start_line-requires-clause-slope
 start_line-requires-clause-slope c =
     let fits : FitsSigned w128 c.slope-slope.result = record { sfits = c.slope-slope.type_inv } in
     rw (to_z-of_z w128 c.slope-slope.result fits)
     (subst (IsWithin 88) (sym c.slope-slope.ensures.value)
-    (row_is_light c.args.m.now c.args.levels.now c.args.d.now c.requires.light c.loop-j.j (omega (arith, c.requires.lines, c.loop-j-test.true))).slope)
+    (row_is_light c.args.m.now c.args.levels.now c.args.d.now c.requires.light c.loop-j.j (omega (arith, c.requires.one_each.lines, c.loop-j-test.true))).slope)
 
 pub start_line-requires-clause-near : goal.start_line-requires-clause-near
 start_line-requires-clause-near c =
     let j = c.loop-j.j in
-    let small_x : IsWithin 88 (int_at c.args.x.now j) = c.requires.values.small_states j (pos 0) (omega (arith, c.requires.values.states, c.requires.lines, c.loop-j-test.true)) in
-    let small_level : IsWithin 43 (int_at c.args.levels.now j) = c.requires.small_levels j (pos 0) (omega (arith, c.requires.levels, c.requires.lines, c.loop-j-test.true)) in
+    let small_x : IsWithin 88 (int_at c.args.x.now j) = c.requires.values.small_states j (pos 0) (omega (arith, c.requires.values.states, c.requires.one_each.lines, c.loop-j-test.true)) in
+    let small_level : IsWithin 43 (int_at c.args.levels.now j) = c.requires.small_levels j (pos 0) (omega (arith, c.requires.levels, c.requires.one_each.lines, c.loop-j-test.true)) in
     let x : FitsSigned w128 (int_at c.args.x.now j) = omega (arith, ints, small_x) in
     let level : FitsSigned w64 (int_at c.args.levels.now j) = omega (arith, ints, small_level) in
     near_along c.args.m.now j _ (int_at c.args.x.now j) _ (int_at c.args.levels.now j) (to_z-of_z w128 (int_at c.args.x.now j) x) (to_z-of_z w64 (int_at c.args.levels.now j) level)
-    (c.requires.near j (omega (arith, c.requires.lines, c.loop-j-test.true)))
+    (c.requires.near j (omega (arith, c.requires.one_each.lines, c.loop-j-test.true)))
 
 pub loop-j-preserved : goal.loop-j-preserved
 loop-j-preserved c =
     let j = c.loop-j.j in
     let m = c.args.m.now in
     let inv = c.loop-j.invariant in
-    let small_x : IsWithin 88 (int_at c.args.x.now j) = c.requires.values.small_states j (pos 0) (omega (arith, c.requires.values.states, c.requires.lines, c.loop-j-test.true)) in
-    let small_level : IsWithin 43 (int_at c.args.levels.now j) = c.requires.small_levels j (pos 0) (omega (arith, c.requires.levels, c.requires.lines, c.loop-j-test.true)) in
+    let small_x : IsWithin 88 (int_at c.args.x.now j) = c.requires.values.small_states j (pos 0) (omega (arith, c.requires.values.states, c.requires.one_each.lines, c.loop-j-test.true)) in
+    let small_level : IsWithin 43 (int_at c.args.levels.now j) = c.requires.small_levels j (pos 0) (omega (arith, c.requires.levels, c.requires.one_each.lines, c.loop-j-test.true)) in
     let x : FitsSigned w128 (int_at c.args.x.now j) = omega (arith, ints, small_x) in
     let level : FitsSigned w64 (int_at c.args.levels.now j) = omega (arith, ints, small_level) in
     let slope : FitsSigned w128 c.slope-slope.result = record { sfits = c.slope-slope.type_inv } in
@@ -66,8 +66,8 @@ loop-j-preserved c =
       own_level = ap (λ (l : Line). l.level) line;
       is_due = c.start_line.ensures.due;
     } in
-    let inside : j < length c.loop-j.lines = omega (arith, c.requires.lines, inv.line_count, c.loop-j-test.true) in
-    let within : j < length c.loop-j.slopes = omega (arith, c.requires.lines, inv.slope_count, c.loop-j-test.true) in
+    let inside : j < length c.loop-j.lines = omega (arith, c.requires.one_each.lines, inv.line_count, c.loop-j-test.true) in
+    let within : j < length c.loop-j.slopes = omega (arith, c.requires.one_each.lines, inv.slope_count, c.loop-j-test.true) in
     record {
       slope_count = length-set c.loop-j.slopes j _ ∙ inv.slope_count;
       own_slopes = one_more (pos 0) (λ k. slope_at m k c.args.levels.now c.args.d.now) c.loop-j.slopes j _ within inv.own_slopes is_slope;
@@ -77,7 +77,9 @@ loop-j-preserved c =
       dues_kept = λ place above. let ne : place ≢ j = omega (arith, above) in c.start_line.ensures.others place ne ∙ inv.dues_kept place (omega (arith, above));
     }
 
-pub returns-clause-slopes : goal.returns-clause-slopes
-returns-clause-slopes c =
-    fill_by_all (λ j. slope_at c.args.m.now j c.args.levels.now c.args.d.now) c.loop-j.slopes (state_count c.args.m.now) (pos 0) c.loop-j.invariant.slope_count
-    (λ k h. c.loop-j.invariant.own_slopes k (omega (arith, h, c.requires.lines, c.loop-j-test.false)))
+pub returns-clause-set_out : goal.returns-clause-set_out
+returns-clause-set_out c = record {
+  slopes = fill_by_all (λ j. slope_at c.args.m.now j c.args.levels.now c.args.d.now) c.loop-j.slopes (state_count c.args.m.now) (pos 0) c.loop-j.invariant.slope_count
+      (λ k h. c.loop-j.invariant.own_slopes k (omega (arith, h, c.requires.one_each.lines, c.loop-j-test.false)));
+  lines = λ k h. c.loop-j.invariant.are_on k (omega (arith, h, c.requires.one_each.lines, c.loop-j-test.false));
+}

@@ -73,31 +73,39 @@ take_changed-requires-clause-none_before g c =
     (omega (arith, fits.places, c.len-states.ensures, s.lines.ok.0, fits.lines, ap length c.as_slice-settled.ensures.value, fits.own_conditions.settled))
     (λ place due e. omega (arith, dues_later c.args.m.now c.args.tick s c.requires.stands place due e)))
 
-pub visit_due-requires-clause-taken : goal.visit_due-requires-clause-taken
-visit_due-requires-clause-taken g c =
+pub visit_due-requires-clause-ready : goal.visit_due-requires-clause-ready
+visit_due-requires-clause-ready g c =
     let m = c.args.m.now in
     let s : Store = c.args.s.now in
     let fits = c.requires.stands.fits in
     let states : c.len-states.result ≡ state_count m = omega (arith, c.len-states.ensures, s.lines.ok.0, fits.lines) in
-    let places : c.len-conditions.result ≡ length (conditions m) = omega (arith, c.len-conditions.ensures, s.conditions.branches.ok.0, fits.own_conditions.branches.as_many) in (
-      s.agenda,
-      is_taken m c.args.tick s c.len-states.result c.len-conditions.result c.as_slice-arrived.result.now c.as_slice-settled.result.now c.take_due.new.moved c.take_changed.new.changed
-          c.call_risen.new.agenda c.take_due.new.agenda c.take_changed.new.agenda c.requires.stands states places c.as_slice-arrived.ensures.value c.as_slice-settled.ensures.value
-          c.call_risen.ensures c.take_due.ensures.due c.take_due.ensures.without c.take_changed.ensures.changing c.take_changed.ensures.taken c.take_due.ensures.room c.take_changed.ensures.room,
-    )
+    let places : c.len-conditions.result ≡ length (conditions m) = omega (arith, c.len-conditions.ensures, s.conditions.branches.ok.0, fits.own_conditions.branches.as_many) in
+    record {
+      taken = (
+        s.agenda,
+        is_taken m c.args.tick s c.len-states.result c.len-conditions.result c.as_slice-arrived.result.now c.as_slice-settled.result.now c.take_due.new.moved c.take_changed.new.changed
+            c.call_risen.new.agenda c.take_due.new.agenda c.take_changed.new.agenda c.requires.stands states places c.as_slice-arrived.ensures.value c.as_slice-settled.ensures.value
+            c.call_risen.ensures c.take_due.ensures.due c.take_due.ensures.without c.take_changed.ensures.changing c.take_changed.ensures.taken c.take_due.ensures.room c.take_changed.ensures.room,
+      );
+      in_time = c.requires.in_time;
+    }
 
-pub visit_changed-requires-clause-taken : goal.visit_changed-requires-clause-taken
-visit_changed-requires-clause-taken g c =
+pub visit_changed-requires : goal.visit_changed-requires
+visit_changed-requires g c =
     let m = c.args.m.now in
     let s : Store = c.args.s.now in
     let fits = c.requires.stands.fits in
     let states : c.len-states.result ≡ state_count m = omega (arith, c.len-states.ensures, s.lines.ok.0, fits.lines) in
-    let places : c.len-conditions.result ≡ length (conditions m) = omega (arith, c.len-conditions.ensures, s.conditions.branches.ok.0, fits.own_conditions.branches.as_many) in (
-      s.agenda,
-      is_taken m c.args.tick s c.len-states.result c.len-conditions.result c.as_slice-arrived.result.now c.as_slice-settled.result.now c.take_due.new.moved c.take_changed.new.changed
-          c.call_risen.new.agenda c.take_due.new.agenda c.take_changed.new.agenda c.requires.stands states places c.as_slice-arrived.ensures.value c.as_slice-settled.ensures.value
-          c.call_risen.ensures c.take_due.ensures.due c.take_due.ensures.without c.take_changed.ensures.changing c.take_changed.ensures.taken c.take_due.ensures.room c.take_changed.ensures.room,
-    )
+    let places : c.len-conditions.result ≡ length (conditions m) = omega (arith, c.len-conditions.ensures, s.conditions.branches.ok.0, fits.own_conditions.branches.as_many) in
+    record {
+      taken = (
+        s.agenda,
+        is_taken m c.args.tick s c.len-states.result c.len-conditions.result c.as_slice-arrived.result.now c.as_slice-settled.result.now c.take_due.new.moved c.take_changed.new.changed
+            c.call_risen.new.agenda c.take_due.new.agenda c.take_changed.new.agenda c.requires.stands states places c.as_slice-arrived.ensures.value c.as_slice-settled.ensures.value
+            c.call_risen.ensures c.take_due.ensures.due c.take_due.ensures.without c.take_changed.ensures.changing c.take_changed.ensures.taken c.take_due.ensures.room c.take_changed.ensures.room,
+      );
+      in_time = c.requires.in_time;
+    }
 
 pub returns-then-is_empty : goal.returns-then-is_empty
 returns-then-is_empty g c =

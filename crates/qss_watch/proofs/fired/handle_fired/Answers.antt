@@ -63,7 +63,7 @@ returns-in-Ok c =
     let ideal : Handling = handling_of_fired m tick states start.d fired in
     let done : Handling = done_from m flags (at_first arrived.x tick start) in
     let agree : Agree (λ j. int_at arrived.x j ≡ int_at states j) done ideal =
-    fired_agree m c.args.branches.now fired c.requires.branches c.requires.fired tick states arrived.x start.d start.x (come.as_many ∙ many) come in
+    fired_agree m c.args.branches.now fired c.requires.due.of c.requires.due.numbers tick states arrived.x start.d start.x (come.as_many ∙ many) come in
     let begun = begins start arrived c.begin.new.self tick c.arrive_in_work.ensures.work c.begin.ensures in
     let values : after ≡ values_after (at_first arrived.x tick start) done = c.run_fired.ensures.values ∙ ap (λ (w : Values). values_after w (done_from m flags w)) begun in
     let own = ap (λ (w : Values). w.x) values in
@@ -94,6 +94,6 @@ returns-in-Err-clause-over c =
     let states = states_at c.args.lines.now tick in
     let many : length start.x ≡ length states = c.requires.values.states ∙ sym (length-states_at c.args.lines.now tick ∙ c.requires.lines.up_to.as_many) in
     let come = c.arrive_in_work.ensures.states in
-    let agree = fired_agree m c.args.branches.now fired c.requires.branches c.requires.fired tick states arrived.x start.d start.x (come.as_many ∙ many) come in
+    let agree = fired_agree m c.args.branches.now fired c.requires.due.of c.requires.due.numbers tick states arrived.x start.d start.x (come.as_many ∙ many) come in
     c.in-Err.ensures.over
     ∙ ap (λ (w : Values). (done_from m (flags_of (length c.args.branches.now) fired) w).overflow) (begins start arrived c.begin.new.self tick c.arrive_in_work.ensures.work c.begin.ensures) ∙ agree.overflow

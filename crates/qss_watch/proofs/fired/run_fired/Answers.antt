@@ -18,12 +18,12 @@ use Rattle.qss_watch.proofs.fired.run_fired.Goals.{then-at-next+in_ok-fire, else
 
 pub fire-requires-clause-room : goal.fire-requires-clause-room
 fire-requires-clause-room c =
-    let own = is_of c.args.m.now c.args.branches.now c.args.fired.now c.loop-place.place-index c.requires.branches c.requires.fired c.loop-place-test.true in
+    let own = is_of c.args.m.now c.args.branches.now c.args.fired.now c.loop-place.place-index c.requires.due.of c.requires.due.numbers c.loop-place-test.true in
     omega (arith, c.loop-place.invariant.room, room_for c.args.m.now c.loop-place.next _ _ c.if-at-next.true own.clause_known own.branch_known)
 
 pub overflow_add-next : goal.overflow_add-next
 overflow_add-next c =
-    let own = is_of c.args.m.now c.args.branches.now c.args.fired.now c.loop-place.place-index c.requires.branches c.requires.fired c.loop-place-test.true in
+    let own = is_of c.args.m.now c.args.branches.now c.args.fired.now c.loop-place.place-index c.requires.due.of c.requires.due.numbers c.loop-place-test.true in
     omega (arith, own.clause_known, clauses_few c.args.m.now)
 
 -- a branch fires at a tick that is still the first one's
@@ -41,7 +41,7 @@ loop-place-preserved c =
     let inv = c.loop-place.invariant in
     let fired = c.args.fired.now in
     let at : BranchPlace = place_at c.args.branches.now (get_or fired i 0) in
-    let own = is_of m c.args.branches.now fired i c.requires.branches c.requires.fired c.loop-place-test.true in
+    let own = is_of m c.args.branches.now fired i c.requires.due.of c.requires.due.numbers c.loop-place-test.true in
     let actions : List Action = (branch_at m at.clause at.branch).actions in
     let flags : List Bool = flags_of (length c.args.branches.now) fired in
     let all = clauses_from m w0.tick w0.pre flags in
@@ -55,9 +55,9 @@ loop-place-preserved c =
           let next : c.if-at-next.next ≡ at.clause + 1 = w.next-is in
           let order : c.loop-place.next ≤ at.clause = w.if-at-next.true in
           record {
-            so_far = inv.so_far ∙ fires_here m c.args.branches.now fired i c.requires.branches c.requires.fired c.loop-place-test.true w0.tick w0.pre c.loop-place.next (handling_of v) refl order inv.passed
+            so_far = inv.so_far ∙ fires_here m c.args.branches.now fired i c.requires.due.of c.requires.due.numbers c.loop-place-test.true w0.tick w0.pre c.loop-place.next (handling_of v) refl order inv.passed
                 ∙ ap (all (at.clause + 1)) (sym after) ∙ ap (λ n. all n (handling_of c.if-at-next.w)) (sym next);
-            passed = passed_on m c.args.branches.now fired i c.requires.branches c.requires.fired c.loop-place-test.true c.loop-place.next c.if-at-next.next inv.passed (omega (arith, next, order)) (omega (arith, next))
+            passed = passed_on m c.args.branches.now fired i c.requires.due.of c.requires.due.numbers c.loop-place-test.true c.loop-place.next c.if-at-next.next inv.passed (omega (arith, next, order)) (omega (arith, next))
                 (omega (arith, next, own.clause_known));
             known = omega (arith, next, own.clause_known);
             same_tick = ap (λ (x : Values). x.tick) values ∙ inv.same_tick;
@@ -80,7 +80,7 @@ loop-place-preserved c =
           let order : at.clause < c.loop-place.next = w.if-at-next.false in
           record {
             so_far = inv.so_far ∙ ap (λ (x : Values). all c.loop-place.next (handling_of x)) (sym same) ∙ ap (λ n. all n (handling_of c.if-at-next.w)) (sym next);
-            passed = passed_on m c.args.branches.now fired i c.requires.branches c.requires.fired c.loop-place-test.true c.loop-place.next c.if-at-next.next inv.passed (omega (arith, next)) (omega (arith, next, order))
+            passed = passed_on m c.args.branches.now fired i c.requires.due.of c.requires.due.numbers c.loop-place-test.true c.loop-place.next c.if-at-next.next inv.passed (omega (arith, next)) (omega (arith, next, order))
                 (omega (arith, next, inv.known));
             known = omega (arith, next, inv.known);
             same_tick = ap (λ (x : Values). x.tick) same ∙ inv.same_tick;
@@ -107,7 +107,7 @@ returns-in_err-fire c =
     let over : Some c.in_err-fire.field-0.0.var ≡ turn.overflow = ap overflow_of (sym c.in_err-fire.was) ∙ c.fire.ensures.over ∙ ap (λ (h : Handling). h.overflow) same in
     let end : turn ≡ run_clauses m w0.tick w0.pre 0 (handling_of w0) m.clauses flags =
     sym (inv.so_far
-    ∙ fires_here m c.args.branches.now fired c.loop-place.place-index c.requires.branches c.requires.fired c.loop-place-test.true w0.tick w0.pre c.loop-place.next (handling_of v) refl c.if-at-next.true inv.passed
+    ∙ fires_here m c.args.branches.now fired c.loop-place.place-index c.requires.due.of c.requires.due.numbers c.loop-place-test.true w0.tick w0.pre c.loop-place.next (handling_of v) refl c.if-at-next.true inv.passed
     ∙ clauses_stay m w0.tick w0.pre (at.clause + 1) turn c.in_err-fire.field-0.0.var (drop (at.clause + 1) m.clauses) (drop (first_place m.clauses (at.clause + 1)) flags) (sym over)) in
     record {
       values = c.fire.ensures.values ∙ ap (values_after v) same ∙ from_start w0 v turn inv.same_tick inv.same_before inv.same_room ∙ ap (values_after w0) end;

@@ -1,7 +1,10 @@
 -- Where no state was reinitialized, all is as it was. Else those that are due at the tick, once all are in the agenda, are the moved states.
-use Rattle.std.proofs.Common.{rules, sym, ◌∙◌}
+use Rattle.std.proofs.Common.{arith, rules, sym, ◌∙◌}
 use Rattle.qss_watch.proofs.Reinitialized.{AreGiven, joined, joined_without, joins_nothing}
 use Rattle.qss_watch.proofs.logged.join_reinitialized.Goals as goal
+
+pub take_due-requires-clause-has : goal.take_due-requires-clause-has
+take_due-requires-clause-has c = record { room = c.requires.has.room; places = omega (arith, c.requires.has.places, c.give_back.ensures.as_many, c.give_reinitialized.ensures.as_many) }
 
 pub returns-clause-each : goal.returns-clause-each
 returns-clause-each c =

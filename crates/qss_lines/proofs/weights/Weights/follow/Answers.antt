@@ -20,11 +20,8 @@ are_up_to_at-requires-clause-from c k none h = omega arith
 pub are_up_to_at-requires-clause-known : goal.are_up_to_at-requires-clause-known
 are_up_to_at-requires-clause-known c k none h = omega (arith, c.requires.ready.moved.below k none h, c.requires.ready.values.levels)
 
-pub weigh_every-requires-clause-levels : goal.weigh_every-requires-clause-levels
-weigh_every-requires-clause-levels c = c.requires.ready.values
-
-pub weigh_every-requires-clause-weights : goal.weigh_every-requires-clause-weights
-weigh_every-requires-clause-weights c = ap length c.as_mut_slice-2.ensures.value ∙ c.requires.before.1.own.as_many
+pub weigh_every-requires : goal.weigh_every-requires
+weigh_every-requires c = record { values = c.requires.ready.values; one_each = ap length c.as_mut_slice-2.ensures.value ∙ c.requires.before.1.own.as_many }
 
 pub returns-then-self : goal.returns-then-self
 returns-then-self c =
@@ -34,8 +31,7 @@ returns-then-self c =
       weights = λ none.
           kept_anew c.args.at.now.machine.now c.args.at.now.levels.now c.args.d.now self c.reweigh_of.new.weights c.if-self.true c.requires.before.1.own.as_many
           (c.reweigh_of.auto.weights ∙ c.as_mut_slice.ensures.len) c.reweigh_of.ensures.weights;
-      bound = refl;
-      on = λ was. was;
+      stay = record { bound = refl; on = λ was. was };
       off = λ was up_to. was;
     }
 
@@ -57,8 +53,7 @@ returns-then-are_up_to_at c =
     record {
       over = sym (light_up_to m self.bound levels d c.requires.ready.values.levels c.requires.ready.values.discretes are);
       weights = λ none. not_kept m levels d self off before.own.as_many are;
-      bound = refl;
-      on = λ was. was;
+      stay = record { bound = refl; on = λ was. was };
       off = λ was up_to. was;
     }
 
@@ -70,7 +65,6 @@ returns c =
       weights = λ none.
           kept_anew c.args.at.now.machine.now c.args.at.now.levels.now c.args.d.now on c.weigh_every.new.weights refl c.requires.before.1.own.as_many
           (c.weigh_every.auto.weights ∙ c.as_mut_slice-2.ensures.len) (c.weigh_every.ensures.weights none);
-      bound = refl;
-      on = λ was. refl;
+      stay = record { bound = refl; on = λ was. refl };
       off = λ was up_to. absurd (let yes = c.are_up_to_at.ensures.1 up_to in let no = c.if-are_up_to_at.false in cc);
     }

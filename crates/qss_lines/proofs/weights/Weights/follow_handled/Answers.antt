@@ -3,6 +3,7 @@ use Rattle.std.proofs.Common.{◌≡◌, List, length, ℤ, false, true, refl, s
 use Rattle.qss_lines.specs.declared.weights.Weights.{Weights}
 use Rattle.qss_lines.specs.Weighings.{AreSmall}
 use Rattle.qss_lines.proofs.Kept.{levels_still, values_still, light_up_to, not_kept, kept_anew}
+use Rattle.qss_lines.proofs.Shifting.{levels_after}
 use Rattle.qss_lines.proofs.weights.Weights.follow_handled.Goals as goal
 
 pub reweigh_handled-requires-clause-before : goal.reweigh_handled-requires-clause-before
@@ -15,16 +16,11 @@ reweigh_handled-requires-clause-before c =
       },
     )
 
-pub weigh_every-requires-clause-levels : goal.weigh_every-requires-clause-levels
-weigh_every-requires-clause-levels c = record {
-  levels = c.requires.ready.levels;
-  discretes = c.requires.left.values.discretes;
-  small_levels = c.requires.ready.small_levels;
-  small_discretes = c.requires.left.values.small_discretes;
+pub weigh_every-requires : goal.weigh_every-requires
+weigh_every-requires c = record {
+  values = levels_after c.requires.can;
+  one_each = ap length c.as_mut_slice-2.ensures.value ∙ c.requires.before.1.own.as_many;
 }
-
-pub weigh_every-requires-clause-weights : goal.weigh_every-requires-clause-weights
-weigh_every-requires-clause-weights c = ap length c.as_mut_slice-2.ensures.value ∙ c.requires.before.1.own.as_many
 
 pub returns-then-self : goal.returns-then-self
 returns-then-self c =
@@ -35,8 +31,7 @@ returns-then-self c =
       weights = λ none.
           kept_anew m c.args.at.now.levels.now c.args.left.now.discretes.now self c.reweigh_handled.new.weights c.if-self.true c.requires.before.1.own.as_many
           (c.reweigh_handled.auto.weights ∙ c.as_mut_slice.ensures.len) (c.reweigh_handled.ensures.weights none);
-      bound = refl;
-      on = λ was. was;
+      stay = record { bound = refl; on = λ was. was };
       off = λ was levels_up_to values_up_to. was;
     }
 
@@ -44,7 +39,7 @@ pub returns-then-are_handled_up_to : goal.returns-then-are_handled_up_to
 returns-then-are_handled_up_to c =
     let m = c.args.at.now.machine.now in
     let self : Weights = c.args.self.now in
-    let left = c.requires.left in
+    let left = c.requires.can.handled in
     let levels : List ℤ = c.args.at.now.levels.now in
     let pre : List ℤ = c.args.left.now.before.now in
     let d : List ℤ = c.args.left.now.discretes.now in
@@ -59,10 +54,9 @@ returns-then-are_handled_up_to c =
       small_discretes = values_still m self.bound c.args.left.now.assigned.now pre d left.many_before left.values.discretes left.assigned.others were.small_discretes within.1;
     } in
     record {
-      over = sym (light_up_to m self.bound levels d c.requires.ready.levels left.values.discretes are);
+      over = sym (light_up_to m self.bound levels d c.requires.can.new.levels left.values.discretes are);
       weights = λ none. not_kept m levels d self off before.own.as_many are;
-      bound = refl;
-      on = λ was. was;
+      stay = record { bound = refl; on = λ was. was };
       off = λ was levels_up_to values_up_to. was;
     }
 
@@ -74,8 +68,7 @@ returns c =
       weights = λ none.
           kept_anew c.args.at.now.machine.now c.args.at.now.levels.now c.args.left.now.discretes.now on c.weigh_every.new.weights refl c.requires.before.1.own.as_many
           (c.weigh_every.auto.weights ∙ c.as_mut_slice-2.ensures.len) (c.weigh_every.ensures.weights none);
-      bound = refl;
-      on = λ was. refl;
+      stay = record { bound = refl; on = λ was. refl };
       off = λ was levels_up_to values_up_to.
           absurd (let yes = c.are_handled_up_to.ensures.1 (levels_up_to, values_up_to) in let no = c.if-are_handled_up_to.false in cc);
     }

@@ -13,7 +13,7 @@ pub returns-in-Some-clause-bound : goal.returns-in-Some-clause-bound
 returns-in-Some-clause-bound c e = c.in-Some.ensures.found c.in-Some.bound refl
 
 pub weigh_all-requires : goal.weigh_all-requires
-weigh_all-requires c = record { values = c.requires.levels; one_each = ap length c.as_mut_slice.ensures.value ∙ c.requires.weights; light = c.requires.light }
+weigh_all-requires c = record { of = record { values = c.requires.levels; one_each = ap length c.as_mut_slice.ensures.value ∙ c.requires.weights }; light = c.requires.light }
 
 pub returns-clause-weights : goal.returns-clause-weights
 returns-clause-weights c =

@@ -27,35 +27,30 @@ use Rattle.qss_watch.proofs.OwnConditions.{arrived_anew}
 use Rattle.qss_lines.proofs.InPlace.{same_length}
 use Rattle.qss_watch.proofs.conditions.Conditions.handle.Goals as goal
 
-pub arrive_moved-passed-requires-clause-as_many : goal.arrive_moved-passed-requires-clause-as_many
-arrive_moved-passed-requires-clause-as_many c = c.requires.ready.values.states ∙ sym c.requires.ready.lines.up_to.as_many
-
-pub arrive_moved-passed-requires-clause-later : goal.arrive_moved-passed-requires-clause-later
-arrive_moved-passed-requires-clause-later c = c.requires.ready.lines.up_to.later
-
-pub arrive_moved-passed-requires-clause-in_time : goal.arrive_moved-passed-requires-clause-in_time
-arrive_moved-passed-requires-clause-in_time c = c.requires.ready.lines.up_to.in_time
-
-pub arrive_moved-passed-requires-clause-moved : goal.arrive_moved-passed-requires-clause-moved
-arrive_moved-passed-requires-clause-moved c =
-    let ready = c.requires.ready in
-    subst (λ n. AreNumbers n c.as_slice.result.now) (sym ready.lines.up_to.as_many)
-    (subst (AreNumbers (state_count c.args.at.now.machine.now)) (sym c.as_slice.ensures.value) ready.lines.numbers)
-
-pub arrive_moved-passed-requires-clause-others_small : goal.arrive_moved-passed-requires-clause-others_small
-arrive_moved-passed-requires-clause-others_small c j h none =
-    c.requires.ready.lines.others_small j (omega (arith, h, c.requires.ready.lines.up_to.as_many)) (ap (λ js. is_among js j) (sym c.as_slice.ensures.value) ∙ none)
+pub arrive_moved-passed-requires : goal.arrive_moved-passed-requires
+arrive_moved-passed-requires c =
+    let lines = c.requires.ready.lines in
+    let values = c.requires.ready.values in
+    record {
+      as_many = values.states ∙ sym lines.up_to.as_many;
+      numbers = subst (λ n. AreNumbers n c.as_slice.result.now) (sym lines.up_to.as_many)
+          (subst (AreNumbers (state_count c.args.at.now.machine.now)) (sym c.as_slice.ensures.value) lines.numbers);
+      later = lines.up_to.later;
+      in_time = lines.up_to.in_time;
+      others_small = λ j h none. lines.others_small j (omega (arith, h, lines.up_to.as_many)) (ap (λ js. is_among js j) (sym c.as_slice.ensures.value) ∙ none);
+      small = values.small_states;
+    }
 
 pub returns-then-is_some-clause-over : goal.returns-then-is_some-clause-over
 returns-then-is_some-clause-over c =
     let all : Conditions = c.args.self.now in
     over_early c.args.at.now.machine.now c.args.at.now.tick (states_at c.args.at.now.lines.now c.args.at.now.tick) c.args.work.now.d all.arrived.items all.settled.items
-    c.arrive_moved-passed.result (sym c.is_some.ensures ∙ c.if-is_some.true) c.arrive_moved-passed.ensures.over
+    c.arrive_moved-passed.result (sym c.is_some.ensures ∙ c.if-is_some.true) c.arrive_moved-passed.ensures.arrived.over_is
 
 pub list_fired-requires-clause-read : goal.list_fired-requires-clause-read
 list_fired-requires-clause-read c =
     let calm : first_past 88 (states_at c.args.at.now.lines.now c.args.at.now.tick) ≡ None =
-    sym c.arrive_moved-passed.ensures.over ∙ not_some c.arrive_moved-passed.result (sym c.is_some.ensures ∙ c.if-is_some.false) in
+    sym c.arrive_moved-passed.ensures.arrived.over_is ∙ not_some c.arrive_moved-passed.result (sym c.is_some.ensures ∙ c.if-is_some.false) in
     may_be_read c.args.at.now c.args.self.now c.args.work.now.d c.as_slice-watches.result.now c.as_slice-settled.result.now c.requires.ready.known c.as_slice-watches.ensures.value
     c.as_slice-settled.ensures.value calm c.requires.ready.lines.up_to.in_time
 
@@ -70,7 +65,7 @@ list_fired-requires-clause-room c =
 pub read_changed-requires-clause-read : goal.read_changed-requires-clause-read
 read_changed-requires-clause-read c =
     let calm : first_past 88 (states_at c.args.at.now.lines.now c.args.at.now.tick) ≡ None =
-    sym c.arrive_moved-passed.ensures.over ∙ not_some c.arrive_moved-passed.result (sym c.is_some.ensures ∙ c.if-is_some.false) in
+    sym c.arrive_moved-passed.ensures.arrived.over_is ∙ not_some c.arrive_moved-passed.result (sym c.is_some.ensures ∙ c.if-is_some.false) in
     may_be_read c.args.at.now c.args.self.now c.args.work.now.d c.as_slice-watches.result.now c.as_slice-settled.result.now c.requires.ready.known c.as_slice-watches.ensures.value
     c.as_slice-settled.ensures.value calm c.requires.ready.lines.up_to.in_time
 
@@ -86,23 +81,22 @@ read_changed-requires-clause-apart c =
           ∙ sym (ap (λ flags. flag_at flags place) c.as_slice-settled.ensures.value);
     }
 
-pub handle_fired-over-requires-clause-branches : goal.handle_fired-over-requires-clause-branches
-handle_fired-over-requires-clause-branches c =
-    subst (AreBranches c.args.at.now.machine.now) (sym c.as_slice-branches.ensures.value) c.requires.ready.known.fits.branches
-
-pub handle_fired-over-requires-clause-fired : goal.handle_fired-over-requires-clause-fired
-handle_fired-over-requires-clause-fired c =
+pub handle_fired-over-requires-clause-due : goal.handle_fired-over-requires-clause-due
+handle_fired-over-requires-clause-due c =
     let count : ℕ = length c.as_slice-branches.result.now in
     let places : count ≡ length (conditions c.args.at.now.machine.now) = ap length c.as_slice-branches.ensures.value ∙ c.requires.ready.known.fits.branches.as_many in
-    subst (AreNumbers count) (sym (c.as_slice-2.ensures.value ∙ c.list_fired.ensures.fired))
-    (fired_numbers c.as_slice-settled.result.now c.as_mut_slice-arrived.result.now c.args.at.now.changed.now (λ place. holds_at (watch_at c.as_slice-watches.result.now place) c.args.at.now.tick) count
-    (subst (λ n. AreNumbers n c.args.at.now.changed.now) (sym places) c.requires.ready.known.changed))
+    record {
+      of = subst (AreBranches c.args.at.now.machine.now) (sym c.as_slice-branches.ensures.value) c.requires.ready.known.fits.branches;
+      numbers = subst (AreNumbers count) (sym (c.as_slice-2.ensures.value ∙ c.list_fired.ensures.fired))
+          (fired_numbers c.as_slice-settled.result.now c.as_mut_slice-arrived.result.now c.args.at.now.changed.now (λ place. holds_at (watch_at c.as_slice-watches.result.now place) c.args.at.now.tick) count
+          (subst (λ n. AreNumbers n c.args.at.now.changed.now) (sym places) c.requires.ready.known.changed));
+    }
 
 pub handle_fired-over-requires-clause-lines : goal.handle_fired-over-requires-clause-lines
 handle_fired-over-requires-clause-lines c =
     let ready = c.requires.ready in
     let x : List ℤ = states_at c.args.at.now.lines.now c.args.at.now.tick in
-    let calm : first_past 88 x ≡ None = sym c.arrive_moved-passed.ensures.over ∙ not_some c.arrive_moved-passed.result (sym c.is_some.ensures ∙ c.if-is_some.false) in
+    let calm : first_past 88 x ≡ None = sym c.arrive_moved-passed.ensures.arrived.over_is ∙ not_some c.arrive_moved-passed.result (sym c.is_some.ensures ∙ c.if-is_some.false) in
     record { up_to = ready.lines.up_to; small = all_within 88 x calm }
 
 pub handle_fired-over-requires-clause-values : goal.handle_fired-over-requires-clause-values
@@ -110,9 +104,9 @@ handle_fired-over-requires-clause-values c =
     let values = c.requires.ready.values in
     let of_d = ap (λ (v : Values). v.d) c.arrive_moved-passed.ensures.work in
     record {
-      states = c.arrive_moved-passed.ensures.arrived.as_many ∙ values.states;
+      states = c.arrive_moved-passed.ensures.arrived.arrived.as_many ∙ values.states;
       discretes = ap length of_d ∙ values.discretes;
-      small_states = c.arrive_moved-passed.ensures.small (not_some c.arrive_moved-passed.result (sym c.is_some.ensures ∙ c.if-is_some.false));
+      small_states = c.arrive_moved-passed.ensures.arrived.small (not_some c.arrive_moved-passed.result (sym c.is_some.ensures ∙ c.if-is_some.false));
       small_discretes = subst (All (IsWithin 43)) (sym of_d) values.small_discretes;
     }
 
@@ -123,7 +117,7 @@ returns-then-is_some-2-clause-over c =
     let m = c.args.at.now.machine.now in
     let tick = c.args.at.now.tick in
     let x : List ℤ = states_at c.args.at.now.lines.now tick in
-    let calm : first_past 88 x ≡ None = sym c.arrive_moved-passed.ensures.over ∙ not_some c.arrive_moved-passed.result (sym c.is_some.ensures ∙ c.if-is_some.false) in
+    let calm : first_past 88 x ≡ None = sym c.arrive_moved-passed.ensures.arrived.over_is ∙ not_some c.arrive_moved-passed.result (sym c.is_some.ensures ∙ c.if-is_some.false) in
     let same : handling_of_fired m tick x c.arrive_moved-passed.new.work.d c.as_slice-2.result.now ≡ handling_from m tick x c.args.work.now.d all.arrived.items all.settled.items =
     read_handling c.args.at.now all c.args.work.now.d ready.known c.as_slice-watches.result.now c.as_slice-settled.result.now c.as_mut_slice-arrived.result.now c.read_changed.new.arrived
     c.as_slice-watches.ensures.value c.as_slice-settled.ensures.value c.as_mut_slice-arrived.ensures.value c.read_changed.ensures
@@ -140,10 +134,10 @@ join_reinitialized-requires-clause-known c =
     let tick = c.args.at.now.tick in
     let lines = c.args.at.now.lines.now in
     let x : List ℤ = states_at lines tick in
-    let calm : first_past 88 x ≡ None = sym c.arrive_moved-passed.ensures.over ∙ not_some c.arrive_moved-passed.result (sym c.is_some.ensures ∙ c.if-is_some.false) in
+    let calm : first_past 88 x ≡ None = sym c.arrive_moved-passed.ensures.arrived.over_is ∙ not_some c.arrive_moved-passed.result (sym c.is_some.ensures ∙ c.if-is_some.false) in
     let begun : Values = c.arrive_moved-passed.new.work in
     let came : IsWritten (pos 0) (λ j z. z ≡ state_at (line_at lines j) tick) c.args.moved.now.items c.args.work.now.x begun.x =
-    subst (λ these. IsWritten (pos 0) (λ j z. z ≡ state_at (line_at lines j) tick) these c.args.work.now.x begun.x) c.as_slice.ensures.value c.arrive_moved-passed.ensures.arrived in
+    subst (λ these. IsWritten (pos 0) (λ j z. z ≡ state_at (line_at lines j) tick) these c.args.work.now.x begun.x) c.as_slice.ensures.value c.arrive_moved-passed.ensures.arrived.arrived in
     let none : c.handle_fired-over.result ≡ None = not_some c.handle_fired-over.result (sym c.is_some-2.ensures ∙ c.if-is_some-2.false) in
     let done : Handling = handling_of_fired m tick x c.arrive_moved-passed.new.work.d c.as_slice-2.result.now in
     let log : c.as_slice-log.result.now ≡ done.rows =
@@ -168,7 +162,7 @@ returns-clause-over c =
     let m = c.args.at.now.machine.now in
     let tick = c.args.at.now.tick in
     let x : List ℤ = states_at c.args.at.now.lines.now tick in
-    let calm : first_past 88 x ≡ None = sym c.arrive_moved-passed.ensures.over ∙ not_some c.arrive_moved-passed.result (sym c.is_some.ensures ∙ c.if-is_some.false) in
+    let calm : first_past 88 x ≡ None = sym c.arrive_moved-passed.ensures.arrived.over_is ∙ not_some c.arrive_moved-passed.result (sym c.is_some.ensures ∙ c.if-is_some.false) in
     let same : handling_of_fired m tick x c.arrive_moved-passed.new.work.d c.as_slice-2.result.now ≡ handling_from m tick x c.args.work.now.d all.arrived.items all.settled.items =
     read_handling c.args.at.now all c.args.work.now.d ready.known c.as_slice-watches.result.now c.as_slice-settled.result.now c.as_mut_slice-arrived.result.now c.read_changed.new.arrived
     c.as_slice-watches.ensures.value c.as_slice-settled.ensures.value c.as_mut_slice-arrived.ensures.value c.read_changed.ensures
@@ -184,14 +178,14 @@ returns-clause-handled c =
     let tick = c.args.at.now.tick in
     let lines = c.args.at.now.lines.now in
     let x : List ℤ = states_at lines tick in
-    let calm : first_past 88 x ≡ None = sym c.arrive_moved-passed.ensures.over ∙ not_some c.arrive_moved-passed.result (sym c.is_some.ensures ∙ c.if-is_some.false) in
+    let calm : first_past 88 x ≡ None = sym c.arrive_moved-passed.ensures.arrived.over_is ∙ not_some c.arrive_moved-passed.result (sym c.is_some.ensures ∙ c.if-is_some.false) in
     let same : handling_of_fired m tick x c.arrive_moved-passed.new.work.d c.as_slice-2.result.now ≡ handling_from m tick x c.args.work.now.d all.arrived.items all.settled.items =
     read_handling c.args.at.now all c.args.work.now.d ready.known c.as_slice-watches.result.now c.as_slice-settled.result.now c.as_mut_slice-arrived.result.now c.read_changed.new.arrived
     c.as_slice-watches.ensures.value c.as_slice-settled.ensures.value c.as_mut_slice-arrived.ensures.value c.read_changed.ensures
     c.arrive_moved-passed.new.work.d c.as_slice-2.result.now calm (ap (λ (v : Values). v.d) c.arrive_moved-passed.ensures.work) (c.as_slice-2.ensures.value ∙ c.list_fired.ensures.fired) in
     let begun : Values = c.arrive_moved-passed.new.work in
     let came : IsWritten (pos 0) (λ j z. z ≡ state_at (line_at lines j) tick) c.args.moved.now.items c.args.work.now.x begun.x =
-    subst (λ these. IsWritten (pos 0) (λ j z. z ≡ state_at (line_at lines j) tick) these c.args.work.now.x begun.x) c.as_slice.ensures.value c.arrive_moved-passed.ensures.arrived in
+    subst (λ these. IsWritten (pos 0) (λ j z. z ≡ state_at (line_at lines j) tick) these c.args.work.now.x begun.x) c.as_slice.ensures.value c.arrive_moved-passed.ensures.arrived.arrived in
     let none : c.handle_fired-over.result ≡ None = not_some c.handle_fired-over.result (sym c.is_some-2.ensures ∙ c.if-is_some-2.false) in
     let done : Handling = handling_of_fired m tick x c.arrive_moved-passed.new.work.d c.as_slice-2.result.now in
     let log : c.as_slice-log.result.now ≡ done.rows =

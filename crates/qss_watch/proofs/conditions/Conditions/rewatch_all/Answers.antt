@@ -17,12 +17,14 @@ pub overflow_cast-place : goal.overflow_cast-place
 overflow_cast-place c =
     omega (arith, c.len-place-end.ensures, c.args.self.now.branches.ok.0, c.requires.fits.branches.as_many, c.loop-place-test.true, conditions_few c.args.m.now)
 
-pub settle-requires-clause-fits : goal.settle-requires-clause-fits
-settle-requires-clause-fits c =
-    let inv = c.loop-place.invariant in settled_fits c.args.m.now c.args.self.now c.loop-place.self c.requires.fits inv.rest inv.settled.many_watches inv.settled.many_truths inv.count
-
-pub settle-requires-clause-places : goal.settle-requires-clause-places
-settle-requires-clause-places c = omega (arith, c.requires.places, c.loop-place.invariant.settled.many_dues)
+pub settle-requires-clause-can : goal.settle-requires-clause-can
+settle-requires-clause-can c =
+    let inv = c.loop-place.invariant in
+    record {
+      fits = settled_fits c.args.m.now c.args.self.now c.loop-place.self c.requires.fits inv.rest inv.settled.many_watches inv.settled.many_truths inv.count;
+      point = c.requires.point;
+      places = omega (arith, c.requires.places, inv.settled.many_dues);
+    }
 
 pub loop-place-preserved : goal.loop-place-preserved
 loop-place-preserved c =

@@ -1,5 +1,5 @@
 -- One condition is settled.
-use Rattle.std.proofs.Common.{◌≡◌, ◌+◌, ◌==◌, ◌&&◌, ◌||◌, length, set, refl, sym, ◌∙◌, ap, arith}
+use Rattle.std.proofs.Common.{◌≡◌, Bool, ◌+◌, ◌==◌, ◌&&◌, ◌||◌, length, set, refl, sym, ◌∙◌, ap, arith}
 use Rattle.std.proofs.lemmas.List.{length-set, with_items_is}
 use Rattle.std.specs.Vec.{with_items}
 use Rattle.qss_machine.specs.declared.parts.Condition.{Condition}
@@ -19,7 +19,7 @@ use Rattle.qss_watch.proofs.conditions.Conditions.settle.Goals as goal
 
 pub overflow_add-at : goal.overflow_add-at
 overflow_add-at c =
-    let m = c.args.m.now in omega (arith, c.requires.place, c.requires.point.slopes.as_many, conditions_few m, m.has_variables.few)
+    let m = c.args.m.now in omega (arith, c.requires.place, c.requires.can.point.slopes.as_many, conditions_few m, m.has_variables.few)
 
 pub returns-clause-settled : goal.returns-clause-settled
 returns-clause-settled c =
@@ -27,11 +27,11 @@ returns-clause-settled c =
     let at = c.args.at.now in
     let place = c.args.place in
     let all : Conditions = c.args.self.now in
-    let fits = c.requires.fits in
+    let fits = c.requires.can.fits in
     let watch : Watch = c.watch_of-watch.result in
     let own : c.condition-condition.result.now ≡ condition_at m place = c.condition-condition.ensures.value in
     let dues : c.set.new.self ≡ set c.args.agenda.now (state_count m + place) c.next_change.result =
-    c.set.ensures ∙ ap (λ n. set c.args.agenda.now (n + place) c.next_change.result) c.requires.point.slopes.as_many in
+    c.set.ensures ∙ ap (λ n. set c.args.agenda.now (n + place) c.next_change.result) c.requires.can.point.slopes.as_many in
     let watches = with_items_is all.watches (set c.as_mut_slice-watches.result.now place watch) (length-set c.as_mut_slice-watches.result.now place watch ∙ c.as_mut_slice-watches.ensures.len)
     ∙ ap (λ ws. set ws place watch) c.as_mut_slice-watches.ensures.value in
     let settled = with_items_is all.settled (set c.as_mut_slice-settled.result.now place c.truth-holds.result)
@@ -43,16 +43,16 @@ returns-clause-settled c =
       settled = (with_items all.settled (set c.as_mut_slice-settled.result.now place c.truth-holds.result)).items;
       dues = c.set.new.self;
     })
-    watch c.truth-holds.result c.next_change.result (omega (arith, c.requires.place, fits.watches)) (omega (arith, c.requires.place, fits.settled)) (omega (arith, c.requires.place, c.requires.places))
+    watch c.truth-holds.result c.next_change.result (omega (arith, c.requires.place, fits.watches)) (omega (arith, c.requires.place, fits.settled)) (omega (arith, c.requires.place, c.requires.can.places))
     watches settled dues
     (watch_is m at.tick at.states.now at.discretes.now at.slopes.now place c.condition-condition.result.now watch c.next_change.result c.watch_of-watch.ensures own c.next_change.ensures)
     (c.truth-holds.ensures ∙ ap (λ (w : Watch). compares w.rel w.value) c.watch_of-watch.ensures ∙ ap (λ (condition : Condition). truth m condition at.states.now at.discretes.now at.tick) own)
 
 pub note-requires-clause-place : goal.note-requires-clause-place
-note-requires-clause-place c = omega (arith, c.requires.place, c.requires.fits.arrived, ap length c.as_slice-arrived.ensures.value)
+note-requires-clause-place c = omega (arith, c.requires.place, c.requires.can.fits.arrived, ap length c.as_slice-arrived.ensures.value)
 
 pub note-requires-clause-count : goal.note-requires-clause-count
-note-requires-clause-count c = c.requires.fits.apart ∙ sym (ap length c.as_slice-arrived.ensures.value ∙ c.requires.fits.arrived)
+note-requires-clause-count c = c.requires.can.fits.apart ∙ sym (ap length c.as_slice-arrived.ensures.value ∙ c.requires.can.fits.arrived)
 
 pub returns-clause-noted : goal.returns-clause-noted
 returns-clause-noted c =
@@ -61,5 +61,18 @@ returns-clause-noted c =
     let holds = c.truth-holds.result in
     let settled = with_items_is all.settled (set c.as_mut_slice-settled.result.now place holds) (length-set c.as_mut_slice-settled.result.now place holds ∙ c.as_mut_slice-settled.ensures.len)
     ∙ ap (λ flags. set flags place holds) c.as_mut_slice-settled.ensures.value in
-    one_noted place holds all _ (omega (arith, c.requires.place, c.requires.fits.settled)) refl settled c.note.ensures.count
+    one_noted place holds all _ (omega (arith, c.requires.place, c.requires.can.fits.settled)) refl settled c.note.ensures.count
     (λ other. c.note.ensures.places other ∙ ap (λ flags. is_among all.apart.places other || (place == other && differ holds (flag_at flags place))) c.as_slice-arrived.ensures.value)
+
+pub returns-clause-apart : goal.returns-clause-apart
+returns-clause-apart c other =
+    let m = c.args.m.now in
+    let at = c.args.at.now in
+    let place = c.args.place in
+    let all : Conditions = c.args.self.now in
+    let own : c.condition-condition.result.now ≡ condition_at m place = c.condition-condition.ensures.value in
+    let holds : c.truth-holds.result ≡ truth m (condition_at m place) at.states.now at.discretes.now at.tick =
+    c.truth-holds.ensures ∙ ap (λ (w : Watch). compares w.rel w.value) c.watch_of-watch.ensures ∙ ap (λ (condition : Condition). truth m condition at.states.now at.discretes.now at.tick) own in
+    c.note.ensures.places other
+    ∙ ap (λ flags. is_among all.apart.places other || (place == other && differ c.truth-holds.result (flag_at flags place))) c.as_slice-arrived.ensures.value
+    ∙ ap (λ (b : Bool). is_among all.apart.places other || (place == other && differ b (flag_at all.arrived.items place))) holds

@@ -16,21 +16,25 @@ use Rattle.qss_watch.proofs.conditions.Conditions.settle_along.Goals as goal
 pub arrive_read-requires : goal.arrive_read-requires
 arrive_read-requires c = may_arrive c.requires.ready.values.states c.requires.ready.moment.lines.up_to
 
-pub settle-requires-clause-point : goal.settle-requires-clause-point
-settle-requires-clause-point c =
+pub settle-requires-clause-can : goal.settle-requires-clause-can
+settle-requires-clause-can c =
     let at = c.args.at.now in
     let ready = c.requires.ready in
     let full : List ℤ = states_at at.lines.now at.tick in
     let many : length c.args.x.now ≡ length full = ready.values.states ∙ sym ready.moment.lines.up_to.as_many ∙ sym (length-states_at at.lines.now at.tick) in
     record {
-      values = record {
-        states = c.arrive_read.ensures.as_many ∙ ready.values.states;
-        discretes = ready.values.discretes;
-        small_states = arrived_small 88 _ full c.args.x.now c.arrive_read.new.x many ready.moment.lines.small ready.values.small_states c.arrive_read.ensures;
-        small_discretes = ready.values.small_discretes;
+      fits = ready.fits;
+      point = record {
+        values = record {
+          states = c.arrive_read.ensures.as_many ∙ ready.values.states;
+          discretes = ready.values.discretes;
+          small_states = arrived_small 88 _ full c.args.x.now c.arrive_read.new.x many ready.moment.lines.small ready.values.small_states c.arrive_read.ensures;
+          small_discretes = ready.values.small_discretes;
+        };
+        slopes = ready.moment.slopes;
+        in_time = ready.moment.lines.up_to.in_time;
       };
-      slopes = ready.moment.slopes;
-      in_time = ready.moment.lines.up_to.in_time;
+      places = ready.places;
     }
 
 pub returns : goal.returns
