@@ -223,8 +223,13 @@ pub fn sum_token(
 {
     let level = level_in(&waiting, &position, &frames);
     let mut frames = frames;
-    let next = step(alloc, position, &mut frames, symbol);
-    let (next, waiting) = with_kept(next, waiting)?;
+    let next = match step(alloc, position, &mut frames, symbol) {
+        Ok(next) => next,
+        Err(error) => {
+            drop(waiting);
+            return Err(error);
+        }
+    };
     sum_move(alloc, waiting, level, next, frames, symbol)
 }
 
