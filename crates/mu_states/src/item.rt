@@ -25,6 +25,7 @@ ghost use Rattle.mu_states.specs.ItemViews.{settings_of};
 ghost use Rattle.mu_states.specs.SectionViews.{component_of, draft_of, effect_of, owner_of, place_of, settled_of, state_of};
 ghost use Rattle.mu_grammar.specs.SymbolViews.{symbol_view};
 
+use crate::kept::with_kept;
 use crate::section::state::{Component, Draft, Effect, Owner, Place, State, Then, Waiting};
 use mu_grammar::shape::{Bracket, Fixed, is_named};
 use mu_grammar::symbol::Symbol;
@@ -63,7 +64,10 @@ pub fn follow_item(place: Place, symbol: Symbol) -> Effect
     match symbol {
         Symbol::Mark(Mark::Comma, _) => Effect::Advances(State::Item(place)),
         Symbol::Mark(Mark::CloseRound, _) => Effect::Advances(closed(place)),
-        _ => Effect::Refuses,
+        _ => {
+            drop(place);
+            Effect::Refuses
+        }
     }
 }
 
@@ -85,7 +89,7 @@ fn open_first(alloc: Global, place: Place, bracket: Bracket) -> Result<Effect, A
 {
     let level = place_level(&place);
     let mut brackets = Vec::new(alloc);
-    brackets.push(bracket)?;
+    let (_, place) = with_kept(brackets.push(bracket), place)?;
     Ok(Effect::Descends(level, State::Skipping(place, brackets)))
 }
 
@@ -98,10 +102,22 @@ fn begin_skipped(alloc: Global, place: Place, symbol: Symbol) -> Result<Effect, 
         Symbol::Mark(Mark::OpenRound, _) => open_first(alloc, place, Bracket::Round),
         Symbol::Mark(Mark::OpenSquare, _) => open_first(alloc, place, Bracket::Square),
         Symbol::Mark(Mark::OpenCurly, _) => open_first(alloc, place, Bracket::Curly),
-        Symbol::Mark(Mark::CloseRound, _) => Ok(Effect::Refuses),
-        Symbol::Mark(Mark::CloseSquare, _) => Ok(Effect::Refuses),
-        Symbol::Mark(Mark::CloseCurly, _) => Ok(Effect::Refuses),
-        Symbol::Mark(Mark::Comma, _) => Ok(Effect::Refuses),
+        Symbol::Mark(Mark::CloseRound, _) => {
+            drop(place);
+            Ok(Effect::Refuses)
+        }
+        Symbol::Mark(Mark::CloseSquare, _) => {
+            drop(place);
+            Ok(Effect::Refuses)
+        }
+        Symbol::Mark(Mark::CloseCurly, _) => {
+            drop(place);
+            Ok(Effect::Refuses)
+        }
+        Symbol::Mark(Mark::Comma, _) => {
+            drop(place);
+            Ok(Effect::Refuses)
+        }
         _ => Ok(Effect::Advances(State::Skipping(place, Vec::new(alloc)))),
     }
 }
@@ -125,7 +141,7 @@ fn open_bracket(
 {
     let level = skip_level(&place, &brackets);
     let mut brackets = brackets;
-    brackets.push(bracket)?;
+    let (_, place) = with_kept(brackets.push(bracket), place)?;
     Ok(Effect::Descends(level, State::Skipping(place, brackets)))
 }
 
@@ -138,12 +154,16 @@ fn close_bracket(place: Place, brackets: Vec<Bracket>, bracket: Bracket) -> Effe
     match brackets.pop() {
         None => match bracket {
             Bracket::Round => Effect::Advances(closed(place)),
-            _ => Effect::Refuses,
+            _ => {
+                drop(place);
+                Effect::Refuses
+            }
         },
         Some(last) => {
             if last.is_same(bracket) {
                 Effect::Advances(State::Skipping(place, brackets))
             } else {
+                drop(place);
                 Effect::Refuses
             }
         }

@@ -4,6 +4,7 @@
 mod declaration;
 mod expression;
 mod item;
+mod kept;
 pub mod model;
 mod section;
 mod sum;

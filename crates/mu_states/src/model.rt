@@ -144,6 +144,7 @@ fn fixed_token(alloc: Global, expected: Fixed, then: Then, symbol: Symbol) -> Ef
     if comes {
         return Effect::Advances(resume(alloc, then));
     }
+    drop(then);
     Effect::Refuses
 }
 

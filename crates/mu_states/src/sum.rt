@@ -21,6 +21,7 @@ ghost use Rattle.mu_grammar.specs.SymbolViews.{symbol_view};
 use crate::declaration::follow_value;
 use crate::expression::machine::{Frame, Move, Position, depth_at, step};
 use crate::item::follow_item;
+use crate::kept::with_kept;
 use crate::section::body::{body_level, close_first, close_last};
 use crate::section::equation::equation_level;
 use crate::section::state::{Aim, Component, Effect, LoopRange, Place, State, Waiting};
@@ -144,7 +145,7 @@ fn receive(
             Ok(follow_item(Place::Settings(owner, settings), symbol))
         }
         Waiting::Index(name, place, aim) => {
-            let target = element(alloc, name, value, place)?;
+            let (target, aim) = with_kept(element(alloc, name, value, place), aim)?;
             Ok(close_index(target, aim, symbol))
         }
         Waiting::Side(aim, target) => close_side(aim, target, value, symbol),
@@ -197,7 +198,10 @@ fn sum_move(
         Move::Moves(next) => Ok(Effect::Advances(State::Sum(waiting, next, frames))),
         Move::Opens(next) => Ok(Effect::Descends(level, State::Sum(waiting, next, frames))),
         Move::Ends(value) => receive(alloc, waiting, value, symbol),
-        Move::Wrong => Ok(Effect::Refuses),
+        Move::Wrong => {
+            drop(waiting);
+            Ok(Effect::Refuses)
+        }
     }
 }
 
@@ -219,7 +223,13 @@ pub fn sum_token(
 {
     let level = level_in(&waiting, &position, &frames);
     let mut frames = frames;
-    let next = step(alloc, position, &mut frames, symbol)?;
+    let next = match step(alloc, position, &mut frames, symbol) {
+        Ok(next) => next,
+        Err(error) => {
+            drop(waiting);
+            return Err(error);
+        }
+    };
     sum_move(alloc, waiting, level, next, frames, symbol)
 }
 

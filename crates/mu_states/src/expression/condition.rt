@@ -66,6 +66,7 @@ fn complete(cond: Cond, brackets: usize, symbol: Symbol) -> Turn
     match symbol {
         Symbol::Mark(Mark::CloseRound, _) => {
             if brackets == 0 {
+                drop(cond);
                 Turn::Fails
             } else {
                 Turn::Goes(Stage::Behind(cond, brackets - 1))
@@ -75,10 +76,14 @@ fn complete(cond: Cond, brackets: usize, symbol: Symbol) -> Turn
             if brackets == 0 {
                 Turn::Holds(cond)
             } else {
+                drop(cond);
                 Turn::Fails
             }
         }
-        _ => Turn::Fails,
+        _ => {
+            drop(cond);
+            Turn::Fails
+        }
     }
 }
 
@@ -107,7 +112,10 @@ fn after_left(alloc: Global, left: Expr, places: Vec<u32>, symbol: Symbol) -> Tu
     let mut places = places;
     match symbol {
         Symbol::Mark(Mark::CloseRound, _) => match places.pop() {
-            None => Turn::Fails,
+            None => {
+                drop(left);
+                Turn::Fails
+            }
             Some(i) => {
                 let part = first_part(alloc, Vec::new(alloc), false, i, i);
                 let position = Position::AfterPrimary(left, part);
@@ -115,7 +123,10 @@ fn after_left(alloc: Global, left: Expr, places: Vec<u32>, symbol: Symbol) -> Tu
             }
         },
         Symbol::Mark(mark, at) => compares(alloc, relation_of(mark), left, &places, at),
-        _ => Turn::Fails,
+        _ => {
+            drop(left);
+            Turn::Fails
+        }
     }
 }
 

@@ -29,6 +29,7 @@ ghost use Rattle.mu_states.specs.declared.expression.machine.Frame.{Frame};
 ghost use Rattle.mu_states.specs.ExpressionViews.{frame_of, frames_of, move_of, part_of, position_of, use_of};
 ghost use Rattle.mu_grammar.specs.SymbolViews.{symbol_view};
 
+use crate::kept::with_kept;
 use mu_grammar::symbol::Symbol;
 use mu_io::Name;
 use mu_lexer::token::{Mark, Word};
@@ -160,11 +161,15 @@ fn after_sum(
         None => Ok(Move::Ends(sum)),
         Some(Frame::Bracket(part)) => match symbol {
             Symbol::Mark(Mark::CloseRound, _) => Ok(Move::Moves(Position::AfterPrimary(sum, part))),
-            _ => Ok(Move::Wrong),
+            _ => {
+                drop(sum);
+                drop(part);
+                Ok(Move::Wrong)
+            }
         },
         Some(Frame::Index(name, place, target)) => match symbol {
             Symbol::Mark(Mark::CloseSquare, at) => {
-                let index = Box::new(alloc, sum)?;
+                let (index, target) = with_kept(Box::new(alloc, sum), target)?;
                 let element = Ref {
                     name,
                     index: Some(index),
@@ -172,7 +177,11 @@ fn after_sum(
                 };
                 Ok(Move::Moves(Position::AfterReference(element, target)))
             }
-            _ => Ok(Move::Wrong),
+            _ => {
+                drop(sum);
+                drop(target);
+                Ok(Move::Wrong)
+            }
         },
     }
 }

@@ -45,6 +45,9 @@ pub fn end_loop(body: Body, symbol: Symbol) -> Effect
         Symbol::Word(Word::End, _) => {
             Effect::Advances(State::Expects(Fixed::ForWord, Then::Semicolon(body)))
         }
-        _ => Effect::Refuses,
+        _ => {
+            drop(body);
+            Effect::Refuses
+        }
     }
 }

@@ -15,6 +15,7 @@ ghost use Rattle.mu_states.specs.SectionViews.{body_of, effect_of, range_of};
 ghost use Rattle.mu_grammar.specs.SymbolViews.{symbol_view};
 
 use crate::expression::machine::Position;
+use crate::kept::with_kept;
 use crate::section::clause::{begin_clause, clause_level};
 use crate::section::equation::{begin_equation, equation_level};
 use crate::section::state::{
@@ -75,11 +76,14 @@ pub fn variable_token(alloc: Global, body: Body, symbol: Symbol) -> Result<Effec
 {
     match symbol {
         Symbol::Name(text, at) => {
-            let name = Name::new(alloc, text)?;
+            let (name, body) = with_kept(Name::new(alloc, text), body)?;
             let first = Waiting::First(body, name, at);
             Ok(Effect::Advances(State::Expects(Fixed::InWord, Then::Sum(first))))
         }
-        _ => Ok(Effect::Refuses),
+        _ => {
+            drop(body);
+            Ok(Effect::Refuses)
+        }
     }
 }
 
@@ -100,7 +104,11 @@ pub fn close_first(
             let last = Waiting::Last(body, name, place, from);
             Effect::Advances(State::Sum(last, Position::Sum, Vec::new(alloc)))
         }
-        _ => Effect::Refuses,
+        _ => {
+            drop(body);
+            drop(from);
+            Effect::Refuses
+        }
     }
 }
 
@@ -151,6 +159,10 @@ pub fn close_last(
             let body = enter(alloc, body, range)?;
             Ok(Effect::Advances(State::Body(body)))
         }
-        _ => Ok(Effect::Refuses),
+        _ => {
+            drop(body);
+            drop(range);
+            Ok(Effect::Refuses)
+        }
     }
 }

@@ -20,6 +20,7 @@ ghost use Rattle.mu_states.specs.SectionViews.{body_of, branch_of, clause_loop, 
 ghost use Rattle.mu_grammar.specs.SymbolViews.{symbol_view};
 
 use crate::expression::condition::{Stage, Turn, depth_of, read_token};
+use crate::kept::with_kept;
 use crate::section::between::{between, end_loop};
 use crate::section::state::{
     Body, ClauseLoop, Draft, Effect, LoopRange, OpenBranch, OpenWhen, State, Then,
@@ -44,9 +45,10 @@ fn put_clause(draft: Box<Draft>, loops: Vec<ClauseLoop>, item: Clause) -> Result
             Ok(Body::Clauses(draft, loops))
         }
         Some(inner) => {
-            let mut inner = inner;
-            inner.items.push(item)?;
-            loops.push(inner)?;
+            let ClauseLoop { range, items } = inner;
+            let mut items = items;
+            let (_, range) = with_kept(items.push(item), range)?;
+            loops.push(ClauseLoop { range, items })?;
             Ok(Body::Clauses(draft, loops))
         }
     }

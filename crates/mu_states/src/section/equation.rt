@@ -7,6 +7,7 @@ ghost use Rattle.mu_grammar.specs.States.{in_equations, level};
 ghost use Rattle.mu_states.specs.SectionViews.{body_of, draft_of, effect_of, equation_loop, equation_loops};
 ghost use Rattle.mu_grammar.specs.SymbolViews.{symbol_view};
 
+use crate::kept::with_kept;
 use crate::section::between::{between, end_loop};
 use crate::section::state::{Aim, Body, Draft, Effect, EquationLoop, LoopRange, State, Then};
 use mu_grammar::shape::Fixed;
@@ -34,9 +35,10 @@ pub fn put_equation(
             Ok(Body::Equations(draft, loops))
         }
         Some(inner) => {
-            let mut inner = inner;
-            inner.items.push(item)?;
-            loops.push(inner)?;
+            let EquationLoop { range, items } = inner;
+            let mut items = items;
+            let (_, range) = with_kept(items.push(item), range)?;
+            loops.push(EquationLoop { range, items })?;
             Ok(Body::Equations(draft, loops))
         }
     }

@@ -13,6 +13,7 @@ ghost use Rattle.mu_grammar.specs.States.{branch_level, in_branch, in_starts, le
 ghost use Rattle.mu_states.specs.SectionViews.{body_of, branch_of, draft_of, effect_of, statement_loop, statement_loops};
 ghost use Rattle.mu_grammar.specs.SymbolViews.{symbol_view};
 
+use crate::kept::with_kept;
 use crate::section::between::{between, end_loop};
 use crate::section::clause::{clause_level, end_branch};
 use crate::section::state::{
@@ -43,9 +44,10 @@ pub fn put_start(
             Ok(Body::Starts(draft, loops))
         }
         Some(inner) => {
-            let mut inner = inner;
-            inner.items.push(item)?;
-            loops.push(inner)?;
+            let StatementLoop { range, items } = inner;
+            let mut items = items;
+            let (_, range) = with_kept(items.push(item), range)?;
+            loops.push(StatementLoop { range, items })?;
             Ok(Body::Starts(draft, loops))
         }
     }
@@ -69,9 +71,10 @@ pub fn put_statement(
             Ok(Body::Branch(branch, loops))
         }
         Some(inner) => {
-            let mut inner = inner;
-            inner.items.push(item)?;
-            loops.push(inner)?;
+            let StatementLoop { range, items } = inner;
+            let mut items = items;
+            let (_, range) = with_kept(items.push(item), range)?;
+            loops.push(StatementLoop { range, items })?;
             Ok(Body::Branch(branch, loops))
         }
     }

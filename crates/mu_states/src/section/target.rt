@@ -22,6 +22,7 @@ ghost use Rattle.mu_states.specs.SectionViews.{aim_of, body_of, branch_of, draft
 ghost use Rattle.mu_grammar.specs.SymbolViews.{symbol_view};
 
 use crate::expression::machine::{Position, whole};
+use crate::kept::with_kept;
 use crate::section::equation::{equation_level, put_equation};
 use crate::section::state::{
     Aim, Body, Draft, Effect, EquationLoop, OpenBranch, State, StatementLoop, Then, Waiting,
@@ -42,10 +43,13 @@ pub fn target_token(alloc: Global, aim: Aim, symbol: Symbol) -> Result<Effect, A
 {
     match symbol {
         Symbol::Name(text, at) => {
-            let name = Name::new(alloc, text)?;
+            let (name, aim) = with_kept(Name::new(alloc, text), aim)?;
             Ok(Effect::Advances(State::BehindTargetName(name, at, aim)))
         }
-        _ => Ok(Effect::Refuses),
+        _ => {
+            drop(aim);
+            Ok(Effect::Refuses)
+        }
     }
 }
 
@@ -71,7 +75,10 @@ pub fn follow_target(alloc: Global, target: Ref, aim: Aim, symbol: Symbol) -> Ef
         (Aim::Initial(_, _), Symbol::Mark(Mark::Assign, _)) => begin_side(alloc, aim, target),
         (Aim::Assigned(_, _), Symbol::Mark(Mark::Assign, _)) => begin_side(alloc, aim, target),
         (Aim::Restarted(_, _), Symbol::Mark(Mark::Comma, _)) => begin_side(alloc, aim, target),
-        _ => Effect::Refuses,
+        _ => {
+            drop(aim);
+            Effect::Refuses
+        }
     }
 }
 
@@ -114,7 +121,10 @@ pub fn close_index(target: Ref, aim: Aim, symbol: Symbol) -> Effect
 {
     match symbol {
         Symbol::Mark(Mark::CloseSquare, _) => Effect::Advances(State::BehindTarget(target, aim)),
-        _ => Effect::Refuses,
+        _ => {
+            drop(aim);
+            Effect::Refuses
+        }
     }
 }
 
@@ -125,7 +135,10 @@ fn close_equation(body: Body, symbol: Symbol) -> Effect
     match symbol {
         Symbol::Quoted(_) => Effect::Advances(State::Expects(Fixed::Semicolon, Then::Body(body))),
         Symbol::Mark(Mark::Semicolon, _) => Effect::Advances(State::Body(body)),
-        _ => Effect::Refuses,
+        _ => {
+            drop(body);
+            Effect::Refuses
+        }
     }
 }
 
@@ -135,7 +148,10 @@ fn close_assignment(body: Body, symbol: Symbol) -> Effect
 {
     match symbol {
         Symbol::Mark(Mark::Semicolon, _) => Effect::Advances(State::Body(body)),
-        _ => Effect::Refuses,
+        _ => {
+            drop(body);
+            Effect::Refuses
+        }
     }
 }
 
@@ -147,7 +163,10 @@ fn close_restart(body: Body, symbol: Symbol) -> Effect
         Symbol::Mark(Mark::CloseRound, _) => {
             Effect::Advances(State::Expects(Fixed::Semicolon, Then::Body(body)))
         }
-        _ => Effect::Refuses,
+        _ => {
+            drop(body);
+            Effect::Refuses
+        }
     }
 }
 
