@@ -11,7 +11,8 @@ use crate::sums::{coefficient_among, product_sum};
 use crate::units::short_unit;
 use mu_num::{near_div, passes};
 
-// A sum of products in units of a coefficient.
+// A sum of products in units of a coefficient. It is a call of its own where products are looked at for each reader.
+#[inline(never)]
 fn scaled_down(sum: i128, level_bits: u8) -> i128
     requires sum { IsWithin 111 sum }
     requires bits { level_bits ≤ 24 }
@@ -21,8 +22,8 @@ fn scaled_down(sum: i128, level_bits: u8) -> i128
     near_div(sum, short_unit(level_bits))
 }
 
-/// The rounded products of a state. Most rows have none, so that this is not inlined where a row may have some.
-#[inline(never)]
+/// The rounded products of a state.
+#[inline(always)]
 pub(crate) fn rounded_products(
     row: &SlopeRow,
     level_bits: u8,
@@ -47,6 +48,7 @@ pub(crate) fn rounded_products(
 }
 
 /// The coefficient of a state under these discrete values, from its own in the row.
+#[inline(always)]
 pub(crate) fn mode_coefficient_from(
     own: i64,
     row: &SlopeRow,

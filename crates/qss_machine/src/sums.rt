@@ -115,6 +115,7 @@ fn product_term(product: Product, first: usize, discretes: &[i64]) -> i128
 }
 
 // The same where the product is of this state, else 0.
+#[inline(always)]
 fn term_of(product: Product, first: usize, discretes: &[i64], state: u32) -> i128
     requires small { IsWithin 44 product.coef }
     requires from { first ≤ product.discrete }
@@ -132,7 +133,8 @@ fn term_of(product: Product, first: usize, discretes: &[i64], state: u32) -> i12
     }
 }
 
-/// The products of a state, each with the value of its discrete variable, added up.
+/// The products of a state, each with the value of its discrete variable, added up. A row with products has mostly one.
+#[inline(always)]
 pub(crate) fn product_sum(products: &[Product], first: usize, discretes: &[i64], state: u32) -> i128
     requires few { length products.now ≤ 2 ^ 24 }
     requires products { AreProducts first (length discretes.now) products.now }
@@ -148,6 +150,7 @@ pub(crate) fn product_sum(products: &[Product], first: usize, discretes: &[i64],
 }
 
 // The same. It halves the products to find the first of the state's.
+#[inline(never)]
 fn halved_sum(products: &[Product], first: usize, discretes: &[i64], state: u32) -> i128
     requires few { length products.now ≤ 2 ^ 24 }
     requires products { AreProducts first (length discretes.now) products.now }
