@@ -155,8 +155,8 @@ fn take_group(
 }
 
 // Takes what is due at the base at `count` places after the first ones out, rising, where nothing is
-// due at those then.
-#[inline(always)]
+// due at those then. Often nothing is due at all, so that this is not inlined.
+#[inline(never)]
 fn take_each(
     due: &mut [Option<u64>],
     marks: &mut Marks,
@@ -237,7 +237,10 @@ impl Wheel {
             return;
         }
         self.base = tick;
-        take_each(&mut self.due, &mut self.marks, tick, first, count, taken);
+        match self.marks.group((tick % SLOTS as u64) as u32) {
+            Some(_) => take_each(&mut self.due, &mut self.marks, tick, first, count, taken),
+            None => taken.clear(),
+        }
     }
 
     /// A place's near due tick.
