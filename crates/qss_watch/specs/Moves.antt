@@ -23,6 +23,11 @@ pub record IsWithout (moved : List ℕ) (old new : List (Option ℕ)) : Type 0 w
   pub none : (j : ℕ) → is_among moved j ≡ true → due_at new j ≡ None
   pub others : (place : ℕ) → is_among moved place ≡ false → due_at new place ≡ due_at old place
 
+-- the same agenda, but for what is due at this place
+pub record IsSameBut (place : ℕ) (old new : List (Option ℕ)) : Type 0 where
+  pub as_many : length new ≡ length old
+  pub others : (other : ℕ) → (other ≡ place → ⊥) → due_at new other ≡ due_at old other
+
 -- an agenda in which nothing is due up to a tick, and the moved states not at all
 pub record IsTakenFrom (tick : ℕ) (moved : List ℕ) (due : List (Option ℕ)) : Type 0 where
   pub later : (place at : ℕ) → due_at due place ≡ Some at → tick < at

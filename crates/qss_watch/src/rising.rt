@@ -5,7 +5,7 @@ ghost use Rattle.std.specs.List.{list_any};
 ghost use Rattle.qss_machine.specs.Handlers.{due_flags};
 ghost use Rattle.qss_sched.specs.Ranks.{due_at};
 ghost use Rattle.qss_quiet.specs.Sims.{became_true};
-ghost use Rattle.qss_watch.specs.Moves.{AreApartAt, IsCalled};
+ghost use Rattle.qss_watch.specs.Moves.{AreApartAt, IsCalled, IsSameBut};
 
 use qss_sched::Agenda;
 
@@ -48,9 +48,7 @@ pub fn rise(
     ensures rises { result
         ≡ list_any (λ flag. flag) (due_flags settled.now arrived.now settled.now) }
     ensures own { due_at agenda.new place ≡ (if result then Some (tick + 1) else None) }
-    ensures as_many { length agenda.new ≡ length agenda.old }
-    ensures others { (other : ℕ) → (other ≡ place → ⊥)
-        → due_at agenda.new other ≡ due_at agenda.old other }
+    ensures same { IsSameBut place agenda.old agenda.new }
 {
     let risen = rises(apart, arrived, settled);
     agenda.set(place, if risen { Some(tick + 1) } else { None });

@@ -10,6 +10,7 @@ ghost use Rattle.qss_machine.specs.Uses.{uses_of};
 ghost use Rattle.qss_cross.specs.Crossing.{IsSmall, value_at};
 ghost use Rattle.qss_sched.specs.Ranks.{due_at};
 ghost use Rattle.qss_watch.specs.Moments.{CanRewatch, CanRewatchReaders};
+ghost use Rattle.qss_watch.specs.Moves.{IsSameBut};
 ghost use Rattle.qss_watch.specs.Speeds.{HasSpeed, GoesOn, AreGoingOn, AreRewatchedOn};
 
 use crate::conditions::Conditions;
@@ -48,9 +49,7 @@ fn respeed(watch: &mut Detector, tick: u64, speed: i128, place: u32, agenda: &mu
     ensures goes_on { GoesOn tick speed watch.old watch.new (due_at agenda.old place)
         (due_at agenda.new place) }
     ensures speed { watch.new.speed ≡ speed }
-    ensures places { length agenda.new ≡ length agenda.old }
-    ensures others { (other : ℕ) → (other ≡ place → ⊥)
-        → due_at agenda.new other ≡ due_at agenda.old other }
+    ensures same { IsSameBut place agenda.old agenda.new }
 {
     if watch.speed == speed {
         return;

@@ -47,6 +47,6 @@ returns-clause-goes_on c =
     (subst (λ (w : Watch). GoesOn c.args.tick (to_z w128 (of_z w128 c.speed_at-speed.result)) w c.respeed.new.watch (due_at c.args.agenda.now (length c.args.slopes.now + place)) (due_at c.respeed.new.agenda (length c.args.slopes.now + place))) read
     c.respeed.ensures.goes_on)) in
     subst (λ ws. AreGoingOn m c.args.tick c.args.slopes.now all.watches.items ws c.args.agenda.now c.respeed.new.agenda) (sym watches)
-    (going_on_at m c.args.tick c.args.slopes.now all.watches.items c.args.agenda.now c.respeed.new.agenda place c.respeed.new.watch inside ready.small.later c.respeed.ensures.places
-    (λ other ne. c.respeed.ensures.others other (λ e. ne (omega (arith, e, n))))
+    (going_on_at m c.args.tick c.args.slopes.now all.watches.items c.args.agenda.now c.respeed.new.agenda place c.respeed.new.watch inside ready.small.later c.respeed.ensures.same.as_many
+    (λ other ne. c.respeed.ensures.same.others other (λ e. ne (omega (arith, e, n))))
     (turned (state_count m + place) (omega (arith, n))))
