@@ -1,5 +1,5 @@
 -- States that are due at one tick, and what else has to be looked at then.
-use Rattle.std.specs.Prelude.{◌≡◌, ℕ, ◌+◌, ◌<◌, ◌≤◌, ◌⊎◌, Bool, true, false, not, List, length, All, Option, Some, None}
+use Rattle.std.specs.Prelude.{◌≡◌, ℕ, ◌+◌, ◌<◌, ◌≤◌, ◌^◌, ◌⊎◌, Bool, true, false, not, List, length, All, Option, Some, None}
 use Rattle.qss_machine.specs.Firing.{flag_at}
 use Rattle.qss_machine.specs.Ticks.{World}
 use Rattle.qss_sched.specs.Ranks.{due_at}
@@ -60,6 +60,12 @@ pub record AreLookedAt (n conditions tick : ℕ) (due : List (Option ℕ)) (w : 
   pub own : (place : ℕ) → is_among changed place ≡ true → (due_at due (n + place) ≡ Some tick) ⊎ (became_true w.arrived w.settled place ≡ true)
   pub changing : (place : ℕ) → place < conditions → due_at due (n + place) ≡ Some tick → is_among changed place ≡ true
   pub risen : (place : ℕ) → place < conditions → became_true w.arrived w.settled place ≡ true → is_among changed place ≡ true
+
+-- only conditions of the listed places are after the handlers not as on arrival; an agenda has places for all, after those of n states, and one behind
+pub record CanCall (n : ℕ) (listed : List ℕ) (arrived settled : List Bool) (due : List (Option ℕ)) : Type 0 where
+  pub apart : AreApartAt listed arrived settled
+  pub places : n + length settled < length due
+  pub few : n + length settled < 2 ^ 32
 
 -- the same due ticks of states and conditions, but those conditions that became true through the handlers are due at a tick, and the place behind has none; conditions come after n states
 pub record IsCalled (n tick : ℕ) (arrived settled : List Bool) (old new : List (Option ℕ)) : Type 0 where

@@ -5,7 +5,7 @@ ghost use Rattle.std.specs.List.{list_any};
 ghost use Rattle.qss_machine.specs.Handlers.{due_flags};
 ghost use Rattle.qss_sched.specs.Ranks.{due_at};
 ghost use Rattle.qss_quiet.specs.Sims.{became_true};
-ghost use Rattle.qss_watch.specs.Moves.{AreApartAt, IsCalled, IsSameBut};
+ghost use Rattle.qss_watch.specs.Moves.{AreApartAt, CanCall, IsCalled, IsSameBut};
 
 use qss_sched::Agenda;
 
@@ -76,9 +76,7 @@ fn call(
     arrived: &[bool],
     settled: &[bool],
 )
-    requires apart { AreApartAt apart.now arrived.now settled.now }
-    requires places { states + length settled.now < length agenda.old }
-    requires few { states + length settled.now < 2 ^ 32 }
+    requires { CanCall states apart.now arrived.now settled.now agenda.old }
     ensures { IsCalled states tick arrived.now settled.now agenda.old agenda.new }
 {
     for condition in apart {
@@ -99,9 +97,7 @@ pub fn call_risen(
     arrived: &[bool],
     settled: &[bool],
 )
-    requires apart { AreApartAt apart.now arrived.now settled.now }
-    requires places { states + length settled.now < length agenda.old }
-    requires few { states + length settled.now < 2 ^ 32 }
+    requires ready { CanCall states apart.now arrived.now settled.now agenda.old }
     requires none_risen { rising ≡ false
         → (place : ℕ) → place < length settled.now
         → became_true arrived.now settled.now place ≡ false }

@@ -15,23 +15,24 @@ pub overflow_cast-conditions : goal.overflow_cast-conditions
 overflow_cast-conditions g c =
     omega (arith, c.len-conditions.ensures, c.args.s.now.conditions.branches.ok.0, c.requires.stands.fits.own_conditions.branches.as_many, conditions_few c.args.m.now)
 
-pub call_risen-requires-clause-few : goal.call_risen-requires-clause-few
-call_risen-requires-clause-few g c =
+pub call_risen-requires-clause-ready : goal.call_risen-requires-clause-ready
+call_risen-requires-clause-ready g c =
     let m = c.args.m.now in
     let s : Store = c.args.s.now in
     let fits = c.requires.stands.fits in
-    omega (arith, c.len-states.ensures, s.lines.ok.0, fits.lines, m.has_variables.few, ap length c.as_slice-settled.ensures.value, fits.own_conditions.settled, conditions_few m)
-
-pub call_risen-requires-clause-apart : goal.call_risen-requires-clause-apart
-call_risen-requires-clause-apart g c =
-    let own = c.requires.stands.fits.own_conditions in
+    let own = fits.own_conditions in
+    let many = ap length c.as_slice-settled.ensures.value ∙ own.settled in
     record {
-      as_many = ap length c.as_slice-arrived.ensures.value ∙ own.arrived ∙ sym (ap length c.as_slice-settled.ensures.value ∙ own.settled);
-      below = λ k d h. omega (arith, c.places-apart.ensures.below k d h, own.apart, own.settled, ap length c.as_slice-settled.ensures.value);
-      alike = λ place none.
-          ap (λ flags. flag_at flags place) c.as_slice-arrived.ensures.value
-          ∙ c.requires.stands.alike place (ap (λ these. is_among these place) (sym c.places-apart.ensures.places) ∙ none)
-          ∙ sym (ap (λ flags. flag_at flags place) c.as_slice-settled.ensures.value);
+      apart = record {
+        as_many = ap length c.as_slice-arrived.ensures.value ∙ own.arrived ∙ sym many;
+        below = λ k d h. omega (arith, c.places-apart.ensures.below k d h, own.apart, many);
+        alike = λ place none.
+            ap (λ flags. flag_at flags place) c.as_slice-arrived.ensures.value
+            ∙ c.requires.stands.alike place (ap (λ these. is_among these place) (sym c.places-apart.ensures.places) ∙ none)
+            ∙ sym (ap (λ flags. flag_at flags place) c.as_slice-settled.ensures.value);
+      };
+      places = omega (arith, fits.places, c.len-states.ensures, s.lines.ok.0, fits.lines, many);
+      few = omega (arith, c.len-states.ensures, s.lines.ok.0, fits.lines, m.has_variables.few, many, conditions_few m);
     }
 
 pub call_risen-requires-clause-none_risen : goal.call_risen-requires-clause-none_risen
