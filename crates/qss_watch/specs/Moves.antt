@@ -1,5 +1,6 @@
 -- States that are due at one tick, and what else has to be looked at then.
-use Rattle.std.specs.Prelude.{◌≡◌, ℕ, ◌+◌, ◌<◌, ◌≤◌, ◌^◌, ◌⊎◌, Bool, true, false, not, List, length, All, Option, Some, None}
+use Rattle.std.specs.Prelude.{◌≡◌, ℕ, ◌+◌, ◌<◌, ◌≤◌, ◌^◌, ◌⊎◌, Bool, true, false, not, List, length, All, Vec, vec_capacity, Option, Some, None}
+use Rattle.std.specs.declared.alloc.Global.{Global}
 use Rattle.qss_machine.specs.Firing.{flag_at}
 use Rattle.qss_machine.specs.Ticks.{World}
 use Rattle.qss_sched.specs.Ranks.{due_at}
@@ -27,6 +28,11 @@ pub record IsWithout (moved : List ℕ) (old new : List (Option ℕ)) : Type 0 w
 pub record IsSameBut (place : ℕ) (old new : List (Option ℕ)) : Type 0 where
   pub as_many : length new ≡ length old
   pub others : (other : ℕ) → (other ≡ place → ⊥) → due_at new other ≡ due_at old other
+
+-- moved states that were taken out of an agenda, in a list with the room that it had
+pub record AreMovedOut (old moved : Vec ℕ Global) (due next : List (Option ℕ)) : Type 0 where
+  pub without : IsWithout moved.items due next
+  pub room : vec_capacity moved ≡ vec_capacity old
 
 -- an agenda in which nothing is due up to a tick, and the moved states not at all
 pub record IsTakenFrom (tick : ℕ) (moved : List ℕ) (due : List (Option ℕ)) : Type 0 where

@@ -3,7 +3,7 @@
 ghost use Rattle.std.specs.Prelude.{◌≡◌, ◌≢◌, ℕ, ◌+◌, ◌<◌, ◌≤◌, ◌^◌, All, Some, length, true, false, vec_capacity};
 ghost use Rattle.qss_sched.specs.Ranks.{due_at};
 ghost use Rattle.qss_quiet.specs.Among.{is_among};
-ghost use Rattle.qss_watch.specs.Moves.{AreDue, AreChanging, HasRoomFor, IsTakenAfter, IsWithout};
+ghost use Rattle.qss_watch.specs.Moves.{AreDue, AreChanging, AreMovedOut, HasRoomFor, IsTakenAfter};
 
 use qss_sched::Agenda;
 
@@ -12,8 +12,7 @@ pub fn take_due(agenda: &mut Agenda, tick: u64, states: u32, moved: &mut Vec<u32
     requires has { HasRoomFor states (vec_capacity moved.old) agenda.old }
     requires none_before { (place due : ℕ) → due_at agenda.old place ≡ Some due → tick ≤ due }
     ensures due { AreDue states tick agenda.old moved.new.items }
-    ensures without { IsWithout moved.new.items agenda.old agenda.new }
-    ensures room { vec_capacity moved.new ≡ vec_capacity moved.old }
+    ensures out { AreMovedOut moved.old moved.new agenda.old agenda.new }
 {
     agenda.take_all(tick, 0, states, moved);
 }

@@ -7,7 +7,7 @@ ghost use Rattle.qss_sched.specs.Ranks.{due_at};
 ghost use Rattle.qss_watch.specs.Handlings.{is_reinitialized};
 ghost use Rattle.qss_quiet.specs.Logs.{is_set, assigned_of};
 ghost use Rattle.qss_quiet.specs.Among.{is_among, AreNumbers};
-ghost use Rattle.qss_watch.specs.Moves.{HasRoomFor, IsTakenFrom, IsWithout};
+ghost use Rattle.qss_watch.specs.Moves.{AreMovedOut, HasRoomFor, IsTakenFrom};
 
 use crate::due::{give_back, take_due};
 use qss_machine::{Row, RowKind};
@@ -65,8 +65,7 @@ pub(crate) fn join_reinitialized(
     ensures numbers { AreNumbers states moved.new.items }
     ensures each { (j : ℕ)
         → is_among moved.new.items j ≡ (is_among moved.old.items j || is_reinitialized log.now j) }
-    ensures without { IsWithout moved.new.items agenda.old agenda.new }
-    ensures room { vec_capacity moved.new ≡ vec_capacity moved.old }
+    ensures out { AreMovedOut moved.old moved.new agenda.old agenda.new }
 {
     if !some_reinitialize(log) {
         return;

@@ -69,7 +69,7 @@ pub take_changed-requires-clause-none_before : goal.take_changed-requires-clause
 take_changed-requires-clause-none_before g c =
     let s : Store = c.args.s.now in
     let fits = c.requires.stands.fits in
-    none_left_before c.len-states.result (c.args.tick + 1) c.take_due.new.moved.items c.call_risen.new.agenda c.take_due.new.agenda c.take_due.ensures.due c.take_due.ensures.without
+    none_left_before c.len-states.result (c.args.tick + 1) c.take_due.new.moved.items c.call_risen.new.agenda c.take_due.new.agenda c.take_due.ensures.due c.take_due.ensures.out.without
     (none_called_before c.len-states.result (c.args.tick + 1) c.as_slice-arrived.result.now c.as_slice-settled.result.now s.agenda c.call_risen.new.agenda c.call_risen.ensures
     (omega (arith, fits.places, c.len-states.ensures, s.lines.ok.0, fits.lines, ap length c.as_slice-settled.ensures.value, fits.own_conditions.settled))
     (λ place due e. omega (arith, dues_later c.args.m.now c.args.tick s c.requires.stands place due e)))
@@ -86,7 +86,7 @@ visit_due-requires-clause-ready g c =
         s.agenda,
         is_taken m c.args.tick s c.len-states.result c.len-conditions.result c.as_slice-arrived.result.now c.as_slice-settled.result.now c.take_due.new.moved c.take_changed.new.changed
             c.call_risen.new.agenda c.take_due.new.agenda c.take_changed.new.agenda c.requires.stands states places c.as_slice-arrived.ensures.value c.as_slice-settled.ensures.value
-            c.call_risen.ensures c.take_due.ensures.due c.take_due.ensures.without c.take_changed.ensures.changing c.take_changed.ensures.taken c.take_due.ensures.room c.take_changed.ensures.room,
+            c.call_risen.ensures c.take_due.ensures.due c.take_due.ensures.out.without c.take_changed.ensures.changing c.take_changed.ensures.taken c.take_due.ensures.out.room c.take_changed.ensures.room,
       );
       in_time = c.requires.in_time;
     }
@@ -103,7 +103,7 @@ visit_changed-requires g c =
         s.agenda,
         is_taken m c.args.tick s c.len-states.result c.len-conditions.result c.as_slice-arrived.result.now c.as_slice-settled.result.now c.take_due.new.moved c.take_changed.new.changed
             c.call_risen.new.agenda c.take_due.new.agenda c.take_changed.new.agenda c.requires.stands states places c.as_slice-arrived.ensures.value c.as_slice-settled.ensures.value
-            c.call_risen.ensures c.take_due.ensures.due c.take_due.ensures.without c.take_changed.ensures.changing c.take_changed.ensures.taken c.take_due.ensures.room c.take_changed.ensures.room,
+            c.call_risen.ensures c.take_due.ensures.due c.take_due.ensures.out.without c.take_changed.ensures.changing c.take_changed.ensures.taken c.take_due.ensures.out.room c.take_changed.ensures.room,
       );
       in_time = c.requires.in_time;
     }

@@ -15,11 +15,14 @@ returns-clause-due c =
       all = λ j h e. taken.all j h (ap (due_at c.args.agenda.now) (counted j) ∙ e);
     }
 
-pub returns-clause-without : goal.returns-clause-without
-returns-clause-without c =
+pub returns-clause-out : goal.returns-clause-out
+returns-clause-out c =
     let out = c.take_all.ensures.taken.out in
     record {
-      as_many = out.as_many;
-      none = λ j e. sym (ap (due_at c.take_all.new.self) (counted j)) ∙ out.none j e;
-      others = λ j e. sym (ap (due_at c.take_all.new.self) (counted j)) ∙ out.others j e ∙ ap (due_at c.args.agenda.now) (counted j);
+      without = record {
+        as_many = out.as_many;
+        none = λ j e. sym (ap (due_at c.take_all.new.self) (counted j)) ∙ out.none j e;
+        others = λ j e. sym (ap (due_at c.take_all.new.self) (counted j)) ∙ out.others j e ∙ ap (due_at c.args.agenda.now) (counted j);
+      };
+      room = c.take_all.ensures.room;
     }

@@ -12,15 +12,18 @@ returns-clause-each c =
     let given : AreGiven c.args.tick c.args.log.now c.give_back.new.agenda c.give_reinitialized.new.agenda =
     record { as_many = c.give_reinitialized.ensures.as_many; given = c.give_reinitialized.ensures.given; others = c.give_reinitialized.ensures.others } in
     joined c.args.states c.args.tick c.args.log.now c.args.moved.now.items c.take_due.new.moved.items c.args.agenda.now c.give_back.new.agenda c.give_reinitialized.new.agenda c.take_due.new.agenda
-    c.requires.taken.later c.requires.known c.requires.moved back.as_many (search rules) (search rules) given c.take_due.ensures.due c.take_due.ensures.without
+    c.requires.taken.later c.requires.known c.requires.moved back.as_many (search rules) (search rules) given c.take_due.ensures.due c.take_due.ensures.out.without
 
-pub returns-clause-without : goal.returns-clause-without
-returns-clause-without c =
+pub returns-clause-out : goal.returns-clause-out
+returns-clause-out c =
     let back = c.give_back.ensures in
     let given : AreGiven c.args.tick c.args.log.now c.give_back.new.agenda c.give_reinitialized.new.agenda =
     record { as_many = c.give_reinitialized.ensures.as_many; given = c.give_reinitialized.ensures.given; others = c.give_reinitialized.ensures.others } in
-    joined_without c.args.states c.args.tick c.args.log.now c.args.moved.now.items c.take_due.new.moved.items c.args.agenda.now c.give_back.new.agenda c.give_reinitialized.new.agenda c.take_due.new.agenda
-    c.requires.taken.later c.requires.known c.requires.moved back.as_many (search rules) (search rules) given c.take_due.ensures.due c.take_due.ensures.without
+    record {
+      without = joined_without c.args.states c.args.tick c.args.log.now c.args.moved.now.items c.take_due.new.moved.items c.args.agenda.now c.give_back.new.agenda c.give_reinitialized.new.agenda c.take_due.new.agenda
+          c.requires.taken.later c.requires.known c.requires.moved back.as_many (search rules) (search rules) given c.take_due.ensures.due c.take_due.ensures.out.without;
+      room = c.take_due.ensures.out.room;
+    }
 
 pub returns-then-not-some_reinitialize-clause-each : goal.returns-then-not-some_reinitialize-clause-each
 returns-then-not-some_reinitialize-clause-each c = joins_nothing c.args.log.now (sym c.some_reinitialize.ensures ∙ c.if-not-some_reinitialize.true) c.args.moved.now.items
