@@ -1,6 +1,7 @@
 -- Conditions that go on, or of which some settle, are a machine's conditions still.
 use Rattle.std.proofs.Common.{◌≡◌, ℕ, List, [], ◌++◌, length, ℤ, Vec, Global, refl, sym, ◌∙◌, ap, subst, arith}
-use Rattle.std.specs.Prelude.{Bool, Option}
+use Rattle.std.proofs.lemmas.List.Elements.{All-append}
+use Rattle.std.specs.Prelude.{Bool, Option, All}
 use Rattle.qss_machine.specs.declared.system.Machine.{Machine}
 use Rattle.qss_machine.specs.Handlers.{conditions}
 use Rattle.qss_quant.specs.Lines.{Line}
@@ -11,11 +12,12 @@ use Rattle.qss_watch.specs.Moments.{CanRewatch, CanSettle}
 use Rattle.qss_watch.specs.Places.{AreBranches, AreConditionsOf}
 use Rattle.qss_watch.specs.PlaceSets.{PlaceList}
 use Rattle.qss_watch.specs.Rewatchings.{Watchings, AreSettled, AreSettledAlong, watchings_of, touched_after}
-use Rattle.qss_watch.specs.Speeds.{AreGoingOn}
+use Rattle.qss_watch.specs.Speeds.{HasSpeed, AreRewatched}
 use Rattle.qss_lines.specs.StateLines.{states_at}
 use Rattle.qss_watch.proofs.Apart.{none_noted, noted_then}
 use Rattle.qss_watch.proofs.Rewatching.{none_settled, settled_then}
 use Rattle.qss_watch.proofs.Settling.{none_arrived, arrived_on}
+use Rattle.qss_watch.proofs.Speeds.{going_on_more, has_speed_still}
 
 -- ---- whose truths on arrival are others
 
@@ -25,7 +27,7 @@ arrived_anew m all arrived apart are many count = record { branches = are.branch
 
 -- ---- that go on at speeds
 
-pub watched_then : (a b c : Conditions) → b ≡ record a { watches = b.watches } → c ≡ record b { watches = c.watches } → c ≡ record a { watches = c.watches }
+watched_then : (a b c : Conditions) → b ≡ record a { watches = b.watches } → c ≡ record b { watches = c.watches } → c ≡ record a { watches = c.watches }
 watched_then a b c first second = second ∙ ap (λ (all : Conditions). record all { watches = c.watches }) first
 
 pub still_fits : (m : Machine) (old new : Conditions) → AreConditionsOf m old → new ≡ record old { watches = new.watches } → length new.watches.items ≡ length old.watches.items → AreConditionsOf m new
@@ -37,18 +39,32 @@ still_fits m old new are rest many = record {
   apart = ap (λ (all : Conditions). all.apart.count) rest ∙ are.apart;
 }
 
-pub still_goes : (m : Machine) (tick : ℕ) (slopes : List ℤ) (old new : Conditions) (due next : List (Option ℕ)) → CanRewatch m tick slopes old due → new ≡ record old { watches = new.watches } →
-    AreGoingOn m tick slopes old.watches.items new.watches.items due next → CanRewatch m tick slopes new next
-still_goes m tick slopes old new due next can rest going = record {
-  fits = still_fits m old new can.fits rest going.as_many;
-  places = omega (arith, going.places, can.places);
-  small = record {
-    later = λ place h. (going.each place (omega (arith, h, going.as_many))).not_later;
-    small = λ place h. subst IsSmall (sym (going.each place (omega (arith, h, going.as_many))).here) (can.small.small place (omega (arith, h, going.as_many)));
-  };
-  slopes_of = can.slopes_of;
-  in_time = can.in_time;
-}
+module _ (m : Machine) (tick : ℕ) (slopes : List ℤ) where
+  -- others may go on then
+  pub still_goes : (places : List ℕ) (old new : Conditions) (due next : List (Option ℕ)) → CanRewatch m tick slopes old due → AreRewatched m tick slopes places old new due next →
+      CanRewatch m tick slopes new next
+  still_goes places old new due next can are = record {
+    fits = still_fits m old new can.fits are.same are.goes_on.as_many;
+    places = omega (arith, are.goes_on.places, can.places);
+    small = record {
+      later = λ place h. (are.goes_on.each place (omega (arith, h, are.goes_on.as_many))).not_later;
+      small = λ place h. subst IsSmall (sym (are.goes_on.each place (omega (arith, h, are.goes_on.as_many))).here) (can.small.small place (omega (arith, h, are.goes_on.as_many)));
+    };
+    slopes_of = can.slopes_of;
+    in_time = can.in_time;
+  }
+
+  -- these places one after another, where the second are others that are equal
+  pub rewatched_more : (xs ys zs all : List ℕ) (a b c : Conditions) (p q r : List (Option ℕ)) → AreRewatched m tick slopes xs a b p q → zs ≡ ys → all ≡ xs ++ ys → AreRewatched m tick slopes zs b c q r →
+      AreRewatched m tick slopes all a c p r
+  rewatched_more xs ys zs all a b c p q r first equal is second =
+      let Own : ℕ → Type 0 = HasSpeed m slopes c.watches.items in
+      let before : All Own xs = λ k d h. has_speed_still m tick slopes b.watches.items c.watches.items q r second.goes_on _ (first.speeds k d h) in
+      record {
+        goes_on = going_on_more m tick slopes a.watches.items b.watches.items c.watches.items p q r first.goes_on second.goes_on;
+        speeds = subst (All Own) (sym is) (All-append Own xs ys before (subst (All Own) equal second.speeds));
+        same = watched_then a b c first.same second.same;
+      }
 
 -- ---- of which some settle
 

@@ -1,14 +1,14 @@
 -- Watches that go on at new speeds.
-use Rattle.std.proofs.Common.{◌≡◌, ◌≢◌, ℕ, zero, suc, ◌+◌, ◌-◌, ◌<◌, ◌≤◌, ◌^◌, Bool, true, false, ◌&&◌, List, [], ◌∷◌, length, get_or, set, ℤ, pos, ◌+ℤ◌, ◌*ℤ◌, refl, sym, ◌∙◌, ap, subst, arith, inl, inr, ◌==◌, nat_lt}
+use Rattle.std.proofs.Common.{◌≡◌, ◌≢◌, ℕ, zero, suc, ◌+◌, ◌-◌, ◌<◌, ◌≤◌, ◌^◌, Bool, true, false, ◌&&◌, List, [], ◌∷◌, ◌++◌, length, get_or, set, ℤ, pos, ◌+ℤ◌, ◌*ℤ◌, refl, sym, ◌∙◌, ap, subst, arith, inl, inr, ◌==◌, nat_lt}
 use Rattle.std.proofs.Math.IntN.{zero-*ℤ}
 use Rattle.std.proofs.lemmas.Int.{ints}
 use Rattle.std.proofs.lemmas.Bool.{cases_Bool, cases_lt, cases_eq, lt-ltb}
 use Rattle.std.proofs.lemmas.Bool.Decides.{nat_tests}
 use Rattle.std.proofs.lemmas.List.{length-set, get_or-set_other, get_or-set_same, get_or_past}
-use Rattle.std.proofs.lemmas.List.Elements.{All-head, All-tail}
+use Rattle.std.proofs.lemmas.List.Elements.{All-nil, All-cons, All-head, All-tail}
 use Rattle.std.proofs.lemmas.List.Folds.{Any-from_list_any, list_any_at}
 use Rattle.std.specs.List.{list_any}
-use Rattle.std.specs.Prelude.{Option, All, if◌then◌else◌, slice_index_or}
+use Rattle.std.specs.Prelude.{Option, All, flat_map, if◌then◌else◌}
 use Rattle.mu_num.specs.Ticks.{FirstAfter}
 use Rattle.mu_num.proofs.Tests.{eqb-yes}
 use Rattle.qss_machine.specs.declared.parts.Condition.{Condition}
@@ -19,16 +19,15 @@ use Rattle.qss_machine.specs.declared.system.Machine.{Machine}
 use Rattle.qss_machine.specs.Numbers.{int_at, sum_over}
 use Rattle.qss_machine.specs.Machines.{state_count, row_at, speed_of, compares, truth}
 use Rattle.qss_machine.specs.Handlers.{conditions}
-use Rattle.qss_machine.specs.Uses.{row_reads, condition_reads, places_from, reading_rows, reading_conditions, uses_of}
+use Rattle.qss_machine.specs.Uses.{row_reads, condition_reads, places_from, reading_rows, reading_conditions}
 use Rattle.qss_machine.proofs.SumLaws.{weighted_sum-entries}
 use Rattle.qss_cross.specs.Crossing.{Watch, value_at, holds_at}
 use Rattle.qss_sched.specs.Ranks.{due_at}
 use Rattle.qss_quiet.specs.Sims.{condition_at, IsChange, no_watch, no_row}
 use Rattle.qss_watch.specs.Places.{watch_at, IsWatched}
-use Rattle.qss_quiet.specs.Among.{AreNumbers}
 use Rattle.qss_lines.specs.Variables.{reads_moved}
+use Rattle.qss_watch.specs.Rewatchings.{readers_of}
 use Rattle.qss_watch.specs.Speeds.{AreSlopesBefore, HasSpeed, GoesOn, AreGoingOn}
-use Rattle.qss_quiet.proofs.KeptReaders.{rows_kept, conditions_kept, conditions_below}
 
 -- ---- places of elements that pass a test
 
@@ -46,16 +45,28 @@ of_place P test first (x ∷ xs) (suc i) d all h e =
     let same : (first + 1) + i ≡ first + suc i = omega arith in
     subst P same (of_place P test (first + 1) xs i d ((if_kept P (test x) first (places_from test (first + 1) xs) all).1) (omega (arith, h)) e)
 
+-- what holds of all elements of lists one after another holds of those of each
+two_parts : (P : ℕ → Type 0) (xs ys : List ℕ) → All P (xs ++ ys) → All P xs × All P ys
+two_parts P [] ys all = (All-nil P, all)
+two_parts P (x ∷ xs) ys all =
+    let rest = two_parts P xs ys (All-tail P x (xs ++ ys) all) in (All-cons P x xs (All-head P x (xs ++ ys) all) rest.0, rest.1)
+
+each_part : (P : ℕ → Type 0) (f : ℕ → List ℕ) (xs : List ℕ) → All P (flat_map f xs) → All (λ x. All P (f x)) xs
+each_part P f [] all = All-nil (λ x. All P (f x))
+each_part P f (x ∷ xs) all = let parts = two_parts P (f x) (flat_map f xs) all in All-cons (λ y. All P (f y)) x xs parts.0 (each_part P f xs parts.1)
+
 -- a watch that has the speed keeps it
 pub kept_speed : {tick : ℕ} {speed : ℤ} {old new : Watch} {old_due new_due : Option ℕ} → GoesOn tick speed old new old_due new_due → old.speed ≡ speed → new.speed ≡ speed
 kept_speed on e = ap (λ (w : Watch). w.speed) (on.kept e).0 ∙ e
 
-module _ (m : Machine) (uses : List (List ℕ) × List (List ℕ) × List (List ℤ)) (are : uses ≡ uses_of m) where
-  -- conditions that have their speeds keep them
-  pub speeds_kept : (tick : ℕ) (slopes : List ℤ) (old new : List Watch) (due next : List (Option ℕ)) → AreGoingOn m tick slopes old new due next → length old ≡ length (conditions m) →
-      (state : ℕ) → state < state_count m → All (HasSpeed m slopes old) (slice_index_or uses.1 state []) → All (HasSpeed m slopes new) (slice_index_or uses.1 state [])
-  speeds_kept tick slopes old new due next going many state h all k d inside =
-      kept_speed (going.each _ (omega (arith, many, conditions_below m uses are state (omega (arith, h)) (length (conditions m)) (omega arith) k d inside))) (all k d inside)
+-- as does each of all that go on
+pub has_speed_still : (m : Machine) (tick : ℕ) (slopes : List ℤ) (old new : List Watch) (due next : List (Option ℕ)) → AreGoingOn m tick slopes old new due next → (place : ℕ) → HasSpeed m slopes old place →
+    HasSpeed m slopes new place
+has_speed_still m tick slopes old new due next going place has =
+    elim (cases_lt place (length old)) [
+      | inl inside ↦ kept_speed (going.each place inside) has
+      | inr past ↦ ap (λ (w : Watch). w.speed) (get_or_past new place no_watch (omega (arith, past, going.as_many)) ∙ sym (get_or_past old place no_watch past)) ∙ has
+    ]
 
 -- ---- watches that go on
 
@@ -160,8 +171,8 @@ speeds_same m form a b same =
     ap (λ z. z +ℤ form.time *ℤ pos (2 ^ (m.f + m.p))) (weighted_sum-entries form.entries a ∙ sums_same form.entries a b same ∙ sym (weighted_sum-entries form.entries b))
 
 module _ (m : Machine) (tick : ℕ) (slopes : List ℤ) (moved : List ℕ) (old new : List Watch) (due next : List (Option ℕ)) (going : AreGoingOn m tick slopes old new due next)
-    (numbers : AreNumbers (state_count m) moved) (many : length slopes ≡ state_count m) (all : length old ≡ length (conditions m))
-    (speeds : All (λ j. All (λ state. All (HasSpeed m slopes new) (slice_index_or (uses_of m).1 state [])) (slice_index_or (uses_of m).0 j [])) moved) where
+    (many : length slopes ≡ state_count m) (all : length old ≡ length (conditions m))
+    (speeds : All (HasSpeed m slopes new) (flat_map (λ j. readers_of m (reading_rows m j)) moved)) where
   -- whether a state's slope may have changed
   abbrev touches : Entry → Bool
   touches entry = nat_lt entry.var (state_count m) && reads_moved m moved entry.var
@@ -177,14 +188,14 @@ module _ (m : Machine) (tick : ℕ) (slopes : List ℤ) (moved : List ℕ) (old 
       let inside : state < state_count m = below state (state_count m) parts.0 in
       let mover = Any-from_list_any (λ i. row_reads i (row_at m state)) moved parts.1 in
       let j : ℕ = mover.1 in
-      let known : j < state_count m = subst (λ i. i < state_count m) mover.3 (numbers.below mover.0 j mover.2) in
-      let Reads : ℕ → Type 0 = λ s. All (HasSpeed m slopes new) (slice_index_or (uses_of m).1 s []) in
-      let of_mover : All Reads (slice_index_or (uses_of m).0 j []) = subst (λ i. All Reads (slice_index_or (uses_of m).0 i [])) mover.3 (speeds mover.0 j mover.2) in
-      let of_rows : All Reads (reading_rows m j) = subst (All Reads) (rows_kept m (uses_of m) refl j (omega (arith, known))) of_mover in
+      let Reads : ℕ → Type 0 = λ s. All (HasSpeed m slopes new) (reading_conditions m s) in
+      let of_mover : All (HasSpeed m slopes new) (readers_of m (reading_rows m j)) =
+      subst (λ i. All (HasSpeed m slopes new) (readers_of m (reading_rows m i))) mover.3 (each_part (HasSpeed m slopes new) (λ i. readers_of m (reading_rows m i)) moved speeds mover.0 j mover.2) in
+      let of_rows : All Reads (reading_rows m j) = each_part (HasSpeed m slopes new) (reading_conditions m) (reading_rows m j) of_mover in
       let none : Condition = record { form = record { entries = []; time = pos 0; gamma = pos 0 }; rel = Less } in
       let of_state : Reads (0 + state) = of_place Reads (row_reads j) 0 m.rows state no_row of_rows (omega (arith, inside, m.has_rows.one_each)) mover.4 in
       let here : 0 + state ≡ state = omega arith in
-      let of_conditions : All (HasSpeed m slopes new) (reading_conditions m state) = subst (All (HasSpeed m slopes new)) (conditions_kept m (uses_of m) refl state (omega (arith, inside))) (subst Reads here of_state) in
+      let of_conditions : All (HasSpeed m slopes new) (reading_conditions m state) = subst Reads here of_state in
       let reads : condition_reads state (condition_at m place) ≡ true =
       list_any_at (λ (other : Entry). other.var == state) entries found.0 entry found.2 (eqb-yes _ state (ap (λ (other : Entry). other.var) found.3)) in
       let there : 0 + place ≡ place = omega arith in

@@ -1,5 +1,5 @@
 -- Conditions at new speeds, where few states moved.
-use Rattle.std.specs.Prelude.{◌≡◌, ℕ, ◌+◌, ◌<◌, ◌≤◌, true, false, List, length, ℤ, Option}
+use Rattle.std.specs.Prelude.{◌≡◌, ℕ, ◌+◌, ◌<◌, ◌≤◌, true, false, List, length, All, ℤ, Option}
 use Rattle.qss_machine.specs.declared.system.Machine.{Machine}
 use Rattle.qss_machine.specs.Numbers.{int_at}
 use Rattle.qss_machine.specs.Machines.{state_count, speed_of}
@@ -37,6 +37,12 @@ pub record AreGoingOn (m : Machine) (tick : ℕ) (slopes : List ℤ) (old new : 
       GoesOn tick (speed_of m (condition_at m place).form slopes) (watch_at old place) (watch_at new place) (due_at old_due (state_count m + place)) (due_at new_due (state_count m + place))
   pub others : (place : ℕ) → place < state_count m → due_at new_due place ≡ due_at old_due place
   pub beyond : (place : ℕ) → state_count m + length old ≤ place → due_at new_due place ≡ due_at old_due place
+
+-- conditions whose watches go on at a tick at these slopes: those of these places have their speeds, and nothing but watches and their due ticks changed
+pub record AreRewatched (m : Machine) (tick : ℕ) (slopes : List ℤ) (places : List ℕ) (old new : Conditions) (old_due new_due : List (Option ℕ)) : Type 0 where
+  pub goes_on : AreGoingOn m tick slopes old.watches.items new.watches.items old_due new_due
+  pub speeds : All (HasSpeed m slopes new.watches.items) places
+  pub same : new ≡ record old { watches = new.watches }
 
 -- each condition that was watched at the slopes before, but for the moved states' readers, is watched at these
 abbrev pub AreWatchedOn : Machine → ℕ → List ℕ → List ℤ → List Watch → List Watch → List (Option ℕ) → List (Option ℕ) → Type 0

@@ -1,6 +1,6 @@
 //! Conditions at new speeds, where few states moved.
 
-ghost use Rattle.std.specs.Prelude.{◌≡◌, ℕ, ◌<◌, ◌≤◌, ◌^◌, All, length, slice_index_or, [], unsigned_abs};
+ghost use Rattle.std.specs.Prelude.{◌≡◌, ◌<◌, ◌≤◌, ◌^◌, ◌∷◌, [], All, length, unsigned_abs};
 ghost use Rattle.mu_num.specs.Sizes.{IsWithin};
 ghost use Rattle.mu_num.specs.Ticks.{tick_limit};
 ghost use Rattle.qss_machine.specs.Handlers.{conditions};
@@ -11,7 +11,8 @@ ghost use Rattle.qss_cross.specs.Crossing.{IsSmall, value_at};
 ghost use Rattle.qss_sched.specs.Ranks.{due_at};
 ghost use Rattle.qss_watch.specs.Moments.{CanRewatch, CanRewatchReaders};
 ghost use Rattle.qss_watch.specs.Moves.{IsSameBut};
-ghost use Rattle.qss_watch.specs.Speeds.{HasSpeed, GoesOn, AreGoingOn, AreRewatchedOn};
+ghost use Rattle.qss_watch.specs.Rewatchings.{readers_of};
+ghost use Rattle.qss_watch.specs.Speeds.{GoesOn, AreRewatched, AreRewatchedOn};
 
 use crate::conditions::Conditions;
 use qss_cross::Detector;
@@ -65,10 +66,8 @@ impl Conditions {
     fn rewatch(&mut self, m: &Machine, tick: u64, place: u32, slopes: &[i128], agenda: &mut Agenda)
         requires place { place < length (conditions m.now) }
         requires ready { CanRewatch m.now tick slopes.now self.old agenda.old }
-        ensures goes_on { AreGoingOn m.now tick slopes.now self.old.watches.items
-            self.new.watches.items agenda.old agenda.new }
-        ensures speed { HasSpeed m.now slopes.now self.new.watches.items place }
-        ensures same { self.new ≡ record self.old { watches = self.new.watches } }
+        ensures { AreRewatched m.now tick slopes.now (place ∷ []) self.old self.new agenda.old
+            agenda.new }
     {
         let condition = self.condition(m, place);
         let speed = speed_at(m, &condition.form, slopes);
@@ -88,10 +87,8 @@ impl Conditions {
     )
         requires known { All (λ place. place < length (conditions m.now)) places.now }
         requires ready { CanRewatch m.now tick slopes.now self.old agenda.old }
-        ensures goes_on { AreGoingOn m.now tick slopes.now self.old.watches.items
-            self.new.watches.items agenda.old agenda.new }
-        ensures speeds { All (HasSpeed m.now slopes.now self.new.watches.items) places.now }
-        ensures same { self.new ≡ record self.old { watches = self.new.watches } }
+        ensures { AreRewatched m.now tick slopes.now places.now self.old self.new agenda.old
+            agenda.new }
     {
         for place in places {
             self.rewatch(m, tick, *place, slopes, agenda);
@@ -111,13 +108,8 @@ impl Conditions {
         requires uses { uses.now ≡ uses_of m.now }
         requires known { All (λ state. state < state_count m.now) states.now }
         requires ready { CanRewatch m.now tick slopes.now self.old agenda.old }
-        ensures goes_on { AreGoingOn m.now tick slopes.now self.old.watches.items
-            self.new.watches.items agenda.old agenda.new }
-        ensures speeds { All
-            (λ state. All (HasSpeed m.now slopes.now self.new.watches.items)
-            (slice_index_or uses.now.1 state []))
-            states.now }
-        ensures same { self.new ≡ record self.old { watches = self.new.watches } }
+        ensures { AreRewatched m.now tick slopes.now (readers_of m.now states.now) self.old self.new
+            agenda.old agenda.new }
     {
         for state in states {
             let places = uses.conditions_of(*state);

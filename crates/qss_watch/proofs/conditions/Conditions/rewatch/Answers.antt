@@ -1,8 +1,10 @@
 -- One watch goes on.
-use Rattle.std.proofs.Common.{◌≡◌, ◌+◌, ◌<◌, ℕ, length, get_or, set, sym, ◌∙◌, ap, subst, arith}
+use Rattle.std.proofs.Common.{◌≡◌, ◌+◌, ◌<◌, ℕ, ◌∷◌, [], length, get_or, set, refl, sym, ◌∙◌, ap, subst, arith}
 use Rattle.std.proofs.lemmas.Int.{to_z-of_z}
-use Rattle.std.proofs.lemmas.List.{get_or_default, length-set, with_items_is}
+use Rattle.std.proofs.lemmas.List.{get_or_default, get_or-set_same, length-set, with_items_is}
+use Rattle.std.proofs.lemmas.List.Elements.{All-nil, All-cons}
 use Rattle.std.specs.Int.RustNames.{FitsSigned}
+use Rattle.std.specs.Prelude.{All}
 use Rattle.std.specs.Vec.{with_items}
 use Rattle.qss_machine.specs.declared.parts.Condition.{Condition}
 use Rattle.qss_machine.specs.Machines.{state_count, speed_of}
@@ -11,7 +13,7 @@ use Rattle.qss_sched.specs.Ranks.{due_at}
 use Rattle.qss_watch.specs.declared.conditions.Conditions.{Conditions}
 use Rattle.qss_watch.specs.Places.{watch_at}
 use Rattle.qss_quiet.specs.Sims.{condition_at, no_watch}
-use Rattle.qss_watch.specs.Speeds.{GoesOn, AreGoingOn}
+use Rattle.qss_watch.specs.Speeds.{GoesOn, HasSpeed, AreGoingOn}
 use Rattle.qss_watch.proofs.Speeds.{going_on_at}
 use Rattle.qss_hand.proofs.Turns.{conditions_few}
 use Rattle.qss_watch.proofs.conditions.Conditions.rewatch.Goals as goal
@@ -22,8 +24,8 @@ pub overflow_cast-entry-2 : goal.overflow_cast-entry-2
 overflow_cast-entry-2 c =
     let m = c.args.m.now in omega (arith, c.requires.place, c.requires.ready.slopes_of.as_many, conditions_few m, m.has_variables.few)
 
-pub returns-clause-goes_on : goal.returns-clause-goes_on
-returns-clause-goes_on c =
+pub returns : goal.returns
+returns c =
     let m = c.args.m.now in
     let place = c.args.place in
     let all : Conditions = c.args.self.now in
@@ -46,7 +48,15 @@ returns-clause-goes_on c =
     (subst (λ z. GoesOn c.args.tick z (watch_at all.watches.items place) c.respeed.new.watch (due_at c.args.agenda.now (length c.args.slopes.now + place)) (due_at c.respeed.new.agenda (length c.args.slopes.now + place))) speed
     (subst (λ (w : Watch). GoesOn c.args.tick (to_z w128 (of_z w128 c.speed_at-speed.result)) w c.respeed.new.watch (due_at c.args.agenda.now (length c.args.slopes.now + place)) (due_at c.respeed.new.agenda (length c.args.slopes.now + place))) read
     c.respeed.ensures.goes_on)) in
-    subst (λ ws. AreGoingOn m c.args.tick c.args.slopes.now all.watches.items ws c.args.agenda.now c.respeed.new.agenda) (sym watches)
-    (going_on_at m c.args.tick c.args.slopes.now all.watches.items c.args.agenda.now c.respeed.new.agenda place c.respeed.new.watch inside ready.small.later c.respeed.ensures.same.as_many
+    let going : AreGoingOn m c.args.tick c.args.slopes.now all.watches.items (set all.watches.items place c.respeed.new.watch) c.args.agenda.now c.respeed.new.agenda =
+    going_on_at m c.args.tick c.args.slopes.now all.watches.items c.args.agenda.now c.respeed.new.agenda place c.respeed.new.watch inside ready.small.later c.respeed.ensures.same.as_many
     (λ other ne. c.respeed.ensures.same.others other (λ e. ne (omega (arith, e, n))))
-    (turned (state_count m + place) (omega (arith, n))))
+    (turned (state_count m + place) (omega (arith, n))) in
+    let own_speed : HasSpeed m c.args.slopes.now (set all.watches.items place c.respeed.new.watch) place =
+    ap (λ (w : Watch). w.speed) (get_or-set_same all.watches.items place c.respeed.new.watch no_watch inside) ∙ c.respeed.ensures.speed ∙ speed in
+    record {
+      goes_on = subst (λ ws. AreGoingOn m c.args.tick c.args.slopes.now all.watches.items ws c.args.agenda.now c.respeed.new.agenda) (sym watches) going;
+      speeds = subst (λ ws. All (HasSpeed m c.args.slopes.now ws) (place ∷ [])) (sym watches)
+          (let Own = HasSpeed m c.args.slopes.now (set all.watches.items place c.respeed.new.watch) in All-cons Own place [] own_speed (All-nil Own));
+      same = refl;
+    }

@@ -1,12 +1,14 @@
 -- The conditions that read one more state have their speeds.
-use Rattle.std.proofs.Common.{◌≡◌, ◌<◌, [], length, get_or, sym, ◌∙◌, subst, arith, below_more}
-use Rattle.std.proofs.lemmas.List.Elements.{All-from_get_or}
-use Rattle.std.specs.Prelude.{All, slice_index_or}
+use Rattle.std.proofs.Common.{ℕ, List, ◌<◌, length, get_or, take, sym, ◌∙◌, subst, arith}
+use Rattle.std.proofs.lemmas.List.{take_all}
+use Rattle.std.specs.Prelude.{All}
 use Rattle.qss_machine.specs.Handlers.{conditions}
-use Rattle.qss_watch.specs.Speeds.{HasSpeed}
-use Rattle.qss_quiet.proofs.KeptReaders.{conditions_many, conditions_below}
-use Rattle.qss_watch.proofs.OwnConditions.{still_goes, watched_then}
-use Rattle.qss_watch.proofs.Speeds.{going_on_more, speeds_kept}
+use Rattle.qss_machine.specs.Uses.{reading_conditions}
+use Rattle.qss_watch.specs.Rewatchings.{readers_of}
+use Rattle.qss_watch.specs.Speeds.{AreRewatched}
+use Rattle.qss_quiet.proofs.Among.{lists_more}
+use Rattle.qss_quiet.proofs.KeptReaders.{conditions_many, conditions_kept, conditions_below}
+use Rattle.qss_watch.proofs.OwnConditions.{still_goes, rewatched_more}
 use Rattle.qss_watch.proofs.conditions.Conditions.rewatch_states.Goals as goal
 
 pub conditions_of-places-requires : goal.conditions_of-places-requires
@@ -22,27 +24,19 @@ rewatch_places-requires-clause-known c =
     (conditions_below m c.args.uses.now c.requires.uses (get_or c.args.states.now c.loop-state.state-index 0) (omega (arith, known)) (length (conditions m)) (omega arith))
 
 pub rewatch_places-requires-clause-ready : goal.rewatch_places-requires-clause-ready
-rewatch_places-requires-clause-ready c =
-    let inv = c.loop-state.invariant in still_goes c.args.m.now c.args.tick c.args.slopes.now c.args.self.now c.loop-state.self c.args.agenda.now c.loop-state.agenda c.requires.ready inv.rest inv.going
+rewatch_places-requires-clause-ready c = still_goes c.args.m.now c.args.tick c.args.slopes.now _ _ _ _ _ c.requires.ready c.loop-state.invariant
 
 pub loop-state-preserved : goal.loop-state-preserved
 loop-state-preserved c =
     let m = c.args.m.now in
-    let slopes = c.args.slopes.now in
-    let inv = c.loop-state.invariant in
-    let going = c.rewatch_places.ensures.goes_on in
-    let many : length c.loop-state.self.watches.items ≡ length (conditions m) = inv.going.as_many ∙ c.requires.ready.fits.watches in
-    record {
-      going = going_on_more m c.args.tick slopes c.args.self.now.watches.items c.loop-state.self.watches.items c.rewatch_places.new.self.watches.items c.args.agenda.now c.loop-state.agenda c.rewatch_places.new.agenda inv.going going;
-      rest = watched_then c.args.self.now c.loop-state.self c.rewatch_places.new.self inv.rest c.rewatch_places.ensures.same;
-      own_speeds = below_more (λ k. All (HasSpeed m slopes c.rewatch_places.new.self.watches.items) (slice_index_or c.args.uses.now.1 (get_or c.args.states.now k 0) [])) c.loop-state.state-index
-          (λ k below.
-          speeds_kept m c.args.uses.now c.requires.uses c.args.tick slopes c.loop-state.self.watches.items c.rewatch_places.new.self.watches.items c.loop-state.agenda c.rewatch_places.new.agenda going many
-          (get_or c.args.states.now k 0) (c.requires.known k 0 (omega (arith, below, c.loop-state-test.true))) (inv.own_speeds k below))
-          (subst (All (HasSpeed m slopes c.rewatch_places.new.self.watches.items)) c.conditions_of-places.ensures c.rewatch_places.ensures.speeds);
-    }
+    let i : ℕ = c.loop-state.state-index in
+    let state : ℕ = get_or c.args.states.now i 0 in
+    let known = c.requires.known i 0 c.loop-state-test.true in
+    rewatched_more m c.args.tick c.args.slopes.now (readers_of m (take i c.args.states.now)) (reading_conditions m state) _ _ _ _ _ _ _ _ c.loop-state.invariant
+    (c.conditions_of-places.ensures ∙ conditions_kept m c.args.uses.now c.requires.uses state (omega (arith, known)))
+    (lists_more (reading_conditions m) c.args.states.now i c.loop-state-test.true) c.rewatch_places.ensures
 
-pub returns-clause-speeds : goal.returns-clause-speeds
-returns-clause-speeds c =
-    All-from_get_or (λ state. All (HasSpeed c.args.m.now c.args.slopes.now c.loop-state.self.watches.items) (slice_index_or c.args.uses.now.1 state [])) c.args.states.now 0
-    (λ k h. c.loop-state.invariant.own_speeds k (omega (arith, h, c.loop-state-test.false)))
+pub returns : goal.returns
+returns c =
+    subst (λ (states : List ℕ). AreRewatched c.args.m.now c.args.tick c.args.slopes.now (readers_of c.args.m.now states) c.args.self.now c.loop-state.self c.args.agenda.now c.loop-state.agenda)
+    (take_all c.loop-state.state-index c.args.states.now c.loop-state-test.false) c.loop-state.invariant
