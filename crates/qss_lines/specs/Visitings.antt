@@ -24,7 +24,7 @@ use Rattle.qss_lines.specs.declared.visiting.NewLevels.{NewLevels}
 use Rattle.qss_lines.specs.declared.visiting.NewSlopes.{NewSlopes}
 use Rattle.qss_lines.specs.declared.visiting.QuietLevels.{QuietLevels}
 use Rattle.qss_lines.specs.declared.weights.Weights.{Weights}
-use Rattle.qss_lines.specs.Variables.{AreAssignedFrom, AreWithin, AreLevelsOf}
+use Rattle.qss_lines.specs.Variables.{AreAssignedFrom, AreWithin}
 use Rattle.qss_lines.specs.StateLines.{states_at, states_with, line_at, AreLinesWithDue, MayMove, GoesOnFrom}
 use Rattle.qss_lines.specs.Gatherings.{reached}
 use Rattle.qss_lines.specs.Reslopings.{Courses, MayReslope}
@@ -52,11 +52,11 @@ pub record AreNewLevels (at : NewLevels) : Type 0 where
   pub levels : length at.levels.now ≡ state_count at.machine.now
   pub small_levels : All (IsWithin 43) at.levels.now
 
--- a machine's readers and numbers of its states, and new levels and discrete values within the limit
+-- such new levels, and a value of each discrete variable, within the limit
 pub record AreNewLevelsAt (at : NewLevels) (discretes : List ℤ) : Type 0 where
-  pub uses : at.uses.now ≡ uses_of at.machine.now
-  pub moved : AreNumbers (state_count at.machine.now) at.moved.now
-  pub values : AreLevelsOf at.machine.now at.levels.now discretes
+  pub new : AreNewLevels at
+  pub as_many : length discretes ≡ discrete_count at.machine.now
+  pub small : All (IsWithin 43) discretes
 
 -- the sums of all rows at these levels and at discrete values
 abbrev pub new_sums : RowSum → NewLevels → List ℤ → List ℤ

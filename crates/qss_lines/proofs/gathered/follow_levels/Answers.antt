@@ -37,7 +37,7 @@ loop-state-init g c =
     }
 
 pub follow_level-requires-clause-state : goal.follow_level-requires-clause-state
-follow_level-requires-clause-state g c = c.requires.new.moved.below c.loop-state.state-index 0 c.loop-state-test.true
+follow_level-requires-clause-state g c = c.requires.new.new.moved.below c.loop-state.state-index 0 c.loop-state-test.true
 
 pub follow_level-requires-clause-modes : goal.follow_level-requires-clause-modes
 follow_level-requires-clause-modes g c row h =
@@ -48,7 +48,7 @@ follow_level-requires-clause-slopes g c = c.loop-state.invariant.as_many
 
 pub follow_level-requires-clause-small_slopes : goal.follow_level-requires-clause-small_slopes
 follow_level-requires-clause-small_slopes g c j h =
-    omega (arith, c.loop-state.invariant.near j h, few_numbers (state_count c.args.at.now.taken.machine.now) c.args.at.now.taken.moved.now c.requires.new.moved, c.args.at.now.taken.machine.now.has_variables.few, c.loop-state-test.true)
+    omega (arith, c.loop-state.invariant.near j h, few_numbers (state_count c.args.at.now.taken.machine.now) c.args.at.now.taken.moved.now c.requires.new.new.moved, c.args.at.now.taken.machine.now.has_variables.few, c.loop-state-test.true)
 
 pub follow_level-requires-clause-lines : goal.follow_level-requires-clause-lines
 follow_level-requires-clause-lines g c = c.loop-state.invariant.gathered.as_many ∙ c.requires.lines
@@ -66,15 +66,15 @@ loop-state-preserved g c =
     let moved : List ℕ = c.args.at.now.taken.moved.now in
     let levels : List ℤ = c.args.at.now.taken.levels.now in
     let state : ℕ = get_or moved i 0 in
-    let known : state < state_count m = c.requires.new.moved.below i 0 c.loop-state-test.true in
+    let known : state < state_count m = c.requires.new.new.moved.below i 0 c.loop-state-test.true in
     let inside : state < length c.args.lines.now = omega (arith, known, c.requires.lines) in
     let at = λ (old : List ℤ). levels_along (take i moved) levels old in
     let many = λ (old : List ℤ) (is : AreSumsBefore Slope m moved levels d c.args.slopes.now c.args.lines.now old).
-    length-along (take i moved) levels old ∙ sym is.levels.off.as_many ∙ c.requires.new.values.levels in
+    length-along (take i moved) levels old ∙ sym is.levels.off.as_many ∙ c.requires.new.new.levels in
     let written = λ (old : List ℤ) (is : AreSumsBefore Slope m moved levels d c.args.slopes.now c.args.lines.now old).
     let from : (line_at c.loop-state.lines state).level ≡ int_at (at old) state =
     (inv.gathered.along state inside).same_level ∙ is.levels.of_lines.own_levels state known
-    ∙ sym (along_other (take i moved) levels old state (not_before moved i c.requires.new.moved.rising c.loop-state-test.true)) in
+    ∙ sym (along_other (take i moved) levels old state (not_before moved i c.requires.new.new.moved.rising c.loop-state-test.true)) in
     subst (λ (z : ℤ). IsWritten (pos 0) (HasFollowed Slope m state z (int_at levels state) d c.loop-state.slopes) (reading_rows m state) c.loop-state.slopes c.follow_level.new.slopes) from
     c.follow_level.ensures.slopes in
     let before = c.requires.before.1 in

@@ -22,17 +22,17 @@ use mir.Syntax.{w64, w128}
 use mir.Val.{to_z, of_z}
 
 pub rows_of-rows-requires : goal.rows_of-rows-requires
-rows_of-rows-requires g c = omega (arith, c.requires.state, rows_many c.args.at.now.taken.machine.now c.args.at.now.taken.uses.now c.requires.new.uses)
+rows_of-rows-requires g c = omega (arith, c.requires.state, rows_many c.args.at.now.taken.machine.now c.args.at.now.taken.uses.now c.requires.new.new.uses)
 
 pub coefficients_of-coefficients-requires : goal.coefficients_of-coefficients-requires
-coefficients_of-coefficients-requires g c = omega (arith, c.requires.state, coefficients_many c.args.at.now.taken.machine.now c.args.at.now.taken.uses.now c.requires.new.uses)
+coefficients_of-coefficients-requires g c = omega (arith, c.requires.state, coefficients_many c.args.at.now.taken.machine.now c.args.at.now.taken.uses.now c.requires.new.new.uses)
 
 pub loop-place-init : goal.loop-place-init
 loop-place-init g c =
     let m = c.args.at.now.taken.machine.now in
     let readers = c.args.at.now.taken.uses.now in
     let state : ℕ = c.args.state in
-    let rows_are : c.rows_of-rows.result.now ≡ reading_rows m state = c.rows_of-rows.ensures ∙ rows_kept m readers c.requires.new.uses state (omega (arith, c.requires.state)) in
+    let rows_are : c.rows_of-rows.result.now ≡ reading_rows m state = c.rows_of-rows.ensures ∙ rows_kept m readers c.requires.new.new.uses state (omega (arith, c.requires.state)) in
     record {
       written = search rules;
       as_many = c.requires.slopes;
@@ -48,18 +48,18 @@ bounds-coefficients-place g c =
     let m = c.args.at.now.taken.machine.now in
     let readers = c.args.at.now.taken.uses.now in
     let state : ℕ = c.args.state in
-    let rows_are : c.rows_of-rows.result.now ≡ reading_rows m state = c.rows_of-rows.ensures ∙ rows_kept m readers c.requires.new.uses state (omega (arith, c.requires.state)) in
+    let rows_are : c.rows_of-rows.result.now ≡ reading_rows m state = c.rows_of-rows.ensures ∙ rows_kept m readers c.requires.new.new.uses state (omega (arith, c.requires.state)) in
     let coefficients_are : c.coefficients_of-coefficients.result.now ≡ reading_coefficients m state =
-    c.coefficients_of-coefficients.ensures ∙ coefficients_kept m readers c.requires.new.uses state (omega (arith, c.requires.state)) in
+    c.coefficients_of-coefficients.ensures ∙ coefficients_kept m readers c.requires.new.new.uses state (omega (arith, c.requires.state)) in
     omega (arith, c.loop-place-test.true, readers_as_many m state c.rows_of-rows.result.now c.coefficients_of-coefficients.result.now rows_are coefficients_are)
 
 pub shift_of-change-requires-clause-can : goal.shift_of-change-requires-clause-can
 shift_of-change-requires-clause-can g c =
     let level : ℤ = int_at c.args.at.now.taken.levels.now c.args.state in
-    let small_new : IsWithin 43 level = c.requires.new.values.small_levels c.args.state (pos 0) (omega (arith, c.requires.state, c.requires.new.values.levels)) in
+    let small_new : IsWithin 43 level = c.requires.new.new.small_levels c.args.state (pos 0) (omega (arith, c.requires.state, c.requires.new.new.levels)) in
     let of_new : FitsSigned w64 level = omega (arith, ints, small_new) in
     record {
-      mode = record { as_many = c.requires.new.values.discretes; small = c.requires.new.values.small_discretes; fits = c.requires.modes };
+      mode = record { as_many = c.requires.new.as_many; small = c.requires.new.small; fits = c.requires.modes };
       known = c.requires.state;
       small_old = rw (to_z-of_z w64 c.args.old c.ranges.old) c.requires.old;
       small_new = rw (to_z-of_z w64 level of_new) small_new;
@@ -70,9 +70,9 @@ shift_of-change-requires-clause-own g c =
     let m = c.args.at.now.taken.machine.now in
     let readers = c.args.at.now.taken.uses.now in
     let state : ℕ = c.args.state in
-    let rows_are : c.rows_of-rows.result.now ≡ reading_rows m state = c.rows_of-rows.ensures ∙ rows_kept m readers c.requires.new.uses state (omega (arith, c.requires.state)) in
+    let rows_are : c.rows_of-rows.result.now ≡ reading_rows m state = c.rows_of-rows.ensures ∙ rows_kept m readers c.requires.new.new.uses state (omega (arith, c.requires.state)) in
     let coefficients_are : c.coefficients_of-coefficients.result.now ≡ reading_coefficients m state =
-    c.coefficients_of-coefficients.ensures ∙ coefficients_kept m readers c.requires.new.uses state (omega (arith, c.requires.state)) in
+    c.coefficients_of-coefficients.ensures ∙ coefficients_kept m readers c.requires.new.new.uses state (omega (arith, c.requires.state)) in
     let rows : List ℕ = c.rows_of-rows.result.now in
     let coefficients : List ℤ = c.coefficients_of-coefficients.result.now in
     let place = c.loop-place.place in
@@ -149,10 +149,10 @@ returns-clause-slopes g c =
     let m = c.args.at.now.taken.machine.now in
     let readers = c.args.at.now.taken.uses.now in
     let state : ℕ = c.args.state in
-    let rows_are : c.rows_of-rows.result.now ≡ reading_rows m state = c.rows_of-rows.ensures ∙ rows_kept m readers c.requires.new.uses state (omega (arith, c.requires.state)) in
+    let rows_are : c.rows_of-rows.result.now ≡ reading_rows m state = c.rows_of-rows.ensures ∙ rows_kept m readers c.requires.new.new.uses state (omega (arith, c.requires.state)) in
     let rows : List ℕ = c.rows_of-rows.result.now in
     let level : ℤ = int_at c.args.at.now.taken.levels.now state in
-    let small_new : IsWithin 43 level = c.requires.new.values.small_levels state (pos 0) (omega (arith, c.requires.state, c.requires.new.values.levels)) in
+    let small_new : IsWithin 43 level = c.requires.new.new.small_levels state (pos 0) (omega (arith, c.requires.state, c.requires.new.new.levels)) in
     let of_new : FitsSigned w64 level = omega (arith, ints, small_new) in
     let Follows : ℤ → ℤ → ℕ → ℤ → Type 0 = λ old new. HasFollowed Slope m state old new c.args.at.now.discretes.now c.args.slopes.now in
     let old : ℤ = to_z w64 (of_z w64 c.args.old) in
@@ -167,7 +167,7 @@ returns-clause-gathered g c =
     let m = c.args.at.now.taken.machine.now in
     let readers = c.args.at.now.taken.uses.now in
     let state : ℕ = c.args.state in
-    let rows_are : c.rows_of-rows.result.now ≡ reading_rows m state = c.rows_of-rows.ensures ∙ rows_kept m readers c.requires.new.uses state (omega (arith, c.requires.state)) in
+    let rows_are : c.rows_of-rows.result.now ≡ reading_rows m state = c.rows_of-rows.ensures ∙ rows_kept m readers c.requires.new.new.uses state (omega (arith, c.requires.state)) in
     let first : Gathering = record { lines = c.args.lines.now; touched = c.args.touched.now.items } in
     let last : Gathering = record { lines = c.loop-place.lines; touched = c.loop-place.touched.items } in
     subst (λ (read : List ℕ). AreGathered c.args.at.now.taken.tick read first last) (take_all c.loop-place.place c.rows_of-rows.result.now c.loop-place-test.false ∙ rows_are) c.loop-place.invariant.gathered

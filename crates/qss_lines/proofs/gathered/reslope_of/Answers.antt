@@ -39,12 +39,7 @@ follow_levels-requires-clause-can g c =
 
 pub go_on_each-requires-clause-on : goal.go_on_each-requires-clause-on
 go_on_each-requires-clause-on g c = record {
-  new = record {
-    uses = c.requires.ready.new.uses;
-    moved = c.requires.ready.new.moved;
-    levels = c.requires.ready.new.values.levels;
-    small_levels = c.requires.ready.new.values.small_levels;
-  };
+  new = c.requires.ready.new.new;
   one_each = record {
     slopes = c.follow_levels.auto.slopes ∙ c.requires.ready.one_each.slopes;
     lines = c.follow_levels.auto.lines ∙ c.requires.ready.one_each.lines;
