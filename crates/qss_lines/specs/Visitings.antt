@@ -26,7 +26,7 @@ use Rattle.qss_lines.specs.declared.visiting.QuietLevels.{QuietLevels}
 use Rattle.qss_lines.specs.declared.weights.Weights.{Weights}
 use Rattle.qss_lines.specs.Variables.{AreAssignedFrom, AreWithin}
 use Rattle.qss_lines.specs.StateLines.{states_at, states_with, line_at, AreLinesWithDue, MayMove, GoesOnFrom}
-use Rattle.qss_lines.specs.Gatherings.{reached}
+use Rattle.qss_lines.specs.Gatherings.{CanGather, reached}
 use Rattle.qss_lines.specs.Reslopings.{Courses, MayReslope}
 use Rattle.qss_lines.specs.Kept.{AreWeights, AreWeightsBefore}
 use Rattle.qss_lines.specs.RowSums.{sum_at, AreLevelsOfLines, HadSums}
@@ -82,6 +82,16 @@ pub record CanFollow (kind : RowSum) (at : NewLevels) (discretes sums : List ℤ
   pub new : AreNewLevelsAt at discretes
   pub many_lines : length lines ≡ state_count at.machine.now
   pub before : WereSums kind at discretes sums lines
+
+-- the slopes of all rows, within 100 bits, may follow a new level of a state, and the states of these rows be gathered
+pub record CanFollowLevel (at : QuietLevels) (state : ℕ) (slopes : List ℤ) (lines : List Line) (touched : List ℕ) (room : ℕ) : Type 0 where
+  pub new : AreNewLevels at.taken
+  pub mode : IsMode (record { machine = at.taken.machine; discretes = at.discretes })
+  pub known : state < state_count at.taken.machine.now
+  pub many_slopes : length slopes ≡ state_count at.taken.machine.now
+  pub small_slopes : (j : ℕ) → j < state_count at.taken.machine.now → IsWithin 100 (int_at slopes j)
+  pub many_lines : length lines ≡ state_count at.taken.machine.now
+  pub can : CanGather at.taken.tick lines touched room
 
 -- weights and lines of the levels before, at discrete values
 abbrev pub WereWeights : NewLevels → List ℤ → Weights → List Line → Type 0
