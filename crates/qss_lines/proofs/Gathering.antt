@@ -21,7 +21,7 @@ use Rattle.qss_quiet.proofs.Quiet.{int_at-tabulate}
 use Rattle.qss_quiet.proofs.Unread.{unread_at, unread_slope}
 use Rattle.qss_quiet.proofs.Writes.{among_push, index_of}
 use Rattle.qss_lines.specs.declared.shifts.RowSum.TheVariants.{Slope}
-use Rattle.qss_lines.specs.Gatherings.{Gathering, IsAlong, is_behind, behind, CanGather, AreGathered, reached}
+use Rattle.qss_lines.specs.Gatherings.{Gathering, IsAlong, is_behind, behind, CanGather, AreGathered, HaveGathered, reached}
 use Rattle.qss_lines.specs.StateLines.{line_at, GoesOnFrom}
 use Rattle.qss_lines.specs.RowSums.{AreSumsBefore}
 use Rattle.qss_lines.specs.Reslopings.{Courses, TheseGoOn}
@@ -128,7 +128,7 @@ module _ (tick j : ℕ) (lines : List Line) (line : Line) (inside : j < length l
     has_room = omega (arith, can.room_left, behind_less (λ k. true) refl)
 
     -- and for those of the others
-    pub gather_on : CanGather tick (set lines j line) (touched ++ j ∷ []) room
+    gather_on : CanGather tick (set lines j line) (touched ++ j ∷ []) room
     gather_on =
         let many = length-set lines j line in
         record {
@@ -154,68 +154,93 @@ module _ (tick j : ℕ) (lines : List Line) (line : Line) (inside : j < length l
           room_left = omega (arith, can.room_left, behind_less (λ k. true) refl, length-append touched (j ∷ []));
         }
 
-    pub gathered_one : AreGathered tick (j ∷ []) (record { lines = lines; touched = touched }) (record { lines = set lines j line; touched = touched ++ j ∷ [] })
-    gathered_one = record {
-      as_many = length-set lines j line;
-      along = along_set can.may_move.later;
-      listed = λ k. among_push touched j k;
-      others = λ k none. elim (cases_eq k j) [
-        | inl e ↦
-            let among : is_among (touched ++ j ∷ []) k ≡ true =
-            among_push touched j k ∙ or_right (is_among touched k) (eqb j k || false) (or_left (eqb j k) false (eq-eqb j k (sym e))) in
-            absurd (cc)
-        | inr ne ↦ other k ne
-      ];
-      counted = λ may may_all.
-          let first : may j ≡ true = may_all j (or_left (eqb j j) false (eq-eqb j j refl)) in
-          omega (arith, behind_less may first, length-append touched (j ∷ []));
+    pub gathered_one : (steps more : ℕ) → more ≡ steps + 1 →
+        HaveGathered tick (j ∷ []) (record { lines = lines; touched = touched; room = room; steps = steps }) (record { lines = set lines j line; touched = touched ++ j ∷ []; room = room; steps = more })
+    gathered_one steps more one_more = record {
+      can = gather_on;
+      joined = record {
+        as_many = length-set lines j line;
+        along = along_set can.may_move.later;
+        listed = λ k. among_push touched j k;
+        others = λ k none. elim (cases_eq k j) [
+          | inl e ↦
+              let among : is_among (touched ++ j ∷ []) k ≡ true =
+              among_push touched j k ∙ or_right (is_among touched k) (eqb j k || false) (or_left (eqb j k) false (eq-eqb j k (sym e))) in
+              absurd (cc)
+          | inr ne ↦ other k ne
+        ];
+        counted = λ may may_all.
+            let first : may j ≡ true = may_all j (or_left (eqb j j) false (eq-eqb j j refl)) in
+            omega (arith, behind_less may first, length-append touched (j ∷ []));
+      };
+      counted = omega (arith, one_more, length-append touched (j ∷ []));
+      room = refl;
     }
 
 -- a state that is at the tick is listed
-pub gathered_there : (tick j : ℕ) (lines : List Line) (touched : List ℕ) (room : ℕ) → CanGather tick lines touched room → j < length lines → (line_at lines j).tick ≡ tick →
-    AreGathered tick (j ∷ []) (record { lines = lines; touched = touched }) (record { lines = lines; touched = touched })
-gathered_there tick j lines touched room can inside there = record {
-  as_many = refl;
-  along = λ k h. along_same tick (line_at lines k) (can.may_move.later k h);
-  listed = λ k. elim (cases_eq k j) [
-    | inl e ↦
-        let among : is_among touched k ≡ true = subst (λ (i : ℕ). is_among touched i ≡ true) (sym e) (can.listed j inside there) in
-        among ∙ sym (or_left (is_among touched k) (eqb j k || false) among)
-    | inr ne ↦ or_none (is_among touched k) (eqb j k || false) (or_from (eqb j k) false (ne_eqb j k (λ e. ne (sym e))) refl)
-  ];
-  others = λ k none. refl;
-  counted = λ may may_all. refl;
+pub gathered_there : (tick j : ℕ) (at : Gathering) → CanGather tick at.lines at.touched at.room → j < length at.lines → (line_at at.lines j).tick ≡ tick → HaveGathered tick (j ∷ []) at at
+gathered_there tick j at can inside there = record {
+  can = can;
+  joined = record {
+    as_many = refl;
+    along = λ k h. along_same tick (line_at at.lines k) (can.may_move.later k h);
+    listed = λ k. elim (cases_eq k j) [
+      | inl e ↦
+          let among : is_among at.touched k ≡ true = subst (λ (i : ℕ). is_among at.touched i ≡ true) (sym e) (can.listed j inside there) in
+          among ∙ sym (or_left (is_among at.touched k) (eqb j k || false) among)
+      | inr ne ↦ or_none (is_among at.touched k) (eqb j k || false) (or_from (eqb j k) false (ne_eqb j k (λ e. ne (sym e))) refl)
+    ];
+    others = λ k none. refl;
+    counted = λ may may_all. refl;
+  };
+  counted = refl;
+  room = refl;
 }
 
 -- ---- more states
 
-pub none_gathered : (tick : ℕ) (lines : List Line) (touched : List ℕ) (room : ℕ) → CanGather tick lines touched room →
-    AreGathered tick [] (record { lines = lines; touched = touched }) (record { lines = lines; touched = touched })
-none_gathered tick lines touched room can = record {
-  as_many = refl;
-  along = λ k h. along_same tick (line_at lines k) (can.may_move.later k h);
-  listed = λ k. or_none (is_among touched k) false refl;
-  others = λ k none. refl;
-  counted = λ may may_all. refl;
+pub none_gathered : (tick : ℕ) (at : Gathering) → CanGather tick at.lines at.touched at.room → HaveGathered tick [] at at
+none_gathered tick at can = record {
+  can = can;
+  joined = record {
+    as_many = refl;
+    along = λ k h. along_same tick (line_at at.lines k) (can.may_move.later k h);
+    listed = λ k. or_none (is_among at.touched k) false refl;
+    others = λ k none. refl;
+    counted = λ may may_all. refl;
+  };
+  counted = refl;
+  room = refl;
 }
 
-pub gathered_then : (tick : ℕ) (xs ys : List ℕ) (a b c : Gathering) → AreGathered tick xs a b → AreGathered tick ys b c → AreGathered tick (xs ++ ys) a c
-gathered_then tick xs ys a b c first second = record {
-  as_many = second.as_many ∙ first.as_many;
-  along = λ k h. along_then tick (line_at a.lines k) (line_at b.lines k) (line_at c.lines k) (first.along k h) (second.along k (omega (arith, h, first.as_many)));
-  listed = λ k.
-      second.listed k
-      ∙ ap (λ (before : Bool). before || is_among ys k) (first.listed k)
-      ∙ or_three (is_among a.touched k) (is_among xs k) (is_among ys k)
-      ∙ ap (λ (these : Bool). is_among a.touched k || these) (sym (list_any-append (λ i. eqb i k) xs ys));
-  others = λ k none.
-      let before = or_parts (is_among b.touched k) (is_among ys k) (sym (second.listed k) ∙ none) in
-      second.others k none ∙ first.others k before.0;
-  counted = λ may may_all.
-      let sooner = first.counted may (λ k among. may_all k (list_any-append (λ i. eqb i k) xs ys ∙ or_left (is_among xs k) (is_among ys k) among)) in
-      let later = second.counted may (λ k among. may_all k (list_any-append (λ i. eqb i k) xs ys ∙ or_right (is_among xs k) (is_among ys k) among)) in
-      omega (arith, sooner, later);
-}
+pub gathered_then : {tick : ℕ} {xs ys : List ℕ} {a b c : Gathering} → HaveGathered tick xs a b → HaveGathered tick ys b c → HaveGathered tick (xs ++ ys) a c
+gathered_then {tick = tick} {xs = xs} {ys = ys} {a = a} {b = b} {c = c} before after =
+    let first = before.joined in
+    let second = after.joined in
+    record {
+      can = after.can;
+      joined = record {
+        as_many = second.as_many ∙ first.as_many;
+        along = λ k h. along_then tick (line_at a.lines k) (line_at b.lines k) (line_at c.lines k) (first.along k h) (second.along k (omega (arith, h, first.as_many)));
+        listed = λ k.
+            second.listed k
+            ∙ ap (λ (before : Bool). before || is_among ys k) (first.listed k)
+            ∙ or_three (is_among a.touched k) (is_among xs k) (is_among ys k)
+            ∙ ap (λ (these : Bool). is_among a.touched k || these) (sym (list_any-append (λ i. eqb i k) xs ys));
+        others = λ k none.
+            let unlisted = or_parts (is_among b.touched k) (is_among ys k) (sym (second.listed k) ∙ none) in
+            second.others k none ∙ first.others k unlisted.0;
+        counted = λ may may_all.
+            let sooner = first.counted may (λ k among. may_all k (list_any-append (λ i. eqb i k) xs ys ∙ or_left (is_among xs k) (is_among ys k) among)) in
+            let later = second.counted may (λ k among. may_all k (list_any-append (λ i. eqb i k) xs ys ∙ or_right (is_among xs k) (is_among ys k) among)) in
+            omega (arith, sooner, later);
+      };
+      counted = omega (arith, before.counted, after.counted);
+      room = after.room ∙ before.room;
+    }
+
+pub gathered_as : {tick : ℕ} {xs ys : List ℕ} {a b : Gathering} → xs ≡ ys → HaveGathered tick xs a b → HaveGathered tick ys a b
+gathered_as {tick = tick} {a = a} {b = b} same = subst (λ (states : List ℕ). HaveGathered tick states a b) same
 
 -- ---- the moved states and those whose rows read one of them
 

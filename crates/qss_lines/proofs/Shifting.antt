@@ -110,11 +110,7 @@ along_all moved levels old off =
 
 -- new levels at the discrete values before handlers
 pub at_before : {at : NewLevels} {left : Handled} {lines : List Line} → CanFollowHandled at left lines → AreNewLevelsAt at left.before.now
-at_before can = record {
-  uses = can.new.uses;
-  moved = can.new.moved;
-  values = record { levels = can.new.levels; discretes = can.handled.many_before; small_levels = can.new.small_levels; small_discretes = can.handled.assigned.small_before };
-}
+at_before can = record { new = can.new; as_many = can.handled.many_before; small = can.handled.assigned.small_before }
 
 -- and at those after them
 pub levels_after : {at : NewLevels} {left : Handled} {lines : List Line} → CanFollowHandled at left lines → AreLevelsOf at.machine.now at.levels.now left.discretes.now

@@ -1,5 +1,6 @@
 -- States that a tick touches, while they are gathered: they move to it along their lines, and are listed.
-use Rattle.std.specs.Prelude.{◌≡◌, ℕ, ◌+◌, ◌<◌, ◌≤◌, Bool, true, false, not, ◌&&◌, ◌||◌, List, ◌∷◌, length, All, ℤ, flat_map, ◌==◌, count_by}
+use Rattle.std.specs.Prelude.{◌≡◌, ℕ, ◌+◌, ◌<◌, ◌≤◌, Bool, true, false, not, ◌&&◌, ◌||◌, List, ◌∷◌, length, All, ℤ, flat_map, ◌==◌, count_by, Vec, vec_capacity}
+use Rattle.std.specs.declared.alloc.Global.{Global}
 use Rattle.std.specs.List.{range_with_len}
 use Rattle.qss_machine.specs.declared.system.Machine.{Machine}
 use Rattle.qss_machine.specs.Machines.{level_unit, quantum_of}
@@ -8,10 +9,16 @@ use Rattle.qss_quant.specs.Lines.{Line, state_at, IsNear}
 use Rattle.qss_quiet.specs.Among.{is_among}
 use Rattle.qss_lines.specs.StateLines.{line_at, MayMove}
 
--- lines of states, and the numbers of touched ones
+-- lines of states, the numbers of touched ones, room for so many numbers, and how many moves of lines are counted
 pub record Gathering : Type 0 where
   pub lines : List Line
   pub touched : List ℕ
+  pub room : ℕ
+  pub steps : ℕ
+
+-- that of lines, of the vector that lists the touched ones, and of a count
+abbrev pub gathering_of : List Line → Vec ℕ Global → ℕ → Gathering
+gathering_of lines touched steps = record { lines = lines; touched = touched.items; room = vec_capacity touched; steps = steps }
 
 -- a line is at a tick where it was, and goes on as it did
 pub record IsAlong (tick : ℕ) (old new : Line) : Type 0 where
@@ -44,6 +51,13 @@ pub record AreGathered (tick : ℕ) (states : List ℕ) (old new : Gathering) : 
   pub others : (j : ℕ) → is_among new.touched j ≡ false → line_at new.lines j ≡ line_at old.lines j
   pub counted : (may : ℕ → Bool) → ((j : ℕ) → is_among states j ≡ true → may j ≡ true) →
       length new.touched + behind tick may new.lines ≡ length old.touched + behind tick may old.lines
+
+-- these states were gathered: others can be still, each move is counted, and there is as much room
+pub record HaveGathered (tick : ℕ) (states : List ℕ) (old new : Gathering) : Type 0 where
+  pub can : CanGather tick new.lines new.touched new.room
+  pub joined : AreGathered tick states old new
+  pub counted : new.steps + length old.touched ≡ old.steps + length new.touched
+  pub room : new.room ≡ old.room
 
 -- the moved states, each with those whose rows read it
 abbrev pub reached : Machine → List ℕ → List ℕ

@@ -24,9 +24,9 @@ use Rattle.qss_lines.specs.declared.visiting.NewLevels.{NewLevels}
 use Rattle.qss_lines.specs.declared.visiting.NewSlopes.{NewSlopes}
 use Rattle.qss_lines.specs.declared.visiting.QuietLevels.{QuietLevels}
 use Rattle.qss_lines.specs.declared.weights.Weights.{Weights}
-use Rattle.qss_lines.specs.Variables.{AreAssignedFrom, AreWithin, AreLevelsOf}
+use Rattle.qss_lines.specs.Variables.{AreAssignedFrom, AreWithin}
 use Rattle.qss_lines.specs.StateLines.{states_at, states_with, line_at, AreLinesWithDue, MayMove, GoesOnFrom}
-use Rattle.qss_lines.specs.Gatherings.{reached}
+use Rattle.qss_lines.specs.Gatherings.{CanGather, reached}
 use Rattle.qss_lines.specs.Reslopings.{Courses, MayReslope}
 use Rattle.qss_lines.specs.Kept.{AreWeights, AreWeightsBefore}
 use Rattle.qss_lines.specs.RowSums.{sum_at, AreLevelsOfLines, HadSums}
@@ -52,11 +52,11 @@ pub record AreNewLevels (at : NewLevels) : Type 0 where
   pub levels : length at.levels.now ≡ state_count at.machine.now
   pub small_levels : All (IsWithin 43) at.levels.now
 
--- a machine's readers and numbers of its states, and new levels and discrete values within the limit
+-- such new levels, and a value of each discrete variable, within the limit
 pub record AreNewLevelsAt (at : NewLevels) (discretes : List ℤ) : Type 0 where
-  pub uses : at.uses.now ≡ uses_of at.machine.now
-  pub moved : AreNumbers (state_count at.machine.now) at.moved.now
-  pub values : AreLevelsOf at.machine.now at.levels.now discretes
+  pub new : AreNewLevels at
+  pub as_many : length discretes ≡ discrete_count at.machine.now
+  pub small : All (IsWithin 43) discretes
 
 -- the sums of all rows at these levels and at discrete values
 abbrev pub new_sums : RowSum → NewLevels → List ℤ → List ℤ
@@ -82,6 +82,16 @@ pub record CanFollow (kind : RowSum) (at : NewLevels) (discretes sums : List ℤ
   pub new : AreNewLevelsAt at discretes
   pub many_lines : length lines ≡ state_count at.machine.now
   pub before : WereSums kind at discretes sums lines
+
+-- the slopes of all rows, within 100 bits, may follow a new level of a state, and the states of these rows be gathered
+pub record CanFollowLevel (at : QuietLevels) (state : ℕ) (slopes : List ℤ) (lines : List Line) (touched : List ℕ) (room : ℕ) : Type 0 where
+  pub new : AreNewLevels at.taken
+  pub mode : IsMode (record { machine = at.taken.machine; discretes = at.discretes })
+  pub known : state < state_count at.taken.machine.now
+  pub many_slopes : length slopes ≡ state_count at.taken.machine.now
+  pub small_slopes : (j : ℕ) → j < state_count at.taken.machine.now → IsWithin 100 (int_at slopes j)
+  pub many_lines : length lines ≡ state_count at.taken.machine.now
+  pub can : CanGather at.taken.tick lines touched room
 
 -- weights and lines of the levels before, at discrete values
 abbrev pub WereWeights : NewLevels → List ℤ → Weights → List Line → Type 0

@@ -4,19 +4,18 @@ ghost use Rattle.std.specs.Prelude.{◌≡◌, ℕ, ◌+◌, ◌<◌, ◌≤◌,
 ghost use Rattle.mu_num.specs.Sizes.{IsWithin};
 ghost use Rattle.mu_num.specs.Ticks.{tick_limit};
 ghost use Rattle.qss_machine.specs.Numbers.{int_at};
-ghost use Rattle.qss_machine.specs.Machines.{state_count, row_at};
-ghost use Rattle.qss_machine.specs.Slopes.{mode_fits};
+ghost use Rattle.qss_machine.specs.Machines.{state_count};
 ghost use Rattle.qss_machine.specs.Uses.{reading_rows};
 ghost use Rattle.qss_quant.specs.Lines.{state_at};
 ghost use Rattle.qss_sched.specs.Ranks.{due_at};
 ghost use Rattle.qss_quiet.specs.Among.{is_among};
 ghost use Rattle.qss_quiet.specs.Writes.{IsWritten};
-ghost use Rattle.qss_lines.specs.Gatherings.{CanGather, AreGathered, MayGoOn, reached};
+ghost use Rattle.qss_lines.specs.Gatherings.{CanGather, HaveGathered, gathering_of, MayGoOn, reached};
 ghost use Rattle.qss_lines.specs.StateLines.{line_at};
 ghost use Rattle.qss_lines.specs.Reslopings.{OneGoesOn, TheseGoOn};
 ghost use Rattle.qss_lines.specs.RowSums.{HasFollowed};
 ghost use Rattle.qss_lines.specs.declared.shifts.RowSum.TheVariants as sum;
-ghost use Rattle.qss_lines.specs.Visitings.{AreNewLevelsAt, CanGoOn, CanOneGoOn, CanReslope, HaveGoneOn, quiet_slopes, WereSums};
+ghost use Rattle.qss_lines.specs.Visitings.{CanFollow, CanFollowLevel, CanGoOn, CanOneGoOn, CanReslope, HaveGoneOn, quiet_slopes};
 
 use crate::shifts::{RowSum, shift_of};
 use crate::visiting::{Mode, NewSlopes, QuietLevels};
@@ -54,13 +53,9 @@ fn gather<L: Ledger>(
 )
     requires can { CanGather tick lines.old touched.old.items (vec_capacity touched.old) }
     requires known { j < length lines.old }
-    ensures can { CanGather tick lines.new touched.new.items (vec_capacity touched.new) }
-    ensures gathered { AreGathered tick (j ∷ [])
-        (record { lines = lines.old; touched = touched.old.items })
-        (record { lines = lines.new; touched = touched.new.items }) }
-    ensures counted { steps.new + length touched.old.items
-        ≡ steps.old + length touched.new.items }
-    ensures room { vec_capacity touched.new ≡ vec_capacity touched.old }
+    ensures { HaveGathered tick (j ∷ [])
+        (gathering_of lines.old touched.old steps.old)
+        (gathering_of lines.new touched.new steps.new) }
 {
     let line = &mut lines[j as usize];
     if arrive_at(line, tick, steps) {
@@ -79,31 +74,17 @@ fn follow_rows<L: Ledger>(
     touched: &mut Vec<u32>,
     steps: &mut Steps<L>,
 )
-    requires new { AreNewLevelsAt at.now.taken at.now.discretes.now }
-    requires state { state < state_count at.now.taken.machine.now }
-    requires old { IsWithin 43 old }
-    requires modes { (row : ℕ) → row < state_count at.now.taken.machine.now
-        → mode_fits at.now.taken.machine.now.f (state_count at.now.taken.machine.now)
-        (row_at at.now.taken.machine.now row) at.now.discretes.now ≡ true }
-    requires slopes { length slopes.old ≡ state_count at.now.taken.machine.now }
-    requires small_slopes { (j : ℕ) → j < state_count at.now.taken.machine.now
-        → IsWithin 100 (int_at slopes.old j) }
-    requires lines { length lines.old ≡ state_count at.now.taken.machine.now }
-    requires can { CanGather at.now.taken.tick lines.old touched.old.items
+    requires ready { CanFollowLevel at.now state slopes.old lines.old touched.old.items
         (vec_capacity touched.old) }
+    requires old { IsWithin 43 old }
     ensures slopes { IsWritten (pos 0)
         (HasFollowed sum.Slope at.now.taken.machine.now state old
         (int_at at.now.taken.levels.now state) at.now.discretes.now slopes.old)
         (reading_rows at.now.taken.machine.now state) slopes.old slopes.new }
-    ensures can { CanGather at.now.taken.tick lines.new touched.new.items
-        (vec_capacity touched.new) }
-    ensures gathered { AreGathered at.now.taken.tick
+    ensures gathered { HaveGathered at.now.taken.tick
         (reading_rows at.now.taken.machine.now state)
-        (record { lines = lines.old; touched = touched.old.items })
-        (record { lines = lines.new; touched = touched.new.items }) }
-    ensures counted { steps.new + length touched.old.items
-        ≡ steps.old + length touched.new.items }
-    ensures room { vec_capacity touched.new ≡ vec_capacity touched.old }
+        (gathering_of lines.old touched.old steps.old)
+        (gathering_of lines.new touched.new steps.new) }
 {
     let mode = Mode {
         machine: at.taken.machine,
@@ -131,30 +112,16 @@ fn follow_level<L: Ledger>(
     touched: &mut Vec<u32>,
     steps: &mut Steps<L>,
 )
-    requires new { AreNewLevelsAt at.now.taken at.now.discretes.now }
-    requires state { state < state_count at.now.taken.machine.now }
-    requires modes { (row : ℕ) → row < state_count at.now.taken.machine.now
-        → mode_fits at.now.taken.machine.now.f (state_count at.now.taken.machine.now)
-        (row_at at.now.taken.machine.now row) at.now.discretes.now ≡ true }
-    requires slopes { length slopes.old ≡ state_count at.now.taken.machine.now }
-    requires small_slopes { (j : ℕ) → j < state_count at.now.taken.machine.now
-        → IsWithin 100 (int_at slopes.old j) }
-    requires lines { length lines.old ≡ state_count at.now.taken.machine.now }
-    requires can { CanGather at.now.taken.tick lines.old touched.old.items
+    requires { CanFollowLevel at.now state slopes.old lines.old touched.old.items
         (vec_capacity touched.old) }
     ensures slopes { IsWritten (pos 0)
         (HasFollowed sum.Slope at.now.taken.machine.now state (line_at lines.old state).level
         (int_at at.now.taken.levels.now state) at.now.discretes.now slopes.old)
         (reading_rows at.now.taken.machine.now state) slopes.old slopes.new }
-    ensures can { CanGather at.now.taken.tick lines.new touched.new.items
-        (vec_capacity touched.new) }
-    ensures gathered { AreGathered at.now.taken.tick
+    ensures gathered { HaveGathered at.now.taken.tick
         (state ∷ reading_rows at.now.taken.machine.now state)
-        (record { lines = lines.old; touched = touched.old.items })
-        (record { lines = lines.new; touched = touched.new.items }) }
-    ensures counted { steps.new + length touched.old.items
-        ≡ steps.old + length touched.new.items }
-    ensures room { vec_capacity touched.new ≡ vec_capacity touched.old }
+        (gathering_of lines.old touched.old steps.old)
+        (gathering_of lines.new touched.new steps.new) }
 {
     let line = &lines[state as usize];
     let old = line.level;
@@ -171,22 +138,15 @@ fn follow_levels<L: Ledger>(
     touched: &mut Vec<u32>,
     steps: &mut Steps<L>,
 )
-    requires new { AreNewLevelsAt at.now.taken at.now.discretes.now }
-    requires lines { length lines.old ≡ state_count at.now.taken.machine.now }
-    requires before { WereSums sum.Slope at.now.taken at.now.discretes.now slopes.old
+    requires ready { CanFollow sum.Slope at.now.taken at.now.discretes.now slopes.old
         lines.old }
     requires can { CanGather at.now.taken.tick lines.old touched.old.items
         (vec_capacity touched.old) }
     ensures slopes { slopes.new ≡ quiet_slopes at.now }
-    ensures can { CanGather at.now.taken.tick lines.new touched.new.items
-        (vec_capacity touched.new) }
-    ensures gathered { AreGathered at.now.taken.tick
+    ensures gathered { HaveGathered at.now.taken.tick
         (reached at.now.taken.machine.now at.now.taken.moved.now)
-        (record { lines = lines.old; touched = touched.old.items })
-        (record { lines = lines.new; touched = touched.new.items }) }
-    ensures counted { steps.new + length touched.old.items
-        ≡ steps.old + length touched.new.items }
-    ensures room { vec_capacity touched.new ≡ vec_capacity touched.old }
+        (gathering_of lines.old touched.old steps.old)
+        (gathering_of lines.new touched.new steps.new) }
 {
     for state in at.taken.moved {
         follow_level(at, *state, slopes, lines, touched, steps);

@@ -1,8 +1,7 @@
 -- One more moved state has its level.
-use Rattle.std.proofs.Common.{◌≡◌, ◌<◌, ◌∷◌, ℕ, ℤ, pos, List, length, get_or, take, refl, ◌∙◌, sym, ap, subst, arith}
+use Rattle.std.proofs.Common.{◌≡◌, ◌<◌, ◌∷◌, ℕ, ℤ, pos, List, length, get_or, take, ◌∙◌, sym, ap, subst, arith}
 use Rattle.std.proofs.lemmas.List.{take_all}
 use Rattle.std.proofs.lemmas.List.FromFn.{fill_by_all, length-map-range_with_len, get_or-map-range_with_len}
-use Rattle.std.specs.Prelude.{vec_capacity}
 use Rattle.mu_num.specs.Sizes.{IsWithin}
 use Rattle.qss_machine.specs.Machines.{state_count}
 use Rattle.qss_machine.specs.Numbers.{int_at}
@@ -11,11 +10,11 @@ use Rattle.qss_quiet.specs.Writes.{IsWritten}
 use Rattle.qss_quiet.proofs.Among.{lists_more}
 use Rattle.qss_quiet.proofs.DueFirsts.{not_before}
 use Rattle.qss_lines.specs.declared.shifts.RowSum.TheVariants.{Slope}
-use Rattle.qss_lines.specs.Gatherings.{Gathering, AreGathered, reached}
+use Rattle.qss_lines.specs.Gatherings.{gathering_of, reached}
 use Rattle.qss_lines.specs.StateLines.{line_at}
 use Rattle.qss_lines.specs.RowSums.{sum_at, AreSumsBefore, HasFollowed}
 use Rattle.qss_lines.proofs.RisingNumbers.{few_numbers}
-use Rattle.qss_lines.proofs.Gathering.{none_gathered, gathered_then}
+use Rattle.qss_lines.proofs.Gathering.{none_gathered, gathered_then, gathered_as}
 use Rattle.qss_lines.proofs.Shifting.{levels_along, along_more, along_other, along_all, length-along, sums_small, sums_follow, sums_near}
 use Rattle.qss_quiet.proofs.LightRows.{row_is_light}
 use Rattle.qss_lines.proofs.gathered.follow_levels.Goals as goal
@@ -24,37 +23,33 @@ pub loop-state-init : goal.loop-state-init
 loop-state-init g c =
     let m = c.args.at.now.taken.machine.now in
     let d : List ℤ = c.args.at.now.discretes.now in
-    let before = c.requires.before.1 in
-    let small = sums_small Slope m c.requires.before.0 d c.args.slopes.now before.levels.of_lines.light before.own_sums in
+    let before = c.requires.ready.before.1 in
+    let small = sums_small Slope m c.requires.ready.before.0 d c.args.slopes.now before.levels.of_lines.light before.own_sums in
     record {
       own = λ old is j h. ap (λ xs. int_at xs j) is.own_sums ∙ get_or-map-range_with_len (λ k. sum_at Slope m k old d) 0 (state_count m) j j (pos 0) h (omega arith);
-      as_many = ap length before.own_sums ∙ length-map-range_with_len (λ j. sum_at Slope m j c.requires.before.0 d) 0 (state_count m);
+      as_many = ap length before.own_sums ∙ length-map-range_with_len (λ j. sum_at Slope m j c.requires.ready.before.0 d) 0 (state_count m);
       near = λ j h. let here : IsWithin 88 (int_at c.args.slopes.now j) = small j h in omega (arith, here);
-      can = c.requires.can;
-      gathered = none_gathered c.args.at.now.taken.tick c.args.lines.now c.args.touched.now.items (vec_capacity c.args.touched.now) c.requires.can;
-      counted = refl;
-      room = refl;
+      gathered = none_gathered c.args.at.now.taken.tick (gathering_of c.args.lines.now c.args.touched.now c.args.steps.now) c.requires.can;
     }
 
-pub follow_level-requires-clause-state : goal.follow_level-requires-clause-state
-follow_level-requires-clause-state g c = c.requires.new.moved.below c.loop-state.state-index 0 c.loop-state-test.true
-
-pub follow_level-requires-clause-modes : goal.follow_level-requires-clause-modes
-follow_level-requires-clause-modes g c row h =
-    (row_is_light c.args.at.now.taken.machine.now c.requires.before.0 c.args.at.now.discretes.now c.requires.before.1.levels.of_lines.light row h).modes
-
-pub follow_level-requires-clause-slopes : goal.follow_level-requires-clause-slopes
-follow_level-requires-clause-slopes g c = c.loop-state.invariant.as_many
-
-pub follow_level-requires-clause-small_slopes : goal.follow_level-requires-clause-small_slopes
-follow_level-requires-clause-small_slopes g c j h =
-    omega (arith, c.loop-state.invariant.near j h, few_numbers (state_count c.args.at.now.taken.machine.now) c.args.at.now.taken.moved.now c.requires.new.moved, c.args.at.now.taken.machine.now.has_variables.few, c.loop-state-test.true)
-
-pub follow_level-requires-clause-lines : goal.follow_level-requires-clause-lines
-follow_level-requires-clause-lines g c = c.loop-state.invariant.gathered.as_many ∙ c.requires.lines
-
-pub follow_level-requires-clause-can : goal.follow_level-requires-clause-can
-follow_level-requires-clause-can g c = c.loop-state.invariant.can
+pub follow_level-requires : goal.follow_level-requires
+follow_level-requires g c =
+    let m = c.args.at.now.taken.machine.now in
+    let new = c.requires.ready.new in
+    let inv = c.loop-state.invariant in
+    record {
+      new = new.new;
+      mode = record {
+        as_many = new.as_many;
+        small = new.small;
+        fits = λ row h. (row_is_light m c.requires.ready.before.0 c.args.at.now.discretes.now c.requires.ready.before.1.levels.of_lines.light row h).modes;
+      };
+      known = new.new.moved.below c.loop-state.state-index 0 c.loop-state-test.true;
+      many_slopes = inv.as_many;
+      small_slopes = λ j h. omega (arith, inv.near j h, few_numbers (state_count m) c.args.at.now.taken.moved.now new.new.moved, m.has_variables.few, c.loop-state-test.true);
+      many_lines = inv.gathered.joined.as_many ∙ c.requires.ready.many_lines;
+      can = inv.gathered.can;
+    }
 
 pub loop-state-preserved : goal.loop-state-preserved
 loop-state-preserved g c =
@@ -66,21 +61,18 @@ loop-state-preserved g c =
     let moved : List ℕ = c.args.at.now.taken.moved.now in
     let levels : List ℤ = c.args.at.now.taken.levels.now in
     let state : ℕ = get_or moved i 0 in
-    let known : state < state_count m = c.requires.new.moved.below i 0 c.loop-state-test.true in
-    let inside : state < length c.args.lines.now = omega (arith, known, c.requires.lines) in
+    let known : state < state_count m = c.requires.ready.new.new.moved.below i 0 c.loop-state-test.true in
+    let inside : state < length c.args.lines.now = omega (arith, known, c.requires.ready.many_lines) in
     let at = λ (old : List ℤ). levels_along (take i moved) levels old in
     let many = λ (old : List ℤ) (is : AreSumsBefore Slope m moved levels d c.args.slopes.now c.args.lines.now old).
-    length-along (take i moved) levels old ∙ sym is.levels.off.as_many ∙ c.requires.new.values.levels in
+    length-along (take i moved) levels old ∙ sym is.levels.off.as_many ∙ c.requires.ready.new.new.levels in
     let written = λ (old : List ℤ) (is : AreSumsBefore Slope m moved levels d c.args.slopes.now c.args.lines.now old).
     let from : (line_at c.loop-state.lines state).level ≡ int_at (at old) state =
-    (inv.gathered.along state inside).same_level ∙ is.levels.of_lines.own_levels state known
-    ∙ sym (along_other (take i moved) levels old state (not_before moved i c.requires.new.moved.rising c.loop-state-test.true)) in
+    (inv.gathered.joined.along state inside).same_level ∙ is.levels.of_lines.own_levels state known
+    ∙ sym (along_other (take i moved) levels old state (not_before moved i c.requires.ready.new.new.moved.rising c.loop-state-test.true)) in
     subst (λ (z : ℤ). IsWritten (pos 0) (HasFollowed Slope m state z (int_at levels state) d c.loop-state.slopes) (reading_rows m state) c.loop-state.slopes c.follow_level.new.slopes) from
     c.follow_level.ensures.slopes in
-    let before = c.requires.before.1 in
-    let first : Gathering = record { lines = c.args.lines.now; touched = c.args.touched.now.items } in
-    let between : Gathering = record { lines = c.loop-state.lines; touched = c.loop-state.touched.items } in
-    let last : Gathering = record { lines = c.follow_level.new.lines; touched = c.follow_level.new.touched.items } in
+    let before = c.requires.ready.before.1 in
     record {
       own = λ old is j h.
           sums_follow Slope m state (at old) d c.loop-state.slopes c.follow_level.new.slopes (many old is) known (int_at levels state) (written old is) j h (inv.own old is j h)
@@ -88,14 +80,10 @@ loop-state-preserved g c =
       as_many = c.follow_level.ensures.slopes.as_many ∙ inv.as_many;
       near = λ j h.
           let own = inv.near j h in
-          let next = sums_near Slope m state (at c.requires.before.0) d c.loop-state.slopes c.follow_level.new.slopes (many c.requires.before.0 before) known (int_at levels state)
-          (written c.requires.before.0 before) j in
+          let next = sums_near Slope m state (at c.requires.ready.before.0) d c.loop-state.slopes c.follow_level.new.slopes (many c.requires.ready.before.0 before) known (int_at levels state)
+          (written c.requires.ready.before.0 before) j in
           omega (arith, own, next);
-      can = c.follow_level.ensures.can;
-      gathered = subst (λ (states : List ℕ). AreGathered tick states first last) (sym (lists_more (λ j. j ∷ reading_rows m j) moved i c.loop-state-test.true))
-          (gathered_then tick (reached m (take i moved)) (state ∷ reading_rows m state) first between last inv.gathered c.follow_level.ensures.gathered);
-      counted = omega (arith, inv.counted, c.follow_level.ensures.counted);
-      room = c.follow_level.ensures.room ∙ inv.room;
+      gathered = gathered_as (sym (lists_more (λ j. j ∷ reading_rows m j) moved i c.loop-state-test.true)) (gathered_then inv.gathered c.follow_level.ensures.gathered);
     }
 
 pub returns-clause-slopes : goal.returns-clause-slopes
@@ -104,18 +92,12 @@ returns-clause-slopes g c =
     let d : List ℤ = c.args.at.now.discretes.now in
     let moved : List ℕ = c.args.at.now.taken.moved.now in
     let levels : List ℤ = c.args.at.now.taken.levels.now in
-    let old : List ℤ = c.requires.before.0 in
+    let old : List ℤ = c.requires.ready.before.0 in
     let whole : levels_along (take c.loop-state.state-index moved) levels old ≡ levels =
-    ap (λ (js : List ℕ). levels_along js levels old) (take_all c.loop-state.state-index moved c.loop-state-test.false) ∙ along_all moved levels old c.requires.before.1.levels.off in
+    ap (λ (js : List ℕ). levels_along js levels old) (take_all c.loop-state.state-index moved c.loop-state-test.false) ∙ along_all moved levels old c.requires.ready.before.1.levels.off in
     fill_by_all (λ j. sum_at Slope m j levels d) c.loop-state.slopes (state_count m) (pos 0) c.loop-state.invariant.as_many
-    (λ j h. c.loop-state.invariant.own old c.requires.before.1 j h ∙ ap (λ (l : List ℤ). sum_at Slope m j l d) whole)
-
-pub returns-clause-can : goal.returns-clause-can
-returns-clause-can g c = c.loop-state.invariant.can
+    (λ j h. c.loop-state.invariant.own old c.requires.ready.before.1 j h ∙ ap (λ (l : List ℤ). sum_at Slope m j l d) whole)
 
 pub returns-clause-gathered : goal.returns-clause-gathered
 returns-clause-gathered g c =
-    let first : Gathering = record { lines = c.args.lines.now; touched = c.args.touched.now.items } in
-    let last : Gathering = record { lines = c.loop-state.lines; touched = c.loop-state.touched.items } in
-    subst (λ (moved : List ℕ). AreGathered c.args.at.now.taken.tick (reached c.args.at.now.taken.machine.now moved) first last)
-    (take_all c.loop-state.state-index c.args.at.now.taken.moved.now c.loop-state-test.false) c.loop-state.invariant.gathered
+    gathered_as (ap (reached c.args.at.now.taken.machine.now) (take_all c.loop-state.state-index c.args.at.now.taken.moved.now c.loop-state-test.false)) c.loop-state.invariant.gathered

@@ -1,9 +1,9 @@
 use Rattle.std.proofs.Common.{◌≡◌, ◌+◌, ◌*◌, ◌^◌, ◌<◌, ◌≤◌, ℕ, ℤ, List, length, take}
-use Rattle.std.specs.Prelude.{unsigned_abs, vec_capacity}
+use Rattle.std.specs.Prelude.{unsigned_abs}
 use Rattle.qss_machine.specs.Machines.{state_count}
 use Rattle.qss_machine.specs.Numbers.{int_at}
 use Rattle.qss_lines.specs.declared.shifts.RowSum.TheVariants.{Slope}
-use Rattle.qss_lines.specs.Gatherings.{CanGather, AreGathered, reached}
+use Rattle.qss_lines.specs.Gatherings.{HaveGathered, gathering_of, reached}
 use Rattle.qss_lines.specs.RowSums.{sum_at, AreSumsBefore}
 use Rattle.qss_lines.proofs.Shifting.{levels_along}
 use Rattle.qss_lines.proofs.gathered.follow_levels.Given as goal
@@ -15,8 +15,5 @@ invariant-loop-state g l = record {
       int_at l.slopes j ≡ sum_at Slope l.at.taken.machine.now j (levels_along (take l.state-index l.at.taken.moved.now) l.at.taken.levels.now old) l.at.discretes.now;
   as_many : length l.slopes ≡ state_count l.at.taken.machine.now;
   near : (j : ℕ) → j < state_count l.at.taken.machine.now → unsigned_abs (int_at l.slopes j) ≤ (l.state-index + 1) * 2 ^ 88;
-  can : CanGather l.at.taken.tick l.lines l.touched.items (vec_capacity l.touched);
-  gathered : AreGathered l.at.taken.tick (reached l.at.taken.machine.now (take l.state-index l.at.taken.moved.now)) (record { lines = l.fn.lines; touched = l.fn.touched.items }) (record { lines = l.lines; touched = l.touched.items });
-  counted : l.steps + length l.fn.touched.items ≡ l.fn.steps + length l.touched.items;
-  room : vec_capacity l.touched ≡ vec_capacity l.fn.touched;
+  gathered : HaveGathered l.at.taken.tick (reached l.at.taken.machine.now (take l.state-index l.at.taken.moved.now)) (gathering_of l.fn.lines l.fn.touched l.fn.steps) (gathering_of l.lines l.touched l.steps);
 }

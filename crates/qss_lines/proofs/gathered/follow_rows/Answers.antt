@@ -1,9 +1,8 @@
 -- One more row, whose state is gathered.
-use Rattle.std.proofs.Common.{◌≡◌, ◌∷◌, [], ◌^◌, ◌<◌, ◌≤◌, ℕ, ℤ, List, pos, ◌+ℤ◌, ◌-ℤ◌, ◌*ℤ◌, length, get_or, take, refl, ◌∙◌, sym, ap, subst, arith, rules}
+use Rattle.std.proofs.Common.{◌≡◌, ◌^◌, ◌<◌, ◌≤◌, ℕ, ℤ, List, pos, ◌+ℤ◌, ◌-ℤ◌, ◌*ℤ◌, length, get_or, ◌∙◌, sym, ap, subst, arith, rules}
 use Rattle.std.proofs.lemmas.Int.{ints, to_z-of_z}
 use Rattle.std.proofs.lemmas.List.{length-set, take_all, take_more}
 use Rattle.std.specs.Int.RustNames.{unsigned_abs, FitsSigned}
-use Rattle.std.specs.Prelude.{vec_capacity}
 use Rattle.mu_num.specs.Sizes.{IsWithin}
 use Rattle.qss_machine.specs.Machines.{state_count, row_coefficient, mode_coefficient_at}
 use Rattle.qss_machine.specs.Numbers.{int_at}
@@ -13,34 +12,31 @@ use Rattle.qss_quiet.proofs.DueFirsts.{not_before}
 use Rattle.qss_quiet.proofs.KeptReaders.{rows_many, rows_kept, coefficients_many, coefficients_kept}
 use Rattle.qss_quiet.proofs.Writes.{written_more, written_all}
 use Rattle.qss_lines.specs.declared.shifts.RowSum.TheVariants.{Slope}
-use Rattle.qss_lines.specs.Gatherings.{Gathering, AreGathered}
+use Rattle.qss_lines.specs.Gatherings.{gathering_of}
 use Rattle.qss_lines.specs.RowSums.{HasFollowed}
-use Rattle.qss_lines.proofs.Gathering.{none_gathered, gathered_then}
+use Rattle.qss_lines.proofs.Gathering.{none_gathered, gathered_then, gathered_as}
 use Rattle.qss_lines.proofs.Shifting.{readers_as_many, reader_numbers, own_coefficient, small_coefficient}
 use Rattle.qss_lines.proofs.gathered.follow_rows.Goals as goal
 use mir.Syntax.{w64, w128}
 use mir.Val.{to_z, of_z}
 
 pub rows_of-rows-requires : goal.rows_of-rows-requires
-rows_of-rows-requires g c = omega (arith, c.requires.state, rows_many c.args.at.now.taken.machine.now c.args.at.now.taken.uses.now c.requires.new.uses)
+rows_of-rows-requires g c = omega (arith, c.requires.ready.known, rows_many c.args.at.now.taken.machine.now c.args.at.now.taken.uses.now c.requires.ready.new.uses)
 
 pub coefficients_of-coefficients-requires : goal.coefficients_of-coefficients-requires
-coefficients_of-coefficients-requires g c = omega (arith, c.requires.state, coefficients_many c.args.at.now.taken.machine.now c.args.at.now.taken.uses.now c.requires.new.uses)
+coefficients_of-coefficients-requires g c = omega (arith, c.requires.ready.known, coefficients_many c.args.at.now.taken.machine.now c.args.at.now.taken.uses.now c.requires.ready.new.uses)
 
 pub loop-place-init : goal.loop-place-init
 loop-place-init g c =
     let m = c.args.at.now.taken.machine.now in
     let readers = c.args.at.now.taken.uses.now in
     let state : ℕ = c.args.state in
-    let rows_are : c.rows_of-rows.result.now ≡ reading_rows m state = c.rows_of-rows.ensures ∙ rows_kept m readers c.requires.new.uses state (omega (arith, c.requires.state)) in
+    let rows_are : c.rows_of-rows.result.now ≡ reading_rows m state = c.rows_of-rows.ensures ∙ rows_kept m readers c.requires.ready.new.uses state (omega (arith, c.requires.ready.known)) in
     record {
       written = search rules;
-      as_many = c.requires.slopes;
+      as_many = c.requires.ready.many_slopes;
       known = reader_numbers m state c.rows_of-rows.result.now rows_are;
-      can = c.requires.can;
-      gathered = none_gathered c.args.at.now.taken.tick c.args.lines.now c.args.touched.now.items (vec_capacity c.args.touched.now) c.requires.can;
-      counted = refl;
-      room = refl;
+      gathered = none_gathered c.args.at.now.taken.tick (gathering_of c.args.lines.now c.args.touched.now c.args.steps.now) c.requires.ready.can;
     }
 
 pub bounds-coefficients-place : goal.bounds-coefficients-place
@@ -48,19 +44,19 @@ bounds-coefficients-place g c =
     let m = c.args.at.now.taken.machine.now in
     let readers = c.args.at.now.taken.uses.now in
     let state : ℕ = c.args.state in
-    let rows_are : c.rows_of-rows.result.now ≡ reading_rows m state = c.rows_of-rows.ensures ∙ rows_kept m readers c.requires.new.uses state (omega (arith, c.requires.state)) in
+    let rows_are : c.rows_of-rows.result.now ≡ reading_rows m state = c.rows_of-rows.ensures ∙ rows_kept m readers c.requires.ready.new.uses state (omega (arith, c.requires.ready.known)) in
     let coefficients_are : c.coefficients_of-coefficients.result.now ≡ reading_coefficients m state =
-    c.coefficients_of-coefficients.ensures ∙ coefficients_kept m readers c.requires.new.uses state (omega (arith, c.requires.state)) in
+    c.coefficients_of-coefficients.ensures ∙ coefficients_kept m readers c.requires.ready.new.uses state (omega (arith, c.requires.ready.known)) in
     omega (arith, c.loop-place-test.true, readers_as_many m state c.rows_of-rows.result.now c.coefficients_of-coefficients.result.now rows_are coefficients_are)
 
 pub shift_of-change-requires-clause-can : goal.shift_of-change-requires-clause-can
 shift_of-change-requires-clause-can g c =
     let level : ℤ = int_at c.args.at.now.taken.levels.now c.args.state in
-    let small_new : IsWithin 43 level = c.requires.new.values.small_levels c.args.state (pos 0) (omega (arith, c.requires.state, c.requires.new.values.levels)) in
+    let small_new : IsWithin 43 level = c.requires.ready.new.small_levels c.args.state (pos 0) (omega (arith, c.requires.ready.known, c.requires.ready.new.levels)) in
     let of_new : FitsSigned w64 level = omega (arith, ints, small_new) in
     record {
-      mode = record { as_many = c.requires.new.values.discretes; small = c.requires.new.values.small_discretes; fits = c.requires.modes };
-      known = c.requires.state;
+      mode = c.requires.ready.mode;
+      known = c.requires.ready.known;
       small_old = rw (to_z-of_z w64 c.args.old c.ranges.old) c.requires.old;
       small_new = rw (to_z-of_z w64 level of_new) small_new;
     }
@@ -70,9 +66,9 @@ shift_of-change-requires-clause-own g c =
     let m = c.args.at.now.taken.machine.now in
     let readers = c.args.at.now.taken.uses.now in
     let state : ℕ = c.args.state in
-    let rows_are : c.rows_of-rows.result.now ≡ reading_rows m state = c.rows_of-rows.ensures ∙ rows_kept m readers c.requires.new.uses state (omega (arith, c.requires.state)) in
+    let rows_are : c.rows_of-rows.result.now ≡ reading_rows m state = c.rows_of-rows.ensures ∙ rows_kept m readers c.requires.ready.new.uses state (omega (arith, c.requires.ready.known)) in
     let coefficients_are : c.coefficients_of-coefficients.result.now ≡ reading_coefficients m state =
-    c.coefficients_of-coefficients.ensures ∙ coefficients_kept m readers c.requires.new.uses state (omega (arith, c.requires.state)) in
+    c.coefficients_of-coefficients.ensures ∙ coefficients_kept m readers c.requires.ready.new.uses state (omega (arith, c.requires.ready.known)) in
     let rows : List ℕ = c.rows_of-rows.result.now in
     let coefficients : List ℤ = c.coefficients_of-coefficients.result.now in
     let place = c.loop-place.place in
@@ -95,7 +91,7 @@ overflow_add-slopes g c =
     let row : ℕ = get_or rows i 0 in
     let known : row < state_count c.args.at.now.taken.machine.now = c.loop-place.invariant.known.below i 0 c.loop-place-test.true in
     let same : int_at c.loop-place.slopes row ≡ int_at c.args.slopes.now row = c.loop-place.invariant.written.others row (not_before rows i c.loop-place.invariant.known.rising c.loop-place-test.true) in
-    let small : IsWithin 100 (int_at c.args.slopes.now row) = c.requires.small_slopes row known in
+    let small : IsWithin 100 (int_at c.args.slopes.now row) = c.requires.ready.small_slopes row known in
     let fits : FitsSigned w128 (int_at c.loop-place.slopes row) = omega (arith, ints, same, small) in
     let change : FitsSigned w128 c.shift_of-change.result = record { sfits = c.shift_of-change.type_inv } in
     let bound : unsigned_abs c.shift_of-change.result ≤ 2 ^ 88 = c.shift_of-change.ensures.bound in
@@ -103,7 +99,7 @@ overflow_add-slopes g c =
 
 pub gather-requires-clause-known : goal.gather-requires-clause-known
 gather-requires-clause-known g c =
-    omega (arith, c.loop-place.invariant.known.below c.loop-place.place 0 c.loop-place-test.true, c.loop-place.invariant.gathered.as_many, c.requires.lines)
+    omega (arith, c.loop-place.invariant.known.below c.loop-place.place 0 c.loop-place-test.true, c.loop-place.invariant.gathered.joined.as_many, c.requires.ready.many_lines)
 
 pub loop-place-preserved : goal.loop-place-preserved
 loop-place-preserved g c =
@@ -116,7 +112,7 @@ loop-place-preserved g c =
     let row : ℕ = get_or rows i 0 in
     let known : row < state_count m = inv.known.below i 0 c.loop-place-test.true in
     let same : int_at c.loop-place.slopes row ≡ int_at c.args.slopes.now row = inv.written.others row (not_before rows i inv.known.rising c.loop-place-test.true) in
-    let small : IsWithin 100 (int_at c.args.slopes.now row) = c.requires.small_slopes row known in
+    let small : IsWithin 100 (int_at c.args.slopes.now row) = c.requires.ready.small_slopes row known in
     let fits : FitsSigned w128 (int_at c.loop-place.slopes row) = omega (arith, ints, same, small) in
     let change : FitsSigned w128 c.shift_of-change.result = record { sfits = c.shift_of-change.type_inv } in
     let bound : unsigned_abs c.shift_of-change.result ≤ 2 ^ 88 = c.shift_of-change.ensures.bound in
@@ -130,18 +126,11 @@ loop-place-preserved g c =
     let own : c.shift_of-change.result ≡ mode_coefficient_at m row state discretes *ℤ (new -ℤ old) = c.shift_of-change.ensures.value in
     let Follows : ℕ → ℤ → Type 0 = HasFollowed Slope m state old new discretes c.args.slopes.now in
     let here : Follows row value = (is ∙ ap (λ z. z +ℤ c.shift_of-change.result) same ∙ ap (λ z. int_at c.args.slopes.now row +ℤ z) own, omega (arith, ints, is, same, bound)) in
-    let first : Gathering = record { lines = c.args.lines.now; touched = c.args.touched.now.items } in
-    let before : Gathering = record { lines = c.loop-place.lines; touched = c.loop-place.touched.items } in
-    let after : Gathering = record { lines = c.gather.new.lines; touched = c.gather.new.touched.items } in
     record {
       written = written_more (pos 0) Follows rows c.args.slopes.now c.loop-place.slopes i value c.loop-place-test.true inside inv.written here;
       as_many = length-set c.loop-place.slopes row value ∙ inv.as_many;
       known = inv.known;
-      can = c.gather.ensures.can;
-      gathered = subst (λ (these : List ℕ). AreGathered c.args.at.now.taken.tick these first after) (sym (take_more rows i 0 c.loop-place-test.true))
-          (gathered_then c.args.at.now.taken.tick (take i rows) (row ∷ []) first before after inv.gathered c.gather.ensures.gathered);
-      counted = omega (arith, inv.counted, c.gather.ensures.counted);
-      room = c.gather.ensures.room ∙ inv.room;
+      gathered = gathered_as (sym (take_more rows i 0 c.loop-place-test.true)) (gathered_then inv.gathered c.gather.ensures);
     }
 
 pub returns-clause-slopes : goal.returns-clause-slopes
@@ -149,10 +138,10 @@ returns-clause-slopes g c =
     let m = c.args.at.now.taken.machine.now in
     let readers = c.args.at.now.taken.uses.now in
     let state : ℕ = c.args.state in
-    let rows_are : c.rows_of-rows.result.now ≡ reading_rows m state = c.rows_of-rows.ensures ∙ rows_kept m readers c.requires.new.uses state (omega (arith, c.requires.state)) in
+    let rows_are : c.rows_of-rows.result.now ≡ reading_rows m state = c.rows_of-rows.ensures ∙ rows_kept m readers c.requires.ready.new.uses state (omega (arith, c.requires.ready.known)) in
     let rows : List ℕ = c.rows_of-rows.result.now in
     let level : ℤ = int_at c.args.at.now.taken.levels.now state in
-    let small_new : IsWithin 43 level = c.requires.new.values.small_levels state (pos 0) (omega (arith, c.requires.state, c.requires.new.values.levels)) in
+    let small_new : IsWithin 43 level = c.requires.ready.new.small_levels state (pos 0) (omega (arith, c.requires.ready.known, c.requires.ready.new.levels)) in
     let of_new : FitsSigned w64 level = omega (arith, ints, small_new) in
     let Follows : ℤ → ℤ → ℕ → ℤ → Type 0 = λ old new. HasFollowed Slope m state old new c.args.at.now.discretes.now c.args.slopes.now in
     let old : ℤ = to_z w64 (of_z w64 c.args.old) in
@@ -167,7 +156,5 @@ returns-clause-gathered g c =
     let m = c.args.at.now.taken.machine.now in
     let readers = c.args.at.now.taken.uses.now in
     let state : ℕ = c.args.state in
-    let rows_are : c.rows_of-rows.result.now ≡ reading_rows m state = c.rows_of-rows.ensures ∙ rows_kept m readers c.requires.new.uses state (omega (arith, c.requires.state)) in
-    let first : Gathering = record { lines = c.args.lines.now; touched = c.args.touched.now.items } in
-    let last : Gathering = record { lines = c.loop-place.lines; touched = c.loop-place.touched.items } in
-    subst (λ (read : List ℕ). AreGathered c.args.at.now.taken.tick read first last) (take_all c.loop-place.place c.rows_of-rows.result.now c.loop-place-test.false ∙ rows_are) c.loop-place.invariant.gathered
+    let rows_are : c.rows_of-rows.result.now ≡ reading_rows m state = c.rows_of-rows.ensures ∙ rows_kept m readers c.requires.ready.new.uses state (omega (arith, c.requires.ready.known)) in
+    gathered_as (take_all c.loop-place.place c.rows_of-rows.result.now c.loop-place-test.false ∙ rows_are) c.loop-place.invariant.gathered

@@ -1,12 +1,12 @@
 -- The state is listed once, and its line is there.
-use Rattle.std.proofs.Common.{◌≡◌, ◌≢◌, ◌≤◌, ◌∷◌, ◌++◌, [], ℕ, List, length, get_or, set, sym, ◌∙◌, ap, subst, arith}
-use Rattle.std.proofs.lemmas.List.{get_or_default, length-append, set-get_or}
+use Rattle.std.proofs.Common.{◌≡◌, ◌≢◌, ◌≤◌, ◌∷◌, ◌++◌, [], ℕ, List, get_or, set, sym, ◌∙◌, ap, subst, arith}
+use Rattle.std.proofs.lemmas.List.{get_or_default, set-get_or}
 use Rattle.std.specs.Prelude.{vec_capacity}
 use Rattle.mu_num.specs.Sizes.{IsWithin}
 use Rattle.qss_quant.specs.Lines.{Line, state_at}
-use Rattle.qss_lines.specs.Gatherings.{CanGather, AreGathered}
+use Rattle.qss_lines.specs.Gatherings.{Gathering, HaveGathered, gathering_of}
 use Rattle.qss_lines.specs.StateLines.{line_at}
-use Rattle.qss_lines.proofs.Gathering.{has_room, gather_on, gathered_one, gathered_there}
+use Rattle.qss_lines.proofs.Gathering.{has_room, gathered_one, gathered_there}
 use Rattle.qss_quiet.specs.Sims.{no_line}
 use Rattle.qss_lines.proofs.gathered.gather.Goals as goal
 
@@ -37,8 +37,8 @@ push_reserved-requires g c =
     moved.1 ∙ ap (λ (l : Line). record l { tick = tick; x = state_at l tick }) read in
     omega (arith, has_room tick j lines c.arrive_at.new.line c.requires.known away is c.args.touched.now.items (vec_capacity c.args.touched.now) c.requires.can, c.args.touched.now.ok.0)
 
-pub returns-then-arrive_at-clause-can : goal.returns-then-arrive_at-clause-can
-returns-then-arrive_at-clause-can g c =
+pub returns-then-arrive_at : goal.returns-then-arrive_at
+returns-then-arrive_at g c =
     let lines = c.args.lines.now in
     let j : ℕ = c.args.j in
     let tick : ℕ = c.args.tick in
@@ -48,51 +48,20 @@ returns-then-arrive_at-clause-can g c =
     let is : c.arrive_at.new.line ≡ record (line_at lines j) { tick = tick; x = state_at (line_at lines j) tick } =
     moved.1 ∙ ap (λ (l : Line). record l { tick = tick; x = state_at l tick }) read in
     let touched : List ℕ = c.args.touched.now.items in
-    let after : List Line = set lines j c.arrive_at.new.line in
-    subst (λ (items : List ℕ). CanGather tick after items (vec_capacity c.push_reserved.new.self)) (sym c.push_reserved.ensures.items)
-    (subst (λ (room : ℕ). CanGather tick after (touched ++ j ∷ []) room) (sym c.push_reserved.ensures.capacity)
-    (gather_on tick j lines c.arrive_at.new.line c.requires.known away is touched (vec_capacity c.args.touched.now) c.requires.can))
+    let Gathered : List ℕ → ℕ → Type 0 = λ items room. HaveGathered tick (j ∷ []) (gathering_of lines c.args.touched.now c.args.steps.now)
+    (record { lines = set lines j c.arrive_at.new.line; touched = items; room = room; steps = c.arrive_at.new.steps }) in
+    subst (λ (items : List ℕ). Gathered items (vec_capacity c.push_reserved.new.self)) (sym c.push_reserved.ensures.items)
+    (subst (Gathered (touched ++ j ∷ [])) (sym c.push_reserved.ensures.capacity)
+    (gathered_one tick j lines c.arrive_at.new.line c.requires.known away is touched (vec_capacity c.args.touched.now) c.requires.can c.args.steps.now c.arrive_at.new.steps moved.2))
 
-pub returns-then-arrive_at-clause-gathered : goal.returns-then-arrive_at-clause-gathered
-returns-then-arrive_at-clause-gathered g c =
+pub returns-else-arrive_at : goal.returns-else-arrive_at
+returns-else-arrive_at g c =
     let lines = c.args.lines.now in
     let j : ℕ = c.args.j in
-    let tick : ℕ = c.args.tick in
-    let read : get_or lines j c.index-lines-j.result ≡ line_at lines j = get_or_default lines j c.index-lines-j.result no_line c.requires.known in
-    let moved = c.arrive_at.ensures.moved c.if-arrive_at.true in
-    let away : (line_at lines j).tick ≢ tick = λ e. moved.0 (ap (λ (l : Line). l.tick) read ∙ e) in
-    let is : c.arrive_at.new.line ≡ record (line_at lines j) { tick = tick; x = state_at (line_at lines j) tick } =
-    moved.1 ∙ ap (λ (l : Line). record l { tick = tick; x = state_at l tick }) read in
-    let touched : List ℕ = c.args.touched.now.items in
-    let after : List Line = set lines j c.arrive_at.new.line in
-    subst (λ (items : List ℕ). AreGathered tick (j ∷ []) (record { lines = lines; touched = touched }) (record { lines = after; touched = items })) (sym c.push_reserved.ensures.items)
-    (gathered_one tick j lines c.arrive_at.new.line c.requires.known away is touched (vec_capacity c.args.touched.now) c.requires.can)
-
-pub returns-then-arrive_at-clause-counted : goal.returns-then-arrive_at-clause-counted
-returns-then-arrive_at-clause-counted g c =
-    let moved = c.arrive_at.ensures.moved c.if-arrive_at.true in
-    omega (arith, moved.2, ap length c.push_reserved.ensures.items, length-append c.args.touched.now.items (c.args.j ∷ []))
-
-pub returns-then-arrive_at-clause-room : goal.returns-then-arrive_at-clause-room
-returns-then-arrive_at-clause-room g c = c.push_reserved.ensures.capacity
-
-pub returns-else-arrive_at-clause-can : goal.returns-else-arrive_at-clause-can
-returns-else-arrive_at-clause-can g c =
-    let lines = c.args.lines.now in
-    let left = c.arrive_at.ensures.left c.if-arrive_at.false in
-    let same : set lines c.args.j c.arrive_at.new.line ≡ lines = ap (λ (l : Line). set lines c.args.j l) left.1 ∙ set-get_or lines c.args.j c.index-lines-j.result in
-    subst (λ (ls : List Line). CanGather c.args.tick ls c.args.touched.now.items (vec_capacity c.args.touched.now)) (sym same) c.requires.can
-
-pub returns-else-arrive_at-clause-gathered : goal.returns-else-arrive_at-clause-gathered
-returns-else-arrive_at-clause-gathered g c =
-    let lines = c.args.lines.now in
-    let j : ℕ = c.args.j in
-    let touched : List ℕ = c.args.touched.now.items in
+    let first : Gathering = gathering_of lines c.args.touched.now c.args.steps.now in
     let left = c.arrive_at.ensures.left c.if-arrive_at.false in
     let same : set lines j c.arrive_at.new.line ≡ lines = ap (λ (l : Line). set lines j l) left.1 ∙ set-get_or lines j c.index-lines-j.result in
     let read : get_or lines j c.index-lines-j.result ≡ line_at lines j = get_or_default lines j c.index-lines-j.result no_line c.requires.known in
-    subst (λ (ls : List Line). AreGathered c.args.tick (j ∷ []) (record { lines = lines; touched = touched }) (record { lines = ls; touched = touched })) (sym same)
-    (gathered_there c.args.tick j lines touched (vec_capacity c.args.touched.now) c.requires.can c.requires.known (ap (λ (l : Line). l.tick) (sym read) ∙ left.0))
-
-pub returns-else-arrive_at-clause-counted : goal.returns-else-arrive_at-clause-counted
-returns-else-arrive_at-clause-counted g c = let left = c.arrive_at.ensures.left c.if-arrive_at.false in omega (arith, left.2)
+    let Gathered : List Line → ℕ → Type 0 = λ ls steps. HaveGathered c.args.tick (j ∷ []) first (gathering_of ls c.args.touched.now steps) in
+    subst (λ (ls : List Line). Gathered ls c.arrive_at.new.steps) (sym same)
+    (subst (Gathered lines) (sym left.2) (gathered_there c.args.tick j first c.requires.can c.requires.known (ap (λ (l : Line). l.tick) (sym read) ∙ left.0)))

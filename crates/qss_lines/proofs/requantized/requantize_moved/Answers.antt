@@ -20,14 +20,14 @@ follow-requires-clause-ready g c =
     let of_d : c.as_slice-d.result.now ≡ c.args.work.now.d =
     c.as_slice-d.ensures.value ∙ ap (λ (v : Values). v.d) c.work.view_is in
     record {
-      uses = c.requires.ready.uses;
-      moved = c.requires.ready.lines.numbers;
-      values = record {
+      new = record {
+        uses = c.requires.ready.uses;
+        moved = c.requires.ready.lines.numbers;
         levels = c.requantize_due-over.auto.levels ∙ c.requires.held.levels;
-        discretes = ap length of_d ∙ c.requires.discretes;
         small_levels = (c.requantize_due-over.ensures.kept (not_some c.requantize_due-over.result (sym c.is_some.ensures ∙ c.if-is_some.false))).small;
-        small_discretes = subst (All (IsWithin 43)) (sym of_d) c.requires.small_discretes;
       };
+      as_many = ap length of_d ∙ c.requires.discretes;
+      small = subst (All (IsWithin 43)) (sym of_d) c.requires.small_discretes;
     }
 
 pub follow-requires-clause-lines : goal.follow-requires-clause-lines

@@ -34,7 +34,7 @@ loop-state-init c =
 
 pub shift_rows-requires-clause-small_sums : goal.shift_rows-requires-clause-small_sums
 shift_rows-requires-clause-small_sums c j h =
-    omega (arith, c.loop-state.invariant.near j h, few_numbers (state_count c.args.at.now.machine.now) c.args.at.now.moved.now c.requires.new.moved, c.args.at.now.machine.now.has_variables.few, c.loop-state-test.true)
+    omega (arith, c.loop-state.invariant.near j h, few_numbers (state_count c.args.at.now.machine.now) c.args.at.now.moved.now c.requires.new.new.moved, c.args.at.now.machine.now.has_variables.few, c.loop-state-test.true)
 
 pub shift_rows-requires-clause-can : goal.shift_rows-requires-clause-can
 shift_rows-requires-clause-can c =
@@ -42,11 +42,11 @@ shift_rows-requires-clause-can c =
     let new_fits : FitsSigned w64 c.taken_level-new.result = record { sfits = c.taken_level-new.type_inv } in
     record {
       mode = record {
-        as_many = c.requires.new.values.discretes;
-        small = c.requires.new.values.small_discretes;
+        as_many = c.requires.new.as_many;
+        small = c.requires.new.small;
         fits = λ row h. (row_is_light c.args.at.now.machine.now c.requires.before.0 c.args.d.now c.requires.before.1.levels.of_lines.light row h).modes;
       };
-      known = c.requires.new.moved.below c.loop-state.state-index 0 c.loop-state-test.true;
+      known = c.requires.new.new.moved.below c.loop-state.state-index 0 c.loop-state-test.true;
       small_old = rw (to_z-of_z w64 c.taken_level-old.result old_fits) c.taken_level-old.ensures.bound;
       small_new = rw (to_z-of_z w64 c.taken_level-new.result new_fits) c.taken_level-new.ensures.bound;
     }
@@ -59,26 +59,26 @@ loop-state-preserved c =
     let inv = c.loop-state.invariant in
     let levels : List ℤ = c.args.at.now.levels.now in
     let state : ℕ = get_or c.args.at.now.moved.now i 0 in
-    let known : state < state_count m = c.requires.new.moved.below i 0 c.loop-state-test.true in
+    let known : state < state_count m = c.requires.new.new.moved.below i 0 c.loop-state-test.true in
     let inside : state < length c.args.lines.now = omega (arith, known, c.requires.many_lines) in
     let line : c.line.inside.level ≡ (line_at c.args.lines.now state).level =
     ap (λ (l : Line). l.level) (c.line.view_is ∙ c.index-lines-j.is ∙ get_or_default c.args.lines.now state c.index-lines-j.result no_line inside) in
     let small_old : IsWithin 43 c.line.inside.level = c.line.invariant.small_level in
-    let small_new : IsWithin 43 (int_at levels state) = c.requires.new.values.small_levels state (pos 0) (omega (arith, known, c.requires.new.values.levels)) in
+    let small_new : IsWithin 43 (int_at levels state) = c.requires.new.new.small_levels state (pos 0) (omega (arith, known, c.requires.new.new.levels)) in
     let of_old : FitsSigned w64 c.line.inside.level = omega (arith, ints, small_old) in
     let of_new : FitsSigned w64 (int_at levels state) = omega (arith, ints, small_new) in
     let old_fits : FitsSigned w64 c.taken_level-old.result = record { sfits = c.taken_level-old.type_inv } in
     let new_fits : FitsSigned w64 c.taken_level-new.result = record { sfits = c.taken_level-new.type_inv } in
     let at = λ (old : List ℤ). levels_along (take i c.args.at.now.moved.now) levels old in
     let many = λ (old : List ℤ) (is : AreSumsBefore kind m c.args.at.now.moved.now levels c.args.d.now c.args.sums.now c.args.lines.now old).
-    length-along (take i c.args.at.now.moved.now) levels old ∙ sym is.levels.off.as_many ∙ c.requires.new.values.levels in
+    length-along (take i c.args.at.now.moved.now) levels old ∙ sym is.levels.off.as_many ∙ c.requires.new.new.levels in
     let to_new : to_z w64 (of_z w64 c.taken_level-new.result) ≡ taken_by kind (int_at levels state) =
     to_z-of_z w64 c.taken_level-new.result new_fits ∙ c.taken_level-new.ensures.value ∙ ap (taken_by kind) (to_z-of_z w64 (int_at levels state) of_new) in
     let written = λ (old : List ℤ) (is : AreSumsBefore kind m c.args.at.now.moved.now levels c.args.d.now c.args.sums.now c.args.lines.now old).
     let to_old : to_z w64 (of_z w64 c.taken_level-old.result) ≡ taken_by kind (int_at (at old) state) =
     to_z-of_z w64 c.taken_level-old.result old_fits ∙ c.taken_level-old.ensures.value
     ∙ ap (taken_by kind) (to_z-of_z w64 c.line.inside.level of_old ∙ line ∙ is.levels.of_lines.own_levels state known
-    ∙ sym (along_other (take i c.args.at.now.moved.now) levels old state (not_before c.args.at.now.moved.now i c.requires.new.moved.rising c.loop-state-test.true))) in
+    ∙ sym (along_other (take i c.args.at.now.moved.now) levels old state (not_before c.args.at.now.moved.now i c.requires.new.new.moved.rising c.loop-state-test.true))) in
     subst (λ (z : ℤ). IsWritten (pos 0) (HasFollowed kind m state (taken_by kind (int_at (at old) state)) z c.args.d.now c.loop-state.sums) (reading_rows m state) c.loop-state.sums c.shift_rows.new.sums)
     to_new
     (subst (λ (z : ℤ). IsWritten (pos 0) (HasFollowed kind m state z (to_z w64 (of_z w64 c.taken_level-new.result)) c.args.d.now c.loop-state.sums) (reading_rows m state) c.loop-state.sums c.shift_rows.new.sums)

@@ -18,14 +18,14 @@ use Rattle.qss_quiet.proofs.LightRows.{row_is_light}
 use Rattle.qss_lines.proofs.weighing.reweigh_of.Goals as goal
 
 pub least_reader-requires-clause-variables : goal.least_reader-requires-clause-variables
-least_reader-requires-clause-variables c k d h = omega (arith, rows_many c.args.at.now.machine.now c.args.at.now.uses.now c.requires.new.uses, c.requires.new.moved.below k d h)
+least_reader-requires-clause-variables c k d h = omega (arith, rows_many c.args.at.now.machine.now c.args.at.now.uses.now c.requires.new.new.uses, c.requires.new.new.moved.below k d h)
 
 pub least_reader-requires-clause-rows : goal.least_reader-requires-clause-rows
 least_reader-requires-clause-rows c var h =
     let m = c.args.at.now.machine.now in
     let many : length c.shift_sums.new.sums ≡ state_count m =
     ap length c.shift_sums.ensures ∙ length-map-range_with_len (λ j. weight_at m j c.args.at.now.levels.now c.args.d.now) 0 (state_count m) in
-    rows_below m c.args.at.now.uses.now c.requires.new.uses var (omega (arith, h, rows_many m c.args.at.now.uses.now c.requires.new.uses)) (length c.shift_sums.new.sums) (omega (arith, many))
+    rows_below m c.args.at.now.uses.now c.requires.new.new.uses var (omega (arith, h, rows_many m c.args.at.now.uses.now c.requires.new.new.uses)) (length c.shift_sums.new.sums) (omega (arith, many))
 
 pub returns-clause-over : goal.returns-clause-over
 returns-clause-over c =
@@ -37,7 +37,7 @@ returns-clause-over c =
     let old : List ℤ = c.requires.before.0 in
     let before = c.requires.before.1 in
     let many : length weights ≡ state_count m = ap length c.shift_sums.ensures ∙ length-map-range_with_len (λ j. weight_at m j levels d) 0 (state_count m) in
-    let known : All (λ var. var < state_count m + discrete_count m) moved = λ k z h. omega (arith, c.requires.new.moved.below k z h) in
+    let known : All (λ var. var < state_count m + discrete_count m) moved = λ k z h. omega (arith, c.requires.new.new.moved.below k z h) in
     least_is m levels d weights (flat_map (reading_rows m) moved) many
     (λ row h. passes_by_weight m row levels d (int_at weights row) (row_is_light m old d before.levels.of_lines.light row h).modes
     (ap (λ (xs : List ℤ). int_at xs row) c.shift_sums.ensures ∙ int_at-tabulate (state_count m) (λ j. weight_at m j levels d) row h))
@@ -46,5 +46,5 @@ returns-clause-over c =
     unread_overweight m (row_at m row) moved old levels d (unread_at moved (row_at m row) (sym (among_readers m row h moved) ∙ none)) before.levels.off
     ∙ none_passes no_row (is_overweight m old d) m.rows before.levels.of_lines.light row inside)
     c.least_reader.result
-    (subst (λ (rows : List ℕ). IsLeastPast weights rows c.least_reader.result) (rows_kept_all m c.args.at.now.uses.now c.requires.new.uses moved known)
+    (subst (λ (rows : List ℕ). IsLeastPast weights rows c.least_reader.result) (rows_kept_all m c.args.at.now.uses.now c.requires.new.new.uses moved known)
     (c.least_reader.ensures [] (least_none weights)))

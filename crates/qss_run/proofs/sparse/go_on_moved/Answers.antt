@@ -28,8 +28,8 @@ rewatch_of-requires g c =
     let d : List ℤ = c.args.at.now.discretes.now in
     let fits = c.requires.fits in
     record {
-      uses = c.requires.ready.new.uses;
-      moved = c.requires.ready.new.moved;
+      uses = c.requires.ready.new.new.uses;
+      moved = c.requires.ready.new.new.moved;
       ready = record {
         fits = fits;
         places = omega (arith, c.reslope_of.ensures.gone_on.places, c.requires.places);
@@ -38,7 +38,7 @@ rewatch_of-requires g c =
           small = λ place h.
               subst IsSmall (sym (c.requires.watched place (omega (arith, h, fits.watches))).here)
               (value_small m (condition_at m place).form (states_at c.args.lines.now c.args.at.now.taken.tick) d c.args.at.now.taken.tick
-              (condition_bounded m all.branches.items fits.branches place (omega (arith, h, fits.watches, fits.branches.as_many))) c.requires.small c.requires.ready.new.values.small_discretes
+              (condition_bounded m all.branches.items fits.branches place (omega (arith, h, fits.watches, fits.branches.as_many))) c.requires.small c.requires.ready.new.small
               c.requires.in_time);
         };
         slopes_of = record {
@@ -82,7 +82,7 @@ returns-clause-watches g c place h =
           c.reslope_of.ensures.gone_on.slopes j inside none;
     } in
     let unreached : is_among (reached m c.args.at.now.taken.moved.now) (state_count m + place) ≡ false =
-    not_reached m c.args.at.now.taken.moved.now (state_count m + place) c.requires.ready.new.moved.below (omega arith) in
+    not_reached m c.args.at.now.taken.moved.now (state_count m + place) c.requires.ready.new.new.moved.below (omega arith) in
     c.rewatch_of.ensures.watches x d c.args.slopes.now place h before
     (subst (IsWatched m t x d c.args.slopes.now place (watch_at all.watches.items place)) (sym (c.reslope_of.ensures.kept (state_count m + place) unreached).1) (c.requires.watched place h))
 
@@ -91,5 +91,5 @@ returns-clause-fits g c = still_fits c.args.at.now.taken.machine.now c.args.watc
 
 pub returns-clause-beyond : goal.returns-clause-beyond
 returns-clause-beyond g c place h =
-    let unreached = not_reached c.args.at.now.taken.machine.now c.args.at.now.taken.moved.now place c.requires.ready.new.moved.below (omega (arith, h)) in
+    let unreached = not_reached c.args.at.now.taken.machine.now c.args.at.now.taken.moved.now place c.requires.ready.new.new.moved.below (omega (arith, h)) in
     c.rewatch_of.ensures.goes_on.beyond place (omega (arith, h, c.requires.fits.watches)) ∙ (c.reslope_of.ensures.kept place unreached).1

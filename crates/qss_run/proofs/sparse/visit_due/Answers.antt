@@ -155,14 +155,14 @@ go_on_moved-requires-clause-ready g c =
     let fits = taken.stands.fits in
     record {
       new = record {
-        uses = fits.uses;
-        moved = subst (AreNumbers (state_count m)) (sym c.as_slice-3.ensures.value) taken.due.numbers;
-        values = record {
+        new = record {
+          uses = fits.uses;
+          moved = subst (AreNumbers (state_count m)) (sym c.as_slice-3.ensures.value) taken.due.numbers;
           levels = ap length c.as_slice-4.ensures.value ∙ same_length s.levels c.requantize_moved-over.new.levels ∙ fits.levels;
-          discretes = ap length of_d ∙ fits.values.discretes;
           small_levels = subst (All (IsWithin 43)) (sym (levels ∙ sym (c.requantize_moved-over.ensures.taken.1.levels calm))) (c.requantize_moved-over.ensures.kept calm).small;
-          small_discretes = subst (All (IsWithin 43)) (sym of_d) fits.values.small_discretes;
         };
+        as_many = ap length of_d ∙ fits.values.discretes;
+        small = subst (All (IsWithin 43)) (sym of_d) fits.values.small_discretes;
       };
       levels = record {
         near = λ j inside.

@@ -18,10 +18,18 @@ pub are_up_to_at-requires-clause-from : goal.are_up_to_at-requires-clause-from
 are_up_to_at-requires-clause-from c k none h = omega arith
 
 pub are_up_to_at-requires-clause-known : goal.are_up_to_at-requires-clause-known
-are_up_to_at-requires-clause-known c k none h = omega (arith, c.requires.ready.moved.below k none h, c.requires.ready.values.levels)
+are_up_to_at-requires-clause-known c k none h = omega (arith, c.requires.ready.new.moved.below k none h, c.requires.ready.new.levels)
 
 pub weigh_every-requires : goal.weigh_every-requires
-weigh_every-requires c = record { values = c.requires.ready.values; one_each = ap length c.as_mut_slice-2.ensures.value ∙ c.requires.before.1.own.as_many }
+weigh_every-requires c = record {
+  values = record {
+    levels = c.requires.ready.new.levels;
+    discretes = c.requires.ready.as_many;
+    small_levels = c.requires.ready.new.small_levels;
+    small_discretes = c.requires.ready.small;
+  };
+  one_each = ap length c.as_mut_slice-2.ensures.value ∙ c.requires.before.1.own.as_many;
+}
 
 pub returns-then-self : goal.returns-then-self
 returns-then-self c =
@@ -51,7 +59,7 @@ returns-then-are_up_to_at c =
       small_discretes = were.small_discretes;
     } in
     record {
-      over = sym (light_up_to m self.bound levels d c.requires.ready.values.levels c.requires.ready.values.discretes are);
+      over = sym (light_up_to m self.bound levels d c.requires.ready.new.levels c.requires.ready.as_many are);
       weights = λ none. not_kept m levels d self off before.own.as_many are;
       stay = record { bound = refl; on = λ was. was };
       off = λ was up_to. was;
