@@ -1,5 +1,6 @@
 -- Levels that states take at a tick.
-use Rattle.std.specs.Prelude.{◌≡◌, ℕ, ◌++◌, List, [], ◌∷◌, All, ℤ, pos, Option, None, if◌then◌else◌}
+use Rattle.std.specs.Prelude.{◌≡◌, ℕ, ◌+◌, ◌≤◌, ◌++◌, List, [], ◌∷◌, All, ℤ, pos, Option, None, Vec, vec_len, vec_capacity, if◌then◌else◌}
+use Rattle.std.specs.declared.alloc.Global.{Global}
 use Rattle.std.specs.List.{flat_map}
 use Rattle.std.specs.Option.{option_or}
 use Rattle.std.specs.Ordering.{int_eq}
@@ -19,9 +20,22 @@ use Rattle.qss_lines.specs.Visitings.{AreMovedTo}
 use Rattle.qss_lines.specs.StateLines.{states_at}
 
 -- the row of a state that takes a level, where it is another one
+abbrev pub row_of_level : ℕ → ℕ → ℤ → ℤ → ℤ → List Row
+row_of_level tick j state old new = if int_eq old new then [] else record { tick = tick; kind = kind.Level; var = j; level = new; state = state } ∷ []
+
+-- that of one of these states
 abbrev pub taken_row : ℕ → List ℤ → List ℤ → List ℤ → ℕ → List Row
-taken_row tick states old new j =
-    if int_eq (int_at old j) (int_at new j) then [] else record { tick = tick; kind = kind.Level; var = j; level = int_at new j; state = int_at states j } ∷ []
+taken_row tick states old new j = row_of_level tick j (int_at states j) (int_at old j) (int_at new j)
+
+-- a level is the new one, and the rows before have the one of its state behind them, where it is another one
+pub record HasTaken (tick j : ℕ) (state old new level : ℤ) (before rows : List Row) : Type 0 where
+  pub level_is : level ≡ new
+  pub rows_are : rows ≡ before ++ row_of_level tick j state old new
+
+-- at most one row more, and as much room
+pub record HaveOneMore (old new : Vec Row Global) : Type 0 where
+  pub few : vec_len new ≤ vec_len old + 1
+  pub room : vec_capacity new ≡ vec_capacity old
 
 -- new levels under a rule at these states, and the first of these that is past its limit, if one is; else they are kept, with their rows after those before
 pub record AreRequantized (m : Machine) (name : Option Rule) (tick : ℕ) (states : List ℤ) (places : List ℕ) (old kept new : List ℤ) (before rows : List Row) (first : Option ℕ) : Type 0 where

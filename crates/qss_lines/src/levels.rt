@@ -1,9 +1,8 @@
 //! Levels that are taken.
 
-ghost use Rattle.std.specs.Prelude.{◌≡◌, ◌+◌, ◌<◌, ◌≤◌, ◌++◌, ◌∷◌, [], true, false, vec_len, vec_capacity, if◌then◌else◌};
+ghost use Rattle.std.specs.Prelude.{◌≡◌, ◌<◌, true, false, vec_len, vec_capacity};
 ghost use Rattle.mu_num.specs.Sizes.{IsWithin, passes};
-ghost use Rattle.std.specs.Ordering.{int_eq};
-ghost use Rattle.qss_machine.specs.declared.rows.RowKind.TheVariants as kind;
+ghost use Rattle.qss_lines.specs.Levels.{HasTaken, HaveOneMore};
 
 use crate::limits::LEVEL_BITS;
 use mu_num::passes;
@@ -13,22 +12,9 @@ use qss_machine::{Row, RowKind};
 fn take_level(rows: &mut Vec<Row>, tick: u64, var: u32, level: &mut i64, fresh: i128, state: i128)
     requires small { IsWithin 43 fresh }
     requires room { vec_len rows.old < vec_capacity rows.old }
-    ensures level { level.new ≡ fresh }
-    ensures rows { rows.new.items
-        ≡ rows.old.items
-        ++ (if int_eq level.old fresh
-        then []
-        else
-        record {
-          tick = tick;
-          kind = kind.Level;
-          var = var;
-          level = fresh;
-          state = state;
-        }
-        ∷ []) }
-    ensures few { vec_len rows.new ≤ vec_len rows.old + 1 }
-    ensures room { vec_capacity rows.new ≡ vec_capacity rows.old }
+    ensures taken { HasTaken tick var state level.old fresh level.new rows.old.items
+        rows.new.items }
+    ensures one_more { HaveOneMore rows.old rows.new }
 {
     let new = fresh as i64;
     if *level == new {
@@ -57,15 +43,9 @@ pub(crate) fn take_within(
     requires { vec_len rows.old < vec_capacity rows.old }
     ensures past { result ≡ passes 43 fresh }
     ensures left { result ≡ true → (level.new ≡ level.old) × (rows.new.items ≡ rows.old.items) }
-    ensures level { result ≡ false → level.new ≡ fresh }
-    ensures rows { result ≡ false
-        → rows.new.items ≡ rows.old.items
-        ++ (if int_eq level.old fresh
-        then []
-        else record { tick = tick; kind = kind.Level; var = var; level = fresh; state = state }
-        ∷ []) }
-    ensures few { vec_len rows.new ≤ vec_len rows.old + 1 }
-    ensures room { vec_capacity rows.new ≡ vec_capacity rows.old }
+    ensures taken { result ≡ false
+        → HasTaken tick var state level.old fresh level.new rows.old.items rows.new.items }
+    ensures one_more { HaveOneMore rows.old rows.new }
 {
     if passes(fresh, LEVEL_BITS) {
         return true;

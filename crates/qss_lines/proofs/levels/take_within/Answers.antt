@@ -3,7 +3,7 @@ use Rattle.std.proofs.Common.{◌≡◌, ◌++◌, false, refl, sym, ◌∙◌, 
 use Rattle.std.proofs.lemmas.Int.{to_z-of_z}
 use Rattle.mu_num.specs.Sizes.{passes}
 use Rattle.mu_num.proofs.SizeTests.{passes-within}
-use Rattle.qss_quiet.proofs.LevelRows.{row_of}
+use Rattle.qss_lines.specs.Levels.{row_of_level}
 use Rattle.qss_lines.proofs.levels.take_within.Goals as goal
 use mir.Syntax.{w128}
 use mir.Val.{to_z, of_z}
@@ -14,11 +14,8 @@ returns-then-passes-clause-past c = sym (sym (rw (to_z-of_z w128 c.args.fresh c.
 pub returns-then-passes-clause-left : goal.returns-then-passes-clause-left
 returns-then-passes-clause-left c past = (refl, refl)
 
-pub returns-then-passes-clause-level : goal.returns-then-passes-clause-level
-returns-then-passes-clause-level c within = absurd (cc)
-
-pub returns-then-passes-clause-rows : goal.returns-then-passes-clause-rows
-returns-then-passes-clause-rows c within = absurd (cc)
+pub returns-then-passes-clause-taken : goal.returns-then-passes-clause-taken
+returns-then-passes-clause-taken c within = absurd (cc)
 
 pub take_level-requires-clause-small : goal.take_level-requires-clause-small
 take_level-requires-clause-small c =
@@ -31,11 +28,12 @@ returns-clause-past c = sym (sym (rw (to_z-of_z w128 c.args.fresh c.ranges.fresh
 pub returns-clause-left : goal.returns-clause-left
 returns-clause-left c past = absurd (cc)
 
-pub returns-clause-level : goal.returns-clause-level
-returns-clause-level c within = c.take_level.ensures.level ∙ to_z-of_z w128 c.args.fresh c.ranges.fresh
-
-pub returns-clause-rows : goal.returns-clause-rows
-returns-clause-rows c within =
-    c.take_level.ensures.rows
-    ∙ ap (λ z. c.args.rows.now.items ++ row_of c.args.tick c.args.var c.args.level.now z (to_z w128 (of_z w128 c.args.state))) (to_z-of_z w128 c.args.fresh c.ranges.fresh)
-    ∙ ap (λ z. c.args.rows.now.items ++ row_of c.args.tick c.args.var c.args.level.now c.args.fresh z) (to_z-of_z w128 c.args.state c.ranges.state)
+pub returns-clause-taken : goal.returns-clause-taken
+returns-clause-taken c within =
+    let taken = c.take_level.ensures.taken in
+    record {
+      level_is = taken.level_is ∙ to_z-of_z w128 c.args.fresh c.ranges.fresh;
+      rows_are = taken.rows_are
+          ∙ ap (λ z. c.args.rows.now.items ++ row_of_level c.args.tick c.args.var (to_z w128 (of_z w128 c.args.state)) c.args.level.now z) (to_z-of_z w128 c.args.fresh c.ranges.fresh)
+          ∙ ap (λ z. c.args.rows.now.items ++ row_of_level c.args.tick c.args.var z c.args.level.now c.args.fresh) (to_z-of_z w128 c.args.state c.ranges.state);
+    }

@@ -157,7 +157,7 @@ loop-state-preserved g c =
     next_by name m j (int_at states j) (int_at olds j) fresh (λ near. absurd (omega (arith, ints, near, left))) (λ away. own) in
     let past : passes 43 fresh ≡ c.take_within-past.result = sym (rw (to_z-of_z w128 fresh fresh_fits) at c.take_within-past.ensures.past) in
     let row : c.take_within-past.result ≡ false → c.take_within-past.new.rows.items ≡ c.loop-state.rows.items ++ row_of tick j (int_at olds j) fresh (int_at states j) = λ e.
-    c.take_within-past.ensures.rows e
+    (c.take_within-past.ensures.taken e).rows_are
     ∙ ap (λ z. c.loop-state.rows.items ++ row_of tick j (int_at c.loop-state.levels j) z (to_z w128 (of_z w128 value))) (to_z-of_z w128 fresh fresh_fits)
     ∙ ap (λ z. c.loop-state.rows.items ++ row_of tick j (int_at c.loop-state.levels j) fresh z) (to_z-of_z w128 value fits ∙ state)
     ∙ ap (λ z. c.loop-state.rows.items ++ row_of tick j z fresh (int_at states j)) same in
@@ -169,10 +169,10 @@ loop-state-preserved g c =
             c.take_within-past.new.rows.items first) (sym c.found_or-first.ensures)
             (taken_more m name tick states olds c.args.rows.now.items moved i c.loop-state.levels inv.taken.0 c.loop-state.rows.items c.take_within-past.new.rows.items c.loop-state.first fresh
             c.take_within-past.new.level c.take_within-past.result h rising (omega (arith, inside, c.requires.ready.levels)) inv.taken.1 next past
-            (λ e. c.take_within-past.ensures.level e ∙ to_z-of_z w128 fresh fresh_fits) row),
+            (λ e. (c.take_within-past.ensures.taken e).level_is ∙ to_z-of_z w128 fresh fresh_fits) row),
       );
-      few = omega (arith, inv.few, c.take_within-past.ensures.few);
-      room = c.take_within-past.ensures.room ∙ inv.room;
+      few = omega (arith, inv.few, c.take_within-past.ensures.one_more.few);
+      room = c.take_within-past.ensures.one_more.room ∙ inv.room;
     }
 
 pub returns-clause-passed : goal.returns-clause-passed
