@@ -57,6 +57,7 @@ impl Integrator {
     ghost use Rattle.qss_quant.specs.Lines.{state_at, IsNear, IsAway};
 
     /// The first tick at which the state is no longer within the quantum of its level.
+    #[inline(always)]
     pub fn due(&self, quantum: i64, unit: i128) -> Option<u64>
         requires quantum { IsPositiveWithin 43 quantum }
         requires unit { IsPositiveWithin 44 unit }

@@ -33,6 +33,7 @@ impl Filter {
     }
 
     /// Whether a row of a machine passes. Branches that fire and overflows always do. It takes no memory.
+    #[inline(always)]
     pub fn passes(&self, r: &Row, m: &Machine) -> bool
         requires { HasVariable m.now r.now }
         ensures { result ≡ Spec.passes self.now m.now r.now }
