@@ -1,7 +1,7 @@
 -- What comes first among near and far due ticks, and after one of them has changed.
 use Rattle.std.proofs.Common.{Bool, true, false, ◌≡◌, ℕ, zero, suc, ◌<◌, ◌≤◌, inl, inr, ◌⊎◌, List, [], ◌∷◌, Option, Some, None, length, refl, sym, ◌∙◌, ap, subst, arith}
 use Rattle.std.proofs.lemmas.Bool.{both_ways, cases_eq, cases_lt}
-use Rattle.std.proofs.lemmas.List.{get_or-set_same, get_or-set_other}
+use Rattle.std.proofs.lemmas.List.{get_or-set_same, get_or-set_other, set-get_or}
 use Rattle.std.proofs.Math.ListN.{length-set}
 use Rattle.std.specs.Option.{unwrap_or}
 use Rattle.std.specs.Prelude.{is_some, if◌then◌else◌, slice_set}
@@ -252,3 +252,7 @@ pub near_given : (near far new : List (Option ℕ)) (place tick : ℕ) (given : 
     new ≡ (if given then slice_set near place (Some tick) else near) → joined new far ≡ (if given then slice_set (joined near far) place (Some tick) else joined near far)
 near_given near far new place tick true a inside none e = ap (λ n. joined n far) e ∙ near_set near far a.as_many place (Some tick) inside none
 near_given near far new place tick false a inside none e = ap (λ n. joined n far) e
+
+-- a far due tick that is given again changes nothing
+pub given_again : (near far : List (Option ℕ)) (place tick : ℕ) → AreApart near far → due_at far place ≡ Some tick → slice_set (joined near far) place (Some tick) ≡ joined near far
+given_again near far place tick a e = ap (slice_set (joined near far) place) (sym (far_at near far a place tick e)) ∙ set-get_or (joined near far) place None

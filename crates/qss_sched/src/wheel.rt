@@ -221,6 +221,17 @@ impl Wheel {
         take_first(&mut self.due, &mut self.marks, tick, places)
     }
 
+    /// The base moves on to a tick before which nothing is due, never back.
+    #[inline(always)]
+    pub(crate) fn go_to(&mut self, tick: u64)
+        requires { (place due : ℕ) → due_at self.old place ≡ Some due → tick ≤ due }
+        ensures { self.new ≡ self.old }
+    {
+        if self.base < tick {
+            self.base = tick;
+        }
+    }
+
     /// Takes what is due at a tick at `count` places after the first ones out, rising, where nothing is
     /// due before it, and at the first ones nothing at it.
     #[inline(always)]

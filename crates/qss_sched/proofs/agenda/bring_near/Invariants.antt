@@ -1,0 +1,10 @@
+use Rattle.std.proofs.Common.{◌≡◌}
+use Rattle.qss_sched.specs.Agendas.{joined, AreApart}
+use Rattle.qss_sched.proofs.agenda.bring_near.Given as goal
+
+-- what is far comes near
+abbrev pub invariant-loop : goal.invariant-loop
+invariant-loop l = record {
+  apart : AreApart l.near l.far;
+  same : joined l.near l.far ≡ joined l.fn.near l.fn.far;
+}
