@@ -1,14 +1,13 @@
 -- How often lines go on otherwise.
-use Rattle.std.proofs.Common.{◌≡◌, ◌≢◌, ℕ, ◌+◌, ◌<◌, Bool, true, false, not, ◌&&◌, List, length, set, ℤ, refl, ◌∙◌, ap, arith, inl, inr}
+use Rattle.std.proofs.Common.{◌≡◌, ◌≢◌, ℕ, ◌+◌, ◌<◌, Bool, true, false, not, ◌&&◌, List, ℤ, count_by, refl, ◌∙◌, ap, arith, inl, inr}
 use Rattle.std.proofs.lemmas.Bool.{and_from, and_parts, cases_Bool, not_from_true}
 use Rattle.std.proofs.lemmas.Bool.Decides.{Decides-int_eq}
-use Rattle.std.proofs.lemmas.List.{get_or-set_other, get_or-set_same}
+use Rattle.std.specs.List.{range_with_len}
 use Rattle.std.specs.Ordering.{int_eq}
 use Rattle.std.specs.Prelude.{if◌then◌else◌}
 use Rattle.mu_num.proofs.Tests.{if-true, if-false}
 use Rattle.qss_machine.specs.Numbers.{int_at}
 use Rattle.qss_quant.specs.Lines.{Line, state_at}
-use Rattle.qss_quiet.specs.Sims.{no_line}
 use Rattle.qss_lines.specs.StateLines.{line_at}
 use Rattle.qss_lines.specs.Renewals.{goes_at, goes_from, renewals}
 use Rattle.qss_lines.proofs.Counting.{one_if, count_none, count_one}
@@ -69,20 +68,21 @@ left_at tick x level slope line x1 level1 slope1 line1 new of_x of_level of_slop
     left (ap (λ z. goes_from tick z level1 slope1 line1) of_x ∙ ap (λ z. goes_from tick x z slope1 line1) of_level ∙ ap (λ z. goes_from tick x level z line1) of_slope
     ∙ ap (goes_from tick x level slope) of_line ∙ so) ∙ of_line
 
--- a line that went on otherwise goes on so
-pub renewed : (n j tick : ℕ) (levels slopes : List ℤ) (lines : List Line) (line : Line) (before after : ℕ) → j < n → j < length lines → line.level ≡ int_at levels j → line.slope ≡ int_at slopes j →
-    after ≡ before + one_if (not (goes_from tick (state_at (line_at lines j) tick) (int_at levels j) (int_at slopes j) (line_at lines j))) →
-    after + renewals n levels slopes (set lines j line) ≡ before + renewals n levels slopes lines
-renewed n j tick levels slopes lines line before after known inside own_level own_slope few =
-    let goes : List Line → ℕ → Bool = λ ls k. goes_at (int_at levels k) (int_at slopes k) (line_at ls k) in
-    let here : not (goes (set lines j line) j) ≡ false =
-    ap (λ (l : Line). not (goes_at (int_at levels j) (int_at slopes j) l)) (get_or-set_same lines j line no_line inside)
-    ∙ not_from_true _ (goes_so (int_at levels j) (int_at slopes j) line own_level own_slope) in
-    let others : (k : ℕ) → k ≢ j → not (goes (set lines j line) k) ≡ not (goes lines k) = λ k far.
-    ap (λ (l : Line). not (goes_at (int_at levels k) (int_at slopes k) l)) (get_or-set_other lines j k line no_line far) in
-    let same : one_if (not (goes_from tick (state_at (line_at lines j) tick) (int_at levels j) (int_at slopes j) (line_at lines j))) ≡ one_if (not (goes lines j)) =
-    ap (λ (b : Bool). one_if (not b)) (from_here tick (state_at (line_at lines j) tick) (int_at levels j) (int_at slopes j) (line_at lines j) refl) in
-    omega (arith, few, same, count_one n j (λ k. not (goes lines k)) (λ k. not (goes (set lines j line) k)) known here others)
+-- where no line is at both the level and the slope it goes on otherwise
+pub goes_otherwise : (level slope : ℤ) (line : Line) → (line.level ≡ level → line.slope ≡ slope → ⊥) → goes_at level slope line ≡ false
+goes_otherwise level slope line other = elim (cases_Bool (goes_at level slope line)) [
+  | inl so ↦
+      let own = and_parts (int_eq line.level level) (int_eq line.slope slope) so in
+      absurd (other ((Decides-int_eq line.level level).0 own.0) ((Decides-int_eq line.slope slope).0 own.1))
+  | inr otherwise ↦ otherwise
+]
+
+-- a line goes on so, and the others as they did: if it went on otherwise there is one less that does
+pub one_renewed : (n j : ℕ) (goes : ℕ → Line → Bool) (old new : List Line) (before after : ℕ) → j < n → goes j (line_at new j) ≡ true → ((k : ℕ) → k ≢ j → line_at new k ≡ line_at old k) →
+    after ≡ before + one_if (not (goes j (line_at old j))) →
+    after + count_by (λ k. not (goes k (line_at new k))) (range_with_len 0 n) ≡ before + count_by (λ k. not (goes k (line_at old k))) (range_with_len 0 n)
+one_renewed n j goes old new before after known so others few =
+    omega (arith, few, count_one n j (λ k. not (goes k (line_at old k))) (λ k. not (goes k (line_at new k))) known (not_from_true _ so) (λ k far. ap (λ (l : Line). not (goes k l)) (others k far)))
 
 -- where each line goes on so none is left
 pub none_left : (n : ℕ) (levels slopes : List ℤ) (lines : List Line) → ((j : ℕ) → j < n → ((line_at lines j).level ≡ int_at levels j) × ((line_at lines j).slope ≡ int_at slopes j)) →

@@ -12,15 +12,15 @@ ghost use Rattle.qss_quiet.specs.Among.{is_among};
 ghost use Rattle.qss_quiet.specs.Writes.{IsWritten};
 ghost use Rattle.qss_lines.specs.Gatherings.{CanGather, HaveGathered, gathering_of, MayGoOn, reached};
 ghost use Rattle.qss_lines.specs.StateLines.{line_at};
-ghost use Rattle.qss_lines.specs.Reslopings.{OneGoesOn, TheseGoOn};
+ghost use Rattle.qss_lines.specs.Reslopings.{TheseGoOn};
 ghost use Rattle.qss_lines.specs.RowSums.{HasFollowed};
 ghost use Rattle.qss_lines.specs.declared.shifts.RowSum.TheVariants as sum;
-ghost use Rattle.qss_lines.specs.Visitings.{CanFollow, CanFollowLevel, CanGoOn, CanOneGoOn, CanReslope, HaveGoneOn, quiet_slopes};
+ghost use Rattle.qss_lines.specs.Visitings.{CanFollow, CanFollowLevel, CanGoOn, CanReslope, HaveGoneOn, quiet_slopes};
 
 use crate::shifts::{RowSum, shift_of};
+use crate::slopes::go_on;
 use crate::visiting::{Mode, NewSlopes, QuietLevels};
 use qss_quant::{Integrator, Steps};
-use qss_quiet::leaving;
 use qss_sched::Agenda;
 use std::sync::ledger::Ledger;
 
@@ -151,36 +151,6 @@ fn follow_levels<L: Ledger>(
     for state in at.taken.moved {
         follow_level(at, *state, slopes, lines, touched, steps);
     }
-}
-
-// A line goes on from its tick at this slope and level.
-fn go_on_at(line: &mut Integrator, slope: i128, level: i64)
-    requires slope { IsWithin 88 slope }
-    requires level { IsWithin 43 level }
-    ensures { line.new ≡ record line.old { slope = slope; level = level } }
-{
-    line.slope = slope;
-    line.level = level;
-}
-
-// A state, whose line is at a tick, goes on from it at its level and its slope, and the agenda has the tick at which it then
-// leaves its quantum.
-fn go_on(at: &NewSlopes, j: u32, lines: &mut [Integrator], agenda: &mut Agenda)
-    requires can { CanOneGoOn at.now j lines.old agenda.old }
-    requires ready { MayGoOn at.now.taken.machine.now at.now.taken.tick j
-        (int_at at.now.taken.levels.now j) (line_at lines.old j) }
-    ensures goes_on { OneGoesOn at.now.taken.machine.now at.now.taken.tick
-        at.now.taken.levels.now at.now.slopes.now j
-        (state_at (line_at lines.old j) at.now.taken.tick)
-        (record { lines = lines.old; dues = agenda.old })
-        (record { lines = lines.new; dues = agenda.new }) }
-    ensures same_tick { (line_at lines.new j).tick ≡ (line_at lines.old j).tick }
-{
-    let slope = at.slopes[j as usize];
-    let level = at.taken.levels[j as usize];
-    let line = &mut lines[j as usize];
-    go_on_at(line, slope, level);
-    agenda.set(j, leaving(at.taken.machine, j, line));
 }
 
 // These states, whose lines are at a tick, go on from it at their levels and slopes.

@@ -11,13 +11,13 @@ ghost use Rattle.qss_lines.specs.Renewals.{goes_at, IsCounted};
 ghost use Rattle.qss_lines.specs.Reslopings.{MayReslope, OneGoesOn, AreResloped};
 ghost use Rattle.qss_lines.specs.Visitings.{CanAllReslope, CanOneGoOn};
 
-use crate::slopes::reslope;
+use crate::slopes::go_on;
 use crate::visiting::NewSlopes;
 use qss_quant::{Integrator, Steps};
 use qss_sched::Agenda;
 use std::sync::ledger::Ledger;
 
-// A state goes on from a tick at its level and its slope.
+// A state goes on from a tick at its level and its slope. A line that has both goes on so already, and is left as it is.
 fn reslope_state<L: Ledger>(
     at: &NewSlopes,
     j: u32,
@@ -43,15 +43,13 @@ fn reslope_state<L: Ledger>(
 {
     let slope = at.slopes[j as usize];
     let level = at.taken.levels[j as usize];
+    let line = &lines[j as usize];
+    if line.slope == slope && line.level == level {
+        return;
+    }
     let line = &mut lines[j as usize];
-    let x = line.value_at(at.taken.tick);
-    let here = Integrator {
-        tick: at.taken.tick,
-        x,
-        slope,
-        level,
-    };
-    reslope(at.taken.machine, j, &here, line, agenda, steps);
+    line.move_to(at.taken.tick, steps);
+    go_on(at, j, lines, agenda);
 }
 
 // These states go on from a tick at their levels and slopes.

@@ -2,12 +2,14 @@
 
 ghost use Rattle.std.specs.Prelude.{◌≡◌, ◌+◌, ◌≤◌, true, false};
 ghost use Rattle.mu_num.specs.Sizes.{IsWithin};
+ghost use Rattle.qss_machine.specs.Numbers.{int_at};
 ghost use Rattle.qss_quant.specs.Lines.{state_at};
-ghost use Rattle.qss_sched.specs.Ranks.{due_at};
-ghost use Rattle.qss_quiet.specs.Sims.{IsDue};
-ghost use Rattle.qss_lines.specs.Reslopings.{CanRenew, IsRenewed};
+ghost use Rattle.qss_lines.specs.Gatherings.{MayGoOn};
+ghost use Rattle.qss_lines.specs.Reslopings.{OneGoesOn};
+ghost use Rattle.qss_lines.specs.StateLines.{line_at};
+ghost use Rattle.qss_lines.specs.Visitings.{CanOneGoOn};
 
-use qss_machine::Machine;
+use crate::visiting::NewSlopes;
 use qss_quant::{Integrator, Steps};
 use qss_quiet::leaving;
 use qss_sched::Agenda;
@@ -37,23 +39,32 @@ pub(crate) fn renew<L: Ledger>(
     true
 }
 
-/// State j goes on as this line, from its tick, and the agenda has the tick at which it then leaves its quantum. A line that
-/// goes on so already is left as it is.
-pub(crate) fn reslope<L: Ledger>(
-    m: &Machine,
-    j: u32,
-    here: &Integrator,
-    line: &mut Integrator,
-    agenda: &mut Agenda,
-    steps: &mut Steps<L>,
-)
-    requires ready { CanRenew m.now j here.now line.old agenda.old }
-    requires due { state_at line.old here.now.tick ≡ here.now.x → line.old.level ≡ here.now.level
-        → IsDue m.now here.now.tick j line.old (due_at agenda.old j) }
-    ensures { IsRenewed m.now j here.now line.old line.new agenda.old agenda.new steps.old
-        steps.new }
+// A line goes on from its tick at this slope and level.
+fn go_on_at(line: &mut Integrator, slope: i128, level: i64)
+    requires slope { IsWithin 88 slope }
+    requires level { IsWithin 43 level }
+    ensures { line.new ≡ record line.old { slope = slope; level = level } }
 {
-    if renew(line, here, steps) {
-        agenda.set(j, leaving(m, j, line));
-    }
+    line.slope = slope;
+    line.level = level;
+}
+
+/// A state, whose line is at a tick, goes on from it at its level and its slope, and the agenda has the tick at which it then
+/// leaves its quantum.
+pub(crate) fn go_on(at: &NewSlopes, j: u32, lines: &mut [Integrator], agenda: &mut Agenda)
+    requires can { CanOneGoOn at.now j lines.old agenda.old }
+    requires ready { MayGoOn at.now.taken.machine.now at.now.taken.tick j
+        (int_at at.now.taken.levels.now j) (line_at lines.old j) }
+    ensures goes_on { OneGoesOn at.now.taken.machine.now at.now.taken.tick
+        at.now.taken.levels.now at.now.slopes.now j
+        (state_at (line_at lines.old j) at.now.taken.tick)
+        (record { lines = lines.old; dues = agenda.old })
+        (record { lines = lines.new; dues = agenda.new }) }
+    ensures same_tick { (line_at lines.new j).tick ≡ (line_at lines.old j).tick }
+{
+    let slope = at.slopes[j as usize];
+    let level = at.taken.levels[j as usize];
+    let line = &mut lines[j as usize];
+    go_on_at(line, slope, level);
+    agenda.set(j, leaving(at.taken.machine, j, line));
 }

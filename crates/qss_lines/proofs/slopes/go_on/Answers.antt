@@ -10,7 +10,7 @@ use Rattle.qss_quiet.specs.Sims.{no_line}
 use Rattle.qss_lines.proofs.Courses.{dues_set, courses_set}
 use Rattle.qss_lines.proofs.Gathering.{line_with, near_on, goes_on_from}
 use Rattle.qss_lines.proofs.GoingOn.{has_line, has_place, line_read, small_level, small_slope, level_read, slope_read}
-use Rattle.qss_lines.proofs.gathered.go_on.Goals as goal
+use Rattle.qss_lines.proofs.slopes.go_on.Goals as goal
 
 pub go_on_at-requires-clause-slope : goal.go_on_at-requires-clause-slope
 go_on_at-requires-clause-slope c = rw (slope_read c.requires.can) (small_slope c.requires.can)
