@@ -1,7 +1,7 @@
 -- States of which some go on at new slopes, step by step.
 use Rattle.std.proofs.Common.{◌≡◌, ℕ, ◌+◌, ◌<◌, true, false, eqb, List, [], ◌∷◌, ◌++◌, length, get_or, set, take, ℤ, refl, sym, ◌∙◌, ap, subst, arith, inl, inr, ◌==◌}
 use Rattle.std.proofs.lemmas.Bool.{or_cases, or_parts, cases_eq, eqb-false}
-use Rattle.std.proofs.lemmas.List.{length-set, get_or-set_other}
+use Rattle.std.proofs.lemmas.List.{length-set, get_or-set_other, get_or-set_same}
 use Rattle.std.proofs.lemmas.List.Folds.{list_any-append}
 use Rattle.std.specs.Prelude.{Option, None}
 use Rattle.mu_num.proofs.Tests.{eqb-true}
@@ -16,7 +16,7 @@ use Rattle.qss_quiet.specs.Sims.{no_line}
 use Rattle.qss_quiet.proofs.Writes.{among_more}
 use Rattle.qss_lines.specs.StateLines.{line_at, GoesOnFrom}
 use Rattle.qss_lines.specs.Renewals.{goes_at}
-use Rattle.qss_lines.specs.Reslopings.{MayReslope, GoesOn, Courses, DuesStay, CoursesStay, OneGoesOn, TheseGoOn, AreResloped}
+use Rattle.qss_lines.specs.Reslopings.{MayReslope, GoesOn, Courses, OneGoesOn, TheseGoOn, AreResloped}
 
 -- ---- one state
 
@@ -51,17 +51,23 @@ module _ (m : Machine) (tick : ℕ) (level slope : ℤ) (j : ℕ) where
   goes_on_on a b c due_a due_b due_c (inl first) (inr second) = inr (subst (λ z. GoesOnFrom m tick z level slope j c due_c) (ap (λ (l : Line). state_at l tick) first.0) second)
   goes_on_on a b c due_a due_b due_c (inr first) second = inr (still_going (state_at a tick) b c due_b due_c first.here first second)
 
--- a due tick is put in the place of one
-pub dues_set : (j : ℕ) (due : Option ℕ) (dues next : List (Option ℕ)) → next ≡ set dues j due → DuesStay (λ place. place ≡ j → ⊥) dues next
-dues_set j due dues next is = record {
-  places = ap length is ∙ length-set dues j due;
-  others = λ place other. ap (λ (ds : List (Option ℕ)). due_at ds place) is ∙ get_or-set_other dues j place due None other;
-}
-
--- and a line too
-pub courses_set : (j : ℕ) (lines : List Line) (line : Line) (dues next : List (Option ℕ)) → DuesStay (λ place. place ≡ j → ⊥) dues next →
-    CoursesStay (λ k. k ≡ j → ⊥) (record { lines = lines; dues = dues }) (record { lines = set lines j line; dues = next })
-courses_set j lines line dues next others = record { lines = λ k other. get_or-set_other lines j k line no_line other; dues = others }
+-- a line and a due tick are put in the places of one state
+pub one_set : (m : Machine) (tick : ℕ) (levels slopes : List ℤ) (j : ℕ) (x : ℤ) (lines : List Line) (line : Line) (dues next : List (Option ℕ)) (due : Option ℕ) → j < length lines → j < length dues →
+    next ≡ set dues j due → GoesOnFrom m tick x (int_at levels j) (int_at slopes j) j line due →
+    OneGoesOn m tick levels slopes j x (record { lines = lines; dues = dues }) (record { lines = set lines j line; dues = next })
+one_set m tick levels slopes j x lines line dues next due has_line has_place is goes_on =
+    let Goes : Line → Option ℕ → Type 0 = GoesOnFrom m tick x (int_at levels j) (int_at slopes j) j in
+    let held : due_at next j ≡ due = ap (λ (ds : List (Option ℕ)). due_at ds j) is ∙ get_or-set_same dues j due None has_place in
+    record {
+      own = subst (λ (l : Line). Goes l (due_at next j)) (sym (get_or-set_same lines j line no_line has_line)) (subst (Goes line) (sym held) goes_on);
+      others = record {
+        lines = λ k other. get_or-set_other lines j k line no_line other;
+        dues = record {
+          places = ap length is ∙ length-set dues j due;
+          others = λ place other. ap (λ (ds : List (Option ℕ)). due_at ds place) is ∙ get_or-set_other dues j place due None other;
+        };
+      };
+    }
 
 -- ---- all states
 

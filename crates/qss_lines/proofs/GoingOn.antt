@@ -11,10 +11,10 @@ use Rattle.qss_machine.specs.declared.system.Machine.{Machine}
 use Rattle.qss_machine.specs.Numbers.{int_at, tabulate}
 use Rattle.qss_machine.specs.Machines.{state_count, level_unit, quantum_of, slope_at}
 use Rattle.qss_machine.specs.Ticks.{is_overweight}
-use Rattle.qss_quant.specs.Lines.{Line, IsNear}
+use Rattle.qss_quant.specs.Lines.{Line, state_at, IsNear}
 use Rattle.qss_sched.specs.Ranks.{due_at}
 use Rattle.qss_lines.specs.StateLines.{line_at, GoesOnFrom}
-use Rattle.qss_lines.specs.Visitings.{CanGoOn, CanOneGoOn}
+use Rattle.qss_lines.specs.Visitings.{AreStatesOf, CanGoOn, CanOneGoOn}
 use Rattle.qss_lines.specs.declared.visiting.NewSlopes.{NewSlopes}
 use Rattle.qss_quiet.specs.Sims.{no_line}
 use Rattle.qss_quiet.proofs.LightRows.{row_is_light}
@@ -68,6 +68,11 @@ module _ {at : NewSlopes} {j : ℕ} {lines : List Line} {dues : List (Option ℕ
   pub line_read : (line : Line) → get_or lines j line ≡ line_at lines j
   line_read line = get_or_default lines j line no_line has_line
 
+  -- once it has moved to a tick too
+  pub moved_read : (tick : ℕ) (line new : Line) → new ≡ record (get_or lines j line) { tick = tick; x = state_at (get_or lines j line) tick } →
+      line_at (set lines j new) j ≡ record (line_at lines j) { tick = tick; x = state_at (line_at lines j) tick }
+  moved_read tick line new is = get_or-set_same lines j new no_line has_line ∙ is ∙ ap (λ (l : Line). record l { tick = tick; x = state_at l tick }) (line_read line)
+
   pub small_level : IsWithin 43 (int_at at.taken.levels.now j)
   small_level = can.all.new.small_levels j (pos 0) (omega (arith, can.all.new.levels, can.known))
 
@@ -79,6 +84,12 @@ module _ {at : NewSlopes} {j : ℕ} {lines : List Line} {dues : List (Option ℕ
 
   pub slope_read : to_z w128 (of_z w128 (int_at at.slopes.now j)) ≡ int_at at.slopes.now j
   slope_read = let fits : FitsSigned w128 (int_at at.slopes.now j) = omega (arith, ints, small_slope) in to_z-of_z w128 (int_at at.slopes.now j) fits
+
+  pub state_read : (x : List ℤ) → AreStatesOf at.taken.machine.now x → to_z w128 (of_z w128 (int_at x j)) ≡ int_at x j
+  state_read x states =
+      let small : IsWithin 88 (int_at x j) = states.small j (pos 0) (omega (arith, states.as_many, can.known)) in
+      let fits : FitsSigned w128 (int_at x j) = omega (arith, ints, small) in
+      to_z-of_z w128 (int_at x j) fits
 
 -- a state near its level, in other words
 pub near_along : (m : Machine) (j : ℕ) (x y l k : ℤ) → x ≡ y → l ≡ k → IsNear (level_unit m) y k (quantum_of m j k) → IsNear (level_unit m) x l (quantum_of m j l)

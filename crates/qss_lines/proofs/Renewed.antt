@@ -1,13 +1,13 @@
 -- How often lines go on otherwise.
-use Rattle.std.proofs.Common.{◌≡◌, ◌≢◌, ℕ, ◌+◌, ◌<◌, Bool, true, false, not, ◌&&◌, List, ℤ, count_by, refl, ◌∙◌, ap, arith, inl, inr}
+use Rattle.std.proofs.Common.{◌≡◌, ◌≢◌, ℕ, ◌+◌, ◌<◌, ◌≤◌, Bool, true, false, not, ◌&&◌, List, ℤ, count_by, refl, sym, ◌∙◌, ap, subst, arith, inl, inr}
 use Rattle.std.proofs.lemmas.Bool.{and_from, and_parts, cases_Bool, not_from_true}
 use Rattle.std.proofs.lemmas.Bool.Decides.{Decides-int_eq}
 use Rattle.std.specs.List.{range_with_len}
 use Rattle.std.specs.Ordering.{int_eq}
-use Rattle.std.specs.Prelude.{if◌then◌else◌}
-use Rattle.mu_num.proofs.Tests.{if-true, if-false}
 use Rattle.qss_machine.specs.Numbers.{int_at}
 use Rattle.qss_quant.specs.Lines.{Line, state_at}
+use Rattle.qss_quiet.proofs.Lines.{line_here}
+use Rattle.qss_lines.specs.Gatherings.{IsAlong}
 use Rattle.qss_lines.specs.StateLines.{line_at}
 use Rattle.qss_lines.specs.Renewals.{goes_at, goes_from, renewals}
 use Rattle.qss_lines.proofs.Counting.{one_if, count_none, count_one}
@@ -27,46 +27,31 @@ goes_parts tick x level slope line so =
     let own = and_parts (int_eq line.level level) (int_eq line.slope slope) both.1 in
     ((Decides-int_eq (state_at line tick) x).0 both.0, (Decides-int_eq line.slope slope).0 own.1, (Decides-int_eq line.level level).0 own.0)
 
--- a line that goes on so is left, where one at this state, slope and level is
-pub left_so : (tick : ℕ) (x level slope : ℤ) (line new : Line) → (state_at line tick ≡ x → line.slope ≡ slope → line.level ≡ level → new ≡ line) →
-    goes_from tick x level slope line ≡ true → new ≡ line
-left_so tick x level slope line new left so = let own = goes_parts tick x level slope line so in left own.0 own.1 own.2
+-- a line was moved to go on as this one, unless it did so already: it goes on so, stayed if it did, and only else one more move is counted
+module _ {here line new : Line} {anew : Bool} {before after : ℕ} (moved : anew ≡ true → (new ≡ here) × (after ≡ before + 1))
+    (kept : state_at line here.tick ≡ here.x → line.slope ≡ here.slope → line.level ≡ here.level → anew ≡ false)
+    (left : anew ≡ false → (new ≡ line) × (state_at line here.tick ≡ here.x) × (line.slope ≡ here.slope) × (line.level ≡ here.level) × (after ≡ before)) where
+  pub as_here : line.tick ≤ here.tick → IsAlong here.tick here new
+  as_here later = elim (cases_Bool anew) [
+    | inl went ↦ subst (IsAlong here.tick here) (sym (moved went).0) (record { not_later = omega arith; here = refl; same_slope = refl; same_level = refl })
+    | inr still ↦ subst (IsAlong here.tick here) (sym (left still).0)
+        (record { not_later = later; here = (left still).1 ∙ sym (line_here here.tick here.x here.slope here.level); same_slope = (left still).2; same_level = (left still).3 })
+  ]
 
--- one more move, of a line that did not go on so
-pub counted_otherwise : (tick : ℕ) (x level slope : ℤ) (line : Line) (before after : ℕ) → after ≡ before + 1 →
-    (state_at line tick ≡ x → line.slope ≡ slope → line.level ≡ level → ⊥) → after ≡ before + (if goes_from tick x level slope line then 0 else 1)
-counted_otherwise tick x level slope line before after e other = elim (cases_Bool (goes_from tick x level slope line)) [
-  | inl so ↦ let own = goes_parts tick x level slope line so in absurd (other own.0 own.1 own.2)
-  | inr otherwise ↦ let one : (if goes_from tick x level slope line then 0 else 1) ≡ 1 = if-false {A = ℕ} (goes_from tick x level slope line) 0 1 otherwise in omega (arith, e, one)
-]
+  stayed : goes_from here.tick here.x here.level here.slope line ≡ true → anew ≡ false
+  stayed so = let own = goes_parts here.tick here.x here.level here.slope line so in kept own.0 own.1 own.2
 
--- no move, of a line that went on so
-pub counted_still : (tick : ℕ) (x level slope : ℤ) (line : Line) (before after : ℕ) → after ≡ before → state_at line tick ≡ x → line.slope ≡ slope → line.level ≡ level →
-    after ≡ before + (if goes_from tick x level slope line then 0 else 1)
-counted_still tick x level slope line before after e here own_slope own_level =
-    let zero : (if goes_from tick x level slope line then 0 else 1) ≡ 0 =
-    if-true {A = ℕ} (goes_from tick x level slope line) 0 1 (from_here tick x level slope line here ∙ goes_so level slope line own_level own_slope) in
-    omega (arith, e, zero)
+  pub left_so : goes_from here.tick here.x here.level here.slope line ≡ true → new ≡ line
+  left_so so = (left (stayed so)).0
 
-other_way : (b : Bool) → (if b then 0 else 1) ≡ one_if (not b)
-other_way true = refl
-other_way false = refl
-
--- the same of a line, a state, a level and a slope that are these
-pub counted_at : (tick : ℕ) (x level slope : ℤ) (line : Line) (x1 level1 slope1 : ℤ) (line1 : Line) (before after : ℕ) → x1 ≡ x → level1 ≡ level → slope1 ≡ slope → line1 ≡ line →
-    after ≡ before + (if goes_from tick x1 level1 slope1 line1 then 0 else 1) → after ≡ before + one_if (not (goes_from tick x level slope line))
-counted_at tick x level slope line x1 level1 slope1 line1 before after of_x of_level of_slope of_line few =
-    let same : goes_from tick x1 level1 slope1 line1 ≡ goes_from tick x level slope line =
-    ap (λ z. goes_from tick z level1 slope1 line1) of_x ∙ ap (λ z. goes_from tick x z slope1 line1) of_level ∙ ap (λ z. goes_from tick x level z line1) of_slope
-    ∙ ap (goes_from tick x level slope) of_line in
-    omega (arith, few, other_way (goes_from tick x1 level1 slope1 line1), ap (λ (b : Bool). one_if (not b)) same)
-
--- the same of a line that is left
-pub left_at : (tick : ℕ) (x level slope : ℤ) (line : Line) (x1 level1 slope1 : ℤ) (line1 new : Line) → x1 ≡ x → level1 ≡ level → slope1 ≡ slope → line1 ≡ line →
-    (goes_from tick x1 level1 slope1 line1 ≡ true → new ≡ line1) → goes_from tick x level slope line ≡ true → new ≡ line
-left_at tick x level slope line x1 level1 slope1 line1 new of_x of_level of_slope of_line left so =
-    left (ap (λ z. goes_from tick z level1 slope1 line1) of_x ∙ ap (λ z. goes_from tick x z slope1 line1) of_level ∙ ap (λ z. goes_from tick x level z line1) of_slope
-    ∙ ap (goes_from tick x level slope) of_line ∙ so) ∙ of_line
+  pub counted_so : after ≡ before + one_if (not (goes_from here.tick here.x here.level here.slope line))
+  counted_so = elim (cases_Bool (goes_from here.tick here.x here.level here.slope line)) [
+    | inl so ↦ omega (arith, (left (stayed so)).4, ap (λ (b : Bool). one_if (not b)) so)
+    | inr other ↦ elim (cases_Bool anew) [
+      | inl went ↦ omega (arith, (moved went).1, ap (λ (b : Bool). one_if (not b)) other)
+      | inr still ↦ absurd (let so = from_here here.tick here.x here.level here.slope line (left still).1 ∙ goes_so here.level here.slope line (left still).3 (left still).2 in cc)
+    ]
+  ]
 
 -- where no line is at both the level and the slope it goes on otherwise
 pub goes_otherwise : (level slope : ℤ) (line : Line) → (line.level ≡ level → line.slope ≡ slope → ⊥) → goes_at level slope line ≡ false

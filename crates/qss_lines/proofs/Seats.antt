@@ -1,8 +1,7 @@
 -- States that go on from where they are.
-use Rattle.std.proofs.Common.{◌≡◌, ◌≢◌, ℕ, ◌+◌, ◌-◌, ◌<◌, ◌≤◌, Bool, true, false, not, List, length, set, ℤ, pos, ◌+ℤ◌, ◌*ℤ◌, sym, ◌∙◌, ap, subst, arith, inl, inr}
-use Rattle.std.proofs.lemmas.Bool.{not_from_true, cases_Bool, cases_eq}
+use Rattle.std.proofs.Common.{◌≡◌, ℕ, ◌-◌, ◌<◌, ◌≤◌, Bool, true, List, ℤ, pos, ◌+ℤ◌, ◌*ℤ◌, sym, ◌∙◌, ap, subst, arith, inl, inr}
+use Rattle.std.proofs.lemmas.Bool.{cases_Bool, cases_eq}
 use Rattle.std.proofs.lemmas.Int.{ints}
-use Rattle.std.proofs.lemmas.List.{get_or-set_other, get_or-set_same}
 use Rattle.std.specs.Prelude.{Option}
 use Rattle.mu_num.proofs.FirstTicks.{first_after-same}
 use Rattle.mu_num.proofs.Integers.{add-mul}
@@ -13,11 +12,9 @@ use Rattle.qss_machine.specs.Numbers.{int_at}
 use Rattle.qss_quant.specs.Lines.{Line, state_at, IsAway}
 use Rattle.qss_quiet.specs.Among.{is_among}
 use Rattle.qss_lines.specs.StateLines.{line_at}
-use Rattle.qss_lines.specs.Renewals.{goes_from, renewals_from}
-use Rattle.qss_quiet.specs.Sims.{IsDue, no_line}
+use Rattle.qss_lines.specs.Renewals.{goes_from}
+use Rattle.qss_quiet.specs.Sims.{IsDue}
 use Rattle.qss_lines.specs.Reslopings.{Courses, CoursesStay, TheseGoOn}
-use Rattle.qss_lines.proofs.Counting.{one_if, count_one}
-use Rattle.qss_lines.proofs.Renewed.{goes_so, from_here}
 
 -- ---- one line
 
@@ -41,21 +38,6 @@ due_alike m tick j here line found here_begun begun same_state same_slope same_l
     (λ t later is. subst (away (state_at line t)) (sym same_level) (subst (λ x. away x here.level) (same t later) is))
     (λ t later is. subst (λ x. away x here.level) (sym (same t later)) (subst (away (state_at line t)) same_level is))
     due
-
--- a line that goes on so from its state moves no more
-pub seated : (n j tick : ℕ) (states levels slopes : List ℤ) (lines : List Line) (line : Line) (before after : ℕ) → j < n → j < length lines → state_at line tick ≡ int_at states j →
-    line.level ≡ int_at levels j → line.slope ≡ int_at slopes j →
-    after ≡ before + one_if (not (goes_from tick (int_at states j) (int_at levels j) (int_at slopes j) (line_at lines j))) →
-    after + renewals_from n tick states levels slopes (set lines j line) ≡ before + renewals_from n tick states levels slopes lines
-seated n j tick states levels slopes lines line before after known inside here own_level own_slope few =
-    let goes : List Line → ℕ → Bool = λ ls k. goes_from tick (int_at states k) (int_at levels k) (int_at slopes k) (line_at ls k) in
-    let so : not (goes (set lines j line) j) ≡ false =
-    ap (λ (l : Line). not (goes_from tick (int_at states j) (int_at levels j) (int_at slopes j) l)) (get_or-set_same lines j line no_line inside)
-    ∙ ap not (from_here tick (int_at states j) (int_at levels j) (int_at slopes j) line here)
-    ∙ not_from_true _ (goes_so (int_at levels j) (int_at slopes j) line own_level own_slope) in
-    let others : (k : ℕ) → k ≢ j → not (goes (set lines j line) k) ≡ not (goes lines k) = λ k far.
-    ap (λ (l : Line). not (goes_from tick (int_at states k) (int_at levels k) (int_at slopes k) l)) (get_or-set_other lines j k line no_line far) in
-    omega (arith, few, count_one n j (λ k. not (goes lines k)) (λ k. not (goes (set lines j line) k)) known so others)
 
 -- ---- the moved states, step by step
 

@@ -1,5 +1,5 @@
 -- States of which some go on from a tick at new slopes, and the others as they were.
-use Rattle.std.specs.Prelude.{◌≡◌, ℕ, ◌+◌, ◌<◌, ◌≤◌, ◌⊎◌, List, length, ℤ, Option, true, false, if◌then◌else◌}
+use Rattle.std.specs.Prelude.{◌≡◌, ℕ, ◌<◌, ◌≤◌, ◌⊎◌, List, length, ℤ, Option, true, false}
 use Rattle.mu_num.specs.Sizes.{IsWithin}
 use Rattle.qss_machine.specs.declared.system.Machine.{Machine}
 use Rattle.qss_machine.specs.Machines.{state_count, level_unit, quantum_of}
@@ -8,7 +8,7 @@ use Rattle.qss_quant.specs.Lines.{Line, state_at, IsNear}
 use Rattle.qss_sched.specs.Ranks.{due_at}
 use Rattle.qss_quiet.specs.Among.{is_among}
 use Rattle.qss_lines.specs.StateLines.{line_at, GoesOnFrom}
-use Rattle.qss_lines.specs.Renewals.{goes_at, goes_from}
+use Rattle.qss_lines.specs.Renewals.{goes_at}
 use Rattle.qss_quiet.specs.Sims.{IsDue}
 
 -- a line that may go on from a tick at this level and slope: it is near the level, and its due tick holds where its level stays
@@ -18,25 +18,10 @@ pub record MayReslope (m : Machine) (tick : ℕ) (level slope : ℤ) (j : ℕ) (
   pub near : IsNear (level_unit m) (state_at line tick) level (quantum_of m j level)
   pub due : line.level ≡ level → IsDue m tick j line found
 
--- a state may go on as another line from that one's tick on: its own line may move there, the other is near its level, and the state has a place in an agenda
-pub record CanRenew (m : Machine) (j : ℕ) (here line : Line) (dues : List (Option ℕ)) : Type 0 where
-  pub state : j < state_count m
-  pub place : j < length dues
-  pub later : line.tick ≤ here.tick
-  pub small : IsWithin 89 (state_at line here.tick)
-  pub near : IsNear (level_unit m) here.x here.level (quantum_of m j here.level)
-
 -- the due ticks of such places are as they were, in an agenda of as many places
 pub record DuesStay (Such : ℕ → Type 0) (old new : List (Option ℕ)) : Type 0 where
   pub places : length new ≡ length old
   pub others : (place : ℕ) → Such place → due_at new place ≡ due_at old place
-
--- a state goes on as another line, from that one's tick on, and no other due tick changes: its own line is left, and not counted, where it goes on so already
-pub record IsRenewed (m : Machine) (j : ℕ) (here old new : Line) (dues_old dues_new : List (Option ℕ)) (steps_old steps_new : ℕ) : Type 0 where
-  pub goes_on : GoesOnFrom m here.tick here.x here.level here.slope j new (due_at dues_new j)
-  pub dues : DuesStay (λ place. place ≡ j → ⊥) dues_old dues_new
-  pub kept : goes_from here.tick here.x here.level here.slope old ≡ true → new ≡ old
-  pub counted : steps_new ≡ steps_old + (if goes_from here.tick here.x here.level here.slope old then 0 else 1)
 
 -- a state's line and due tick are as they were, or it goes on from a tick at this level and slope
 abbrev pub GoesOn : Machine → ℕ → ℤ → ℤ → ℕ → Line → Line → Option ℕ → Option ℕ → Type 0

@@ -10,7 +10,7 @@ ghost use Rattle.qss_sched.specs.Ranks.{due_at};
 ghost use Rattle.qss_quiet.specs.Among.{is_among};
 ghost use Rattle.qss_lines.specs.StateLines.{line_at, MayMove, GoesOnFrom};
 ghost use Rattle.qss_lines.specs.Renewals.{goes_from, renewals_from, IsCountedFrom};
-ghost use Rattle.qss_lines.specs.Reslopings.{CanRenew, IsRenewed, OneGoesOn, TheseGoOn};
+ghost use Rattle.qss_lines.specs.Reslopings.{OneGoesOn, TheseGoOn};
 ghost use Rattle.qss_lines.specs.RowSums.{CanAddUp};
 ghost use Rattle.qss_quiet.specs.Writes.{IsWritten};
 ghost use Rattle.qss_lines.specs.declared.shifts.RowSum.TheVariants as sum;
@@ -76,25 +76,8 @@ fn follow_slopes(at: &NewLevels, left: &Handled, lines: &[Integrator], slopes: &
     );
 }
 
-// State j goes on as this line, from its tick, and the agenda has the tick at which it then leaves its quantum, whatever it
-// had. A line that goes on so already is left as it is.
-fn reseat<L: Ledger>(
-    m: &Machine,
-    j: u32,
-    here: &Integrator,
-    line: &mut Integrator,
-    agenda: &mut Agenda,
-    steps: &mut Steps<L>,
-)
-    requires { CanRenew m.now j here.now line.old agenda.old }
-    ensures { IsRenewed m.now j here.now line.old line.new agenda.old agenda.new steps.old
-        steps.new }
-{
-    renew(line, here, steps);
-    agenda.set(j, leaving(m, j, here));
-}
-
-// A moved state goes on from a tick where it is, at its level and its slope.
+// A moved state goes on from a tick where it is, at its level and its slope, and the agenda has the tick at which it then leaves
+// its quantum, whatever it had. A line that goes on so already is left as it is.
 fn seat<L: Ledger>(
     at: &NewSlopes,
     j: u32,
@@ -122,16 +105,14 @@ fn seat<L: Ledger>(
         → IsCountedFrom (state_count at.now.taken.machine.now) at.now.taken.tick states
         at.now.taken.levels.now at.now.slopes.now lines.old lines.new steps.old steps.new }
 {
-    let slope = at.slopes[j as usize];
-    let level = at.taken.levels[j as usize];
     let here = Integrator {
         tick: at.taken.tick,
         x: x[j as usize],
-        slope,
-        level,
+        slope: at.slopes[j as usize],
+        level: at.taken.levels[j as usize],
     };
-    let line = &mut lines[j as usize];
-    reseat(at.taken.machine, j, &here, line, agenda, steps);
+    renew(&mut lines[j as usize], &here, steps);
+    agenda.set(j, leaving(at.taken.machine, j, &here));
 }
 
 // The moved states go on from a tick where they are.

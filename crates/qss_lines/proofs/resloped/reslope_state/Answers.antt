@@ -1,6 +1,6 @@
 -- The line of one state goes on, from the tick to which it moves.
-use Rattle.std.proofs.Common.{◌≡◌, ◌∙◌, Bool, not, false, set, refl, sym, ap, subst, arith}
-use Rattle.std.proofs.lemmas.List.{get_or-set_other, get_or-set_same}
+use Rattle.std.proofs.Common.{◌≡◌, ◌∙◌, Bool, not, false, refl, sym, ap, subst, arith}
+use Rattle.std.proofs.lemmas.List.{get_or-set_other}
 use Rattle.qss_machine.specs.Machines.{state_count, level_unit, quantum_of}
 use Rattle.qss_machine.specs.Numbers.{int_at}
 use Rattle.qss_quant.specs.Lines.{Line, state_at, IsNear}
@@ -11,7 +11,7 @@ use Rattle.qss_lines.specs.Gatherings.{MayGoOn}
 use Rattle.qss_lines.specs.Renewals.{goes_at}
 use Rattle.qss_lines.specs.StateLines.{line_at, GoesOnFrom}
 use Rattle.qss_lines.proofs.Counting.{one_if}
-use Rattle.qss_lines.proofs.GoingOn.{has_line, line_read}
+use Rattle.qss_lines.proofs.GoingOn.{line_read, moved_read}
 use Rattle.qss_lines.proofs.Renewed.{goes_otherwise, goes_so, one_renewed}
 use Rattle.qss_lines.proofs.resloped.reslope_state.Goals as goal
 use Rattle.qss_lines.proofs.resloped.reslope_state.Goals.{else-line-slope-via-then-line-slope+else-line-level, else-line-slope-via-else-line-slope}
@@ -25,9 +25,7 @@ go_on-requires-clause-ready g c =
     let lines = c.args.lines.now in
     let level = int_at c.args.at.now.taken.levels.now c.args.j in
     let old : Line = line_at lines c.args.j in
-    let moved : line_at (set lines c.args.j c.move_to.new.self) c.args.j ≡ record old { tick = tick; x = state_at old tick } =
-    get_or-set_same lines c.args.j c.move_to.new.self no_line (has_line c.requires.can) ∙ c.move_to.ensures.moved
-    ∙ ap (λ (l : Line). record l { tick = tick; x = state_at l tick }) (line_read c.requires.can c.index-lines-j-2.result) in
+    let moved = moved_read c.requires.can tick c.index-lines-j-2.result c.move_to.new.self c.move_to.ensures.moved in
     subst (MayGoOn m tick c.args.j level) (sym moved)
     (record {
       here = refl;
@@ -42,9 +40,7 @@ returns-clause-goes_on g c =
     let lines = c.args.lines.now in
     let old : Line = line_at lines j in
     let on = c.go_on.ensures.goes_on in
-    let moved : line_at (set lines j c.move_to.new.self) j ≡ record old { tick = tick; x = state_at old tick } =
-    get_or-set_same lines j c.move_to.new.self no_line (has_line c.requires.can) ∙ c.move_to.ensures.moved
-    ∙ ap (λ (l : Line). record l { tick = tick; x = state_at l tick }) (line_read c.requires.can c.index-lines-j-2.result) in
+    let moved = moved_read c.requires.can tick c.index-lines-j-2.result c.move_to.new.self c.move_to.ensures.moved in
     record {
       own = subst (λ x. GoesOnFrom m tick x (int_at c.args.at.now.taken.levels.now j) (int_at c.args.at.now.slopes.now j) j (line_at c.go_on.new.lines j) (due_at c.go_on.new.agenda j))
           (ap (λ (l : Line). state_at l tick) moved ∙ line_here tick (state_at old tick) old.slope old.level) on.own;
@@ -55,16 +51,14 @@ pub returns-clause-counted : goal.returns-clause-counted
 returns-clause-counted g c =
     let j = c.args.j in
     let lines = c.args.lines.now in
-    let levels = c.args.at.now.taken.levels.now in
-    let slopes = c.args.at.now.slopes.now in
-    let on = c.go_on.ensures.goes_on in
+    let level = int_at c.args.at.now.taken.levels.now j in
+    let slope = int_at c.args.at.now.slopes.now j in
+    let on = returns-clause-goes_on g c in
     let read = c.line.view_is ∙ line_read c.requires.can c.index-lines-j.result in
-    let other : goes_at (int_at levels j) (int_at slopes j) (line_at lines j) ≡ false =
-    goes_otherwise (int_at levels j) (int_at slopes j) (line_at lines j) (λ own_level own_slope. elim c.else-line-slope.branch [
+    let other : goes_at level slope (line_at lines j) ≡ false = goes_otherwise level slope (line_at lines j) (λ own_level own_slope. elim c.else-line-slope.branch [
       | else-line-slope-via-then-line-slope+else-line-level w ↦ w.if-line-level.false (ap (of_z w64) (ap (λ (l : Line). l.level) read ∙ own_level))
       | else-line-slope-via-else-line-slope w ↦ w.if-line-slope.false (ap (of_z w128) (ap (λ (l : Line). l.slope) read ∙ own_slope))
     ]) in
-    one_renewed (state_count c.args.at.now.taken.machine.now) j (λ k. goes_at (int_at levels k) (int_at slopes k)) lines c.go_on.new.lines c.args.steps.now c.move_to.new.steps
-    c.requires.can.known (goes_so (int_at levels j) (int_at slopes j) (line_at c.go_on.new.lines j) on.own.own_level on.own.own_slope)
-    (λ k far. on.others.lines k far ∙ get_or-set_other lines j k c.move_to.new.self no_line far)
+    one_renewed (state_count c.args.at.now.taken.machine.now) j (λ k. goes_at (int_at c.args.at.now.taken.levels.now k) (int_at c.args.at.now.slopes.now k)) lines c.go_on.new.lines
+    c.args.steps.now c.move_to.new.steps c.requires.can.known (goes_so level slope (line_at c.go_on.new.lines j) on.own.own_level on.own.own_slope) on.others.lines
     (omega (arith, c.move_to.ensures.counted, ap (λ (b : Bool). one_if (not b)) other))

@@ -1,13 +1,11 @@
 -- The line of one state goes on, and the agenda has its due tick.
-use Rattle.std.proofs.Common.{◌≡◌, ℤ, get_or, ◌∙◌, sym, ap, subst}
+use Rattle.std.proofs.Common.{◌≡◌, ℤ, get_or, ◌∙◌, ap}
 use Rattle.std.proofs.lemmas.List.{get_or-set_same}
-use Rattle.std.specs.Prelude.{None}
 use Rattle.qss_machine.specs.Numbers.{int_at}
 use Rattle.qss_quant.specs.Lines.{Line, state_at}
-use Rattle.qss_sched.specs.Ranks.{due_at}
-use Rattle.qss_lines.specs.StateLines.{line_at, GoesOnFrom}
+use Rattle.qss_lines.specs.StateLines.{line_at}
 use Rattle.qss_quiet.specs.Sims.{no_line}
-use Rattle.qss_lines.proofs.Courses.{dues_set, courses_set}
+use Rattle.qss_lines.proofs.Courses.{one_set}
 use Rattle.qss_lines.proofs.Gathering.{line_with, near_on, goes_on_from}
 use Rattle.qss_lines.proofs.GoingOn.{has_line, has_place, line_read, small_level, small_slope, level_read, slope_read}
 use Rattle.qss_lines.proofs.slopes.go_on.Goals as goal
@@ -43,13 +41,8 @@ returns-clause-goes_on c =
     let old : Line = get_or lines j c.index-lines-j.result in
     let is : c.go_on_at.new.line ≡ record (line_at lines j) { slope = slope; level = level } =
     line_with (line_at lines j) old c.go_on_at.new.line slope level _ _ (line_read c.requires.can c.index-lines-j.result) (slope_read c.requires.can) (level_read c.requires.can) c.go_on_at.ensures in
-    let held : due_at c.set.new.self j ≡ c.leaving.result = ap (λ due. due_at due j) c.set.ensures ∙ get_or-set_same c.args.agenda.now j c.leaving.result None (has_place c.requires.can) in
-    record {
-      own = subst (λ (l : Line). GoesOnFrom m tick (state_at (line_at lines j) tick) level slope j l (due_at c.set.new.self j)) (sym (get_or-set_same lines j c.go_on_at.new.line no_line (has_line c.requires.can)))
-          (subst (GoesOnFrom m tick (state_at (line_at lines j) tick) level slope j c.go_on_at.new.line) (sym held)
-          (goes_on_from m tick j slope level (line_at lines j) c.go_on_at.new.line c.requires.ready.here is c.leaving.result c.leaving.ensures));
-      others = courses_set j lines c.go_on_at.new.line c.args.agenda.now c.set.new.self (dues_set j c.leaving.result c.args.agenda.now c.set.new.self c.set.ensures);
-    }
+    one_set m tick c.args.at.now.taken.levels.now c.args.at.now.slopes.now j (state_at (line_at lines j) tick) lines c.go_on_at.new.line c.args.agenda.now c.set.new.self c.leaving.result
+    (has_line c.requires.can) (has_place c.requires.can) c.set.ensures (goes_on_from m tick j slope level (line_at lines j) c.go_on_at.new.line c.requires.ready.here is c.leaving.result c.leaving.ensures)
 
 pub returns-clause-same_tick : goal.returns-clause-same_tick
 returns-clause-same_tick c =
