@@ -32,6 +32,7 @@ impl Model for Integrator {
 
 // The first tick from 1 on at which a state that rises by `speed` a tick is not within the quantum of its level, where
 // it is now.
+#[inline(always)]
 fn first_leaving(x: i128, level: i64, speed: i128, quantum: i64, unit: i128) -> Option<u64>
     requires state { IsWithin 89 x }
     requires level { IsWithin 43 level }
