@@ -51,6 +51,7 @@ fn go_on_at(line: &mut Integrator, slope: i128, level: i64)
 
 /// A state, whose line is at a tick, goes on from it at its level and its slope, and the agenda has the tick at which it then
 /// leaves its quantum.
+#[inline(always)]
 pub(crate) fn go_on(at: &NewSlopes, j: u32, lines: &mut [Integrator], agenda: &mut Agenda)
     requires can { CanOneGoOn at.now j lines.old agenda.old }
     requires ready { MayGoOn at.now.taken.machine.now at.now.taken.tick j
