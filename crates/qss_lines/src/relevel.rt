@@ -22,12 +22,22 @@ use qss_machine::Row;
 use qss_quant::{Integrator, Quantizer};
 use qss_quiet::next_level;
 
+// The one that was found first, else this state. Hardly a state is past a limit, so that this is not inlined.
+#[cold]
+#[inline(never)]
+fn first_or(first: Option<u32>, state: u32) -> Option<u32>
+    ensures { result ≡ option_or first (Some state) }
+{
+    first.or(Some(state))
+}
+
 // The one that was found first, else this state, where it is past its limit.
+#[inline(always)]
 fn found_or(first: Option<u32>, state: u32, past: bool) -> Option<u32>
     ensures { result ≡ option_or first (if past then Some state else None) }
 {
     if past {
-        return first.or(Some(state));
+        return first_or(first, state);
     }
     first
 }

@@ -46,6 +46,7 @@ impl Filter {
     }
 
     // Whether the name of a variable is kept. Where all are, none is looked up.
+    #[inline(always)]
     fn keeps(&self, m: &Machine, var: u32) -> bool
         requires { var < state_count m.now + discrete_count m.now }
         ensures { result ≡ Spec.keeps self.now (name_of m.now var) }
@@ -58,6 +59,7 @@ impl Filter {
 }
 
 // Whether a name is this one, or that of an element of its array.
+#[inline(never)]
 fn is_named(only: &[u8], name: &[u8]) -> bool
     ensures { result ≡ Spec.is_named only.now name.now }
 {
