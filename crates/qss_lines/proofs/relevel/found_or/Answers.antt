@@ -9,7 +9,7 @@ or_none None = refl
 or_none (Some found) = refl
 
 pub returns-then-past : goal.returns-then-past
-returns-then-past c = c.or.ensures ∙ ap (λ (b : Bool). option_or c.args.first (if b then Some c.args.state else None)) (sym c.if-past.true)
+returns-then-past c = c.first_or.ensures ∙ ap (λ (b : Bool). option_or c.args.first (if b then Some c.args.state else None)) (sym c.if-past.true)
 
 pub returns : goal.returns
 returns c = sym (or_none c.args.first) ∙ ap (λ (b : Bool). option_or c.args.first (if b then Some c.args.state else None)) (sym c.if-past.false)
