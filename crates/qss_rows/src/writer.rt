@@ -79,6 +79,7 @@ impl LineWriter {
     }
 
     // The same of any row, where the text of its tick is made.
+    #[inline(never)]
     fn write_any(&mut self, r: &Row, m: &Machine) -> Result<(), AllocError>
         requires variable { Spec.HasVariable m.now r.now }
         requires tick { self.old.tick.tick ≡ r.now.tick }
