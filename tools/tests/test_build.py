@@ -4,7 +4,6 @@ import os
 import re
 import shutil
 import subprocess
-import threading
 import time
 
 from support import ROOT, InFolder
@@ -59,11 +58,16 @@ class Builds(InFolder):
             os.chmod(self.file(f"kit/bin/{name}", text), 0o755)
         self.file("kit/version", "a kit\n")
 
+    def start(self, fails="", jobs="2"):
+        """The front at work."""
+        environment = {**os.environ, "PATH": f"{self.kit}/bin:{os.environ['PATH']}", "KIT": self.kit, "FAILS": fails, "QSS_JOBS": jobs}
+        return subprocess.Popen([f"{self.folder}/qss", "run", "a.mo"], env=environment, text=True, stdout=subprocess.PIPE, stderr=subprocess.PIPE)
+
     def run_it(self, fails="", jobs="2"):
         """Runs the front; its status, its output and its lines on standard error."""
-        environment = {**os.environ, "PATH": f"{self.kit}/bin:{os.environ['PATH']}", "KIT": self.kit, "FAILS": fails, "QSS_JOBS": jobs}
-        done = subprocess.run([f"{self.folder}/qss", "run", "a.mo"], env=environment, stdout=subprocess.PIPE, stderr=subprocess.PIPE)
-        return done.returncode, done.stdout.decode(), done.stderr.decode().splitlines()
+        with self.start(fails, jobs) as front:
+            out, err = front.communicate()
+        return front.returncode, out, err.splitlines()
 
     def change(self, name, text):
         """Gives a file another text, and a time that lies ahead."""
@@ -162,7 +166,9 @@ class Builds(InFolder):
         os.makedirs(f"{self.folder}/crates/qss/out/statements")
         with open(f"{self.folder}/crates/qss/out/statements/lock", "w", encoding="ascii") as lock:
             fcntl.flock(lock, fcntl.LOCK_EX)
-            threading.Timer(1, fcntl.flock, (lock, fcntl.LOCK_UN)).start()
-            err = self.run_it()[2]
-        self.assertEqual(err[0], "qss: waiting for another build")
+            with self.start() as front:
+                said = front.stderr.readline()
+                fcntl.flock(lock, fcntl.LOCK_UN)
+                err = front.stderr.read().splitlines()
+        self.assertEqual(said, "qss: waiting for another build\n")
         self.assertEqual(len(self.built(err)), 5)
