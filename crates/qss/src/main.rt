@@ -6,7 +6,7 @@ ghost use Rattle.std.specs.Io.KnownBytes.{Appends};
 ghost use Rattle.mu_io.specs.Faults.{Rose};
 ghost use Rattle.mu_io.specs.Sinks.{AppendsPrefix};
 
-use mu_io::{FileShelf, StdSink, WriteErr, write_all};
+use mu_io::{FileShelf, LoggedWriter, StdSink, WriteErr, write_all};
 use qss_top::{Status, qss_main};
 use std::io::Write;
 use std::process::ExitCode;
@@ -87,8 +87,8 @@ fn run(rt: HostRuntime) -> io::Result<Status> {
         texts.push(word.as_str())?;
     }
     let mut shelf = FileShelf::new(alloc, rt);
-    let mut out = StdSink::new(alloc, rt.stdout())?;
-    let mut err = StdSink::new(alloc, rt.stderr())?;
+    let mut out = StdSink::new(alloc, LoggedWriter::new(rt.stdout()))?;
+    let mut err = StdSink::new(alloc, LoggedWriter::new(rt.stderr()))?;
     let status = qss_main(alloc, &texts, &mut shelf, &mut out, &mut err);
     Ok(finish(status, &mut out, &mut err))
 }

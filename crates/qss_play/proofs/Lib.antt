@@ -1,5 +1,7 @@
 pub mod KnownRows
 pub mod RowLines
+pub mod RunLines
+pub mod SecondLines
 mod KnownRows2
 mod KnownParts
 mod WrittenLines

@@ -1,21 +1,14 @@
 -- The lines of rows, one after another.
 use Rattle.std.proofs.Common.{◌≡◌, ◌<◌, Bool, true, false, cond, ℕ, List, [], ◌∷◌, ◌++◌, length, flat_map, get_or, refl, sym, ap, ◌∙◌, subst, append-nil}
 use Rattle.std.specs.Prelude.{Option, Some, None, filter}
-use Rattle.std.specs.Io.KnownBytes.{Appends}
 use Rattle.std.proofs.lemmas.List.{get_or-map, length-map, map-append}
 use Rattle.std.proofs.lemmas.List.Concat.{flat_map-append}
 use Rattle.std.proofs.lemmas.List.Elements.{filter-append}
 use Rattle.qss_machine.specs.declared.rows.Row.{Row}
 use Rattle.qss_machine.specs.declared.system.Machine.{Machine}
-use Rattle.qss_order2.specs.declared.rows.Row2.{Row2}
-use Rattle.qss_order2.specs.Lines.{line2_of, lines2_of}
 use Rattle.qss_rows.specs.Filters.{passes, lines_passed}
 use Rattle.qss_rows.specs.Lines.{line_of, lines_of}
-use Rattle.qss_play.specs.Ahead.{row_lines}
-use Rattle.qss_play.specs.Ahead2.{row2_lines}
-use Rattle.qss_play.specs.Plays2.{StopsBefore2}
-use Rattle.qss_play.specs.Simulations.{line_if, lines_by, line_at, bytes_in, text_in, StopsAtLine}
-use Rattle.qss_play.specs.Writings.{StopsBefore}
+use Rattle.qss_play.specs.Simulations.{line_if, lines_by, line_at, bytes_in, text_in}
 
 -- ---- lines that pass a filter, and those of second-order rows
 
@@ -30,9 +23,6 @@ one_passed m row false e = absurd (cc)
 -- the line of a row that passes
 pub lines_passed-true : (only : Option (List ℕ)) (m : Machine) (row : Row) → passes only m row ≡ true → lines_passed only m (row ∷ []) ≡ line_of m row
 lines_passed-true only m row e = one_passed m row (passes only m row) e
-
-pub lines2-append : (m : Machine) (xs ys : List Row2) → lines2_of m (xs ++ ys) ≡ lines2_of m xs ++ lines2_of m ys
-lines2-append m xs ys = flat_map-append (line2_of m) xs ys
 
 -- ---- a line for each row, where it has one
 
@@ -98,38 +88,3 @@ module _ {X : Type 0} (passes : X → Bool) (line : X → List ℕ) where
 pub text_all : {X : Type 0} (line : X → List ℕ) (xs : List X) → text_in (lines_by (λ x. true) line xs) ≡ flat_map line xs
 text_all line [] = refl
 text_all line (x ∷ xs) = ap (λ (l : List ℕ). line x ++ l) (text_all line xs)
-
--- ---- the text of rows, and where it stops
-
-pub row_text : (only : Option (List ℕ)) (m : Machine) (rows : List Row) → text_in (row_lines only m rows) ≡ lines_passed only m rows
-row_text only m rows = text_by (passes only m) (line_of m) rows
-
-pub row2_text : (m : Machine) (rows : List Row2) → text_in (row2_lines m rows) ≡ lines2_of m rows
-row2_text m rows = text_all (line2_of m) rows
-
-module _ {K : Type 0} (written : K → Option (List ℕ)) (head : List ℕ) (m : Machine) (old new : K) where
-  -- a call that stopped at a line stopped before the row
-  pub stops_before : (only : Option (List ℕ)) (rows : List Row) → StopsAtLine written head (row_lines only m rows) old new → StopsBefore written head only m rows old new
-  stops_before only rows s =
-      let cut = split (passes only m) (line_of m) rows s.front s.line s.rest s.parts in
-      let text : text_in s.front ≡ lines_passed only m cut.before = ap text_in (sym cut.front_is) ∙ row_text only m cut.before in
-      record {
-        front = cut.before;
-        row = cut.row;
-        rest = cut.after;
-        parts = cut.parts;
-        passed = cut.passed;
-        appended = subst (λ (l : List ℕ). Appends (written old) (written new) (head ++ l)) text s.appended;
-      }
-
-  pub stops_before2 : (rows : List Row2) → StopsAtLine written head (row2_lines m rows) old new → StopsBefore2 written head m rows old new
-  stops_before2 rows s =
-      let cut = split (λ row. true) (line2_of m) rows s.front s.line s.rest s.parts in
-      let text : text_in s.front ≡ lines2_of m cut.before = ap text_in (sym cut.front_is) ∙ row2_text m cut.before in
-      record {
-        front = cut.before;
-        row = cut.row;
-        rest = cut.after;
-        parts = cut.parts;
-        appended = subst (λ (l : List ℕ). Appends (written old) (written new) (head ++ l)) text s.appended;
-      }

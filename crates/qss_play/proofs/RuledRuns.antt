@@ -25,7 +25,8 @@ use Rattle.qss_play.specs.Simulations.{text_in, EndsAsTold, IsCut, IsSimulated}
 use Rattle.qss_play.proofs.WrittenLines.{writes_none}
 use Rattle.qss_play.proofs.FromStart.{rows_are, run_is}
 use Rattle.qss_play.proofs.KnownParts.{all_front, all_back}
-use Rattle.qss_play.proofs.RowLines.{lines_by-append, length-by, row_text, stops_before}
+use Rattle.qss_play.proofs.RowLines.{lines_by-append, length-by}
+use Rattle.qss_play.proofs.RunLines.{row_text, stops_before}
 use Rattle.qss_play.proofs.RunEnds.{IsCall, same_end, event_end}
 
 module _ (rule : Rule) (now new : Standing) (same : new.machine ≡ now.machine) (ahead : rows_left (level_by rule) now ≡ rows_ahead rule new) where

@@ -23,7 +23,8 @@ use Rattle.qss_play.proofs.WrittenLines.{writes_none}
 use Rattle.qss_play.proofs.Ends2.{able_before, event_end, start_over}
 use Rattle.qss_play.proofs.KnownParts.{all_front, all_back}
 use Rattle.qss_play.proofs.KnownRows2.{run_known}
-use Rattle.qss_play.proofs.RowLines.{lines_by-append, row2_text, stops_before2}
+use Rattle.qss_play.proofs.RowLines.{lines_by-append}
+use Rattle.qss_play.proofs.SecondLines.{row2_text, stops_before2}
 use Rattle.qss_rows.specs.Lines.{header}
 
 module _ (now new : Standing2) (same : new.machine ≡ now.machine) (ahead : rows2_left near_change now ≡ rows2_ahead new) where

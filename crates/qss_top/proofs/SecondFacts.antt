@@ -11,7 +11,7 @@ use Rattle.qss_order2.specs.declared.rows.Row2.{Row2}
 use Rattle.qss_order2.specs.Lines.{fields2_of, line2_of, lines2_of}
 use Rattle.qss_play.specs.declared.played.Played.TheVariants as played
 use Rattle.qss_play.specs.Plays2.{near_run, text2_of, EndsSo2, IsShort2}
-use Rattle.qss_play.proofs.RowLines.{lines2-append}
+use Rattle.qss_play.proofs.SecondLines.{lines2-append}
 use Rattle.qss_rows.specs.Lines.{header}
 use Rattle.qss_top.specs.Answers.{printed2}
 use Rattle.qss_top.specs.Outcomes.{IsOutcome}
