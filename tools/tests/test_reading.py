@@ -9,9 +9,9 @@ MOST_LINES = 450  # of the trajectory, the inequalities and the promise
 
 # the definitions that the second part of the page counts
 MEANING = [
-    "mu_lexer.Reading.AreTokens", "mu_grammar.Models.SpellsModel", "mu_names.Roles.model_faults", "mu_names.Roles.scope_of",
-    "mu_unroll.Unrolling.unrolled", "mu_unroll.Listing.listed", "mu_causal.Causality.IsOrder", "mu_affine.Kept.AreForms",
-    "mu_machine.Machines.IsMachineOf", "qss_compile.Meanings.Means",
+    "mu_lexer.Tokens.AreTokens", "mu_grammar.ModelGrammar.SpellsModel", "mu_names.Roles.model_faults", "mu_names.Roles.scope_of",
+    "mu_unroll.Unrolling.unrolled", "mu_unroll.Listing.listed", "mu_causal.Causality.IsOrder", "mu_affine.KeptForms.AreForms",
+    "mu_affine.RoundedMachines.IsMachineOf", "qss_compile.Meanings.Means",
 ]
 
 

@@ -5,8 +5,8 @@ use Rattle.std.proofs.lemmas.Bool.Decides.{Decides-int_eq}
 use Rattle.std.proofs.lemmas.Int.{ints}
 use Rattle.std.specs.Ordering.{int_eq}
 use Rattle.cert_check.specs.declared.inequalities.Inequality.{Inequality}
-use Rattle.cert_check.specs.Certificate.{System, Claim, Holds, gap, level_reach}
-use Rattle.cert_check.specs.Inequality.{IsFaultOf, IsFirstFaultOf, inequalities, is_same_below}
+use Rattle.cert_check.specs.Inequalities.{System, CertificateData, Holds, scaled_offset, level_range}
+use Rattle.cert_check.specs.InequalityTable.{IsFaultOf, IsFirstFaultOf, inequalities, is_same_below}
 use Rattle.cert_check.specs.Pairs.{pairs, pair_of}
 use Rattle.cert_check.proofs.Pairs.{pair-found}
 use Rattle.cert_check.proofs.Gaps.{form-same, form-zeros, same-below, gap-one}
@@ -14,11 +14,11 @@ use Rattle.cert_matrix.specs.Form.{Vector, Table, form, IsSymmetric}
 use Rattle.cert_matrix.proofs.Order.{mul-≥, square-≥}
 
 -- each of the inequalities has no fault
-abbrev pub AllFine : System → Claim → List Inequality → Type 0
+abbrev pub AllFine : System → CertificateData → List Inequality → Type 0
 AllFine m x [] = Unit {0}
 AllFine m x (i ∷ is) = IsFaultOf m x i None × AllFine m x is
 
-pub all-fine : (m : System) (x : Claim) (is : List Inequality) → IsFirstFaultOf m x is None → AllFine m x is
+pub all-fine : (m : System) (x : CertificateData) (is : List Inequality) → IsFirstFaultOf m x is None → AllFine m x is
 all-fine m x [] h = tt
 all-fine m x (i ∷ is) (inl h) = (h.0, all-fine m x is h.1)
 all-fine m x (i ∷ is) (inr h) = absurd (false≢true h.0)
@@ -46,17 +46,17 @@ symmetric-of n pm h i j hi hj = by (cases_lt i j) (cases_lt j i)
     by (inr l) (inr q) = let e : i ≡ j = omega arith in rw e refl
 
 apart-≤ : (n : ℕ) (pm : Table) (first second : Vector) (bound : ℤ) (t : Bool) → is_same_below n first second ≡ t → pos 0 ≤ℤ bound
-    → (if t then pos 0 else form n pm (gap first (pos 1) second)) ≤ℤ (if t then pos 0 else bound) → form n pm (λ k. first k -ℤ second k) ≤ℤ bound
+    → (if t then pos 0 else form n pm (scaled_offset first (pos 1) second)) ≤ℤ (if t then pos 0 else bound) → form n pm (λ k. first k -ℤ second k) ≤ℤ bound
 apart-≤ n pm first second bound true e b≥ h =
     let s = same-below n first second e in
     let z = form-zeros n pm (λ k. first k -ℤ second k) (λ k l. let q = s k l in omega (arith, ints)) in
     omega (arith, ints)
 apart-≤ n pm first second bound false e b≥ h =
-    let z = form-same n pm (gap first (pos 1) second) (λ k. first k -ℤ second k) (λ k l. gap-one first second k) in
+    let z = form-same n pm (scaled_offset first (pos 1) second) (λ k. first k -ℤ second k) (λ k l. gap-one first second k) in
     omega (arith, ints)
 
 -- where no inequality has a fault, all hold
-pub accepted-holds : (m : System) (x : Claim) → ((j : ℕ) → j < m.n → pos 1 ≤ℤ m.quantum j) → IsFirstFaultOf m x inequalities None → Holds m x
+pub accepted-holds : (m : System) (x : CertificateData) → ((j : ℕ) → j < m.n → pos 1 ≤ℤ m.quantum j) → IsFirstFaultOf m x inequalities None → Holds m x
 accepted-holds m x quantum≥ h =
     let f = all-fine m x inequalities h in
     record {
@@ -95,5 +95,5 @@ accepted-holds m x quantum≥ h =
           let a = quantum≥ k l in
           let b = (f.1.1.1.1.1.1.1.1.1.1.1.1.1.1.1.1.1.1.1.1.1.1.1.1.1.1.1.1.0 k l).1 in
           let q≥ : pos 1 ≤ℤ x.q k = omega (arith, ints) in
-          share-≤ m.share (level_reach x k) (x.q k) (int_eq m.share (pos 0)) refl q≥ (f.1.1.1.1.1.1.1.1.1.1.1.1.1.1.1.1.1.1.1.1.1.1.1.1.1.1.1.1.1.0 k l).1;
+          share-≤ m.share (level_range x k) (x.q k) (int_eq m.share (pos 0)) refl q≥ (f.1.1.1.1.1.1.1.1.1.1.1.1.1.1.1.1.1.1.1.1.1.1.1.1.1.1.1.1.1.0 k l).1;
     }

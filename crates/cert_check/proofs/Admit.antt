@@ -13,24 +13,24 @@ use Rattle.mu_num.proofs.Quotients.{floor_meets}
 use Rattle.mu_num.specs.Rounding.{floor_of}
 use Rattle.qss_machine.specs.declared.parts.StateInfo.{StateInfo}
 use Rattle.qss_machine.specs.declared.system.Machine.{Machine}
-use Rattle.qss_machine.specs.Numbers.{int_at, tabulate}
-use Rattle.qss_machine.specs.Limits.{level_below}
+use Rattle.qss_machine.specs.IndexedSums.{int_at, tabulate}
+use Rattle.qss_machine.specs.MachineLimits.{level_below}
 use Rattle.qss_machine.specs.Machines.{state_count, level_unit, quanta, quantum_of, start_states}
-use Rattle.qss_machine.specs.Legitimate.{IsLegitimate, cell}
-use Rattle.mu_num.specs.Levels.{Free}
-use Rattle.qss_machine.specs.Ticks.{World, start_world, is_near, IsFreeLevel}
-use Rattle.qss_machine.specs.Runs.{LeadsFreely}
-use Rattle.qss_machine.specs.Laws.{AreQuantaUpTo, states_from, levels_from}
+use Rattle.qss_machine.specs.Legitimate.{IsLegitimate, entry_at}
+use Rattle.mu_num.specs.Levels.{IsWithinOneLevel}
+use Rattle.qss_machine.specs.Ticks.{Snapshot, start_snapshot, is_within_quantum, IsFreeLevel}
+use Rattle.qss_machine.specs.Runs.{IsFreeExecution}
+use Rattle.qss_machine.specs.RunLaws.{AreQuantaUpTo, states_from, levels_from}
 use Rattle.qss_machine.proofs.Near.{unit_positive, quanta_positive, step_facts}
 use Rattle.qss_machine.proofs.Admitted.{runs_are_legitimate}
-use Rattle.cert_matrix.specs.Sums.{size}
+use Rattle.cert_matrix.specs.Sums.{abs_of}
 use Rattle.cert_matrix.specs.Matrix.{vector}
 use Rattle.mu_num.proofs.Integers.{one-mul}
 use Rattle.cert_check.specs.declared.certificate.Certificate.{Certificate}
-use Rattle.cert_check.specs.Certificate.{Holds}
-use Rattle.cert_check.specs.Reading.{claim}
+use Rattle.cert_check.specs.Inequalities.{Holds}
+use Rattle.cert_check.specs.CertificateData.{certificate_data}
 use Rattle.cert_check.specs.Systems.{system_of, start_drives}
-use Rattle.cert_check.specs.Promises.{AdmitsRuns}
+use Rattle.cert_check.specs.Bounds.{CoversOwnRuns}
 use Rattle.cert_check.proofs.Run.{IsCertifiedStart, IsQuantumAt, KeepsLevels}
 use Rattle.cert_check.proofs.Join.{run_of, slope-same}
 use Rattle.cert_check.proofs.Shares.{shares}
@@ -66,33 +66,33 @@ is_quantum m j level = by (greater (int_at (quanta m) j) (share_of m level))
 
 abbrev IsKept : Machine → ℕ → ℤ → ℤ → ℤ → Type 0
 IsKept m j state old new =
-    (size (state -ℤ level_unit m *ℤ new) ≤ℤ level_unit m)
-    ⊎ ((q : ℤ) × IsQuantumAt (system_of m) j old q × (new ≡ old) × (size (state -ℤ level_unit m *ℤ new) ≤ℤ (level_unit m *ℤ q)))
+    (abs_of (state -ℤ level_unit m *ℤ new) ≤ℤ level_unit m)
+    ⊎ ((q : ℤ) × IsQuantumAt (system_of m) j old q × (new ≡ old) × (abs_of (state -ℤ level_unit m *ℤ new) ≤ℤ (level_unit m *ℤ q)))
 
 kept : (m : Machine) (j : ℕ) (state old new : ℤ) → IsFreeLevel m j state old new → IsKept m j state old new
 kept m j state old new (inl near) =
-    let h = int_lt-true (size (state -ℤ level_unit m *ℤ old)) (level_unit m *ℤ quantum_of m j old) near.0 in
+    let h = int_lt-true (abs_of (state -ℤ level_unit m *ℤ old)) (level_unit m *ℤ quantum_of m j old) near.0 in
     inr (quantum_of m j old, is_quantum m j old, near.1, rw (near.1) (omega (arith, ints)))
 kept m j state old new (inr free) = inl (omega (arith, ints))
 
-next_from : (m : Machine) (tick : ℕ) (w : World) (worlds : List World) → LeadsFreely m tick w worlds →
-    (i j : ℕ) → suc i < length (states_from w worlds) → j < state_count m →
-    IsKept m j (cell (states_from w worlds) (suc i) j) (cell (levels_from w worlds) i j) (cell (levels_from w worlds) (suc i) j)
+next_from : (m : Machine) (tick : ℕ) (w : Snapshot) (snapshots : List Snapshot) → IsFreeExecution m tick w snapshots →
+    (i j : ℕ) → suc i < length (states_from w snapshots) → j < state_count m →
+    IsKept m j (entry_at (states_from w snapshots) (suc i) j) (entry_at (levels_from w snapshots) i j) (entry_at (levels_from w snapshots) (suc i) j)
 next_from m tick w [] steps i j low h = absurd (omega arith)
-next_from m tick w (next ∷ worlds) steps zero j low h =
+next_from m tick w (next ∷ snapshots) steps zero j low h =
     let facts = step_facts (IsFreeLevel m) m (tick + 1) w next steps.0 in
     kept m j (int_at next.states j) (int_at w.levels j) (int_at next.levels j) (facts.levels.each j h)
-next_from m tick w (next ∷ worlds) steps (suc i) j low h = next_from m (tick + 1) next worlds steps.1 i j (omega arith) h
+next_from m tick w (next ∷ snapshots) steps (suc i) j low h = next_from m (tick + 1) next snapshots steps.1 i j (omega arith) h
 
 -- ---- the first level
 
-floor-near : (x d : ℤ) → pos 0 <ℤ d → size (x -ℤ d *ℤ floor_of x d) ≤ℤ d
+floor-near : (x d : ℤ) → pos 0 <ℤ d → abs_of (x -ℤ d *ℤ floor_of x d) ≤ℤ d
 floor-near x d h = let f = floor_meets x d h in omega (arith, ints, f.at_most, f.greatest)
 
 first_near : (m : Machine) (j : ℕ) → j < state_count m →
-    size (int_at (start_states m) j -ℤ level_unit m *ℤ int_at (start_world m).levels j) ≤ℤ level_unit m
+    abs_of (int_at (start_states m) j -ℤ level_unit m *ℤ int_at (start_snapshot m).levels j) ≤ℤ level_unit m
 first_near m j h =
-    let e : int_at (start_world m).levels j ≡ level_below (level_unit m) (int_at (start_states m) j) =
+    let e : int_at (start_snapshot m).levels j ≡ level_below (level_unit m) (int_at (start_states m) j) =
     get_or-map (level_below (level_unit m)) (start_states m) j (pos 0) (pos 0) (rw (length-map m.states (λ (state : StateInfo). state.x0)) h) in
     rw e (floor-near (int_at (start_states m) j) (level_unit m) (unit_positive m))
 
@@ -102,7 +102,7 @@ bound_of : Machine → List (List ℤ) → ℕ → ℤ
 bound_of m [] j = pos 0
 bound_of m (levels ∷ rest) j = int_max (quantum_of m j (int_at levels j)) (bound_of m rest j)
 
-bound-above : (m : Machine) (levels : List (List ℤ)) (i j : ℕ) → i < length levels → quantum_of m j (cell levels i j) ≤ℤ bound_of m levels j
+bound-above : (m : Machine) (levels : List (List ℤ)) (i j : ℕ) → i < length levels → quantum_of m j (entry_at levels i j) ≤ℤ bound_of m levels j
 unfolding bound_of
 bound-above m [] i j h = absurd (omega arith)
 bound-above m (ms ∷ rest) zero j h = omega (arith, ints, clamps)
@@ -119,29 +119,29 @@ bounds-above m levels i j h l =
 
 -- ---- the run
 
-keeps : (m : Machine) (worlds : List World) → LeadsFreely m 0 (start_world m) worlds
-    → IsLegitimate m (start_states m) (bounds_of m (levels_from (start_world m) worlds)) 1 1 (states_from (start_world m) worlds) (levels_from (start_world m) worlds)
-    → KeepsLevels (system_of m) (vector (start_states m)) (run_of 1 1 (states_from (start_world m) worlds) (levels_from (start_world m) worlds))
-keeps m worlds steps run = record {
+keeps : (m : Machine) (snapshots : List Snapshot) → IsFreeExecution m 0 (start_snapshot m) snapshots
+    → IsLegitimate m (start_states m) (bounds_of m (levels_from (start_snapshot m) snapshots)) 1 1 (states_from (start_snapshot m) snapshots) (levels_from (start_snapshot m) snapshots)
+    → KeepsLevels (system_of m) (vector (start_states m)) (run_of 1 1 (states_from (start_snapshot m) snapshots) (levels_from (start_snapshot m) snapshots))
+keeps m snapshots steps run = record {
   scale = refl;
   refinement = refl;
   starts = λ j h. refl;
   moves = λ i j l h.
-      let k : i + 1 < length (states_from (start_world m) worlds) = omega arith in
+      let k : i + 1 < length (states_from (start_snapshot m) snapshots) = omega arith in
       let a = rw (add-one, one-mul) at (run.moves i j k h) in
-      let b = slope-same m 1 j (slice_index_or (levels_from (start_world m) worlds) i []) h in
+      let b = slope-same m 1 j (slice_index_or (levels_from (start_snapshot m) snapshots) i []) h in
       a ∙ (rw (one-mul (vector (start_drives m) j)) at b);
   first = first_near m;
-  next = λ i j l h. next_from m 0 (start_world m) worlds steps i j (omega arith) h;
+  next = λ i j l h. next_from m 0 (start_snapshot m) snapshots steps i j (omega arith) h;
 }
 
-pub admitted : (m : Machine) (c : Certificate) → m.clauses ≡ [] → Holds (system_of m) (claim c) → AdmitsRuns m c
-admitted m c none holds certified worlds steps =
-    let xs = states_from (start_world m) worlds in
-    let ms = levels_from (start_world m) worlds in
-    let run = runs_are_legitimate.bounded m (bounds_of m ms) worlds none steps (bounds-above m ms) in
-    let legitimate = shares (system_of m) (claim c) (unit_positive m) (omega (arith, ints)) (quanta_positive m) holds
-    (vector (start_states m)) (run_of 1 1 xs ms) (from certified) (keeps m worlds steps run) in
+pub admitted : (m : Machine) (c : Certificate) → m.clauses ≡ [] → Holds (system_of m) (certificate_data c) → CoversOwnRuns m c
+admitted m c none holds certified snapshots steps =
+    let xs = states_from (start_snapshot m) snapshots in
+    let ms = levels_from (start_snapshot m) snapshots in
+    let run = runs_are_legitimate.bounded m (bounds_of m ms) snapshots none steps (bounds-above m ms) in
+    let legitimate = shares (system_of m) (certificate_data c) (unit_positive m) (omega (arith, ints)) (quanta_positive m) holds
+    (vector (start_states m)) (run_of 1 1 xs ms) (from certified) (keeps m snapshots steps run) in
     record {
       some_scale = run.some_scale;
       some_refinement = run.some_refinement;
@@ -154,6 +154,6 @@ admitted m c none holds certified worlds steps =
       near = λ i j h l. legitimate.near i j (omega arith) l;
     }
   where
-    from : (start_states m ≡ c.start1) ⊎ (start_states m ≡ c.start2) → IsCertifiedStart (system_of m) (claim c) (vector (start_states m))
+    from : (start_states m ≡ c.start1) ⊎ (start_states m ≡ c.start2) → IsCertifiedStart (system_of m) (certificate_data c) (vector (start_states m))
     from (inl e) = inl (λ j h. ap (λ (ys : List ℤ). vector ys j) e)
     from (inr e) = inr (λ j h. ap (λ (ys : List ℤ). vector ys j) e)

@@ -2,7 +2,7 @@
 use Rattle.std.proofs.Common.{◌≡◌, ℕ, zero, suc, ◌<◌, ◌≤◌, inl, inr, ℤ, pos, ◌+ℤ◌, ◌-ℤ◌, ◌*ℤ◌, neg_ℤ, ◌≤ℤ◌, ◌<ℤ◌, refl, ap, ap₂, ◌∙◌, arith}
 use Rattle.std.proofs.Math.IntN.{+ℤ_assoc}
 use Rattle.std.proofs.lemmas.Int.{ints}
-use Rattle.cert_matrix.specs.Sums.{total, size}
+use Rattle.cert_matrix.specs.Sums.{total, abs_of}
 use Rattle.cert_matrix.specs.Form.{Vector, times, product, form}
 use Rattle.mu_num.proofs.Integers.{mul-add, mul_assoc}
 use Rattle.cert_matrix.proofs.Ring.{expand}
@@ -10,17 +10,17 @@ use Rattle.cert_matrix.proofs.Order.{square-≥, mul-≥, mul-mono, mul-cancel}
 use Rattle.cert_matrix.proofs.Bilinear.{form-same, form-times, times-add, times-neg, times-scale, times-same, times-times}
 use Rattle.cert_matrix.proofs.Sizes.{size-scale, size-same, size-shrink, weighted-size, root-≤, size-cancel}
 use Rattle.cert_matrix.proofs.Step.{step}
-use Rattle.cert_check.specs.Certificate.{System, Claim, Holds, width, rest_slope, slope_bound, centre_gain}
+use Rattle.cert_check.specs.Inequalities.{System, CertificateData, Holds, level_error, centre_slope, slope_limit, centre_disturbance}
 use Rattle.cert_check.proofs.Run.{Run, IsLegitimate, IsInBasin, IsCertifiedStart}
 use Rattle.cert_check.proofs.Forms.{pm-≥, one-≤, form-decays}
 
 -- the distance from the scaled centre
-abbrev pub offset : System → Claim → ℤ → Vector → Vector
+abbrev pub offset : System → CertificateData → ℤ → Vector → Vector
 offset m x s state j = state j -ℤ s *ℤ m.unit *ℤ x.c j
 
 -- a form within κ² b keeps place k within κ z, where b is at most p_k z²
-pub place-≤ : (m : System) (x : Claim) → Holds m x → (kappa b z : ℤ) (y : Vector) → pos 0 ≤ℤ kappa → pos 0 ≤ℤ z
-    → form m.n x.pm y ≤ℤ (kappa *ℤ kappa *ℤ b) → (k : ℕ) → k < m.n → b ≤ℤ (x.p k *ℤ (z *ℤ z)) → size (y k) ≤ℤ (kappa *ℤ z)
+pub place-≤ : (m : System) (x : CertificateData) → Holds m x → (kappa b z : ℤ) (y : Vector) → pos 0 ≤ℤ kappa → pos 0 ≤ℤ z
+    → form m.n x.pm y ≤ℤ (kappa *ℤ kappa *ℤ b) → (k : ℕ) → k < m.n → b ≤ℤ (x.p k *ℤ (z *ℤ z)) → abs_of (y k) ≤ℤ (kappa *ℤ z)
 place-≤ m x holds kappa b z y kappa≥ z≥ below k h enough =
     let p≥ = holds.signs.p k h in
     let p> : pos 0 <ℤ x.p k = omega (arith, ints) in
@@ -34,9 +34,9 @@ place-≤ m x holds kappa b z y kappa≥ z≥ below k h enough =
     chain a b c d h k l = omega (arith, ints)
 
 -- K times a slope is the coefficients times the distance of the levels from the centre, and the slope at the centre
-centred : (m : System) (x : Claim) (s : ℤ) (level u : Vector)
+centred : (m : System) (x : CertificateData) (s : ℤ) (level u : Vector)
     → ((j : ℕ) → j < m.n → u j ≡ m.unit *ℤ level j -ℤ s *ℤ m.unit *ℤ x.c j)
-    → (j : ℕ) → m.unit *ℤ (times m.n m.coef level j +ℤ s *ℤ m.constant j) ≡ times m.n m.coef u j +ℤ s *ℤ m.unit *ℤ rest_slope m x j
+    → (j : ℕ) → m.unit *ℤ (times m.n m.coef level j +ℤ s *ℤ m.constant j) ≡ times m.n m.coef u j +ℤ s *ℤ m.unit *ℤ centre_slope m x j
 centred m x s level u same j =
     let a = times-same m.n m.coef u (λ k. m.unit *ℤ level k +ℤ neg_ℤ (s *ℤ m.unit *ℤ x.c k)) same j in
     let b = times-add m.n m.coef (λ k. m.unit *ℤ level k) (λ k. neg_ℤ (s *ℤ m.unit *ℤ x.c k)) j in
@@ -49,64 +49,64 @@ centred m x s level u same j =
     numbers k s t b u c e = rw e (simp expand (omega (arith, ints)))
 
 -- a slope in the basin is within s times its bound
-pub slope-≤ : (m : System) (x : Claim) → Holds m x → pos 0 <ℤ m.unit → (s : ℤ) → pos 0 ≤ℤ s → (state level : Vector)
+pub slope-≤ : (m : System) (x : CertificateData) → Holds m x → pos 0 <ℤ m.unit → (s : ℤ) → pos 0 ≤ℤ s → (state level : Vector)
     → form m.n x.pm (offset m x s state) ≤ℤ ((s *ℤ m.unit) *ℤ (s *ℤ m.unit) *ℤ x.r)
-    → ((j : ℕ) → j < m.n → size (state j -ℤ m.unit *ℤ level j) ≤ℤ (s *ℤ m.unit *ℤ x.q j))
-    → (j : ℕ) → j < m.n → size (times m.n m.coef level j +ℤ s *ℤ m.constant j) ≤ℤ (s *ℤ slope_bound m x j)
+    → ((j : ℕ) → j < m.n → abs_of (state j -ℤ m.unit *ℤ level j) ≤ℤ (s *ℤ m.unit *ℤ x.q j))
+    → (j : ℕ) → j < m.n → abs_of (times m.n m.coef level j +ℤ s *ℤ m.constant j) ≤ℤ (s *ℤ slope_limit m x j)
 slope-≤ m x holds unit> s s≥ state level inside near j h =
     let unit≥ : pos 0 ≤ℤ m.unit = omega (arith, ints) in
     let kappa≥ = mul-≥ s m.unit s≥ unit≥ in
     let u : Vector = λ k. m.unit *ℤ level k -ℤ s *ℤ m.unit *ℤ x.c k in
-    let each : (k : ℕ) → k < m.n → size (u k) ≤ℤ (s *ℤ m.unit *ℤ (x.z k +ℤ x.q k)) = λ k l.
+    let each : (k : ℕ) → k < m.n → abs_of (u k) ≤ℤ (s *ℤ m.unit *ℤ (x.z k +ℤ x.q k)) = λ k l.
     let r = place-≤ m x holds (s *ℤ m.unit) x.r (x.z k) (offset m x s state) kappa≥ (holds.signs.z k l) inside k l (holds.reach k l) in
     let q = near k l in
     sum (state k) (m.unit *ℤ level k) (s *ℤ m.unit *ℤ x.c k) (s *ℤ m.unit) (x.z k) (x.q k) r q in
     let a = weighted-size m.n (s *ℤ m.unit) (m.coef j) u (λ k. x.z k +ℤ x.q k) each in
-    let b = size-scale (s *ℤ m.unit) (rest_slope m x j) (size (rest_slope m x j)) kappa≥ (size-same (rest_slope m x j)) in
+    let b = size-scale (s *ℤ m.unit) (centre_slope m x j) (abs_of (centre_slope m x j)) kappa≥ (size-same (centre_slope m x j)) in
     let c = centred m x s level u (λ k l. refl) j in
-    size-cancel m.unit (times m.n m.coef level j +ℤ s *ℤ m.constant j) (s *ℤ slope_bound m x j) unit>
-    (last m.unit s (times m.n m.coef level j +ℤ s *ℤ m.constant j) (times m.n m.coef u j) (rest_slope m x j)
-    (total m.n (λ k. size (m.coef j k) *ℤ (x.z k +ℤ x.q k))) c a b)
+    size-cancel m.unit (times m.n m.coef level j +ℤ s *ℤ m.constant j) (s *ℤ slope_limit m x j) unit>
+    (last m.unit s (times m.n m.coef level j +ℤ s *ℤ m.constant j) (times m.n m.coef u j) (centre_slope m x j)
+    (total m.n (λ k. abs_of (m.coef j k) *ℤ (x.z k +ℤ x.q k))) c a b)
   where
-    sum : (state level centre kappa z q : ℤ) → size (state -ℤ centre) ≤ℤ (kappa *ℤ z) → size (state -ℤ level) ≤ℤ (kappa *ℤ q)
-        → size (level -ℤ centre) ≤ℤ (kappa *ℤ (z +ℤ q))
+    sum : (state level centre kappa z q : ℤ) → abs_of (state -ℤ centre) ≤ℤ (kappa *ℤ z) → abs_of (state -ℤ level) ≤ℤ (kappa *ℤ q)
+        → abs_of (level -ℤ centre) ≤ℤ (kappa *ℤ (z +ℤ q))
     sum state level centre kappa z q h k = rw (mul-add kappa z q) (omega (arith, ints))
 
-    end : (k s f u rho t w : ℤ) → f ≡ u +ℤ s *ℤ k *ℤ rho → size u ≤ℤ (s *ℤ k *ℤ t) → size (s *ℤ k *ℤ rho) ≤ℤ (s *ℤ k *ℤ w)
-        → size f ≤ℤ (k *ℤ (s *ℤ (t +ℤ w)))
+    end : (k s f u rho t w : ℤ) → f ≡ u +ℤ s *ℤ k *ℤ rho → abs_of u ≤ℤ (s *ℤ k *ℤ t) → abs_of (s *ℤ k *ℤ rho) ≤ℤ (s *ℤ k *ℤ w)
+        → abs_of f ≤ℤ (k *ℤ (s *ℤ (t +ℤ w)))
     end k s f u rho t w e h l =
         let g : k *ℤ (s *ℤ (t +ℤ w)) ≡ s *ℤ k *ℤ t +ℤ s *ℤ k *ℤ w = simp expand in
         omega (arith, ints)
 
-    last : (k s f u rho t : ℤ) → k *ℤ f ≡ u +ℤ s *ℤ k *ℤ rho → size u ≤ℤ (s *ℤ k *ℤ t) → size (s *ℤ k *ℤ rho) ≤ℤ (s *ℤ k *ℤ size rho)
-        → size (k *ℤ f) ≤ℤ (k *ℤ (s *ℤ (t +ℤ size rho)))
-    last k s f u rho t e h l = end k s (k *ℤ f) u rho t (size rho) e h l
+    last : (k s f u rho t : ℤ) → k *ℤ f ≡ u +ℤ s *ℤ k *ℤ rho → abs_of u ≤ℤ (s *ℤ k *ℤ t) → abs_of (s *ℤ k *ℤ rho) ≤ℤ (s *ℤ k *ℤ abs_of rho)
+        → abs_of (k *ℤ f) ≤ℤ (k *ℤ (s *ℤ (t +ℤ abs_of rho)))
+    last k s f u rho t e h l = end k s (k *ℤ f) u rho t (abs_of rho) e h l
 
 -- in the basin the next state lies near the level that it left
-pub miss-≤ : (m : System) (x : Claim) → Holds m x → pos 0 <ℤ m.unit → (s r : ℤ) → pos 0 <ℤ s → pos 0 <ℤ r → (state next level : Vector)
+pub miss-≤ : (m : System) (x : CertificateData) → Holds m x → pos 0 <ℤ m.unit → (s r : ℤ) → pos 0 <ℤ s → pos 0 <ℤ r → (state next level : Vector)
     → form m.n x.pm (offset m x s state) ≤ℤ ((s *ℤ m.unit) *ℤ (s *ℤ m.unit) *ℤ x.r)
-    → ((j : ℕ) → j < m.n → size (state j -ℤ m.unit *ℤ level j) ≤ℤ (s *ℤ m.unit *ℤ x.q j))
+    → ((j : ℕ) → j < m.n → abs_of (state j -ℤ m.unit *ℤ level j) ≤ℤ (s *ℤ m.unit *ℤ x.q j))
     → ((j : ℕ) → j < m.n → r *ℤ (next j -ℤ state j) ≡ times m.n m.coef level j +ℤ s *ℤ m.constant j)
-    → (j : ℕ) → j < m.n → size (m.unit *ℤ level j -ℤ next j) ≤ℤ (s *ℤ m.unit *ℤ width x j)
+    → (j : ℕ) → j < m.n → abs_of (m.unit *ℤ level j -ℤ next j) ≤ℤ (s *ℤ m.unit *ℤ level_error x j)
 miss-≤ m x holds unit> s r s> r> state next level inside near moves j h =
     let s≥ : pos 0 ≤ℤ s = omega (arith, ints) in
     let a = slope-≤ m x holds unit> s s≥ state level inside near j h in
     let b = mul-mono s _ _ s≥ (holds.slopes j h) in
-    let c : size (r *ℤ (next j -ℤ state j)) ≤ℤ (s *ℤ (m.unit *ℤ x.s j)) = rw (moves j h) (chain _ _ _ a b) in
+    let c : abs_of (r *ℤ (next j -ℤ state j)) ≤ℤ (s *ℤ (m.unit *ℤ x.s j)) = rw (moves j h) (chain _ _ _ a b) in
     let d = size-shrink r (next j -ℤ state j) _ r> c in
     sum (state j) (next j) (m.unit *ℤ level j) s m.unit (x.q j) (x.s j) d (near j h)
   where
     chain : (a b c : ℤ) → a ≤ℤ b → b ≤ℤ c → a ≤ℤ c
     chain a b c h k = omega (arith, ints)
 
-    sum : (state next level s k q t : ℤ) → size (next -ℤ state) ≤ℤ (s *ℤ (k *ℤ t)) → size (state -ℤ level) ≤ℤ (s *ℤ k *ℤ q)
-        → size (level -ℤ next) ≤ℤ (s *ℤ k *ℤ (q +ℤ t))
+    sum : (state next level s k q t : ℤ) → abs_of (next -ℤ state) ≤ℤ (s *ℤ (k *ℤ t)) → abs_of (state -ℤ level) ≤ℤ (s *ℤ k *ℤ q)
+        → abs_of (level -ℤ next) ≤ℤ (s *ℤ k *ℤ (q +ℤ t))
     sum state next level s k q t h l = rw (mul-add (s *ℤ k) q t, mul_assoc s k t) (omega (arith, ints))
 
 -- a step from the basin ends in the basin
-pub basin-step : (m : System) (x : Claim) → Holds m x → pos 0 <ℤ m.unit → (s r : ℤ) → pos 0 <ℤ s → pos 0 <ℤ r → (state next level : Vector)
+pub basin-step : (m : System) (x : CertificateData) → Holds m x → pos 0 <ℤ m.unit → (s r : ℤ) → pos 0 <ℤ s → pos 0 <ℤ r → (state next level : Vector)
     → form m.n x.pm (offset m x s state) ≤ℤ ((s *ℤ m.unit) *ℤ (s *ℤ m.unit) *ℤ x.r)
-    → ((j : ℕ) → j < m.n → size (state j -ℤ m.unit *ℤ level j) ≤ℤ (s *ℤ m.unit *ℤ x.q j))
+    → ((j : ℕ) → j < m.n → abs_of (state j -ℤ m.unit *ℤ level j) ≤ℤ (s *ℤ m.unit *ℤ x.q j))
     → ((j : ℕ) → j < m.n → r *ℤ (next j -ℤ state j) ≡ times m.n m.coef level j +ℤ s *ℤ m.constant j)
     → form m.n x.pm (offset m x s next) ≤ℤ ((s *ℤ m.unit) *ℤ (s *ℤ m.unit) *ℤ x.r)
 basin-step m x holds unit> s r s> r> state next level inside near moves =
@@ -114,24 +114,24 @@ basin-step m x holds unit> s r s> r> state next level inside near moves =
     let w : Vector = λ j. m.unit *ℤ level j -ℤ next j in
     let miss = miss-≤ m x holds unit> s r s> r> state next level inside near moves in
     let lambda≥ = holds.signs.lambda in
-    step m.n x.pm m.coef x.mu x.lambda m.unit r kappa x.r (centre_gain m x) x.sigma_r
+    step m.n x.pm m.coef x.mu x.lambda m.unit r kappa x.r (centre_disturbance m x) x.sigma_r
     (offset m x s state) (offset m x s next) (λ j. times m.n m.coef level j +ℤ s *ℤ m.constant j)
-    (λ j. times m.n m.coef w j +ℤ kappa *ℤ rest_slope m x j)
+    (λ j. times m.n m.coef w j +ℤ kappa *ℤ centre_slope m x j)
     holds.symmetric (pm-≥ m x holds) (form-decays m x holds) unit> r> (omega (arith, ints))
     (λ i h. positive (x.mu i) (holds.signs.mu i h))
     (λ i h. ap (λ (y : ℤ). r *ℤ y) (offsets (next i) (state i) (s *ℤ m.unit *ℤ x.c i)) ∙ moves i h)
     (λ i h. centred m x s level (λ j. offset m x s next j +ℤ w j) (λ j l. level_offset (next j) (m.unit *ℤ level j) (s *ℤ m.unit *ℤ x.c j)) i
-    ∙ ap (λ (y : ℤ). y +ℤ kappa *ℤ rest_slope m x i) (times-add m.n m.coef (offset m x s next) w i)
-    ∙ +ℤ_assoc (times m.n m.coef (offset m x s next) i) (times m.n m.coef w i) (kappa *ℤ rest_slope m x i))
+    ∙ ap (λ (y : ℤ). y +ℤ kappa *ℤ centre_slope m x i) (times-add m.n m.coef (offset m x s next) w i)
+    ∙ +ℤ_assoc (times m.n m.coef (offset m x s next) i) (times m.n m.coef w i) (kappa *ℤ centre_slope m x i))
     (λ i h.
-    let a = times-add m.n x.pm (times m.n m.coef w) (λ j. kappa *ℤ rest_slope m x j) i in
+    let a = times-add m.n x.pm (times m.n m.coef w) (λ j. kappa *ℤ centre_slope m x j) i in
     let b = times-times m.n x.pm m.coef w i in
-    let c = times-scale m.n x.pm kappa (rest_slope m x) i in
-    let d = weighted-size m.n kappa (product m.n x.pm m.coef i) w (width x) miss in
+    let c = times-scale m.n x.pm kappa (centre_slope m x) i in
+    let d = weighted-size m.n kappa (product m.n x.pm m.coef i) w (level_error x) miss in
     let s≥ : pos 0 ≤ℤ s = omega (arith, ints) in
     let unit≥ : pos 0 ≤ℤ m.unit = omega (arith, ints) in
-    let e = size-scale kappa (times m.n x.pm (rest_slope m x) i) _ (mul-≥ s m.unit s≥ unit≥) (size-same (times m.n x.pm (rest_slope m x) i)) in
-    gain kappa _ (times m.n (product m.n x.pm m.coef) w i) (kappa *ℤ times m.n x.pm (rest_slope m x) i) _ _ (a ∙ ap₂ (λ (y z : ℤ). y +ℤ z) b c) d e)
+    let e = size-scale kappa (times m.n x.pm (centre_slope m x) i) _ (mul-≥ s m.unit s≥ unit≥) (size-same (times m.n x.pm (centre_slope m x) i)) in
+    gain kappa _ (times m.n (product m.n x.pm m.coef) w i) (kappa *ℤ times m.n x.pm (centre_slope m x) i) _ _ (a ∙ ap₂ (λ (y z : ℤ). y +ℤ z) b c) d e)
     holds.centre_gains holds.centre_sum inside
   where
     positive : (y : ℤ) → pos 1 ≤ℤ y → pos 0 <ℤ y
@@ -143,11 +143,11 @@ basin-step m x holds unit> s r s> r> state next level inside near moves =
     level_offset : (next level c : ℤ) → (next -ℤ c) +ℤ (level -ℤ next) ≡ level -ℤ c
     level_offset next level c = omega (arith, ints)
 
-    gain : (kappa v a b t u : ℤ) → v ≡ a +ℤ b → size a ≤ℤ (kappa *ℤ t) → size b ≤ℤ (kappa *ℤ u) → size v ≤ℤ (kappa *ℤ (t +ℤ u))
+    gain : (kappa v a b t u : ℤ) → v ≡ a +ℤ b → abs_of a ≤ℤ (kappa *ℤ t) → abs_of b ≤ℤ (kappa *ℤ u) → abs_of v ≤ℤ (kappa *ℤ (t +ℤ u))
     gain kappa v a b t u e h k = rw (mul-add kappa t u) (omega (arith, ints))
 
 -- the first state lies in the basin where the start does
-start-≤ : (m : System) (x : Claim) (s : ℤ) (state start : Vector)
+start-≤ : (m : System) (x : CertificateData) (s : ℤ) (state start : Vector)
     → ((j : ℕ) → j < m.n → state j ≡ s *ℤ start j)
     → form m.n x.pm (λ k. start k -ℤ m.unit *ℤ x.c k) ≤ℤ (m.unit *ℤ m.unit *ℤ x.r)
     → form m.n x.pm (offset m x s state) ≤ℤ ((s *ℤ m.unit) *ℤ (s *ℤ m.unit) *ℤ x.r)
@@ -170,7 +170,7 @@ pub positive_pos : (n : ℕ) → 1 ≤ n → pos 0 <ℤ pos n
 positive_pos n h = omega (arith, ints)
 
 -- every state of a legitimate run is in the basin
-pub basin : (m : System) (x : Claim) → Holds m x → pos 0 <ℤ m.unit → (start : Vector) (w : Run) → IsLegitimate m x.q start w
+pub basin : (m : System) (x : CertificateData) → Holds m x → pos 0 <ℤ m.unit → (start : Vector) (w : Run) → IsLegitimate m x.q start w
     → form m.n x.pm (λ k. start k -ℤ m.unit *ℤ x.c k) ≤ℤ (m.unit *ℤ m.unit *ℤ x.r)
     → (i : ℕ) → i ≤ w.last → IsInBasin m x w.scale (w.states i)
 basin m x holds unit> start w run below zero h = start-≤ m x (pos w.scale) (w.states 0) start run.starts below
@@ -182,7 +182,7 @@ basin m x holds unit> start w run below (suc i) h =
     (λ j l. run.moves i j (omega arith) l)
 
 -- the start of a certified run lies in the basin
-pub certified-≤ : (m : System) (x : Claim) → Holds m x → (start : Vector) → IsCertifiedStart m x start
+pub certified-≤ : (m : System) (x : CertificateData) → Holds m x → (start : Vector) → IsCertifiedStart m x start
     → form m.n x.pm (λ k. start k -ℤ m.unit *ℤ x.c k) ≤ℤ (m.unit *ℤ m.unit *ℤ x.r)
 certified-≤ m x holds start (inl e) =
     rw (form-same m.n x.pm (λ k. start k -ℤ m.unit *ℤ x.c k) (λ k. x.start1 k -ℤ m.unit *ℤ x.c k) (λ j h. ap (λ (y : ℤ). y -ℤ m.unit *ℤ x.c j) (e j h))) holds.first_start

@@ -5,7 +5,7 @@ use Rattle.std.specs.Prelude.{All, sum_by}
 use Rattle.qss_machine.specs.declared.parts.BranchInfo.{BranchInfo}
 use Rattle.qss_machine.specs.declared.parts.ClauseInfo.{ClauseInfo}
 use Rattle.qss_machine.specs.declared.system.Machine.{Machine}
-use Rattle.qss_machine.specs.Limits.{IsClause, item_count}
+use Rattle.qss_machine.specs.MachineLimits.{IsClause, item_count}
 
 branches-few : (branches : List BranchInfo) → length branches ≤ sum_by (λ (branch : BranchInfo). 1 + length branch.actions) branches
 branches-few [] = omega arith

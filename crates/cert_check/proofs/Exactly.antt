@@ -2,17 +2,17 @@
 use Rattle.std.proofs.Common.{◌≡◌, ℕ, ◌+◌, ◌<◌, ◌≤◌, ◌⊎◌, inl, inr, List, [], ◌∷◌, Option, Some, None, ℤ, pos, ◌-ℤ◌, ◌*ℤ◌, ◌≤ℤ◌, Bool, true, false, if◌then◌else◌, refl, sym, subst, arith}
 use Rattle.std.proofs.lemmas.Int.{ints}
 use Rattle.std.specs.Ordering.{int_eq}
-use Rattle.cert_check.specs.declared.fault.Fault.{Fault}
-use Rattle.cert_check.specs.declared.fault.Fault.TheVariants.{Rejected, Range}
-use Rattle.cert_check.specs.declared.fault.Relation.{Relation}
-use Rattle.cert_check.specs.declared.fault.Relation.TheVariants.{AtLeast}
+use Rattle.cert_check.specs.declared.failure.Fault.{Fault}
+use Rattle.cert_check.specs.declared.failure.Fault.TheVariants.{Rejected, Range}
+use Rattle.cert_check.specs.declared.failure.Relation.{Relation}
+use Rattle.cert_check.specs.declared.failure.Relation.TheVariants.{AtLeast}
 use Rattle.cert_check.specs.declared.verdict.Verdict.{Verdict}
 use Rattle.cert_check.specs.declared.verdict.Verdict.TheVariants.{Accepted, Rejected as VRejected, Range as VRange}
 use Rattle.cert_check.specs.declared.inequalities.Inequality.{Inequality}
 use Rattle.cert_check.specs.declared.inequalities.Inequality.TheVariants.{SignP, SignMu, SignLambda, SignH1, SignH2, SignR, SignZ, SignS, SignSigmaR, SignC, SignSigmaC, SignE, Symmetric, BoundParts, Bound, DecayProducts, DecayParts, Decay, FirstStart, SecondStart, StartsApart, Reach, Slope, CentreGain, CentreSum, PairGain, PairSum, Distance, Quantum, Share}
-use Rattle.cert_check.specs.Certificate.{System, Claim, Holds, gap, level_reach}
-use Rattle.cert_check.specs.Faults.{IsMet, AllPass, IsFirstFault}
-use Rattle.cert_check.specs.Inequality.{IsFaultOf, IsFirstFaultOf, AreSumsInRange, inequalities, fault_of, is_same_below, number_of, start_of, places_of, relation_of, left_of, right_of, IsPlaceInRange}
+use Rattle.cert_check.specs.Inequalities.{System, CertificateData, Holds, scaled_offset, level_range}
+use Rattle.cert_check.specs.FirstFailures.{IsMet, AllPass, IsFirstFault}
+use Rattle.cert_check.specs.InequalityTable.{IsFaultOf, IsFirstFaultOf, AreSumsInRange, inequalities, fault_of, is_same_below, number_of, start_of, places_of, relation_of, left_of, right_of, IsPlaceInRange}
 use Rattle.cert_check.specs.Pairs.{pairs, pair_of}
 use Rattle.cert_check.proofs.Accepted.{AllFine, all-fine}
 use Rattle.cert_check.proofs.Gaps.{form-same, gap-one}
@@ -20,7 +20,7 @@ use Rattle.cert_check.proofs.Pairs.{pair-inside}
 use Rattle.cert_matrix.specs.Form.{Vector, Table, form}
 
 -- where no inequality has a fault, all sums are in range
-pub accepted-ranges : (m : System) (x : Claim) → IsFirstFaultOf m x inequalities None → AreSumsInRange m x
+pub accepted-ranges : (m : System) (x : CertificateData) → IsFirstFaultOf m x inequalities None → AreSumsInRange m x
 accepted-ranges m x h i k l = at i l
   where
     at : (i : Inequality) → k < places_of m.n i → IsPlaceInRange m x i k
@@ -60,10 +60,10 @@ zero-≤ = omega (arith, ints)
 
 -- a place that takes no sums in one case
 apart-met : (n : ℕ) (pm : Table) (first second : Vector) (bound : ℤ) (t : Bool) → form n pm (λ k. first k -ℤ second k) ≤ℤ bound
-    → (if t then pos 0 else form n pm (gap first (pos 1) second)) ≤ℤ (if t then pos 0 else bound)
+    → (if t then pos 0 else form n pm (scaled_offset first (pos 1) second)) ≤ℤ (if t then pos 0 else bound)
 apart-met n pm first second bound true h = zero-≤
 apart-met n pm first second bound false h =
-    let z = form-same n pm (gap first (pos 1) second) (λ k. first k -ℤ second k) (λ k l. gap-one first second k) in
+    let z = form-same n pm (scaled_offset first (pos 1) second) (λ k. first k -ℤ second k) (λ k l. gap-one first second k) in
     omega (arith, ints)
 
 share-met : (left right : ℤ) (t : Bool) → right ≤ℤ left → (if t then pos 0 else right) ≤ℤ (if t then pos 0 else left)
@@ -71,7 +71,7 @@ share-met left right true h = zero-≤
 share-met left right false h = h
 
 -- where all hold and all sums are in range, no place fails
-pub holds-pass : (m : System) (x : Claim) → Holds m x → (i : Inequality) (k : ℕ) → k < places_of m.n i → IsMet (relation_of i) (left_of m x i k) (right_of m x i k)
+pub holds-pass : (m : System) (x : CertificateData) → Holds m x → (i : Inequality) (k : ℕ) → k < places_of m.n i → IsMet (relation_of i) (left_of m x i k) (right_of m x i k)
 holds-pass m x holds SignP k h = holds.signs.p k h
 holds-pass m x holds SignMu k h = holds.signs.mu k h
 holds-pass m x holds SignLambda k h = holds.signs.lambda
@@ -101,9 +101,9 @@ holds-pass m x holds PairGain k h = holds.pair_gains k h
 holds-pass m x holds PairSum k h = holds.pair_sum
 holds-pass m x holds Distance k h = holds.distances k h
 holds-pass m x holds Quantum k h = holds.quanta k h
-holds-pass m x holds Share k h = share-met (pos 4096 *ℤ x.q k) (m.share *ℤ level_reach x k) (int_eq m.share (pos 0)) (holds.shares k h)
+holds-pass m x holds Share k h = share-met (pos 4096 *ℤ x.q k) (m.share *ℤ level_range x k) (int_eq m.share (pos 0)) (holds.shares k h)
 
-no-fault : (m : System) (x : Claim) → Holds m x → AreSumsInRange m x → (i : Inequality) (f : Fault) → IsFaultOf m x i (Some f) → ⊥
+no-fault : (m : System) (x : CertificateData) → Holds m x → AreSumsInRange m x → (i : Inequality) (f : Fault) → IsFaultOf m x i (Some f) → ⊥
 no-fault m x holds ranges i (Range number place) fault = fault.5 (ranges i fault.0 fault.1)
 no-fault m x holds ranges i (Rejected number place left right) fault =
     let k = fault.0 in
@@ -112,13 +112,13 @@ no-fault m x holds ranges i (Rejected number place left right) fault =
     let Q : ℤ → Type 0 = λ z. IsMet (relation_of i) left z in
     fault.8 (subst Q (sym fault.7) (subst P (sym fault.6) (holds-pass m x holds i k h)))
 
-no-first-fault : (m : System) (x : Claim) → Holds m x → AreSumsInRange m x → (is : List Inequality) (f : Fault) → IsFirstFaultOf m x is (Some f) → ⊥
+no-first-fault : (m : System) (x : CertificateData) → Holds m x → AreSumsInRange m x → (is : List Inequality) (f : Fault) → IsFirstFaultOf m x is (Some f) → ⊥
 no-first-fault m x holds ranges [] f h = cc
 no-first-fault m x holds ranges (i ∷ is) f (inl h) = no-first-fault m x holds ranges is f h.1
 no-first-fault m x holds ranges (i ∷ is) f (inr h) = no-fault m x holds ranges i f h.1
 
 -- so the verdict accepts
-pub accepts : (m : System) (x : Claim) (verdict : Verdict) → Holds m x → AreSumsInRange m x → IsFirstFaultOf m x inequalities (fault_of verdict) → verdict ≡ Accepted
+pub accepts : (m : System) (x : CertificateData) (verdict : Verdict) → Holds m x → AreSumsInRange m x → IsFirstFaultOf m x inequalities (fault_of verdict) → verdict ≡ Accepted
 accepts m x Accepted holds ranges h = refl
 accepts m x (VRejected number place left right) holds ranges h = absurd (no-first-fault m x holds ranges inequalities (Rejected number place left right) h)
 accepts m x (VRange number place) holds ranges h = absurd (no-first-fault m x holds ranges inequalities (Range number place) h)

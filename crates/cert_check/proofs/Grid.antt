@@ -4,14 +4,14 @@ use Rattle.std.proofs.Math.Nat.{div-lt_iff_lt-mul, mod-add-div', mod-lt}
 use Rattle.std.proofs.lemmas.Nat.{div-mul-add, mod-mul-add}
 use Rattle.std.proofs.lemmas.Bool.{cases_lt}
 use Rattle.std.proofs.lemmas.Int.{ints}
-use Rattle.cert_matrix.specs.Sums.{size}
+use Rattle.cert_matrix.specs.Sums.{abs_of}
 use Rattle.cert_matrix.specs.Form.{Vector, times, form}
 use Rattle.mu_num.proofs.Integers.{mul-add, add-mul, one-mul}
 use Rattle.cert_matrix.proofs.Ring.{expand}
 use Rattle.cert_matrix.proofs.Order.{mul-≥}
 use Rattle.cert_matrix.proofs.Bilinear.{times-scale}
 use Rattle.cert_matrix.proofs.Sizes.{size-scale}
-use Rattle.cert_check.specs.Certificate.{System, Claim, Holds, width}
+use Rattle.cert_check.specs.Inequalities.{System, CertificateData, Holds, level_error}
 use Rattle.cert_check.proofs.Run.{Run, IsLegitimate}
 use Rattle.cert_check.proofs.Basin.{basin, miss-≤, positive_pos}
 
@@ -61,9 +61,9 @@ fine-suc q states t l j = by (cases_lt (suc (t % q)) q)
         spread q a b = simp expand (omega (arith, ints))
 
 -- each state moves by its slope and ends near its level
-pub record Steps (m : System) (x : Claim) (s r : ℤ) (last : ℕ) (states levels : ℕ → Vector) : Type 0 where
+pub record Steps (m : System) (x : CertificateData) (s r : ℤ) (last : ℕ) (states levels : ℕ → Vector) : Type 0 where
   pub moves : (t j : ℕ) → t < last → j < m.n → r *ℤ (states (suc t) j -ℤ states t j) ≡ times m.n m.coef (levels t) j +ℤ s *ℤ m.constant j
-  pub misses : (t j : ℕ) → t < last → j < m.n → size (m.unit *ℤ levels t j -ℤ states (suc t) j) ≤ℤ (s *ℤ m.unit *ℤ width x j)
+  pub misses : (t j : ℕ) → t < last → j < m.n → abs_of (m.unit *ℤ levels t j -ℤ states (suc t) j) ≤ℤ (s *ℤ m.unit *ℤ level_error x j)
 
 move_part : (r q a b h g next this f t s c : ℤ) → g ≡ h +ℤ pos 1 → next ≡ q *ℤ a +ℤ g *ℤ (b -ℤ a) → this ≡ q *ℤ a +ℤ h *ℤ (b -ℤ a)
     → r *ℤ (b -ℤ a) ≡ t +ℤ s *ℤ c → f ≡ q *ℤ t → (r *ℤ q) *ℤ (next -ℤ this) ≡ f +ℤ (s *ℤ q) *ℤ c
@@ -73,7 +73,7 @@ move_part r q a b h g next this f t s c g-is next-is this-is moves f-is =
     rw (next-is, this-is, f-is, g-is) (simp (one-mul, expand) (omega (arith, ints)))
 
 miss_part : (k q a b d g next v level bound : ℤ) → pos 0 ≤ℤ d → pos 0 ≤ℤ g → d +ℤ g ≡ q → next ≡ q *ℤ a +ℤ g *ℤ (b -ℤ a) → v ≡ q *ℤ level
-    → size (k *ℤ level -ℤ a) ≤ℤ bound → size (k *ℤ level -ℤ b) ≤ℤ bound → size (k *ℤ v -ℤ next) ≤ℤ (q *ℤ bound)
+    → abs_of (k *ℤ level -ℤ a) ≤ℤ bound → abs_of (k *ℤ level -ℤ b) ≤ℤ bound → abs_of (k *ℤ v -ℤ next) ≤ℤ (q *ℤ bound)
 miss_part k q a b d g next v level bound d≥ g≥ q-is next-is v-is near far =
     let e : k *ℤ v -ℤ next ≡ d *ℤ (k *ℤ level -ℤ a) +ℤ g *ℤ (k *ℤ level -ℤ b) = rw (next-is, v-is, ← q-is) (simp expand (omega (arith, ints))) in
     let u = size-scale d (k *ℤ level -ℤ a) bound d≥ near in
@@ -88,7 +88,7 @@ scaled-≥ n k k> =
     mul-≥ (pos n) k n≥ k≥
 
 -- a legitimate run takes such steps on every finer tick
-pub fine-steps : (m : System) (x : Claim) → Holds m x → pos 0 <ℤ m.unit → (start : Vector) (w : Run) → IsLegitimate m x.q start w
+pub fine-steps : (m : System) (x : CertificateData) → Holds m x → pos 0 <ℤ m.unit → (start : Vector) (w : Run) → IsLegitimate m x.q start w
     → form m.n x.pm (λ k. start k -ℤ m.unit *ℤ x.c k) ≤ℤ (m.unit *ℤ m.unit *ℤ x.r)
     → (q : ℕ) → 0 < q → Steps m x (pos w.scale *ℤ pos q) (pos w.refinement *ℤ pos q) (w.last * q) (fine_states q w.states) (fine_levels q w.levels)
 fine-steps m x holds unit> start w run below q q> = record {
@@ -107,16 +107,16 @@ fine-steps m x holds unit> start w run below q q> = record {
       let far = miss-≤ m x holds unit> (pos w.scale) (pos w.refinement) (positive_pos w.scale run.scaled) (positive_pos w.refinement run.refined)
       (w.states i) (w.states (suc i)) (w.levels i) inside (λ j l. run.near i j (omega arith) l) (λ j l. run.moves i j i< l) j h in
       let near = near_width (w.states i j) (m.unit *ℤ w.levels i j) (pos w.scale *ℤ m.unit) (x.q j) (x.s j) (scaled-≥ w.scale m.unit unit>) (holds.signs.s j h) (run.near i j (omega arith) h) in
-      bound (pos w.scale) (pos q) m.unit (width x j) (m.unit *ℤ fine_levels q w.levels t j -ℤ fine_states q w.states (suc t) j)
+      bound (pos w.scale) (pos q) m.unit (level_error x j) (m.unit *ℤ fine_levels q w.levels t j -ℤ fine_states q w.states (suc t) j)
       (miss_part m.unit (pos q) (w.states i j) (w.states (suc i) j) (pos (q - suc (t % q))) (pos (suc (t % q)))
-      (fine_states q w.states (suc t) j) (fine_levels q w.levels t j) (w.levels i j) (pos w.scale *ℤ m.unit *ℤ width x j)
+      (fine_states q w.states (suc t) j) (fine_levels q w.levels t j) (w.levels i j) (pos w.scale *ℤ m.unit *ℤ level_error x j)
       (omega (arith, ints)) (omega (arith, ints)) (omega (arith, ints)) (fine-suc q w.states t q> j) refl near far);
 }
   where
-    near_width : (state level kappa q s : ℤ) → pos 0 ≤ℤ kappa → pos 0 ≤ℤ s → size (state -ℤ level) ≤ℤ (kappa *ℤ q) → size (level -ℤ state) ≤ℤ (kappa *ℤ (q +ℤ s))
+    near_width : (state level kappa q s : ℤ) → pos 0 ≤ℤ kappa → pos 0 ≤ℤ s → abs_of (state -ℤ level) ≤ℤ (kappa *ℤ q) → abs_of (level -ℤ state) ≤ℤ (kappa *ℤ (q +ℤ s))
     near_width state level kappa q s kappa≥ s≥ h = let p = mul-≥ kappa s kappa≥ s≥ in rw (mul-add kappa q s) (omega (arith, ints))
 
-    bound : (s q k w v : ℤ) → size v ≤ℤ (q *ℤ (s *ℤ k *ℤ w)) → size v ≤ℤ ((s *ℤ q) *ℤ k *ℤ w)
+    bound : (s q k w v : ℤ) → abs_of v ≤ℤ (q *ℤ (s *ℤ k *ℤ w)) → abs_of v ≤ℤ ((s *ℤ q) *ℤ k *ℤ w)
     bound s q k w v h =
         let e : (s *ℤ q) *ℤ k *ℤ w ≡ q *ℤ (s *ℤ k *ℤ w) = simp expand in
         rw e h

@@ -5,24 +5,24 @@ use Rattle.std.proofs.lemmas.List.FromFn.{length-map-range_with_len, get_or-map-
 use Rattle.std.specs.Prelude.{slice_index_or}
 use Rattle.qss_machine.proofs.Near.{unit_positive}
 use Rattle.qss_machine.specs.declared.system.Machine.{Machine}
-use Rattle.qss_machine.specs.Numbers.{int_at, sum_below, tabulate}
+use Rattle.qss_machine.specs.IndexedSums.{int_at, sum_below, tabulate}
 use Rattle.qss_machine.specs.Machines.{state_count, level_unit}
-use Rattle.qss_machine.specs.Legitimate.{IsLegitimate, cell, start_coefficient, start_drive, scaled_slope}
-use Rattle.cert_matrix.specs.Sums.{size, total}
+use Rattle.qss_machine.specs.Legitimate.{IsLegitimate, entry_at, start_coefficient, start_constant_part, scaled_slope}
+use Rattle.cert_matrix.specs.Sums.{abs_of, total}
 use Rattle.cert_matrix.specs.Form.{Vector, times}
 use Rattle.cert_matrix.specs.Matrix.{table, vector}
 use Rattle.cert_matrix.proofs.Totals.{total-same}
 use Rattle.cert_check.specs.declared.certificate.Certificate.{Certificate}
-use Rattle.cert_check.specs.Certificate.{Holds, slope_bound}
-use Rattle.cert_check.specs.Reading.{claim}
+use Rattle.cert_check.specs.Inequalities.{Holds, slope_limit}
+use Rattle.cert_check.specs.CertificateData.{certificate_data}
 use Rattle.cert_check.specs.Systems.{system_of, start_matrix, start_drives}
-use Rattle.cert_check.specs.Promises.{IsCertifiedRun, IsPromised}
+use Rattle.cert_check.specs.Bounds.{IsCertifiedRun, BoundsAreGuaranteed}
 use Rattle.cert_check.proofs.Run.{Run, IsCertifiedStart, IsLegitimate as IsRunOf}
 use Rattle.cert_check.proofs.Theorem.{promises}
 
 -- the lists of a run, read at their places
 abbrev pub run_of : ℕ → ℕ → List (List ℤ) → List (List ℤ) → Run
-run_of s r states levels = record { scale = s; refinement = r; last = length states - 1; states = cell states; levels = cell levels }
+run_of s r states levels = record { scale = s; refinement = r; last = length states - 1; states = entry_at states; levels = entry_at levels }
 
 pub same-sum : (n : ℕ) (f : ℕ → ℤ) → sum_below n f ≡ total n f
 same-sum zero f = refl
@@ -34,8 +34,8 @@ entry-at m j k hj hk =
     let row = get_or-map-range_with_len (λ i. tabulate (state_count m) (start_coefficient m i)) 0 (state_count m) j j [] hj (omega arith) in
     ap (λ (xs : List ℤ). vector xs k) row ∙ get_or-map-range_with_len (start_coefficient m j) 0 (state_count m) k k (pos 0) hk (omega arith)
 
-pub drive-at : (m : Machine) (j : ℕ) → j < state_count m → vector (start_drives m) j ≡ start_drive m j
-drive-at m j h = get_or-map-range_with_len (start_drive m) 0 (state_count m) j j (pos 0) h (omega arith)
+pub drive-at : (m : Machine) (j : ℕ) → j < state_count m → vector (start_drives m) j ≡ start_constant_part m j
+drive-at m j h = get_or-map-range_with_len (start_constant_part m) 0 (state_count m) j j (pos 0) h (omega arith)
 
 -- the slopes of a run
 pub slope-same : (m : Machine) (s j : ℕ) (levels : List ℤ) → j < state_count m
@@ -59,21 +59,21 @@ leads m start quanta s r xs ms run = record {
   near = λ i j h l. run.near i j (omega (arith, run.places)) l;
 }
 
-certified-start : (m : Machine) (c : Certificate) (start : List ℤ) → (start ≡ c.start1) ⊎ (start ≡ c.start2) → IsCertifiedStart (system_of m) (claim c) (vector start)
+certified-start : (m : Machine) (c : Certificate) (start : List ℤ) → (start ≡ c.start1) ⊎ (start ≡ c.start2) → IsCertifiedStart (system_of m) (certificate_data c) (vector start)
 certified-start m c start (inl e) = inl (λ j h. ap (λ (xs : List ℤ). vector xs j) e)
 certified-start m c start (inr e) = inr (λ j h. ap (λ (xs : List ℤ). vector xs j) e)
 
 place-of : (i n : ℕ) → i < n → i ≤ n - 1
 place-of i n h = omega arith
 
-pub promised : (m : Machine) (c : Certificate) → Holds (system_of m) (claim c) → IsPromised m c
+pub promised : (m : Machine) (c : Certificate) → Holds (system_of m) (certificate_data c) → BoundsAreGuaranteed m c
 promised m c holds =
-    let all = promises (system_of m) (claim c) (unit_positive m) holds in
+    let all = promises (system_of m) (certificate_data c) (unit_positive m) holds in
     record {
       basin = λ s r xs ms run i h.
           all.basin (vector run.start) (run_of s r xs ms) (certified-start m c run.start run.certified) (leads m run.start c.q s r xs ms run.legitimate) i (place-of i (length xs) h);
       slopes = λ s r xs ms run i j h l.
-          let P : ℤ → Type 0 = λ x. size x ≤ℤ (pos s *ℤ slope_bound (system_of m) (claim c) j) in
+          let P : ℤ → Type 0 = λ x. abs_of x ≤ℤ (pos s *ℤ slope_limit (system_of m) (certificate_data c) j) in
           subst P (sym (slope-same m s j (slice_index_or ms i []) l))
           (all.slopes (vector run.start) (run_of s r xs ms) (certified-start m c run.start run.certified) (leads m run.start c.q s r xs ms run.legitimate) i j (place-of i (length xs) h) l);
       inside = λ s r s' r' xs ms xs' ms' run run' i i' h h' common.

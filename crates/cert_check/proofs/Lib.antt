@@ -2,20 +2,41 @@ pub mod Forms
 pub mod Run
 pub mod Basin
 pub mod Grid
-pub mod Pair
+mod Pair
 pub mod Theorem
-pub mod Places
-pub mod Shares
-pub mod InOrder
+mod Places
+mod Shares
+mod InOrder
 pub mod Accepted
 pub mod Exactly
-pub mod Pairs
+mod Pairs
 pub mod Gaps
-pub mod Rowwise
+mod Rowwise
 pub mod Join
 pub mod Admit
 pub mod Quanta
-pub mod Written
+mod Written
 pub mod Tables
 pub mod Starts
 pub mod Clauses
+mod Digits
+mod FieldPlaces
+mod Faults
+pub mod Fields
+mod Kept
+mod Turns
+mod Assembled
+pub mod Spelt
+pub mod Unique
+pub mod Cut
+mod Decimals
+mod Completed
+mod Wanted
+pub mod WrittenLines
+mod Decided
+pub mod Verdicts
+mod Totals
+mod Faultless
+mod Same
+mod Made
+pub mod Judged

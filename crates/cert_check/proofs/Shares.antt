@@ -2,18 +2,18 @@
 use Rattle.std.proofs.Common.{◌≡◌, ℕ, zero, suc, ◌<◌, ◌≤◌, ◌⊎◌, inl, inr, ℤ, pos, ◌+ℤ◌, ◌-ℤ◌, ◌*ℤ◌, ◌≤ℤ◌, ◌<ℤ◌, sym, ap, ◌∙◌, arith}
 use Rattle.std.proofs.lemmas.Int.{ints}
 use Rattle.std.proofs.lemmas.Bool.{cases_lt}
-use Rattle.cert_matrix.specs.Sums.{size}
+use Rattle.cert_matrix.specs.Sums.{abs_of}
 use Rattle.cert_matrix.specs.Form.{Vector}
 use Rattle.mu_num.proofs.Integers.{one-mul}
 use Rattle.cert_matrix.proofs.Ring.{expand}
 use Rattle.cert_matrix.proofs.Order.{mul-≥, mul-mono, mul-cancel}
 use Rattle.cert_matrix.proofs.Sizes.{size-cancel, size-scale, size-same}
-use Rattle.cert_check.specs.Certificate.{System, Claim, Holds}
+use Rattle.cert_check.specs.Inequalities.{System, CertificateData, Holds}
 use Rattle.cert_check.proofs.Run.{Run, IsLegitimate, IsCertifiedStart, IsQuantumAt, KeepsLevels, AdmitsShares}
 use Rattle.cert_check.proofs.Basin.{basin, certified-≤, place-≤, offset}
 
 -- within one level is within a quantum that is at least 1
-pub level-≤ : (k q v : ℤ) → pos 0 <ℤ k → pos 1 ≤ℤ q → size v ≤ℤ k → size v ≤ℤ (pos 1 *ℤ k *ℤ q)
+pub level-≤ : (k q v : ℤ) → pos 0 <ℤ k → pos 1 ≤ℤ q → abs_of v ≤ℤ k → abs_of v ≤ℤ (pos 1 *ℤ k *ℤ q)
 level-≤ k q v k> q≥ h =
     let k≥ : pos 0 ≤ℤ k = omega (arith, ints) in
     let d : pos 0 ≤ℤ (q -ℤ pos 1) = omega (arith, ints) in
@@ -24,18 +24,18 @@ level-≤ k q v k> q≥ h =
 
 -- a quantum at a level that the basin allows is at most the certified one
 pub quantum-≤ : (share own q certified level state c z k : ℤ) → pos 0 <ℤ k → pos 0 ≤ℤ share → own ≤ℤ certified
-    → (share *ℤ (size c +ℤ z +ℤ certified)) ≤ℤ (pos 4096 *ℤ certified)
-    → size (state -ℤ pos 1 *ℤ k *ℤ c) ≤ℤ (pos 1 *ℤ k *ℤ z) → size (state -ℤ k *ℤ level) ≤ℤ (pos 1 *ℤ k *ℤ certified)
-    → (q ≡ own) ⊎ ((pos 4096 *ℤ q) ≤ℤ (share *ℤ size level)) → q ≤ℤ certified
+    → (share *ℤ (abs_of c +ℤ z +ℤ certified)) ≤ℤ (pos 4096 *ℤ certified)
+    → abs_of (state -ℤ pos 1 *ℤ k *ℤ c) ≤ℤ (pos 1 *ℤ k *ℤ z) → abs_of (state -ℤ k *ℤ level) ≤ℤ (pos 1 *ℤ k *ℤ certified)
+    → (q ≡ own) ⊎ ((pos 4096 *ℤ q) ≤ℤ (share *ℤ abs_of level)) → q ≤ℤ certified
 quantum-≤ share own q certified level state c z k k> share≥ own≤ shares near_c near_level (inl e) = omega (arith, ints)
 quantum-≤ share own q certified level state c z k k> share≥ own≤ shares near_c near_level (inr h) =
     let k≥ : pos 0 ≤ℤ k = omega (arith, ints) in
-    let centre = size-scale k c (size c) k≥ (size-same c) in
-    let spread : k *ℤ (size c +ℤ z +ℤ certified) ≡ k *ℤ size c +ℤ k *ℤ z +ℤ k *ℤ certified = expand_three k (size c) z certified in
-    let near_c' : size (state -ℤ k *ℤ c) ≤ℤ (k *ℤ z) = rw one-mul at near_c in
-    let near_level' : size (state -ℤ k *ℤ level) ≤ℤ (k *ℤ certified) = rw one-mul at near_level in
-    let scaled : size (k *ℤ level) ≤ℤ (k *ℤ (size c +ℤ z +ℤ certified)) = rw spread (omega (arith, ints)) in
-    let within = size-cancel k level (size c +ℤ z +ℤ certified) k> scaled in
+    let centre = size-scale k c (abs_of c) k≥ (size-same c) in
+    let spread : k *ℤ (abs_of c +ℤ z +ℤ certified) ≡ k *ℤ abs_of c +ℤ k *ℤ z +ℤ k *ℤ certified = expand_three k (abs_of c) z certified in
+    let near_c' : abs_of (state -ℤ k *ℤ c) ≤ℤ (k *ℤ z) = rw one-mul at near_c in
+    let near_level' : abs_of (state -ℤ k *ℤ level) ≤ℤ (k *ℤ certified) = rw one-mul at near_level in
+    let scaled : abs_of (k *ℤ level) ≤ℤ (k *ℤ (abs_of c +ℤ z +ℤ certified)) = rw spread (omega (arith, ints)) in
+    let within = size-cancel k level (abs_of c +ℤ z +ℤ certified) k> scaled in
     let a = mul-mono share _ _ share≥ within in
     let b : (pos 4096 *ℤ q) ≤ℤ (pos 4096 *ℤ certified) = chain _ _ _ _ h a shares in
     let positive : pos 0 <ℤ pos 4096 = record { lt = tt } in
@@ -51,27 +51,27 @@ quantum-≤ share own q certified level state c z k k> share≥ own≤ shares ne
 abbrev prefix : Run → ℕ → Run
 prefix w i = record { scale = 1; refinement = 1; last = i; states = w.states; levels = w.levels }
 
-certified-≥ : (m : System) (x : Claim) → ((j : ℕ) → j < m.n → pos 1 ≤ℤ m.quantum j) → Holds m x → (j : ℕ) → j < m.n → pos 1 ≤ℤ x.q j
+certified-≥ : (m : System) (x : CertificateData) → ((j : ℕ) → j < m.n → pos 1 ≤ℤ m.quantum j) → Holds m x → (j : ℕ) → j < m.n → pos 1 ≤ℤ x.q j
 certified-≥ m x quantum≥ holds j l = let a = quantum≥ j l in let b = holds.quanta j l in omega (arith, ints)
 
 -- the place after a legitimate run
-new-near : (m : System) (x : Claim) → pos 0 <ℤ m.unit → pos 0 ≤ℤ m.share → ((j : ℕ) → j < m.n → pos 1 ≤ℤ m.quantum j) → Holds m x
+new-near : (m : System) (x : CertificateData) → pos 0 <ℤ m.unit → pos 0 ≤ℤ m.share → ((j : ℕ) → j < m.n → pos 1 ≤ℤ m.quantum j) → Holds m x
     → (start : Vector) (w : Run) → IsCertifiedStart m x start → KeepsLevels m start w
     → (i : ℕ) → suc i ≤ w.last → IsLegitimate m x.q start (prefix w i) → (j : ℕ) → j < m.n
-    → size (w.states (suc i) j -ℤ m.unit *ℤ w.levels (suc i) j) ≤ℤ (pos 1 *ℤ m.unit *ℤ x.q j)
+    → abs_of (w.states (suc i) j -ℤ m.unit *ℤ w.levels (suc i) j) ≤ℤ (pos 1 *ℤ m.unit *ℤ x.q j)
 new-near m x unit> share≥ quantum≥ holds start w certified keeps i h before j l = by (keeps.next i j h l)
   where
-    stretch : (k q c v : ℤ) → pos 0 <ℤ k → q ≤ℤ c → size v ≤ℤ (k *ℤ q) → size v ≤ℤ (pos 1 *ℤ k *ℤ c)
+    stretch : (k q c v : ℤ) → pos 0 <ℤ k → q ≤ℤ c → abs_of v ≤ℤ (k *ℤ q) → abs_of v ≤ℤ (pos 1 *ℤ k *ℤ c)
     stretch k q c v k> q≤ h =
         let k≥ : pos 0 ≤ℤ k = omega (arith, ints) in
         let a = mul-mono k q c k≥ q≤ in
         let e : pos 1 *ℤ k *ℤ c ≡ k *ℤ c = ap (λ (x : ℤ). x *ℤ c) (one-mul k) in
         rw e (omega (arith, ints))
 
-    by : (size (w.states (suc i) j -ℤ m.unit *ℤ w.levels (suc i) j) ≤ℤ m.unit)
+    by : (abs_of (w.states (suc i) j -ℤ m.unit *ℤ w.levels (suc i) j) ≤ℤ m.unit)
         ⊎ ((q : ℤ) × IsQuantumAt m j (w.levels i j) q × (w.levels (suc i) j ≡ w.levels i j)
-        × (size (w.states (suc i) j -ℤ m.unit *ℤ w.levels (suc i) j) ≤ℤ (m.unit *ℤ q)))
-        → size (w.states (suc i) j -ℤ m.unit *ℤ w.levels (suc i) j) ≤ℤ (pos 1 *ℤ m.unit *ℤ x.q j)
+        × (abs_of (w.states (suc i) j -ℤ m.unit *ℤ w.levels (suc i) j) ≤ℤ (m.unit *ℤ q)))
+        → abs_of (w.states (suc i) j -ℤ m.unit *ℤ w.levels (suc i) j) ≤ℤ (pos 1 *ℤ m.unit *ℤ x.q j)
     by (inl small) = level-≤ m.unit (x.q j) (w.states (suc i) j -ℤ m.unit *ℤ w.levels (suc i) j) unit> (certified-≥ m x quantum≥ holds j l) small
     by (inr (q, quantum, same, within)) =
         let inside = basin m x holds unit> start (prefix w i) before (certified-≤ m x holds start certified) i (omega arith) in
@@ -81,17 +81,17 @@ new-near m x unit> share≥ quantum≥ holds start w certified keeps i h before 
         near_c (before.near i j (omega arith) l) quantum in
         stretch m.unit q (x.q j) (w.states (suc i) j -ℤ m.unit *ℤ w.levels (suc i) j) unit> q≤ within
 
-next-near : (m : System) (x : Claim) → pos 0 <ℤ m.unit → pos 0 ≤ℤ m.share → ((j : ℕ) → j < m.n → pos 1 ≤ℤ m.quantum j) → Holds m x
+next-near : (m : System) (x : CertificateData) → pos 0 <ℤ m.unit → pos 0 ≤ℤ m.share → ((j : ℕ) → j < m.n → pos 1 ≤ℤ m.quantum j) → Holds m x
     → (start : Vector) (w : Run) → IsCertifiedStart m x start → KeepsLevels m start w
     → (i : ℕ) → suc i ≤ w.last → IsLegitimate m x.q start (prefix w i) → (j : ℕ) → j < m.n → (k : ℕ) → k ≤ suc i → (i < k) ⊎ (k ≤ i)
-    → size (w.states k j -ℤ m.unit *ℤ w.levels k j) ≤ℤ (pos 1 *ℤ m.unit *ℤ x.q j)
+    → abs_of (w.states k j -ℤ m.unit *ℤ w.levels k j) ≤ℤ (pos 1 *ℤ m.unit *ℤ x.q j)
 next-near m x unit> share≥ quantum≥ holds start w certified keeps i h before j l k below (inl after) =
     let e : k ≡ suc i = omega arith in
     rw e (new-near m x unit> share≥ quantum≥ holds start w certified keeps i h before j l)
 next-near m x unit> share≥ quantum≥ holds start w certified keeps i h before j l k below (inr early) = before.near k j early l
 
 -- the first i + 1 places are a legitimate run
-prefix-legitimate : (m : System) (x : Claim) → pos 0 <ℤ m.unit → pos 0 ≤ℤ m.share → ((j : ℕ) → j < m.n → pos 1 ≤ℤ m.quantum j) → Holds m x
+prefix-legitimate : (m : System) (x : CertificateData) → pos 0 <ℤ m.unit → pos 0 ≤ℤ m.share → ((j : ℕ) → j < m.n → pos 1 ≤ℤ m.quantum j) → Holds m x
     → (start : Vector) (w : Run) → IsCertifiedStart m x start → KeepsLevels m start w
     → (i : ℕ) → i ≤ w.last → IsLegitimate m x.q start (prefix w i)
 prefix-legitimate m x unit> share≥ quantum≥ holds start w certified keeps zero h = record {

@@ -7,10 +7,10 @@ use Rattle.qss_machine.specs.declared.parts.DiscreteInfo.{DiscreteInfo}
 use Rattle.qss_machine.specs.declared.parts.SlopeRow.{SlopeRow}
 use Rattle.qss_machine.specs.declared.system.Machine.{Machine}
 use Rattle.mu_num.specs.Sizes.{IsWithin}
-use Rattle.qss_machine.specs.Numbers.{int_at, sum_below}
-use Rattle.qss_machine.specs.Slopes.{mode_coefficient, mode_fits, drive_of}
+use Rattle.qss_machine.specs.IndexedSums.{int_at, sum_below}
+use Rattle.qss_machine.specs.Slopes.{mode_coefficient, mode_fits, constant_part}
 use Rattle.qss_machine.specs.Machines.{state_count, discrete_count, start_discretes, row_at, slope_at}
-use Rattle.qss_machine.specs.Legitimate.{start_drive}
+use Rattle.qss_machine.specs.Legitimate.{start_constant_part}
 
 pub starts-count : (m : Machine) → length (start_discretes m) ≡ discrete_count m
 starts-count m = length-map m.discretes (λ (d : DiscreteInfo). d.d0)
@@ -39,8 +39,8 @@ sum-zeros (suc n) f levels h =
     rw (a, h n) (omega (arith, ints))
 
 pub slope-rest : (m : Machine) (j : ℕ) (levels : List ℤ) → length levels ≡ state_count m → ((i : ℕ) → int_at levels i ≡ pos 0)
-    → slope_at m j levels (start_discretes m) ≡ start_drive m j
+    → slope_at m j levels (start_discretes m) ≡ start_constant_part m j
 slope-rest m j levels size zeros =
     let d = start_discretes m in
     let sums = sum-zeros (length levels) (mode_coefficient m.f (length levels) (row_at m j) d) levels zeros in
-    ap₂ (λ (x : ℤ) (n : ℕ). x +ℤ drive_of n (row_at m j) d) sums size ∙ omega (arith, ints)
+    ap₂ (λ (x : ℤ) (n : ℕ). x +ℤ constant_part n (row_at m j) d) sums size ∙ omega (arith, ints)

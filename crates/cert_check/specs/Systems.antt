@@ -1,11 +1,11 @@
 -- The affine system of a machine.
 use Rattle.std.specs.Prelude.{ℕ, List, pos, ℤ}
 use Rattle.qss_machine.specs.declared.system.Machine.{Machine}
-use Rattle.qss_machine.specs.Numbers.{tabulate}
+use Rattle.qss_machine.specs.IndexedSums.{tabulate}
 use Rattle.qss_machine.specs.Machines.{state_count, level_unit, quanta}
-use Rattle.qss_machine.specs.Legitimate.{start_coefficient, start_drive}
+use Rattle.qss_machine.specs.Legitimate.{start_coefficient, start_constant_part}
 use Rattle.cert_matrix.specs.Matrix.{vector, table}
-use Rattle.cert_check.specs.Certificate.{System}
+use Rattle.cert_check.specs.Inequalities.{System}
 
 -- the coefficients between states, under the discrete values of the start
 abbrev pub start_matrix : Machine → List (List ℤ)
@@ -13,7 +13,7 @@ start_matrix m = tabulate (state_count m) (λ j. tabulate (state_count m) (start
 
 -- the part of each slope that no level changes, under these values
 abbrev pub start_drives : Machine → List ℤ
-start_drives m = tabulate (state_count m) (start_drive m)
+start_drives m = tabulate (state_count m) (start_constant_part m)
 
 -- the affine system of a machine, under the discrete values of its start
 abbrev pub system_of : Machine → System

@@ -1,13 +1,13 @@
 //! The affine system that a machine has.
 
 ghost use Rattle.std.specs.Prelude.{◌≡◌, ◌<◌, ◌+◌, ◌^◌, ◌++◌, ◌∷◌, [], ℕ, ℤ, pos, length, take, replicate, slice_set, get_or};
-ghost use Rattle.qss_machine.specs.Numbers.{tabulate};
+ghost use Rattle.qss_machine.specs.IndexedSums.{tabulate};
 ghost use Rattle.qss_machine.specs.Machines.{state_count, discrete_count, level_unit, quanta, start_discretes};
-ghost use Rattle.qss_machine.specs.Legitimate.{start_coefficient, start_drive};
+ghost use Rattle.qss_machine.specs.Legitimate.{start_coefficient, start_constant_part};
 ghost use Rattle.cert_matrix.specs.Matrix.{table, IsSquare};
 ghost use Rattle.cert_check.specs.Scope.{IsInScope};
 ghost use Rattle.cert_check.specs.Systems.{start_matrix, start_drives, system_of};
-ghost use Rattle.cert_check.specs.Reading.{system};
+ghost use Rattle.cert_check.specs.CertificateData.{system};
 
 use crate::column::Column;
 use crate::system::AffineSystem;

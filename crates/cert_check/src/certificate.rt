@@ -1,6 +1,6 @@
 //! A certificate: the numbers by which any two runs of a machine are shown to stay near each other.
 
-ghost use Rattle.cert_check.specs.Limits.{IsSize, IsNumber, IsVector, IsSquareTable};
+ghost use Rattle.cert_check.specs.CertificateLimits.{IsSize, IsNumber, IsVector, IsSquareTable};
 
 use cert_matrix::Matrix;
 use mu_io::Items;

@@ -1,17 +1,17 @@
 //! The check of a certificate.
 
 ghost use Rattle.std.specs.Prelude.{◌≡◌, ◌↔◌, ◌<◌, ◌≤◌, ℕ, pos};
-ghost use Rattle.cert_check.specs.Reading.{claim, system};
-ghost use Rattle.cert_check.specs.Inequality.{AreSumsInRange, IsFaultOf, IsFirstFaultOf, IsWellFormed, inequalities, fault_of, number_of, places_of, relation_of, start_of};
-ghost use Rattle.cert_check.specs.Certificate.{Holds};
+ghost use Rattle.cert_check.specs.CertificateData.{certificate_data, system};
+ghost use Rattle.cert_check.specs.InequalityTable.{AreSumsInRange, IsFaultOf, IsFirstFaultOf, IsWellFormed, inequalities, fault_of, number_of, places_of, relation_of, start_of};
+ghost use Rattle.cert_check.specs.Inequalities.{Holds};
 ghost use Rattle.cert_check.specs.Scope.{IsInScope};
 ghost use Rattle.cert_check.specs.Systems.{system_of};
-ghost use Rattle.cert_check.specs.Promises.{IsPromised, AdmitsRuns};
+ghost use Rattle.cert_check.specs.Bounds.{BoundsAreGuaranteed, CoversOwnRuns};
 ghost use Rattle.qss_machine.specs.Machines.{state_count};
 
 use crate::building::affine_system;
 use crate::certificate::Certificate;
-use crate::fault::{Fault, Relation, judge};
+use crate::failure::{Fault, Relation, judge};
 use crate::inequalities::{Inequality, sides_of};
 use crate::stages::count_pairs;
 use crate::system::AffineSystem;
@@ -134,7 +134,7 @@ fn relation(inequality: Inequality) -> Relation
 /// The first fault of an inequality.
 pub fn check_inequality(m: &AffineSystem, x: &Certificate, inequality: Inequality) -> Option<Fault>
     requires { IsWellFormed m.now x.now }
-    ensures { IsFaultOf (system m.now) (claim x.now) inequality result }
+    ensures { IsFaultOf (system m.now) (certificate_data x.now) inequality result }
 {
     let start = start(m.n, inequality);
     for k in 0..places(m.n, inequality) {
@@ -159,7 +159,7 @@ pub fn check_in_order(
     inequalities: &[Inequality],
 ) -> Option<Fault>
     requires { IsWellFormed m.now x.now }
-    ensures { IsFirstFaultOf (system m.now) (claim x.now) inequalities.now result }
+    ensures { IsFirstFaultOf (system m.now) (certificate_data x.now) inequalities.now result }
 {
     for inequality in inequalities {
         let fault = check_inequality(m, x, *inequality);
@@ -199,17 +199,17 @@ pub fn check(m: &Machine, c: &Certificate) -> Verdict
     requires size { c.now.n ≡ state_count m.now }
 
     // Not accepted: the first fault, a sum that is out of range or an inequality that fails.
-    ensures verdict { IsFirstFaultOf (system_of m.now) (claim c.now) inequalities
+    ensures verdict { IsFirstFaultOf (system_of m.now) (certificate_data c.now) inequalities
         (fault_of result) }
 
     // Accepted exactly where all inequalities hold and all sums by which they are taken are in range.
     ensures accepted { (result ≡ Verdict.Accepted)
-        ↔ (Holds (system_of m.now) (claim c.now) × AreSumsInRange (system_of m.now) (claim c.now)) }
+        ↔ (Holds (system_of m.now) (certificate_data c.now) × AreSumsInRange (system_of m.now) (certificate_data c.now)) }
 
     // Then every two legitimate runs from the certificate's starts stay within its bounds, and the machine's own runs are
     // among them where its start is one of the two.
-    ensures promised { result ≡ Verdict.Accepted → IsPromised m.now c.now }
-    ensures admitted { result ≡ Verdict.Accepted → AdmitsRuns m.now c.now }
+    ensures promised { result ≡ Verdict.Accepted → BoundsAreGuaranteed m.now c.now }
+    ensures admitted { result ≡ Verdict.Accepted → CoversOwnRuns m.now c.now }
 {
     let affine = affine_system(m);
     verdict_of(check_in_order(&affine, c, &ALL))

@@ -3,13 +3,13 @@
 ghost use Rattle.std.specs.Prelude.{◌≡◌, ◌*ℤ◌, ◌↔◌, ◌<◌, pos, length, IsSome, IfSome};
 ghost use Rattle.cert_matrix.specs.Sums.{total};
 ghost use Rattle.cert_matrix.specs.Matrix.{vector, IsInRange};
-ghost use Rattle.cert_check.specs.Reading.{claim, system};
+ghost use Rattle.cert_check.specs.CertificateData.{certificate_data, system};
 ghost use Rattle.cert_check.specs.Ranges.{IsSquareInRange, IsSumBoundInRange, IsShareInRange, IsSlopeSidesInRange, IsCentreSidesInRange, IsPairSidesInRange};
-ghost use Rattle.cert_check.specs.Certificate.{level_reach};
-ghost use Rattle.cert_check.specs.Inequality.{IsPlaceInRange, left_of, right_of, places_of, IsWellFormed};
+ghost use Rattle.cert_check.specs.Inequalities.{level_range};
+ghost use Rattle.cert_check.specs.InequalityTable.{IsPlaceInRange, left_of, right_of, places_of, IsWellFormed};
 
 use crate::certificate::Certificate;
-use crate::fault::{Sides, product};
+use crate::failure::{Sides, product};
 use crate::numbers::at;
 use crate::stages::{
     Stage, apart_sides, bound_sides, decay_sides, gap_sides, pair_sides, parts_sides,
@@ -105,11 +105,11 @@ fn sum_sides(lambda: i128, bound: i128, numbers: &Items<i128>, n: u8) -> Option<
 fn slope_sides(m: &AffineSystem, x: &Certificate, j: u8) -> Option<Sides>
     requires formed { IsWellFormed m.now x.now }
     requires row { j < m.now.n }
-    ensures in_range { IsSome result ↔ IsSlopeSidesInRange (system m.now) (claim x.now) j }
+    ensures in_range { IsSome result ↔ IsSlopeSidesInRange (system m.now) (certificate_data x.now) j }
     ensures left { IfSome result
-        (λ sides. sides.left ≡ left_of (system m.now) (claim x.now) Inequality.Slope j) }
+        (λ sides. sides.left ≡ left_of (system m.now) (certificate_data x.now) Inequality.Slope j) }
     ensures right { IfSome result
-        (λ sides. sides.right ≡ right_of (system m.now) (claim x.now) Inequality.Slope j) }
+        (λ sides. sides.right ≡ right_of (system m.now) (certificate_data x.now) Inequality.Slope j) }
 {
     let right = slope_bound_at(m, x, j)?;
     let left = product(m.unit, at(&x.s, j))?;
@@ -120,11 +120,11 @@ fn slope_sides(m: &AffineSystem, x: &Certificate, j: u8) -> Option<Sides>
 fn centre_gain_sides(m: &AffineSystem, x: &Certificate, i: u8) -> Option<Sides>
     requires formed { IsWellFormed m.now x.now }
     requires row { i < m.now.n }
-    ensures in_range { IsSome result ↔ IsCentreSidesInRange (system m.now) (claim x.now) i }
+    ensures in_range { IsSome result ↔ IsCentreSidesInRange (system m.now) (certificate_data x.now) i }
     ensures left { IfSome result
-        (λ sides. sides.left ≡ left_of (system m.now) (claim x.now) Inequality.CentreGain i) }
+        (λ sides. sides.left ≡ left_of (system m.now) (certificate_data x.now) Inequality.CentreGain i) }
     ensures right { IfSome result
-        (λ sides. sides.right ≡ right_of (system m.now) (claim x.now) Inequality.CentreGain i) }
+        (λ sides. sides.right ≡ right_of (system m.now) (certificate_data x.now) Inequality.CentreGain i) }
 {
     let gain = centre_gain_at(m, x, i)?;
     let left = product(at(&x.mu, i), at(&x.sigma_r, i))?;
@@ -136,11 +136,11 @@ fn centre_gain_sides(m: &AffineSystem, x: &Certificate, i: u8) -> Option<Sides>
 fn pair_gain_sides(m: &AffineSystem, x: &Certificate, i: u8) -> Option<Sides>
     requires formed { IsWellFormed m.now x.now }
     requires row { i < m.now.n }
-    ensures in_range { IsSome result ↔ IsPairSidesInRange (system m.now) (claim x.now) i }
+    ensures in_range { IsSome result ↔ IsPairSidesInRange (system m.now) (certificate_data x.now) i }
     ensures left { IfSome result
-        (λ sides. sides.left ≡ left_of (system m.now) (claim x.now) Inequality.PairGain i) }
+        (λ sides. sides.left ≡ left_of (system m.now) (certificate_data x.now) Inequality.PairGain i) }
     ensures right { IfSome result
-        (λ sides. sides.right ≡ right_of (system m.now) (claim x.now) Inequality.PairGain i) }
+        (λ sides. sides.right ≡ right_of (system m.now) (certificate_data x.now) Inequality.PairGain i) }
 {
     let gain = pair_gain_at(m, x, i)?;
     let left = product(at(&x.mu, i), at(&x.sigma_c, i))?;
@@ -150,10 +150,10 @@ fn pair_gain_sides(m: &AffineSystem, x: &Certificate, i: u8) -> Option<Sides>
 
 /// The quantum of state `j` against its share of the levels in the basin.
 fn some_share_sides(m: &AffineSystem, x: &Certificate, j: u8) -> Option<Sides>
-    ensures in_range { IsSome result ↔ IsShareInRange (system m.now) (claim x.now) j }
-    ensures left { IfSome result (λ sides. sides.left ≡ pos 4096 *ℤ (claim x.now).q j) }
+    ensures in_range { IsSome result ↔ IsShareInRange (system m.now) (certificate_data x.now) j }
+    ensures left { IfSome result (λ sides. sides.left ≡ pos 4096 *ℤ (certificate_data x.now).q j) }
     ensures right { IfSome result
-        (λ sides. sides.right ≡ m.now.share *ℤ level_reach (claim x.now) j) }
+        (λ sides. sides.right ≡ m.now.share *ℤ level_range (certificate_data x.now) j) }
 {
     let reach = level_reach_at(x, j)?;
     let right = product(m.share, reach)?;
@@ -164,11 +164,11 @@ fn some_share_sides(m: &AffineSystem, x: &Certificate, j: u8) -> Option<Sides>
 /// The same, with both sides 0 where there are no shares.
 fn share_sides(m: &AffineSystem, x: &Certificate, j: u8) -> Option<Sides>
     ensures in_range { IsSome result
-        ↔ IsPlaceInRange (system m.now) (claim x.now) Inequality.Share j }
+        ↔ IsPlaceInRange (system m.now) (certificate_data x.now) Inequality.Share j }
     ensures left { IfSome result
-        (λ sides. sides.left ≡ left_of (system m.now) (claim x.now) Inequality.Share j) }
+        (λ sides. sides.left ≡ left_of (system m.now) (certificate_data x.now) Inequality.Share j) }
     ensures right { IfSome result
-        (λ sides. sides.right ≡ right_of (system m.now) (claim x.now) Inequality.Share j) }
+        (λ sides. sides.right ≡ right_of (system m.now) (certificate_data x.now) Inequality.Share j) }
 {
     if m.share == 0 {
         return Some(Sides { left: 0, right: 0 });
@@ -180,11 +180,11 @@ fn share_sides(m: &AffineSystem, x: &Certificate, j: u8) -> Option<Sides>
 pub fn sides_of(m: &AffineSystem, x: &Certificate, inequality: Inequality, k: u8) -> Option<Sides>
     requires formed { IsWellFormed m.now x.now }
     requires place { k < places_of m.now.n inequality }
-    ensures in_range { IsSome result ↔ IsPlaceInRange (system m.now) (claim x.now) inequality k }
+    ensures in_range { IsSome result ↔ IsPlaceInRange (system m.now) (certificate_data x.now) inequality k }
     ensures left { IfSome result
-        (λ sides. sides.left ≡ left_of (system m.now) (claim x.now) inequality k) }
+        (λ sides. sides.left ≡ left_of (system m.now) (certificate_data x.now) inequality k) }
     ensures right { IfSome result
-        (λ sides. sides.right ≡ right_of (system m.now) (claim x.now) inequality k) }
+        (λ sides. sides.right ≡ right_of (system m.now) (certificate_data x.now) inequality k) }
 {
     match inequality {
         Inequality::SignP => at_least(at(&x.p, k), 1),

@@ -1,16 +1,16 @@
 //! The inequalities that read a matrix, and those on the starts.
 
 ghost use Rattle.std.specs.Prelude.{◌≡◌, ◌↔◌, ◌<◌, ◌≤◌, ◌+◌, ◌*◌, ◌^◌, ◌*ℤ◌, ℕ, pos, unsigned_abs, length, IsSome, IfSome};
-ghost use Rattle.cert_matrix.specs.Form.{less_gram, beside, form, diagonal};
+ghost use Rattle.cert_matrix.specs.Form.{minus_gram, off_diagonal_sum, form, diagonal};
 ghost use Rattle.cert_matrix.specs.Matrix.{table, vector};
-ghost use Rattle.cert_check.specs.Certificate.{surplus, decay, gap};
+ghost use Rattle.cert_check.specs.Inequalities.{diagonal_surplus, decrease_matrix, scaled_offset};
 ghost use Rattle.cert_check.specs.Pairs.{pairs, pair_of};
-ghost use Rattle.cert_check.specs.Reading.{claim, system};
+ghost use Rattle.cert_check.specs.CertificateData.{certificate_data, system};
 ghost use Rattle.cert_check.specs.Ranges.{IsPartInRange, IsDecayPartInRange, ArePartsInRange, AreProductsInRange, IsStageInRange, IsGapInRange, matrix_of, factor_of, root_of};
-ghost use Rattle.cert_check.specs.Inequality.{IsWellFormed, is_same_below, IsPlaceInRange, left_of, right_of};
+ghost use Rattle.cert_check.specs.InequalityTable.{IsWellFormed, is_same_below, IsPlaceInRange, left_of, right_of};
 
 use crate::certificate::Certificate;
-use crate::fault::{Sides, product};
+use crate::failure::{Sides, product};
 use crate::inequalities::Inequality;
 use crate::numbers::at;
 use crate::system::AffineSystem;
@@ -37,9 +37,9 @@ fn surplus_at(x: &Certificate, i: u8, j: u8) -> Option<i128>
     requires row { i < length x.now.pm }
     requires column { j < length x.now.pm }
     ensures in_range { IsSome result
-        ↔ (unsigned_abs ((claim x.now).pm i j) + unsigned_abs (diagonal (claim x.now).p i j)
+        ↔ (unsigned_abs ((certificate_data x.now).pm i j) + unsigned_abs (diagonal (certificate_data x.now).p i j)
         ≤ 2 ^ 126) }
-    ensures value { IfSome result (λ value. value ≡ surplus (claim x.now) i j) }
+    ensures value { IfSome result (λ value. value ≡ diagonal_surplus (certificate_data x.now) i j) }
 {
     let entry = RangedSum::new().plus(x.pm.get(i, j), 1)?;
     let part = entry.minus(diagonal_at(&x.p, i, j), 1)?;
@@ -51,8 +51,8 @@ fn decay_at(m: &AffineSystem, x: &Certificate, i: u8, j: u8) -> Option<i128>
     requires formed { IsWellFormed m.now x.now }
     requires row { i < m.now.n }
     requires column { j < m.now.n }
-    ensures in_range { IsSome result ↔ IsDecayPartInRange (system m.now) (claim x.now) i j }
-    ensures value { IfSome result (λ value. value ≡ decay (system m.now) (claim x.now) i j) }
+    ensures in_range { IsSome result ↔ IsDecayPartInRange (system m.now) (certificate_data x.now) i j }
+    ensures value { IfSome result (λ value. value ≡ decrease_matrix (system m.now) (certificate_data x.now) i j) }
 {
     let entry = product_entry(m, x, i, j)?;
     let turned = product_entry(m, x, j, i)?;
@@ -68,9 +68,9 @@ fn part_at(m: &AffineSystem, x: &Certificate, stage: Stage, i: u8, j: u8) -> Opt
     requires formed { IsWellFormed m.now x.now }
     requires row { i < m.now.n }
     requires column { j < m.now.n }
-    ensures in_range { IsSome result ↔ IsPartInRange (system m.now) (claim x.now) stage i j }
+    ensures in_range { IsSome result ↔ IsPartInRange (system m.now) (certificate_data x.now) stage i j }
     ensures value { IfSome result
-        (λ value. value ≡ matrix_of (system m.now) (claim x.now) stage i j) }
+        (λ value. value ≡ matrix_of (system m.now) (certificate_data x.now) stage i j) }
 {
     match stage {
         Stage::Bounded => surplus_at(x, i, j),
@@ -82,12 +82,12 @@ fn part_at(m: &AffineSystem, x: &Certificate, stage: Stage, i: u8, j: u8) -> Opt
 fn stage_row(m: &AffineSystem, x: &Certificate, stage: Stage, i: u8) -> Option<Matrix>
     requires formed { IsWellFormed m.now x.now }
     requires row { i < m.now.n }
-    ensures in_range { IsSome result ↔ ArePartsInRange (system m.now) (claim x.now) stage i }
+    ensures in_range { IsSome result ↔ ArePartsInRange (system m.now) (certificate_data x.now) stage i }
     ensures size { IfSome result (λ rows. length rows ≡ m.now.n) }
     ensures value { IfSome result
         (λ rows. (j : ℕ)
         → j < m.now.n
-        → table rows i j ≡ matrix_of (system m.now) (claim x.now) stage i j) }
+        → table rows i j ≡ matrix_of (system m.now) (certificate_data x.now) stage i j) }
 {
     let mut rows = Matrix::new(m.n);
     for j in 0..m.n {
@@ -101,7 +101,7 @@ fn stage_row(m: &AffineSystem, x: &Certificate, stage: Stage, i: u8) -> Option<M
 pub fn parts_sides(m: &AffineSystem, x: &Certificate, stage: Stage, i: u8) -> Option<Sides>
     requires formed { IsWellFormed m.now x.now }
     requires row { i < m.now.n }
-    ensures in_range { IsSome result ↔ ArePartsInRange (system m.now) (claim x.now) stage i }
+    ensures in_range { IsSome result ↔ ArePartsInRange (system m.now) (certificate_data x.now) stage i }
     ensures left { IfSome result (λ sides. sides.left ≡ pos 0) }
     ensures right { IfSome result (λ sides. sides.right ≡ pos 0) }
 {
@@ -113,7 +113,7 @@ pub fn parts_sides(m: &AffineSystem, x: &Certificate, stage: Stage, i: u8) -> Op
 pub fn products_sides(m: &AffineSystem, x: &Certificate, i: u8) -> Option<Sides>
     requires formed { IsWellFormed m.now x.now }
     requires row { i < m.now.n }
-    ensures in_range { IsSome result ↔ AreProductsInRange (system m.now) (claim x.now) i }
+    ensures in_range { IsSome result ↔ AreProductsInRange (system m.now) (certificate_data x.now) i }
     ensures left { IfSome result (λ sides. sides.left ≡ pos 0) }
     ensures right { IfSome result (λ sides. sides.right ≡ pos 0) }
 {
@@ -127,13 +127,13 @@ pub fn products_sides(m: &AffineSystem, x: &Certificate, i: u8) -> Option<Sides>
 pub fn bound_sides(m: &AffineSystem, x: &Certificate, i: u8) -> Option<Sides>
     requires formed { IsWellFormed m.now x.now }
     requires row { i < m.now.n }
-    ensures in_range { IsSome result ↔ IsStageInRange (system m.now) (claim x.now) Stage.Bounded i }
+    ensures in_range { IsSome result ↔ IsStageInRange (system m.now) (certificate_data x.now) Stage.Bounded i }
     ensures left { IfSome result
         (λ sides. sides.left
-        ≡ less_gram m.now.n x.now.h1 (surplus (claim x.now)) (claim x.now).g1 i i) }
+        ≡ minus_gram m.now.n x.now.h1 (diagonal_surplus (certificate_data x.now)) (certificate_data x.now).g1 i i) }
     ensures right { IfSome result
         (λ sides. sides.right
-        ≡ beside m.now.n (less_gram m.now.n x.now.h1 (surplus (claim x.now)) (claim x.now).g1)
+        ≡ off_diagonal_sum m.now.n (minus_gram m.now.n x.now.h1 (diagonal_surplus (certificate_data x.now)) (certificate_data x.now).g1)
         i) }
 {
     let rows = stage_row(m, x, Stage::Bounded, i)?;
@@ -149,15 +149,15 @@ pub fn decay_sides(m: &AffineSystem, x: &Certificate, i: u8) -> Option<Sides>
     requires formed { IsWellFormed m.now x.now }
     requires row { i < m.now.n }
     ensures in_range { IsSome result
-        ↔ IsStageInRange (system m.now) (claim x.now) Stage.Decaying i }
+        ↔ IsStageInRange (system m.now) (certificate_data x.now) Stage.Decaying i }
     ensures left { IfSome result
         (λ sides. sides.left
-        ≡ less_gram m.now.n x.now.h2 (decay (system m.now) (claim x.now)) (claim x.now).g2 i
+        ≡ minus_gram m.now.n x.now.h2 (decrease_matrix (system m.now) (certificate_data x.now)) (certificate_data x.now).g2 i
         i) }
     ensures right { IfSome result
         (λ sides. sides.right
-        ≡ beside m.now.n
-        (less_gram m.now.n x.now.h2 (decay (system m.now) (claim x.now)) (claim x.now).g2)
+        ≡ off_diagonal_sum m.now.n
+        (minus_gram m.now.n x.now.h2 (decrease_matrix (system m.now) (certificate_data x.now)) (certificate_data x.now).g2)
         i) }
 {
     let rows = stage_row(m, x, Stage::Decaying, i)?;
@@ -175,7 +175,7 @@ fn gap_at(start: &Items<i128>, factor: &i128, base: &Items<i128>, k: u8) -> Opti
         + unsigned_abs factor.now * unsigned_abs (vector base.now k)
         ≤ 2 ^ 126) }
     ensures value { IfSome result
-        (λ value. value ≡ gap (vector start.now) factor.now (vector base.now) k) }
+        (λ value. value ≡ scaled_offset (vector start.now) factor.now (vector base.now) k) }
 {
     let first = RangedSum::new().plus(at(start, k), 1)?;
     let part = first.minus(*factor, at(base, k))?;
@@ -193,7 +193,7 @@ fn gaps_of(n: u8, start: &Items<i128>, factor: &i128, base: &Items<i128>) -> Opt
     ensures value { IfSome result
         (λ gaps. (k : ℕ)
         → k < n
-        → vector gaps k ≡ gap (vector start.now) factor.now (vector base.now) k) }
+        → vector gaps k ≡ scaled_offset (vector start.now) factor.now (vector base.now) k) }
 {
     let mut gaps = [0; 16];
     for k in 0..n {
@@ -213,11 +213,11 @@ pub fn gap_sides(
 ) -> Option<Sides>
     requires { IsWellFormed m.now x.now }
     ensures in_range { IsSome result
-        ↔ IsGapInRange (system m.now) (claim x.now) (vector start.now) factor.now (vector base.now)
+        ↔ IsGapInRange (system m.now) (certificate_data x.now) (vector start.now) factor.now (vector base.now)
         bound.now }
     ensures left { IfSome result
         (λ sides. sides.left
-        ≡ form m.now.n (claim x.now).pm (gap (vector start.now) factor.now (vector base.now))) }
+        ≡ form m.now.n (certificate_data x.now).pm (scaled_offset (vector start.now) factor.now (vector base.now))) }
     ensures right { IfSome result (λ sides. sides.right ≡ m.now.unit *ℤ m.now.unit *ℤ bound.now) }
 {
     let gaps = gaps_of(m.n, start, factor, base)?;
@@ -243,11 +243,11 @@ fn are_same(n: u8, first: &Items<i128>, second: &Items<i128>) -> bool
 pub fn apart_sides(m: &AffineSystem, x: &Certificate) -> Option<Sides>
     requires { IsWellFormed m.now x.now }
     ensures in_range { IsSome result
-        ↔ IsPlaceInRange (system m.now) (claim x.now) Inequality.StartsApart 0 }
+        ↔ IsPlaceInRange (system m.now) (certificate_data x.now) Inequality.StartsApart 0 }
     ensures left { IfSome result
-        (λ sides. sides.left ≡ left_of (system m.now) (claim x.now) Inequality.StartsApart 0) }
+        (λ sides. sides.left ≡ left_of (system m.now) (certificate_data x.now) Inequality.StartsApart 0) }
     ensures right { IfSome result
-        (λ sides. sides.right ≡ right_of (system m.now) (claim x.now) Inequality.StartsApart 0) }
+        (λ sides. sides.right ≡ right_of (system m.now) (certificate_data x.now) Inequality.StartsApart 0) }
 {
     if are_same(m.n, &x.start1, &x.start2) {
         return Some(Sides { left: 0, right: 0 });
@@ -264,7 +264,7 @@ struct Pair {
 
 /// Pair `k` of the numbers below `n`.
 fn pair_at(n: u8, k: u8) -> Pair
-    requires few { n ≤ 16 }
+    requires count_limit { n ≤ 16 }
     requires place { k < pairs n }
     ensures row { result.row ≡ (pair_of n k).0 }
     ensures column { result.column ≡ (pair_of n k).1 }
@@ -291,9 +291,9 @@ pub fn pair_sides(m: &AffineSystem, x: &Certificate, k: u8) -> Option<Sides>
     requires place { k < pairs m.now.n }
     ensures some { IsSome result }
     ensures left { IfSome result
-        (λ sides. sides.left ≡ (claim x.now).pm (pair_of m.now.n k).0 (pair_of m.now.n k).1) }
+        (λ sides. sides.left ≡ (certificate_data x.now).pm (pair_of m.now.n k).0 (pair_of m.now.n k).1) }
     ensures right { IfSome result
-        (λ sides. sides.right ≡ (claim x.now).pm (pair_of m.now.n k).1 (pair_of m.now.n k).0) }
+        (λ sides. sides.right ≡ (certificate_data x.now).pm (pair_of m.now.n k).1 (pair_of m.now.n k).0) }
 {
     let pair = pair_at(m.n, k);
     Some(Sides {

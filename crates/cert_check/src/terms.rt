@@ -3,13 +3,13 @@
 ghost use Rattle.std.specs.Prelude.{◌≡◌, ◌+ℤ◌, ◌*ℤ◌, ◌↔◌, ◌<◌, length, IsSome, IfSome};
 ghost use Rattle.cert_matrix.specs.Form.{product as matrix_product, times};
 ghost use Rattle.cert_matrix.specs.Matrix.{weight};
-ghost use Rattle.cert_check.specs.Certificate.{width, width_sum, rest_slope, slope_bound, centre_gain, pair_gain, level_reach};
-ghost use Rattle.cert_check.specs.Reading.{claim, system};
+ghost use Rattle.cert_check.specs.Inequalities.{level_error, weighted_level_error, centre_slope, slope_limit, centre_disturbance, pair_disturbance, level_range};
+ghost use Rattle.cert_check.specs.CertificateData.{certificate_data, system};
 ghost use Rattle.cert_check.specs.Ranges.{IsSumInRange, IsRestInRange, IsWidthInRange, IsProductEntryInRange, IsReachSumInRange, IsSlopeInRange, IsWeightedRestInRange, IsWidthSumInRange, IsCentreGainInRange, IsPairGainInRange, IsLevelReachInRange};
 ghost use Rattle.cert_matrix.specs.RangedSums.{total_of, weight_of};
 
 use crate::certificate::Certificate;
-use crate::fault::product;
+use crate::failure::product;
 use crate::numbers::at;
 use crate::system::AffineSystem;
 use cert_matrix::RangedSum;
@@ -25,8 +25,8 @@ pub fn add(a: i128, b: i128) -> Option<i128>
 
 /// How far state `j` may lie from its level one place earlier.
 pub fn width_at(x: &Certificate, j: u8) -> Option<i128>
-    ensures in_range { IsSome result ↔ IsWidthInRange (claim x.now) j }
-    ensures value { IfSome result (λ value. value ≡ width (claim x.now) j) }
+    ensures in_range { IsSome result ↔ IsWidthInRange (certificate_data x.now) j }
+    ensures value { IfSome result (λ value. value ≡ level_error (certificate_data x.now) j) }
 {
     add(at(&x.q, j), at(&x.s, j))
 }
@@ -35,8 +35,8 @@ pub fn width_at(x: &Certificate, j: u8) -> Option<i128>
 pub fn rest_slope_at(m: &AffineSystem, x: &Certificate, j: u8) -> Option<i128>
     requires size { length m.now.coef ≡ m.now.n }
     requires row { j < m.now.n }
-    ensures in_range { IsSome result ↔ IsRestInRange (system m.now) (claim x.now) j }
-    ensures value { IfSome result (λ value. value ≡ rest_slope (system m.now) (claim x.now) j) }
+    ensures in_range { IsSome result ↔ IsRestInRange (system m.now) (certificate_data x.now) j }
+    ensures value { IfSome result (λ value. value ≡ centre_slope (system m.now) (certificate_data x.now) j) }
 {
     let mut sum = RangedSum::new().plus(m.constant.at(j), 1)?;
     for k in 0..m.n {
@@ -51,9 +51,9 @@ pub fn product_entry(m: &AffineSystem, x: &Certificate, i: u8, j: u8) -> Option<
     requires form { length x.now.pm ≡ m.now.n }
     requires row { i < m.now.n }
     requires column { j < m.now.n }
-    ensures in_range { IsSome result ↔ IsProductEntryInRange (system m.now) (claim x.now) i j }
+    ensures in_range { IsSome result ↔ IsProductEntryInRange (system m.now) (certificate_data x.now) i j }
     ensures value { IfSome result
-        (λ value. value ≡ matrix_product m.now.n (claim x.now).pm (system m.now).coef i j) }
+        (λ value. value ≡ matrix_product m.now.n (certificate_data x.now).pm (system m.now).coef i j) }
 {
     let mut sum = RangedSum::new();
     for k in 0..m.n {
@@ -64,8 +64,8 @@ pub fn product_entry(m: &AffineSystem, x: &Certificate, i: u8, j: u8) -> Option<
 
 /// How far a level may lie from the centre at state `k`.
 pub fn reach_sum_at(x: &Certificate, k: u8) -> Option<i128>
-    ensures in_range { IsSome result ↔ IsReachSumInRange (claim x.now) k }
-    ensures value { IfSome result (λ value. value ≡ (claim x.now).z k +ℤ (claim x.now).q k) }
+    ensures in_range { IsSome result ↔ IsReachSumInRange (certificate_data x.now) k }
+    ensures value { IfSome result (λ value. value ≡ (certificate_data x.now).z k +ℤ (certificate_data x.now).q k) }
 {
     add(at(&x.z, k), at(&x.q, k))
 }
@@ -74,8 +74,8 @@ pub fn reach_sum_at(x: &Certificate, k: u8) -> Option<i128>
 pub fn slope_bound_at(m: &AffineSystem, x: &Certificate, j: u8) -> Option<i128>
     requires size { length m.now.coef ≡ m.now.n }
     requires row { j < m.now.n }
-    ensures in_range { IsSome result ↔ IsSlopeInRange (system m.now) (claim x.now) j }
-    ensures value { IfSome result (λ value. value ≡ slope_bound (system m.now) (claim x.now) j) }
+    ensures in_range { IsSome result ↔ IsSlopeInRange (system m.now) (certificate_data x.now) j }
+    ensures value { IfSome result (λ value. value ≡ slope_limit (system m.now) (certificate_data x.now) j) }
 {
     let rest = rest_slope_at(m, x, j)?;
     let mut sum = RangedSum::new().plus_size(rest, 1)?;
@@ -90,10 +90,10 @@ pub fn weighted_rest_at(m: &AffineSystem, x: &Certificate, i: u8) -> Option<i128
     requires size { length m.now.coef ≡ m.now.n }
     requires form { length x.now.pm ≡ m.now.n }
     requires row { i < m.now.n }
-    ensures in_range { IsSome result ↔ IsWeightedRestInRange (system m.now) (claim x.now) i }
+    ensures in_range { IsSome result ↔ IsWeightedRestInRange (system m.now) (certificate_data x.now) i }
     ensures value { IfSome result
         (λ value. value
-        ≡ times m.now.n (claim x.now).pm (rest_slope (system m.now) (claim x.now)) i) }
+        ≡ times m.now.n (certificate_data x.now).pm (centre_slope (system m.now) (certificate_data x.now)) i) }
 {
     let mut sum = RangedSum::new();
     for j in 0..m.n {
@@ -107,12 +107,12 @@ pub fn width_sum_at(m: &AffineSystem, x: &Certificate, i: u8) -> Option<RangedSu
     requires size { length m.now.coef ≡ m.now.n }
     requires form { length x.now.pm ≡ m.now.n }
     requires row { i < m.now.n }
-    ensures in_range { IsSome result ↔ IsWidthSumInRange (system m.now) (claim x.now) i }
-    ensures total { IfSome result (λ sum. total_of sum ≡ width_sum (system m.now) (claim x.now) i) }
+    ensures in_range { IsSome result ↔ IsWidthSumInRange (system m.now) (certificate_data x.now) i }
+    ensures total { IfSome result (λ sum. total_of sum ≡ weighted_level_error (system m.now) (certificate_data x.now) i) }
     ensures weight { IfSome result
         (λ sum. weight_of sum
-        ≡ weight m.now.n (matrix_product m.now.n (claim x.now).pm (system m.now).coef i)
-        (width (claim x.now))) }
+        ≡ weight m.now.n (matrix_product m.now.n (certificate_data x.now).pm (system m.now).coef i)
+        (level_error (certificate_data x.now))) }
 {
     let mut sum = RangedSum::new();
     for j in 0..m.n {
@@ -126,8 +126,8 @@ pub fn centre_gain_at(m: &AffineSystem, x: &Certificate, i: u8) -> Option<i128>
     requires size { length m.now.coef ≡ m.now.n }
     requires form { length x.now.pm ≡ m.now.n }
     requires row { i < m.now.n }
-    ensures in_range { IsSome result ↔ IsCentreGainInRange (system m.now) (claim x.now) i }
-    ensures value { IfSome result (λ value. value ≡ centre_gain (system m.now) (claim x.now) i) }
+    ensures in_range { IsSome result ↔ IsCentreGainInRange (system m.now) (certificate_data x.now) i }
+    ensures value { IfSome result (λ value. value ≡ centre_disturbance (system m.now) (certificate_data x.now) i) }
 {
     let rest = weighted_rest_at(m, x, i)?;
     let sum = width_sum_at(m, x, i)?.plus_size(rest, 1)?;
@@ -139,8 +139,8 @@ pub fn pair_gain_at(m: &AffineSystem, x: &Certificate, i: u8) -> Option<i128>
     requires size { length m.now.coef ≡ m.now.n }
     requires form { length x.now.pm ≡ m.now.n }
     requires row { i < m.now.n }
-    ensures in_range { IsSome result ↔ IsPairGainInRange (system m.now) (claim x.now) i }
-    ensures value { IfSome result (λ value. value ≡ pair_gain (system m.now) (claim x.now) i) }
+    ensures in_range { IsSome result ↔ IsPairGainInRange (system m.now) (certificate_data x.now) i }
+    ensures value { IfSome result (λ value. value ≡ pair_disturbance (system m.now) (certificate_data x.now) i) }
 {
     let sum = width_sum_at(m, x, i)?;
     product(2, sum.total())
@@ -148,8 +148,8 @@ pub fn pair_gain_at(m: &AffineSystem, x: &Certificate, i: u8) -> Option<i128>
 
 /// How far a level of state `j` may lie from 0 in the basin.
 pub fn level_reach_at(x: &Certificate, j: u8) -> Option<i128>
-    ensures in_range { IsSome result ↔ IsLevelReachInRange (claim x.now) j }
-    ensures value { IfSome result (λ value. value ≡ level_reach (claim x.now) j) }
+    ensures in_range { IsSome result ↔ IsLevelReachInRange (certificate_data x.now) j }
+    ensures value { IfSome result (λ value. value ≡ level_range (certificate_data x.now) j) }
 {
     let centre = RangedSum::new().plus_size(at(&x.c, j), 1)?;
     let state = centre.plus(at(&x.z, j), 1)?;

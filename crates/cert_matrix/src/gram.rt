@@ -1,7 +1,7 @@
 //! The test by which a matrix is shown to have a form that is never negative.
 
 ghost use Rattle.std.specs.Prelude.{◌≡◌, ℕ, ℤ, ◌+◌, ◌*◌, ◌^◌, ◌<◌, ◌≤◌, ◌≤ℤ◌, ◌↔◌, pos, length, unsigned_abs, IsSome, IfSome};
-ghost use Rattle.cert_matrix.specs.Form.{beside, size_beside, less_gram, IsSymmetric, IsNeverNegative};
+ghost use Rattle.cert_matrix.specs.Form.{off_diagonal_sum, off_diagonal_abs, minus_gram, IsSymmetric, IsNeverNegative};
 ghost use Rattle.cert_matrix.specs.Matrix.{table};
 ghost use Rattle.cert_matrix.specs.Gram.{entry_weight, IsRowInRange, IsVerdict};
 
@@ -24,7 +24,7 @@ fn gram_entry(h: i128, m: &Matrix, g: &Matrix, i: u8, j: u8) -> Option<i128>
     ensures in_range { IsSome result
         ↔ (entry_weight (length m.now) h (table m.now) (table g.now) i j ≤ 2 ^ 126) }
     ensures value { IfSome result
-        (λ entry. entry ≡ less_gram (length m.now) h (table m.now) (table g.now) i j) }
+        (λ entry. entry ≡ minus_gram (length m.now) h (table m.now) (table g.now) i j) }
     ensures bound { IfSome result (λ entry. unsigned_abs entry ≤ 2 ^ 126) }
 {
     let mut sum = RangedSum::new().plus(h, m.get(i, j))?;
@@ -43,7 +43,7 @@ fn gram_size(h: &i128, m: &Matrix, g: &Matrix, i: u8, j: u8) -> Option<i128>
         ↔ (entry_weight (length m.now) h.now (table m.now) (table g.now) i j ≤ 2 ^ 126) }
     ensures value { IfSome result
         (λ value. value
-        ≡ size_beside (less_gram (length m.now) h.now (table m.now) (table g.now)) i j) }
+        ≡ off_diagonal_abs (minus_gram (length m.now) h.now (table m.now) (table g.now)) i j) }
 {
     let entry = gram_entry(*h, m, g, i, j)?;
     Some(if i == j { 0 } else { entry.abs() })
@@ -63,10 +63,10 @@ pub fn gram_row(h: &i128, m: &Matrix, g: &Matrix, i: u8) -> Option<RowSides>
     ensures in_range { IsSome result
         ↔ IsRowInRange (length m.now) h.now (table m.now) (table g.now) i }
     ensures left { IfSome result
-        (λ sides. sides.left ≡ less_gram (length m.now) h.now (table m.now) (table g.now) i i) }
+        (λ sides. sides.left ≡ minus_gram (length m.now) h.now (table m.now) (table g.now) i i) }
     ensures right { IfSome result
         (λ sides. sides.right
-        ≡ beside (length m.now) (less_gram (length m.now) h.now (table m.now) (table g.now))
+        ≡ off_diagonal_sum (length m.now) (minus_gram (length m.now) h.now (table m.now) (table g.now))
         i) }
 {
     let left = gram_entry(*h, m, g, i, i)?;

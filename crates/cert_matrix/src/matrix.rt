@@ -26,7 +26,7 @@ impl Matrix {
     /// All zeros.
     pub fn new(n: u8) -> Self
         requires some { 1 ≤ n }
-        requires few { n ≤ 16 }
+        requires count_limit { n ≤ 16 }
         ensures { result ≡ zeros n }
     {
         Matrix { n, cells: [0; 256] }
@@ -37,7 +37,7 @@ impl Matrix {
         ensures size { result ≡ length self.now }
         ensures square { IsSquare self.now }
         ensures some { 1 ≤ result }
-        ensures few { result ≤ 16 }
+        ensures count_limit { result ≤ 16 }
     {
         self.n
     }

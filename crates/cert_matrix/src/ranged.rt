@@ -13,7 +13,7 @@ pub struct RangedSum {
 
 impl RangedSum {
     ghost use Rattle.std.specs.Prelude.{◌≡◌, ◌+◌, ◌*◌, ◌<◌, ◌↔◌, ◌+ℤ◌, ◌-ℤ◌, ◌*ℤ◌, IsNone, IfSome, pos};
-    ghost use Rattle.cert_matrix.specs.Sums.{size};
+    ghost use Rattle.cert_matrix.specs.Sums.{abs_of};
     ghost use Rattle.cert_matrix.specs.RangedSums.{total_of, weight_of};
 
     pub const LIMIT: u128 = 1 << 126;
@@ -59,7 +59,7 @@ impl RangedSum {
     pub fn plus_size(self, a: i128, b: i128) -> Option<Self>
         ensures out_of_range { IsNone result
             ↔ (2 ^ 126 < weight_of self + unsigned_abs a * unsigned_abs b) }
-        ensures total { IfSome result (λ sum. total_of sum ≡ total_of self +ℤ size a *ℤ b) }
+        ensures total { IfSome result (λ sum. total_of sum ≡ total_of self +ℤ abs_of a *ℤ b) }
         ensures weight { IfSome result
             (λ sum. weight_of sum ≡ weight_of self + unsigned_abs a * unsigned_abs b) }
     {

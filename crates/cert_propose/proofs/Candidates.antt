@@ -6,21 +6,21 @@ use Rattle.std.specs.Option.{option_and_then, option_map}
 use Rattle.std.proofs.lemmas.Int.{ints, int_max_is}
 use Rattle.std.proofs.lemmas.List.FromFn.{get_or-map-range_with_len}
 use Rattle.mu_num.specs.Rounding.{ceiling_of, nearest_of}
-use Rattle.qss_machine.specs.Numbers.{tabulate}
-use Rattle.cert_matrix.specs.Sums.{total, size}
+use Rattle.qss_machine.specs.IndexedSums.{tabulate}
+use Rattle.cert_matrix.specs.Sums.{total, abs_of}
 use Rattle.cert_matrix.specs.Form.{Vector, Table}
 use Rattle.cert_matrix.specs.Matrix.{vector, table, zeros, weight}
 use Rattle.cert_matrix.proofs.Order.{square-≥, mul-mono}
 use Rattle.cert_matrix.proofs.Totals.{total-≥}
-use Rattle.cert_check.specs.Certificate.{System}
-use Rattle.cert_check.specs.Limits.{IsNumber, IsVector, IsSquareTable}
+use Rattle.cert_check.specs.Inequalities.{System}
+use Rattle.cert_check.specs.CertificateLimits.{IsNumber, IsVector, IsSquareTable}
 use Rattle.cert_propose.specs.declared.bounds.Bounds.{Bounds}
 use Rattle.cert_propose.specs.declared.basin.Reach.{Reach}
 use Rattle.cert_propose.specs.declared.basin.Basin.{Basin}
 use Rattle.cert_propose.specs.declared.ellipsoid.Ellipsoid.{Ellipsoid}
 use Rattle.cert_propose.specs.declared.numbers.Numbers.{Numbers}
-use Rattle.cert_propose.specs.Limits.{IsBound, ArePositive, AreBounds, AreKept, IsReach, IsBasin, IsEllipsoid, AreFit}
-use Rattle.cert_propose.specs.Sums.{ranged, ranged_sizes, ranged_sum, ranged_product, ranged_less, products, differences, sums, rows_times, sizes_times, product_of, vector_by, repeated, root_up_of}
+use Rattle.cert_propose.specs.ProposalLimits.{IsBound, ArePositive, AreBounds, AreKept, IsReach, IsBasin, IsEllipsoid, AreFit}
+use Rattle.cert_propose.specs.RangedSums.{ranged, ranged_sizes, ranged_sum, ranged_product, ranged_less, products, differences, sums, rows_times, sizes_times, product_of, vector_by, repeated, root_up_of}
 use Rattle.cert_propose.specs.Candidate.{raised, at_least_one, quotient_at, rate_of, least, rests_of, doubled, over_sizes, beside_diagonal, falls_of, falls_over, row_sizes, falling_of, bounds_from, bounds_of, rest_slopes, nearest_each, centre, centre_round, on_diagonal, turned, next_form, form_matrix, form_round, shifted, start_value, start_basin, roots_over, ceiling_each, gains_over, moves_of, centre_gains, reach_from, reach_of, sum_of, basin_round, basin_of, grown, pair_gains, ellipsoid_of, after_step, candidate, exponent}
 use Rattle.cert_propose.proofs.Collected.{collected-length, collected-at}
 use Rattle.cert_propose.proofs.Small.{ranged-number, ranged_sizes-number, sum-number, product-number, less-number, floor-number, ceiling-number, ceiling-≥, max-of, least-of, vector-fits, table-fits, tabulate-fits, zeros-fit, number-at}
@@ -46,7 +46,7 @@ raised-positive n zs k h = subst (λ (z : ℤ). pos 1 ≤ℤ z) (sym (at-place n
 
 falling-kept : (n : ℕ) (p0 : List ℤ) (pa : List (List ℤ)) (t sizes : List ℤ) (b : Bounds) → 1 ≤ n → n ≤ 16 → length pa ≡ n → IsVector n p0 → IsVector n t
     → falling_of n (raised n p0) pa t sizes ≡ Some b → AreKept n b
-falling-kept n p0 pa t sizes b some few size p0-fits t-fits h = kept-by d m r
+falling-kept n p0 pa t sizes b some few abs_of p0-fits t-fits h = kept-by d m r
   where
     by : List ℤ → List ℤ → Bounds
     by doubles mu = record { pa = pa; p = raised n p0; lambda = rate_of n t doubles; mu = mu }
@@ -71,7 +71,7 @@ falling-kept n p0 pa t sizes b some few size p0-fits t-fits h = kept-by d m r
         let mu-fits : IsVector n mu = subst (IsVector n) (sym mu-is) (raised-fits n rests (λ k l. number-at n k rests rests-fit l)) in
         let mu-positive : ArePositive n (vector mu) = subst (λ (xs : List ℤ). ArePositive n (vector xs)) (sym mu-is) (raised-positive n rests) in
         subst (AreKept n) (sym b-is) (record {
-          bounds = record { few = few; pa = size; p = raised-positive n p0; mu = mu-positive; lambda = max-right (least n (quotient_at t doubles)) (pos 1) };
+          bounds = record { few = few; pa = abs_of; p = raised-positive n p0; mu = mu-positive; lambda = max-right (least n (quotient_at t doubles)) (pos 1) };
           p = raised-fits n p0 (λ k l. number-at n k p0 p0-fits l);
           mu = mu-fits;
           lambda = rate;
@@ -174,7 +174,7 @@ moves-fit : (m : System) (rho z s : List ℤ) → pos 1 ≤ℤ m.unit → moves_
 moves-fit m rho z s unit h =
     let reaches = then-of (λ reaches. option_map (λ t. ceiling_each m.n t (λ j. m.unit)) (sizes_times m.n (vector rho) m.coef (vector reaches))) (sums m.n (vector z) m.quantum) s h in
     let t = map-of (λ t. ceiling_each m.n t (λ j. m.unit)) (sizes_times m.n (vector rho) m.coef (vector reaches.0)) s reaches.2 in
-    let slopes = vector-fits m.n (λ i. ranged_sizes (size (vector rho i)) m.n (m.coef i) (vector reaches.0)) t.0 (λ k y l e. ranged_sizes-number (size (vector rho k)) m.n (m.coef k) (vector reaches.0) y e) t.1 in
+    let slopes = vector-fits m.n (λ i. ranged_sizes (abs_of (vector rho i)) m.n (m.coef i) (vector reaches.0)) t.0 (λ k y l e. ranged_sizes-number (abs_of (vector rho k)) m.n (m.coef k) (vector reaches.0) y e) t.1 in
     subst (IsVector m.n) (sym t.2) (tabulate-fits m.n (λ i. ceiling_of (vector t.0 i) m.unit) (λ k l. ceiling-number (vector t.0 k) m.unit unit (number-at m.n k t.0 slopes l)))
 
 from-fits : (m : System) (pm : List (List ℤ)) (b : Bounds) (rho z : List ℤ) (x : Reach) → pos 1 ≤ℤ m.unit → AreBounds m.n b → IsVector m.n z → reach_from m pm b rho z ≡ Some x → IsReach m.n x

@@ -3,9 +3,9 @@ use Rattle.std.proofs.Common.{◌≡◌, ℕ, zero, suc, ◌+◌, ◌<◌, ◌�
 use Rattle.std.specs.Option.{option_map, option_and_then}
 use Rattle.std.specs.List.{range_with_len}
 use Rattle.std.proofs.lemmas.List.FromFn.{length-map-range_with_len, map-range_with_len_more}
-use Rattle.qss_machine.specs.Numbers.{tabulate}
+use Rattle.qss_machine.specs.IndexedSums.{tabulate}
 use Rattle.cert_matrix.specs.Matrix.{table, vector, IsSquare}
-use Rattle.cert_propose.specs.Sums.{collected, vector_by, table_by}
+use Rattle.cert_propose.specs.RangedSums.{collected, vector_by, table_by}
 
 -- one more at the end
 snoc : {X : Type 0} (os : List (Option X)) (o : Option X) (xs : List X) (x : X) → collected os ≡ Some xs → o ≡ Some x → collected (os ++ o ∷ []) ≡ Some (xs ++ x ∷ [])

@@ -10,12 +10,12 @@ use Rattle.qss_machine.specs.Slopes.{mode_coefficient}
 use Rattle.qss_machine.proofs.ModeTests.{fits_at}
 use Rattle.qss_machine.proofs.Near.{unit_positive}
 use Rattle.cert_matrix.specs.Matrix.{table}
-use Rattle.cert_check.specs.Certificate.{System}
-use Rattle.cert_check.specs.Limits.{IsVector}
+use Rattle.cert_check.specs.Inequalities.{System}
+use Rattle.cert_check.specs.CertificateLimits.{IsVector}
 use Rattle.cert_check.specs.Systems.{system_of, start_matrix}
 use Rattle.cert_check.proofs.Join.{entry-at}
 use Rattle.cert_check.proofs.Starts as Starts
-use Rattle.cert_propose.specs.Limits.{AreSmall}
+use Rattle.cert_propose.specs.ProposalLimits.{AreSmall}
 
 pub starts-fit : (m : Machine) → IsVector (state_count m) (start_states m)
 starts-fit m = record {

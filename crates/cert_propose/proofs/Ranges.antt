@@ -2,10 +2,10 @@
 use Rattle.std.proofs.Common.{◌≡◌, ℕ, ◌+◌, ◌*◌, ◌^◌, ◌<◌, ◌≤◌, Bool, true, false, nat_le, le-leb, if◌then◌else◌, ℤ, pos, ◌+ℤ◌, ◌*ℤ◌, unsigned_abs, Option, Some, None, refl, ap, ◌∙◌, arith}
 use Rattle.std.proofs.lemmas.Bool.{lt-leb}
 use Rattle.std.proofs.lemmas.Int.{ints}
-use Rattle.cert_matrix.specs.Sums.{total, size}
+use Rattle.cert_matrix.specs.Sums.{total, abs_of}
 use Rattle.cert_matrix.specs.Form.{Vector}
 use Rattle.cert_matrix.specs.Matrix.{weight}
-use Rattle.cert_propose.specs.Sums.{where_in_range, ranged, ranged_sizes}
+use Rattle.cert_propose.specs.RangedSums.{where_in_range, ranged, ranged_sizes}
 
 pub within : (w : ℕ) (z : ℤ) → w ≤ 2 ^ 126 → where_in_range w z ≡ Some z
 within w z h = rw (le-leb w (2 ^ 126) h) refl

@@ -4,7 +4,7 @@ use Rattle.std.proofs.Math.Nat.{pow-suc, mul-le-mul}
 use Rattle.std.proofs.lemmas.Bool.{cases_lt, lt-ltb, le-ltb, lt-leb}
 use Rattle.std.proofs.lemmas.Int.{ints}
 use Rattle.mu_num.specs.Roots.{IsRootUp}
-use Rattle.cert_propose.specs.Sums.{root_below, root_up_of}
+use Rattle.cert_propose.specs.RangedSums.{root_below, root_up_of}
 
 square-≤ : (a b : ℕ) → a ≤ b → a * a ≤ b * b
 square-≤ a b h = mul-le-mul h h

@@ -7,14 +7,14 @@ use Rattle.std.proofs.lemmas.List.{length-replicate, get_or-replicate}
 use Rattle.std.proofs.lemmas.List.FromFn.{length-map-range_with_len, get_or-map-range_with_len, fill_by_all}
 use Rattle.mu_num.specs.Rounding.{floor_of, ceiling_of}
 use Rattle.mu_num.proofs.Quotients.{floor_meets}
-use Rattle.qss_machine.specs.Numbers.{tabulate}
-use Rattle.cert_matrix.specs.Sums.{total, size}
+use Rattle.qss_machine.specs.IndexedSums.{tabulate}
+use Rattle.cert_matrix.specs.Sums.{total, abs_of}
 use Rattle.cert_matrix.specs.Form.{Vector}
 use Rattle.cert_matrix.specs.Matrix.{weight, vector, table, zeros}
 use Rattle.cert_matrix.proofs.Order.{mul-≥}
 use Rattle.cert_matrix.proofs.Ring.{expand}
-use Rattle.cert_check.specs.Limits.{IsNumber, IsVector, IsSquareTable}
-use Rattle.cert_propose.specs.Sums.{where_in_range, ranged, ranged_sizes, ranged_sum, ranged_product, ranged_less, collected, vector_by, table_by}
+use Rattle.cert_check.specs.CertificateLimits.{IsNumber, IsVector, IsSquareTable}
+use Rattle.cert_propose.specs.RangedSums.{where_in_range, ranged, ranged_sizes, ranged_sum, ranged_product, ranged_less, collected, vector_by, table_by}
 use Rattle.cert_propose.specs.Candidate.{least}
 use Rattle.cert_propose.proofs.Collected.{collected-at, collected-length}
 use Rattle.cert_propose.proofs.Ranges.{kept}
@@ -28,11 +28,11 @@ total-weight : (n : ℕ) (f g : Vector) → unsigned_abs (total n (λ k. f k *�
 total-weight zero f g = omega arith
 total-weight (suc n) f g = let t = total-weight n f g in let m = unsigned_abs-mul (f n) (g n) in omega (arith, ints)
 
-sizes-weight : (n : ℕ) (f g : Vector) → unsigned_abs (total n (λ k. size (f k) *ℤ g k)) ≤ weight n f g
+sizes-weight : (n : ℕ) (f g : Vector) → unsigned_abs (total n (λ k. abs_of (f k) *ℤ g k)) ≤ weight n f g
 sizes-weight zero f g = omega arith
 sizes-weight (suc n) f g =
     let t = sizes-weight n f g in
-    let m : unsigned_abs (size (f n) *ℤ g n) ≡ unsigned_abs (f n) * unsigned_abs (g n) = unsigned_abs-mul (size (f n)) (g n) in
+    let m : unsigned_abs (abs_of (f n) *ℤ g n) ≡ unsigned_abs (f n) * unsigned_abs (g n) = unsigned_abs-mul (abs_of (f n)) (g n) in
     omega (arith, ints)
 
 pub ranged-number : (base : ℤ) (n : ℕ) (f g : Vector) (y : ℤ) → ranged base n f g ≡ Some y → IsNumber y
@@ -43,7 +43,7 @@ ranged-number base n f g y h =
 pub ranged_sizes-number : (base : ℤ) (n : ℕ) (f g : Vector) (y : ℤ) → ranged_sizes base n f g ≡ Some y → IsNumber y
 ranged_sizes-number base n f g y h =
     let t = sizes-weight n f g in
-    where-number (unsigned_abs base + weight n f g) (base +ℤ total n (λ k. size (f k) *ℤ g k)) y (omega (arith, ints)) h
+    where-number (unsigned_abs base + weight n f g) (base +ℤ total n (λ k. abs_of (f k) *ℤ g k)) y (omega (arith, ints)) h
 
 pub sum-number : (a b y : ℤ) → ranged_sum a b ≡ Some y → IsNumber y
 sum-number a b y h = where-number (unsigned_abs a + unsigned_abs b) (a +ℤ b) y (omega (arith, ints)) h
@@ -104,14 +104,14 @@ least-of P (suc n) f first h = min-of P (least n f) (f n) (least-of P n f first 
 pub vector-fits : (n : ℕ) (f : ℕ → Option ℤ) (xs : List ℤ) → ((k : ℕ) (y : ℤ) → k < n → f k ≡ Some y → IsNumber y) → vector_by n f ≡ Some xs → IsVector n xs
 vector-fits n f xs small h = record {
   one_each = collected-length n f xs h;
-  each = λ k d l. let size = collected-length n f xs h in small k (get_or xs k d) (omega arith) (collected-at n k f xs d h (omega arith));
+  each = λ k d l. let abs_of = collected-length n f xs h in small k (get_or xs k d) (omega arith) (collected-at n k f xs d h (omega arith));
 }
 
 pub table-fits : (n : ℕ) (f : ℕ → ℕ → Option ℤ) (rows : List (List ℤ)) → ((i j : ℕ) (y : ℤ) → f i j ≡ Some y → IsNumber y) → table_by n f ≡ Some rows → IsSquareTable n rows
 table-fits n f rows small h = record {
   one_each = collected-length n (λ i. vector_by n (f i)) rows h;
   each = λ k d l.
-      let size = collected-length n (λ i. vector_by n (f i)) rows h in
+      let abs_of = collected-length n (λ i. vector_by n (f i)) rows h in
       vector-fits n (f k) (get_or rows k d) (λ j y m e. small k j y e) (collected-at n k (λ i. vector_by n (f i)) rows d h (omega arith));
 }
 
@@ -119,7 +119,7 @@ pub tabulate-fits : (n : ℕ) (f : Vector) → ((k : ℕ) → k < n → IsNumber
 tabulate-fits n f small = record {
   one_each = length-map-range_with_len f 0 n;
   each = λ k d l.
-      let size = length-map-range_with_len f 0 n in
+      let abs_of = length-map-range_with_len f 0 n in
       let l' : k < n = omega arith in
       subst IsNumber (sym (get_or-map-range_with_len f 0 n k k d l' (omega arith))) (small k l');
 }
@@ -134,13 +134,13 @@ pub zeros-fit : (n : ℕ) → IsSquareTable n (zeros n)
 zeros-fit n = record {
   one_each = length-replicate n (replicate n (pos 0));
   each = λ k d l.
-      let size = length-replicate n (replicate n (pos 0)) in
+      let abs_of = length-replicate n (replicate n (pos 0)) in
       subst (IsVector n) (sym (get_or-replicate n k (replicate n (pos 0)) d (omega arith))) (zero-row n);
 }
 
 -- a number of a list
 pub number-at : (n k : ℕ) (xs : List ℤ) → IsVector n xs → k < n → IsNumber (vector xs k)
-number-at n k xs fits h = let size = fits.one_each in fits.each k (pos 0) (omega arith)
+number-at n k xs fits h = let abs_of = fits.one_each in fits.each k (pos 0) (omega arith)
 
 -- all places of a list
 pub whole : (n : ℕ) (xs : List ℤ) → IsVector n xs → tabulate n (vector xs) ≡ xs

@@ -3,10 +3,10 @@
 ghost use Rattle.std.specs.Prelude.{◌≡◌, ◌<◌, ◌≤◌, ◌^◌, pos, ◌≤ℤ◌, length, ℕ, IfSome};
 ghost use Rattle.mu_num.specs.Rounding.{ceiling_of};
 ghost use Rattle.cert_matrix.specs.Matrix.{table, vector};
-ghost use Rattle.cert_check.specs.Reading.{system};
-ghost use Rattle.cert_propose.specs.Sums.{root_up_of};
+ghost use Rattle.cert_check.specs.CertificateData.{system};
+ghost use Rattle.cert_propose.specs.RangedSums.{root_up_of};
 ghost use Rattle.cert_propose.specs.Candidate as Step;
-ghost use Rattle.cert_propose.specs.Limits.{IsFormed, IsBound, AreBounds, ArePositive};
+ghost use Rattle.cert_propose.specs.ProposalLimits.{IsFormed, IsBound, AreBounds, ArePositive};
 
 use crate::bounds::Bounds;
 use crate::centre::rest_slopes;
@@ -65,7 +65,7 @@ fn root_over(p: &Column, z: &i128, k: u8) -> i128
 
 /// The roots of a number over each of a column.
 pub(crate) fn roots_over(n: u8, p: &Column, z: &i128) -> Column
-    requires few { n ≤ 16 }
+    requires count_limit { n ≤ 16 }
     requires positive { ArePositive n (vector p.now) }
     requires bound { IsBound z.now }
     ensures { result ≡ Step.roots_over n p.now z.now }
@@ -75,7 +75,7 @@ pub(crate) fn roots_over(n: u8, p: &Column, z: &i128) -> Column
 
 // Each number over d, rounded up.
 fn ceiling_each(n: u8, numbers: &Column, d: &i128) -> Column
-    requires few { n ≤ 16 }
+    requires count_limit { n ≤ 16 }
     requires divisor { pos 1 ≤ℤ d.now }
     ensures { result ≡ Step.ceiling_each n numbers.now (λ i. d.now) }
 {
@@ -84,7 +84,7 @@ fn ceiling_each(n: u8, numbers: &Column, d: &i128) -> Column
 
 /// The squares of gains over mu.
 pub(crate) fn gains_over(n: u8, mu: &Column, gains: &Column) -> Option<Column>
-    requires few { n ≤ 16 }
+    requires count_limit { n ≤ 16 }
     requires positive { ArePositive n (vector mu.now) }
     ensures { result ≡ Step.gains_over n mu.now gains.now }
 {

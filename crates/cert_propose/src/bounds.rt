@@ -2,9 +2,9 @@
 
 ghost use Rattle.std.specs.Prelude.{◌≡◌, ◌<◌, ◌≤◌, pos, ◌≤ℤ◌, length};
 ghost use Rattle.cert_matrix.specs.Matrix.{table, vector};
-ghost use Rattle.cert_check.specs.Reading.{system};
+ghost use Rattle.cert_check.specs.CertificateData.{system};
 ghost use Rattle.cert_propose.specs.Candidate as Step;
-ghost use Rattle.cert_propose.specs.Limits.{IsFormed};
+ghost use Rattle.cert_propose.specs.ProposalLimits.{IsFormed};
 
 use crate::columns::column_of;
 use crate::matrices::matrix_by;

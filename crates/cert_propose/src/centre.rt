@@ -3,9 +3,9 @@
 ghost use Rattle.std.specs.Prelude.{◌≡◌, ◌<◌, ◌≤◌, ◌^◌, pos};
 ghost use Rattle.mu_num.specs.Rounding.{nearest_of};
 ghost use Rattle.cert_matrix.specs.Matrix.{vector};
-ghost use Rattle.cert_check.specs.Reading.{system};
+ghost use Rattle.cert_check.specs.CertificateData.{system};
 ghost use Rattle.cert_propose.specs.Candidate as Step;
-ghost use Rattle.cert_propose.specs.Limits.{IsFormed};
+ghost use Rattle.cert_propose.specs.ProposalLimits.{IsFormed};
 
 use crate::columns::column_of;
 use crate::exponent::power;
@@ -32,7 +32,7 @@ fn nearest_at(numbers: &Column, q: u8, i: u8) -> i128
 // The first `n` numbers of a column over 2^q, rounded to the nearest.
 fn nearest_each(n: u8, numbers: &Column, q: u8) -> Column
     requires states { n ≤ 16 }
-    requires few { q < 64 }
+    requires count_limit { q < 64 }
     ensures { result ≡ Step.nearest_each n numbers.now (pos (2 ^ q)) }
 {
     column_of(n, |i| nearest_at(numbers, q, i))
@@ -41,7 +41,7 @@ fn nearest_each(n: u8, numbers: &Column, q: u8) -> Column
 // A round: each number, and the slope there over 2^q.
 fn centre_round(m: &AffineSystem, q: u8, c: &Column) -> Option<Column>
     requires formed { IsFormed m.now }
-    requires few { q < 64 }
+    requires count_limit { q < 64 }
     ensures { result ≡ Step.centre_round (system m.now) q c.now }
 {
     let slopes = rest_slopes(m, c)?;
@@ -51,7 +51,7 @@ fn centre_round(m: &AffineSystem, q: u8, c: &Column) -> Option<Column>
 /// The centre, after 4,096 rounds.
 pub(crate) fn centre(m: &AffineSystem, q: u8) -> Option<Column>
     requires formed { IsFormed m.now }
-    requires few { q < 64 }
+    requires count_limit { q < 64 }
     ensures { result ≡ Step.centre (system m.now) q }
 {
     let mut c = column_of(m.n, |_i| 0);

@@ -1,10 +1,10 @@
 //! Columns that are made place by place.
 
 ghost use Rattle.std.specs.Prelude.{◌≡◌, ◌<◌, ◌≤◌, ℕ, ℤ, Option, IfOk};
-ghost use Rattle.qss_machine.specs.Numbers.{tabulate};
+ghost use Rattle.qss_machine.specs.IndexedSums.{tabulate};
 ghost use Rattle.cert_matrix.specs.Form.{Vector};
-ghost use Rattle.cert_check.specs.Limits.{IsVector};
-ghost use Rattle.cert_propose.specs.Sums.{vector_by};
+ghost use Rattle.cert_check.specs.CertificateLimits.{IsVector};
+ghost use Rattle.cert_propose.specs.RangedSums.{vector_by};
 
 use cert_check::Column;
 use mu_io::Items;
@@ -12,7 +12,7 @@ use std::alloc::{AllocError, Global};
 
 /// The first `n` numbers of a function of the places, where each is there.
 pub(crate) fn column_by<F: Fn(u8) -> Option<i128>>(n: u8, number: F) -> Option<Column>
-    requires few { n ≤ 16 }
+    requires count_limit { n ≤ 16 }
     requires numbers { (k : ℕ) → k < n → F.pre number k }
     ensures { (f : ℕ → Option ℤ) → ((k : ℕ) (x : Option ℤ) → k < n → F.post number k x → x ≡ f k)
         → result ≡ vector_by n f }
@@ -26,7 +26,7 @@ pub(crate) fn column_by<F: Fn(u8) -> Option<i128>>(n: u8, number: F) -> Option<C
 
 /// The first `n` numbers of a function of the places.
 pub(crate) fn column_of<F: Fn(u8) -> i128>(n: u8, number: F) -> Column
-    requires few { n ≤ 16 }
+    requires count_limit { n ≤ 16 }
     requires numbers { (k : ℕ) → k < n → F.pre number k }
     ensures { (f : Vector) → ((k : ℕ) (x : ℤ) → k < n → F.post number k x → x ≡ f k)
         → result ≡ tabulate n f }

@@ -3,7 +3,7 @@
 ghost use Rattle.std.specs.Prelude.{◌≡◌, ◌≤◌, length};
 ghost use Rattle.cert_matrix.specs.Matrix.{vector};
 ghost use Rattle.cert_propose.specs.Candidate as Step;
-ghost use Rattle.cert_propose.specs.Limits.{AreBounds};
+ghost use Rattle.cert_propose.specs.ProposalLimits.{AreBounds};
 
 use crate::basin::{gains_over, roots_over};
 use crate::bounds::Bounds;

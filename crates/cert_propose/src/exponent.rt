@@ -18,7 +18,7 @@ pub(crate) fn power(q: u8) -> i128
 // Whether 2^q is at least 16 times the sizes of row `i`.
 fn is_above(a: &Matrix, i: u8, q: u8) -> bool
     requires row { i < length a.now }
-    requires few { q < 64 }
+    requires count_limit { q < 64 }
     ensures { result
         ≡ int_le (pos 16 *ℤ Step.row_size (length a.now) (table a.now) i) (pos (2 ^ q)) }
 {
@@ -44,7 +44,7 @@ fn is_exponent(a: &Matrix, q: u8) -> bool
 /// The least such q.
 pub(crate) fn exponent(a: &Matrix) -> u8
     ensures value { result ≡ Step.exponent (length a.now) (table a.now) }
-    ensures few { result < 64 }
+    ensures count_limit { result < 64 }
 {
     for q in 0..64 {
         if is_exponent(a, q) {

@@ -3,10 +3,10 @@
 ghost use Rattle.std.specs.Prelude.{◌≡◌, ◌<◌, ◌≤◌, ◌^◌, ◌*◌, ◌+ℤ◌, pos, length};
 ghost use Rattle.mu_num.specs.Rounding.{nearest_of};
 ghost use Rattle.cert_matrix.specs.Matrix.{table};
-ghost use Rattle.cert_check.specs.Reading.{system};
-ghost use Rattle.cert_propose.specs.Sums.{ranged_sum};
+ghost use Rattle.cert_check.specs.CertificateData.{system};
+ghost use Rattle.cert_propose.specs.RangedSums.{ranged_sum};
 ghost use Rattle.cert_propose.specs.Candidate as Step;
-ghost use Rattle.cert_propose.specs.Limits.{IsFormed, AreSmall};
+ghost use Rattle.cert_propose.specs.ProposalLimits.{IsFormed, AreSmall};
 
 use crate::exponent::power;
 use crate::matrices::{matrix_by, matrix_of};
@@ -26,8 +26,8 @@ fn on_diagonal(number: i128, i: u8, j: u8) -> i128
 // The coefficient in row `i` and column `j`, and 2^q on the diagonal.
 fn shifted_at(m: &AffineSystem, q: u8, i: u8, j: u8) -> i128
     requires formed { IsFormed m.now }
-    requires small { AreSmall (system m.now) }
-    requires few { q < 64 }
+    requires size_limit { AreSmall (system m.now) }
+    requires count_limit { q < 64 }
     requires row { i < m.now.n }
     requires column { j < m.now.n }
     ensures { result ≡ Step.on_diagonal (pos (2 ^ q)) i j +ℤ table m.now.coef i j }
@@ -38,8 +38,8 @@ fn shifted_at(m: &AffineSystem, q: u8, i: u8, j: u8) -> i128
 // The coefficients, and 2^q on the diagonal.
 fn shifted(m: &AffineSystem, q: u8) -> Matrix
     requires formed { IsFormed m.now }
-    requires small { AreSmall (system m.now) }
-    requires few { q < 64 }
+    requires size_limit { AreSmall (system m.now) }
+    requires count_limit { q < 64 }
     ensures { result ≡ Step.shifted (system m.now) q }
 {
     matrix_of(m.n, |i, j| shifted_at(m, q, i, j))
@@ -54,7 +54,7 @@ fn turned(m: &Matrix) -> Matrix
 
 // 1024 on the diagonal, and the number in row `i` and column `j` over the square of 2^q, rounded to the nearest.
 fn next_at(q: u8, y: &Matrix, i: u8, j: u8) -> Option<i128>
-    requires few { q < 64 }
+    requires count_limit { q < 64 }
     requires row { i < length y.now }
     requires column { j < length y.now }
     ensures { result
@@ -74,7 +74,7 @@ fn next_form(q: u8, y: &Matrix) -> Option<Matrix>
 
 // A round: the form between a matrix and its rows as columns, over the square of 2^q.
 fn form_round(q: u8, phi: &Matrix, columns: &Matrix, p: &Matrix) -> Option<Matrix>
-    requires few { q < 64 }
+    requires count_limit { q < 64 }
     requires size { length phi.now ≡ length p.now }
     requires columns { columns.now ≡ Step.turned (length p.now) phi.now }
     ensures { result ≡ Step.form_round (length p.now) q phi.now p.now }
@@ -87,8 +87,8 @@ fn form_round(q: u8, phi: &Matrix, columns: &Matrix, p: &Matrix) -> Option<Matri
 /// The form's matrix, after 4,096 rounds.
 pub(crate) fn form_matrix(m: &AffineSystem, q: u8) -> Option<Matrix>
     requires formed { IsFormed m.now }
-    requires small { AreSmall (system m.now) }
-    requires few { q < 64 }
+    requires size_limit { AreSmall (system m.now) }
+    requires count_limit { q < 64 }
     ensures { result ≡ Step.form_matrix (system m.now) q }
 {
     let phi = shifted(m, q);

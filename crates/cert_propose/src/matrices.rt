@@ -1,10 +1,10 @@
 //! Matrices that are made entry by entry.
 
 ghost use Rattle.std.specs.Prelude.{◌≡◌, ◌<◌, ◌≤◌, ℕ, ℤ, true, false, length, Option, Some, None};
-ghost use Rattle.qss_machine.specs.Numbers.{tabulate};
+ghost use Rattle.qss_machine.specs.IndexedSums.{tabulate};
 ghost use Rattle.cert_matrix.specs.Form.{Table};
 ghost use Rattle.cert_matrix.specs.Matrix.{table, IsSquare};
-ghost use Rattle.cert_propose.specs.Sums.{vector_by, table_by};
+ghost use Rattle.cert_propose.specs.RangedSums.{vector_by, table_by};
 
 use cert_matrix::Matrix;
 
@@ -38,7 +38,7 @@ fn write_row<F: Fn(u8, u8) -> Option<i128>>(m: &mut Matrix, i: u8, entry: &F) ->
 /// The matrix of `n` rows whose entries are those of a function of the places, where each is there.
 pub(crate) fn matrix_by<F: Fn(u8, u8) -> Option<i128>>(n: u8, entry: F) -> Option<Matrix>
     requires some { 1 ≤ n }
-    requires few { n ≤ 16 }
+    requires count_limit { n ≤ 16 }
     requires entries { (i j : ℕ) → i < n → j < n → F.pre entry i j }
     ensures { (f : ℕ → ℕ → Option ℤ)
         → ((i j : ℕ) (x : Option ℤ) → i < n → j < n → F.post entry i j x → x ≡ f i j)
@@ -56,7 +56,7 @@ pub(crate) fn matrix_by<F: Fn(u8, u8) -> Option<i128>>(n: u8, entry: F) -> Optio
 /// The matrix of `n` rows whose entries are those of a function of the places.
 pub(crate) fn matrix_of<F: Fn(u8, u8) -> i128>(n: u8, entry: F) -> Matrix
     requires some { 1 ≤ n }
-    requires few { n ≤ 16 }
+    requires count_limit { n ≤ 16 }
     requires entries { (i j : ℕ) → i < n → j < n → F.pre entry i j }
     ensures { (f : Table) → ((i j : ℕ) (x : ℤ) → i < n → j < n → F.post entry i j x → x ≡ f i j)
         → result ≡ tabulate n (λ i. tabulate n (f i)) }

@@ -2,9 +2,9 @@
 
 ghost use Rattle.std.specs.Prelude.{◌≡◌};
 ghost use Rattle.cert_matrix.specs.Matrix.{vector};
-ghost use Rattle.cert_check.specs.Reading.{system};
+ghost use Rattle.cert_check.specs.CertificateData.{system};
 ghost use Rattle.cert_propose.specs.Candidate as Step;
-ghost use Rattle.cert_propose.specs.Limits.{IsFormed, AreSmall};
+ghost use Rattle.cert_propose.specs.ProposalLimits.{IsFormed, AreSmall};
 
 use crate::basin::{Basin, basin_of};
 use crate::bounds::{Bounds, bounds_of};
@@ -28,7 +28,7 @@ pub(crate) struct Numbers {
 /// The candidate, or the first step that has a sum out of range.
 pub(crate) fn numbers_of(m: &AffineSystem, start: &Column) -> Result<Numbers, u8>
     requires formed { IsFormed m.now }
-    requires small { AreSmall (system m.now) }
+    requires size_limit { AreSmall (system m.now) }
     ensures { result ≡ Step.candidate (system m.now) (vector start.now) }
 {
     let q = exponent(&m.coef);

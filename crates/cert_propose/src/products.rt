@@ -2,8 +2,8 @@
 
 ghost use Rattle.std.specs.Prelude.{◌≡◌, ◌<◌, ◌≤◌, ℕ, ℤ, pos, neg_ℤ, length};
 ghost use Rattle.cert_matrix.specs.Matrix.{table, vector};
-ghost use Rattle.cert_matrix.specs.Sums.{size};
-ghost use Rattle.cert_propose.specs.Sums as Spec;
+ghost use Rattle.cert_matrix.specs.Sums.{abs_of};
+ghost use Rattle.cert_propose.specs.RangedSums as Spec;
 ghost use Rattle.cert_propose.specs.Candidate as Step;
 
 use crate::columns::column_by;
@@ -31,7 +31,7 @@ pub(crate) fn rows_times(base: &Column, m: &Matrix, y: &Column) -> Option<Column
 // The size of a number, and the sizes of row `i` of a matrix times a column.
 fn row_sizes_times(base: i128, m: &Matrix, i: u8, y: &Column) -> Option<i128>
     requires { i < length m.now }
-    ensures { result ≡ Spec.ranged_sizes (size base) (length m.now) (table m.now i) (vector y.now) }
+    ensures { result ≡ Spec.ranged_sizes (abs_of base) (length m.now) (table m.now i) (vector y.now) }
 {
     let start = RangedSum::new().plus_size(base, 1)?;
     sum_sizes_by(start, m.size(), |k| m.get(i, k), |k| y.at(k))

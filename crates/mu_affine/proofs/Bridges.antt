@@ -3,12 +3,12 @@ use Rattle.std.proofs.Common.{◌≡◌, ◌+◌, ◌^◌, ◌<◌, ◌≤◌, �
 use Rattle.std.specs.Prelude.{Some, IsTrue, slice_get, slice_index_or}
 use Rattle.std.specs.List.Sorted.{IsNonDecreasing}
 use Prim.Native.Nat.{zero, suc}
-use Rattle.mu_flat.specs.declared.flat.FlatRole.TheVariants.{State, Discrete, Algebraic}
-use Rattle.mu_flat.specs.FlatExpression.{FlatExpression, Constant, Variable, Previous, Now, Sum, Product, Power, FlatTerms, no_terms, term, FlatFactors, no_factors, factor, FlatVariable, FlatEquationTree, FlatAction, Assign, Restart, FlatBranchTree, FlatModelTree}
-use Rattle.mu_flat.specs.FlatModels.{HasRole, IsFlatExpression, AreFlatTerms, AreFlatFactors, IsFlatEquation, IsFlatAction, IsFlatBranch, IsFlatModel, rank}
-use Rattle.mu_forms.specs.declared.form.Place.{Place}
+use Rattle.mu_tree.specs.declared.flat.FlatRole.TheVariants.{State, Discrete, Algebraic}
+use Rattle.mu_tree.specs.FlatExpression.{FlatExpression, Constant, Variable, Previous, Now, Sum, Product, Power, FlatTerms, no_terms, term, FlatFactors, no_factors, factor, FlatVariable, FlatEquationTree, FlatAction, Assign, Restart, FlatBranchTree, FlatModelTree}
+use Rattle.mu_tree.specs.FlatModels.{HasRole, IsFlatExpression, AreFlatTerms, AreFlatFactors, IsFlatEquation, IsFlatAction, IsFlatBranch, IsFlatModel, rank}
+use Rattle.mu_affine.specs.declared.form.Place.{Place}
 use Rattle.mu_affine.specs.Solution.{count_of_role, sizes_of}
-use Rattle.mu_affine.specs.Kept.{equation_place, clause_place}
+use Rattle.mu_affine.specs.KeptForms.{equation_place, clause_place}
 use Rattle.mu_affine.specs.Walks.{IsNumbered, AreNumbered, AreNumberedFactors, IsNumberedAction}
 
 -- the rank of a variable

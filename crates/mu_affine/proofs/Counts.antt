@@ -14,16 +14,16 @@ use Rattle.std.proofs.lemmas.Bool.Decides.{nat_tests}
 use Rattle.std.proofs.lemmas.List.{length-map}
 use Rattle.std.proofs.lemmas.Map.Keys.{sorted_head, sorted_tail}
 use Rattle.mu_num.specs.Fraction.{Fraction}
-use Rattle.mu_forms.specs.declared.fault.AffineErr.{AffineErr}
-use Rattle.mu_forms.specs.declared.fault.AffineErr.TheVariants.{TooDense}
-use Rattle.mu_forms.specs.declared.form.Sizes.{Sizes}
-use Rattle.mu_forms.specs.declared.form.Place.{Place}
-use Rattle.mu_forms.specs.declared.form.ExactForm.{ExactForm}
-use Rattle.mu_forms.specs.AffineForm.{none, is_nonzero, count_from, sum_from, coefficient_count}
-use Rattle.mu_forms.specs.Rows.{named, paired, pair_cmp, value_at}
-use Rattle.mu_forms.specs.Forms.{form_meaning, IsPair, AreFinished, IsFinished}
-use Rattle.mu_forms.proofs.Rows.{IsKeyOrder, nat_order, pair_order, level_self}
-use Rattle.mu_affine.specs.Normal.{counted}
+use Rattle.mu_affine.specs.declared.form_fault.AffineErr.{AffineErr}
+use Rattle.mu_affine.specs.declared.form_fault.AffineErr.TheVariants.{TooDense}
+use Rattle.mu_affine.specs.declared.form.Sizes.{Sizes}
+use Rattle.mu_affine.specs.declared.form.Place.{Place}
+use Rattle.mu_affine.specs.declared.form.ExactForm.{ExactForm}
+use Rattle.mu_affine.specs.AffineForm.{none, is_nonzero, count_from, sum_from, coefficient_count}
+use Rattle.mu_affine.specs.FormRows.{named, paired, pair_cmp, value_at}
+use Rattle.mu_affine.specs.FinishedForms.{form_meaning, IsPair, AreFinished, IsFinished}
+use Rattle.mu_affine.proofs.RowForms.{IsKeyOrder, nat_order, pair_order, level_self}
+use Rattle.mu_affine.specs.FormSequence.{counted}
 use Rattle.mu_affine.specs.Takings.{with_more}
 
 -- a number that counts a test

@@ -7,10 +7,10 @@ use Rattle.std.proofs.lemmas.Bool.{cases_eq}
 use Rattle.std.proofs.lemmas.Bool.Decides.{nat_tests}
 use Rattle.std.proofs.lemmas.List.{length-map}
 use Rattle.std.proofs.lemmas.Option.{slice_get-get_or, slice_get-map, slice_get_within, slice_get_past}
-use Rattle.mu_flat.specs.declared.flat.FlatEquation.{FlatEquation}
-use Rattle.mu_flat.specs.FlatExpression.{Constant, FlatEquationTree, flat_equation, flat_expression}
-use Rattle.mu_forms.specs.AffineForm.{none}
-use Rattle.mu_affine.specs.Normal.{right_side}
+use Rattle.mu_tree.specs.declared.flat.FlatEquation.{FlatEquation}
+use Rattle.mu_tree.specs.FlatExpression.{Constant, FlatEquationTree, flat_equation, flat_expression}
+use Rattle.mu_affine.specs.AffineForm.{none}
+use Rattle.mu_affine.specs.FormSequence.{right_side}
 use Rattle.mu_affine.specs.Takings.{side_at, AreFirsts}
 
 -- past the last equation there is no right side

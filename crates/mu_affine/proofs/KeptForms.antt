@@ -3,19 +3,19 @@ use Rattle.std.proofs.Common.{◌≡◌, ◌∙◌, ◌<◌, ◌≤◌, ◌+◌,
 use Rattle.std.specs.Prelude.{Some, None, slice_get, ◌⊎◌, Result, Ok}
 use Prim.Native.Nat.{zero, suc}
 use Rattle.std.proofs.lemmas.List.{map_push, length_push}
-use Rattle.mu_flat.specs.declared.flat.FlatStatement.{FlatStatement}
-use Rattle.mu_flat.specs.declared.flat.FlatBranch.{FlatBranch}
-use Rattle.mu_flat.specs.declared.flat.FlatClause.{FlatClause}
-use Rattle.mu_flat.specs.FlatExpression.{FlatModelTree, flat_action, flat_branch, flat_clause}
-use Rattle.mu_forms.specs.declared.fault.AffineErr.{AffineErr}
-use Rattle.mu_forms.specs.declared.form.Sizes.{Sizes}
-use Rattle.mu_forms.specs.declared.form.ExactForm.{ExactForm}
-use Rattle.mu_forms.specs.AffineForm.{AffineForm}
-use Rattle.mu_forms.specs.Forms.{form_meaning, IsFinished}
+use Rattle.mu_tree.specs.declared.flat.FlatStatement.{FlatStatement}
+use Rattle.mu_tree.specs.declared.flat.FlatBranch.{FlatBranch}
+use Rattle.mu_tree.specs.declared.flat.FlatClause.{FlatClause}
+use Rattle.mu_tree.specs.FlatExpression.{FlatModelTree, flat_action, flat_branch, flat_clause}
+use Rattle.mu_affine.specs.declared.form_fault.AffineErr.{AffineErr}
+use Rattle.mu_affine.specs.declared.form.Sizes.{Sizes}
+use Rattle.mu_affine.specs.declared.form.ExactForm.{ExactForm}
+use Rattle.mu_affine.specs.AffineForm.{AffineForm}
+use Rattle.mu_affine.specs.FinishedForms.{form_meaning, IsFinished}
 use Rattle.mu_affine.specs.declared.counting.CountedForms.{CountedForms}
 use Rattle.mu_affine.specs.FormOf.{form_of}
 use Rattle.mu_affine.specs.Solution.{sizes_of, equation_context, clause_context}
-use Rattle.mu_affine.specs.Normal.{Taken, then_take, counted, right_side, keep, keep_states, action_form, condition_form, keep_actions, keep_branches, keep_clauses}
+use Rattle.mu_affine.specs.FormSequence.{Taken, then_take, counted, right_side, keep, keep_states, action_form, condition_form, keep_actions, keep_branches, keep_clauses}
 use Rattle.mu_affine.specs.Walks.{forms_in}
 use Rattle.mu_affine.specs.Takings.{IsFaultOf, of_equations, of_clauses, kept_so_far, AreKept, IsKept}
 use Rattle.mu_affine.proofs.Steps.{after, fault_then, fault_after, fault_same, actions_from, branches_from, clauses_from}

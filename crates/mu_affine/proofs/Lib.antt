@@ -1,12 +1,42 @@
-pub mod Walking
-pub mod Left
-pub mod Conditions
+mod Walking
+mod Left
+mod Conditions
 pub mod Bridges
-pub mod Counts
-pub mod Steps
-pub mod InOrder
-pub mod Equations
-pub mod KeptForms
-pub mod Solutions
-pub mod Finished
-pub mod Whole
+mod Counts
+mod Steps
+mod FormsInOrder
+mod Equations
+mod KeptForms
+mod Solutions
+pub mod FinishedForms
+mod WholeModels
+pub mod Fractions
+pub mod RowForms
+pub mod Checks
+mod Sums
+pub mod Finishing
+mod Scalings
+pub mod Showing
+pub mod Making
+mod Multiplying
+pub mod Products
+mod Settings
+mod Crossing
+mod Failing
+mod KeptNumbers
+pub mod Turns
+mod RowLaws
+mod Placing
+mod ChecksInOrder
+mod Assembly
+mod UnitLaws
+mod WholeMachines
+mod FormLaws
+mod Made
+mod Seen
+pub mod FinishedMachines
+pub mod OneMachine
+mod Phases
+mod VariableLaws
+mod Branches
+mod Assembled

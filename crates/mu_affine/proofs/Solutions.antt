@@ -5,19 +5,19 @@ use Prim.Native.Nat.{zero, suc}
 use Rattle.std.proofs.lemmas.Bool.{cases_eq, cases_lt}
 use Rattle.std.proofs.lemmas.Bool.Decides.{nat_tests}
 use Rattle.std.proofs.lemmas.List.Elements.{All-contains, Contains-append_left, Contains-append_right, Contains-append_cases, Contains-push_cases}
-use Rattle.mu_flat.specs.declared.flat.FlatRole.{FlatRole}
-use Rattle.mu_flat.specs.declared.flat.FlatRole.TheVariants.{State, Discrete, Algebraic}
-use Rattle.mu_flat.specs.FlatExpression.{FlatExpression, Constant, Variable, Previous, Now, Sum, Product, Power, FlatTerms, no_terms, term, FlatFactors, no_factors, factor, FlatVariable, FlatEquationTree, FlatAction, FlatBranchTree, FlatModelTree}
-use Rattle.mu_flat.specs.FlatModels.{IsFlatExpression, AreFlatTerms, AreFlatFactors, IsFlatEquation, IsFlatModel, target_role}
+use Rattle.mu_tree.specs.declared.flat.FlatRole.{FlatRole}
+use Rattle.mu_tree.specs.declared.flat.FlatRole.TheVariants.{State, Discrete, Algebraic}
+use Rattle.mu_tree.specs.FlatExpression.{FlatExpression, Constant, Variable, Previous, Now, Sum, Product, Power, FlatTerms, no_terms, term, FlatFactors, no_factors, factor, FlatVariable, FlatEquationTree, FlatAction, FlatBranchTree, FlatModelTree}
+use Rattle.mu_tree.specs.FlatModels.{IsFlatExpression, AreFlatTerms, AreFlatFactors, IsFlatEquation, IsFlatModel, target_role}
 use Rattle.mu_causal.specs.Causality.{IsReady, Follow, IsOrder}
 use Rattle.mu_causal.specs.Dependencies.{names_of, names_of_terms, names_of_factors, IsAlgebraic, DependsOn, WantsEquation, wants_equation, numbers_from, AreCounted}
-use Rattle.mu_forms.specs.declared.fault.AffineErr.{AffineErr}
-use Rattle.mu_forms.specs.declared.form.Sizes.{Sizes}
-use Rattle.mu_forms.specs.AffineForm.{AffineForm}
-use Rattle.mu_forms.specs.Parts.{kept, then_form, join_forms, multiply_forms, raise_form}
+use Rattle.mu_affine.specs.declared.form_fault.AffineErr.{AffineErr}
+use Rattle.mu_affine.specs.declared.form.Sizes.{Sizes}
+use Rattle.mu_affine.specs.AffineForm.{AffineForm}
+use Rattle.mu_affine.specs.FormParts.{kept, then_form, join_forms, multiply_forms, raise_form}
 use Rattle.mu_affine.specs.FormOf.{variable_form, form_of, sum_form, product_of}
 use Rattle.mu_affine.specs.Solution.{sizes_of, equation_context, clause_context, IsSolution}
-use Rattle.mu_affine.specs.Normal.{Taken, then_take, counted, right_side, solve, solve_all, keep, keep_states, condition_form, action_form, keep_actions, keep_branches, keep_clauses, nothing_taken, forms_of}
+use Rattle.mu_affine.specs.FormSequence.{Taken, then_take, counted, right_side, solve, solve_all, keep, keep_states, condition_form, action_form, keep_actions, keep_branches, keep_clauses, nothing_taken, forms_of}
 use Rattle.mu_affine.proofs.Steps.{parts_of, same_ok}
 use Rattle.mu_affine.proofs.Bridges.{state_place, discrete_place}
 
@@ -229,7 +229,7 @@ order_sound m flat counted [] listed t u follow sound h =
 order_sound m flat counted (v ∷ vs) listed t u follow sound h =
     let step = parts_of (solve m v t) (solve_all m vs) u h in
     let form = parts_of (form_of (equation_context (sizes_of m) t.solved) (right_side m.equations v)) (after_form m v t) step.0 step.1 in
-    let count = parts_of (Rattle.mu_affine.specs.Normal.counted (sizes_of m) t.count form.0) (λ n. Ok (solved_with t v form.0 n)) step.0 form.2 in
+    let count = parts_of (Rattle.mu_affine.specs.FormSequence.counted (sizes_of m) t.count form.0) (λ n. Ok (solved_with t v form.0 n)) step.0 form.2 in
     let is : solved_with t v form.0 count.0 ≡ step.0 = same_ok (solved_with t v form.0 count.0) step.0 count.2 in
     let more : IsSound m (listed ++ v ∷ []) step.0.solved = subst (λ (s : Taken). IsSound m (listed ++ v ∷ []) s.solved) is (sound_more m flat counted listed v t.solved form.0 follow.0.is_ready sound form.1) in
     subst (λ xs. IsSound m xs u.solved) (append_assoc listed (v ∷ []) vs) (order_sound m flat counted vs (listed ++ v ∷ []) step.0 u follow.1 more step.2)
@@ -238,7 +238,7 @@ order_sound m flat counted (v ∷ vs) listed t u follow sound h =
     solved_with t v f n = record { solved = with_form t.solved v f; kept = t.kept; count = n }
 
     after_form : FlatModelTree → ℕ → Taken → AffineForm → Result Taken AffineErr
-    after_form m v t f = then_take (Rattle.mu_affine.specs.Normal.counted (sizes_of m) t.count f) (λ n. Ok (solved_with t v f n))
+    after_form m v t f = then_take (Rattle.mu_affine.specs.FormSequence.counted (sizes_of m) t.count f) (λ n. Ok (solved_with t v f n))
 
 -- keeping changes no solved form
 keep_same : (n : Sizes) (part : Result AffineForm AffineErr) (t u : Taken) → keep n part t ≡ Ok u → u.solved ≡ t.solved

@@ -3,20 +3,20 @@ use Rattle.std.proofs.Common.{◌≡◌, ◌∙◌, ◌<◌, ◌+◌, ℕ, List,
 use Rattle.std.specs.Prelude.{Result, Ok, Err}
 use Prim.Native.Nat.{suc}
 use Rattle.std.proofs.Math.Seq.{drop-cons}
-use Rattle.mu_flat.specs.declared.flat.FlatStatement.{FlatStatement}
-use Rattle.mu_flat.specs.declared.flat.FlatBranch.{FlatBranch}
-use Rattle.mu_flat.specs.declared.flat.FlatClause.{FlatClause}
-use Rattle.mu_flat.specs.FlatExpression.{FlatModelTree, flat_action, flat_branch, flat_clause}
-use Rattle.mu_forms.specs.declared.fault.AffineErr.{AffineErr}
-use Rattle.mu_forms.specs.declared.fault.AffineErr.TheVariants.{NotAffine, TimeHere, ConstFault, TooDense, Memory}
-use Rattle.mu_forms.specs.declared.form.Sizes.{Sizes}
-use Rattle.mu_forms.specs.declared.form.Place.{Place}
-use Rattle.mu_forms.specs.AffineForm.{AffineForm}
-use Rattle.mu_forms.specs.Parts.{IsAnswer}
+use Rattle.mu_tree.specs.declared.flat.FlatStatement.{FlatStatement}
+use Rattle.mu_tree.specs.declared.flat.FlatBranch.{FlatBranch}
+use Rattle.mu_tree.specs.declared.flat.FlatClause.{FlatClause}
+use Rattle.mu_tree.specs.FlatExpression.{FlatModelTree, flat_action, flat_branch, flat_clause}
+use Rattle.mu_affine.specs.declared.form_fault.AffineErr.{AffineErr}
+use Rattle.mu_affine.specs.declared.form_fault.AffineErr.TheVariants.{NotAffine, TimeHere, ConstFault, TooDense, Memory}
+use Rattle.mu_affine.specs.declared.form.Sizes.{Sizes}
+use Rattle.mu_affine.specs.declared.form.Place.{Place}
+use Rattle.mu_affine.specs.AffineForm.{AffineForm}
+use Rattle.mu_affine.specs.FormParts.{IsAnswer}
 use Rattle.mu_affine.specs.Solution.{clause_context}
-use Rattle.mu_affine.specs.Normal.{Taken, then_take, keep, solve, solve_all, action_form, condition_form, keep_actions, keep_branches, keep_clauses}
-use Rattle.mu_affine.specs.Kept.{IsAffineFault}
-use Rattle.mu_affine.specs.Normal.{forms_of}
+use Rattle.mu_affine.specs.FormSequence.{Taken, then_take, keep, solve, solve_all, action_form, condition_form, keep_actions, keep_branches, keep_clauses}
+use Rattle.mu_affine.specs.KeptForms.{IsAffineFault}
+use Rattle.mu_affine.specs.FormSequence.{forms_of}
 use Rattle.mu_affine.specs.Takings.{IsFaultOf}
 
 -- a defined fault is one

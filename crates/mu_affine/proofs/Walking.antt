@@ -5,17 +5,17 @@ use Rattle.std.proofs.lemmas.Bool.{cases_Bool, false≢true, eqb-true}
 use Rattle.std.proofs.lemmas.Bool.Decides.{nat_tests}
 use Rattle.std.proofs.lemmas.Option.{slice_get-get_or}
 use Rattle.mu_num.specs.Fraction.{Fraction}
-use Rattle.mu_flat.specs.FlatExpression.{Variable, Power, FlatExpression, FlatTerms, no_terms, term, FlatFactors, no_factors, factor}
-use Rattle.mu_forms.specs.declared.form.Place.{Place}
-use Rattle.mu_forms.specs.declared.form.ExactForm.{ExactForm}
-use Rattle.mu_forms.specs.declared.fault.AffineErr.{AffineErr}
-use Rattle.mu_forms.specs.declared.fault.AffineErr.TheVariants.{NotAffine, TimeHere, ConstFault, TooDense, Memory}
-use Rattle.mu_forms.specs.AffineForm.{AffineForm, constant_form, name_form, has_pairs, is_nonzero}
-use Rattle.mu_forms.specs.declared.sum.RunningForm.{RunningForm}
-use Rattle.mu_forms.specs.Forms.{form_meaning, sum_meaning, MayStand, IsOver, IsFinished, Finishes}
-use Rattle.mu_forms.specs.Parts.{join_forms, multiply_forms, raise_form, IsAnswer}
-use Rattle.mu_forms.proofs.Checks.{and_false}
-use Rattle.mu_forms.proofs.Showing.{no_pairs, first_pair, has_pairs-none}
+use Rattle.mu_tree.specs.FlatExpression.{Variable, Power, FlatExpression, FlatTerms, no_terms, term, FlatFactors, no_factors, factor}
+use Rattle.mu_affine.specs.declared.form.Place.{Place}
+use Rattle.mu_affine.specs.declared.form.ExactForm.{ExactForm}
+use Rattle.mu_affine.specs.declared.form_fault.AffineErr.{AffineErr}
+use Rattle.mu_affine.specs.declared.form_fault.AffineErr.TheVariants.{NotAffine, TimeHere, ConstFault, TooDense, Memory}
+use Rattle.mu_affine.specs.AffineForm.{AffineForm, constant_form, name_form, has_pairs, is_nonzero}
+use Rattle.mu_affine.specs.declared.sum.RunningForm.{RunningForm}
+use Rattle.mu_affine.specs.FinishedForms.{form_meaning, sum_meaning, MayStand, IsOver, IsFinished, Finishes}
+use Rattle.mu_affine.specs.FormParts.{join_forms, multiply_forms, raise_form, IsAnswer}
+use Rattle.mu_affine.proofs.Checks.{and_false}
+use Rattle.mu_affine.proofs.Showing.{no_pairs, first_pair, has_pairs-none}
 use Rattle.mu_affine.specs.FormOf.{Context, form_of, sum_form, product_of}
 use Rattle.mu_affine.specs.Walks.{context_of, forms_in}
 

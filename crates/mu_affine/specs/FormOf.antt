@@ -1,12 +1,12 @@
 -- The affine form of an expression, part by part: the inner parts first, and then from the left.
 use Rattle.std.specs.Prelude.{ℕ, pos, ◌+◌, nat_lt, if◌then◌else◌, Result, Ok, Err}
 use Rattle.mu_num.specs.Fraction.{whole}
-use Rattle.mu_forms.specs.declared.fault.AffineErr.{AffineErr}
-use Rattle.mu_forms.specs.declared.fault.AffineErr.TheVariants.{TimeHere}
-use Rattle.mu_forms.specs.declared.form.Place.{Place}
-use Rattle.mu_forms.specs.AffineForm.{AffineForm, constant_form, name_form, time_form}
-use Rattle.mu_forms.specs.Parts.{kept, then_form, join_forms, multiply_forms, raise_form}
-use Rattle.mu_flat.specs.FlatExpression.{FlatExpression, Constant, Variable, Previous, Now, Sum, Product, Power, FlatTerms, no_terms, term, FlatFactors, no_factors, factor}
+use Rattle.mu_affine.specs.declared.form_fault.AffineErr.{AffineErr}
+use Rattle.mu_affine.specs.declared.form_fault.AffineErr.TheVariants.{TimeHere}
+use Rattle.mu_affine.specs.declared.form.Place.{Place}
+use Rattle.mu_affine.specs.AffineForm.{AffineForm, constant_form, name_form, time_form}
+use Rattle.mu_affine.specs.FormParts.{kept, then_form, join_forms, multiply_forms, raise_form}
+use Rattle.mu_tree.specs.FlatExpression.{FlatExpression, Constant, Variable, Previous, Now, Sum, Product, Power, FlatTerms, no_terms, term, FlatFactors, no_factors, factor}
 
 -- where an expression stands, and the forms of the algebraic variables by their numbers
 pub record Context : Type 0 where

@@ -1,10 +1,10 @@
 -- Solutions of a flat model: no order of the variables occurs in them.
 use Rattle.std.specs.Prelude.{ℕ, true, false, ◌≡◌, ◌+◌, List, [], ◌∷◌, Contains, Ok}
-use Rattle.mu_flat.specs.declared.flat.FlatRole.{FlatRole}
-use Rattle.mu_flat.specs.declared.flat.FlatRole.TheVariants.{State, Discrete, Algebraic}
-use Rattle.mu_flat.specs.FlatExpression.{FlatVariable, FlatEquationTree, FlatModelTree}
-use Rattle.mu_forms.specs.declared.form.Sizes.{Sizes}
-use Rattle.mu_forms.specs.AffineForm.{AffineForm}
+use Rattle.mu_tree.specs.declared.flat.FlatRole.{FlatRole}
+use Rattle.mu_tree.specs.declared.flat.FlatRole.TheVariants.{State, Discrete, Algebraic}
+use Rattle.mu_tree.specs.FlatExpression.{FlatVariable, FlatEquationTree, FlatModelTree}
+use Rattle.mu_affine.specs.declared.form.Sizes.{Sizes}
+use Rattle.mu_affine.specs.AffineForm.{AffineForm}
 use Rattle.mu_affine.specs.FormOf.{Context, form_of}
 
 -- how many states and discrete variables there are

@@ -1,14 +1,14 @@
 -- What the walk of an expression is given.
 use Rattle.std.specs.Prelude.{ℕ, Bool, true, false, ◌≡◌, ◌<◌, ◌+◌, List, slice_get, Option, Some, None, Result, Ok, Err}
-use Rattle.mu_forms.specs.declared.form.Place.{Place}
-use Rattle.mu_forms.specs.declared.form.ExactForm.{ExactForm}
-use Rattle.mu_forms.specs.declared.sum.RunningForm.{RunningForm}
-use Rattle.mu_forms.specs.declared.fault.AffineErr.{AffineErr}
-use Rattle.mu_forms.specs.AffineForm.{AffineForm, none, constant_form}
-use Rattle.mu_forms.specs.Forms.{form_meaning, sum_meaning, IsOver, IsFinished, IsReducedSum}
-use Rattle.mu_forms.specs.Parts.{join_forms, IsAnswer}
+use Rattle.mu_affine.specs.declared.form.Place.{Place}
+use Rattle.mu_affine.specs.declared.form.ExactForm.{ExactForm}
+use Rattle.mu_affine.specs.declared.sum.RunningForm.{RunningForm}
+use Rattle.mu_affine.specs.declared.form_fault.AffineErr.{AffineErr}
+use Rattle.mu_affine.specs.AffineForm.{AffineForm, none, constant_form}
+use Rattle.mu_affine.specs.FinishedForms.{form_meaning, sum_meaning, IsOver, IsFinished, IsReducedSum}
+use Rattle.mu_affine.specs.FormParts.{join_forms, IsAnswer}
 use Rattle.mu_affine.specs.FormOf.{Context}
-use Rattle.mu_flat.specs.FlatExpression.{FlatExpression, Constant, Variable, Previous, Now, Sum, Product, Power, FlatTerms, no_terms, term, FlatFactors, no_factors, factor, FlatAction, Assign, Restart}
+use Rattle.mu_tree.specs.FlatExpression.{FlatExpression, Constant, Variable, Previous, Now, Sum, Product, Power, FlatTerms, no_terms, term, FlatFactors, no_factors, factor, FlatAction, Assign, Restart}
 
 -- the forms that a list has by number, 0 past its end
 abbrev pub forms_in : List ExactForm → ℕ → AffineForm

@@ -1,17 +1,17 @@
 // The forms of conditions and statements.
 
 ghost use Rattle.std.specs.Prelude.{◌<◌, ◌+◌, ◌^◌, true, length};
-ghost use Rattle.mu_flat.specs.FlatExpression.{flat_expression, flat_branch, flat_action};
-ghost use Rattle.mu_forms.specs.Forms.{form_meaning, IsFinished};
-ghost use Rattle.mu_forms.specs.Parts.{join_forms, IsAnswer};
-ghost use Rattle.mu_affine.specs.Normal.{condition_form, action_form};
+ghost use Rattle.mu_tree.specs.FlatExpression.{flat_expression, flat_branch, flat_action};
+ghost use Rattle.mu_affine.specs.FinishedForms.{form_meaning, IsFinished};
+ghost use Rattle.mu_affine.specs.FormParts.{join_forms, IsAnswer};
+ghost use Rattle.mu_affine.specs.FormSequence.{condition_form, action_form};
 ghost use Rattle.mu_affine.specs.Walks.{context_of, AreSolved, IsNumbered, IsNumberedAction};
 
+use crate::form::{ExactForm, Place};
+use crate::form_fault::AffineErr;
+use crate::sum::RunningForm;
 use crate::walk::{form_of, join_term};
-use mu_flat::{FlatBranch, FlatStatement};
-use mu_forms::fault::AffineErr;
-use mu_forms::form::{ExactForm, Place};
-use mu_forms::sum::RunningForm;
+use mu_tree::{FlatBranch, FlatStatement};
 use std::alloc::Global;
 
 // The difference of two forms.

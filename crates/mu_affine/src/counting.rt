@@ -1,14 +1,14 @@
 // How many coefficients forms have, and forms that are kept.
 
 ghost use Rattle.std.specs.Prelude.{◌≡◌, ◌≤◌, ◌^◌};
-ghost use Rattle.mu_forms.specs.declared.form.Place.{Place};
-ghost use Rattle.mu_forms.specs.AffineForm.{is_nonzero};
-ghost use Rattle.mu_forms.specs.Forms.{form_meaning, IsFinished};
-ghost use Rattle.mu_affine.specs.Normal.{counted};
+ghost use Rattle.mu_affine.specs.declared.form.Place.{Place};
+ghost use Rattle.mu_affine.specs.AffineForm.{is_nonzero};
+ghost use Rattle.mu_affine.specs.FinishedForms.{form_meaning, IsFinished};
+ghost use Rattle.mu_affine.specs.FormSequence.{counted};
 ghost use Rattle.mu_affine.specs.Takings.{with_more, Keeps};
 
-use mu_forms::fault::AffineErr;
-use mu_forms::form::ExactForm;
+use crate::form::ExactForm;
+use crate::form_fault::AffineErr;
 
 /// How many coefficients other than 0 all forms of a flat model may have.
 pub const MAX_COEFFICIENTS: u32 = 65_536;

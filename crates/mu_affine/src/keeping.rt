@@ -1,18 +1,18 @@
 // The forms that are kept: those of the states, and then those of clauses.
 
 ghost use Rattle.std.specs.Prelude.{◌≡◌, ◌<◌, ◌≤◌, ◌+◌, ◌^◌, [], length, map, All};
-ghost use Rattle.mu_flat.specs.FlatExpression.{flat_model, flat_equation, flat_action, flat_branch, flat_clause};
+ghost use Rattle.mu_tree.specs.FlatExpression.{flat_model, flat_equation, flat_action, flat_branch, flat_clause};
 ghost use Rattle.mu_affine.specs.Solution.{sizes_of};
-ghost use Rattle.mu_affine.specs.Normal.{keep_states, keep_actions, keep_branches, keep_clauses};
+ghost use Rattle.mu_affine.specs.FormSequence.{keep_states, keep_actions, keep_branches, keep_clauses};
 ghost use Rattle.mu_affine.specs.Walks.{AreSolved, IsNumbered, IsNumberedAction};
 ghost use Rattle.mu_affine.specs.Takings.{of_equations, of_clauses, AreFirsts, kept_so_far, IsKept, KeepsAll, IsNumberedBranch};
 
 use crate::clause::{action_form, condition_form};
 use crate::counting::{CountedForms, keep};
+use crate::form::{ExactForm, Place, Sizes};
+use crate::form_fault::AffineErr;
 use crate::sides::right_side_form;
-use mu_flat::{FlatBranch, FlatClause, FlatModel, FlatStatement};
-use mu_forms::fault::AffineErr;
-use mu_forms::form::{ExactForm, Place, Sizes};
+use mu_tree::{FlatBranch, FlatClause, FlatModel, FlatStatement};
 use std::alloc::Global;
 
 /// Keeps the forms of the states.
@@ -32,7 +32,7 @@ pub(crate) fn keep_states(
     requires states { sizes.states ≤ length firsts.now }
     requires solved { AreSolved (of_equations sizes) solved.now }
     requires none { kept.old.forms.items ≡ [] }
-    requires few { kept.old.count ≤ 2 ^ 16 }
+    requires count_limit { kept.old.count ≤ 2 ^ 16 }
     ensures { KeepsAll sizes solved.now
         (keep_states (flat_model m.now) 0 sizes.states (kept_so_far solved.now kept.old)) kept.new
         result }

@@ -1,11 +1,32 @@
-//! The affine forms of a flat model.
+//! Affine forms of a flat model, and the machine that they are rounded to.
 #![tactic(auto)]
 
 mod clause;
+mod clauses;
 mod counting;
+mod cross;
+pub mod form;
+pub mod form_fault;
 mod keeping;
-pub mod laws;
+mod kind;
+mod machine;
+mod machine_fault;
+mod machine_laws;
+pub mod make;
 pub mod normal;
+mod numbers;
+pub mod product;
+mod row;
+mod rows;
+mod scale;
 mod sides;
+pub mod solution_laws;
 mod solving;
+pub mod sum;
+mod units;
+mod variables;
 mod walk;
+
+pub use machine::to_machine;
+pub use machine_fault::MachineErr;
+pub use machine_laws::{finished_forms_are_laid_out, machines_are_unique};

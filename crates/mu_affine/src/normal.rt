@@ -1,21 +1,21 @@
 // The forms of a flat model in their sequence.
 
 ghost use Rattle.std.specs.Prelude.{IfOk, IfErr};
-ghost use Rattle.mu_flat.specs.FlatExpression.{flat_model};
-ghost use Rattle.mu_flat.specs.FlatModels.{IsFlatModel};
+ghost use Rattle.mu_tree.specs.FlatExpression.{flat_model};
+ghost use Rattle.mu_tree.specs.FlatModels.{IsFlatModel};
 ghost use Rattle.mu_causal.specs.Causality.{IsOrder};
 ghost use Rattle.mu_causal.specs.Dependencies.{IsAlgebraic, DependsOn};
-ghost use Rattle.mu_affine.specs.Kept.{AreForms, IsAffineFault};
+ghost use Rattle.mu_affine.specs.KeptForms.{AreForms, IsAffineFault};
 
 use crate::counting::CountedForms;
+use crate::form::Forms;
+use crate::form_fault::AffineErr;
 use crate::keeping::{keep_clauses, keep_states};
 use crate::sides::{first_equations, sizes_of};
 use crate::solving::solve_all;
 use mu_causal::answer::Order;
-use mu_flat::FlatModel;
-use mu_forms::fault::AffineErr;
-use mu_forms::form::Forms;
 use mu_io::Items;
+use mu_tree::FlatModel;
 use std::alloc::Global;
 
 /// The forms of a flat model whose algebraic variables have this order: those of the states by

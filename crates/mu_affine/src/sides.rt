@@ -1,20 +1,20 @@
 // The right sides of equations by their variables.
 
 ghost use Rattle.std.specs.Prelude.{◌≡◌, ◌<◌, ◌+◌, ◌^◌, length, map, All, IfOk};
-ghost use Rattle.mu_flat.specs.FlatExpression.{flat_variable, flat_equation};
-ghost use Rattle.mu_flat.specs.declared.flat.FlatRole.TheVariants.{State, Discrete};
-ghost use Rattle.mu_forms.specs.Parts.{IsAnswer};
+ghost use Rattle.mu_tree.specs.FlatExpression.{flat_variable, flat_equation};
+ghost use Rattle.mu_tree.specs.declared.flat.FlatRole.TheVariants.{State, Discrete};
+ghost use Rattle.mu_affine.specs.FormParts.{IsAnswer};
 ghost use Rattle.mu_affine.specs.FormOf.{form_of};
 ghost use Rattle.mu_affine.specs.Solution.{count_of_role, equation_context};
-ghost use Rattle.mu_affine.specs.Normal.{right_side};
+ghost use Rattle.mu_affine.specs.FormSequence.{right_side};
 ghost use Rattle.mu_affine.specs.Walks.{forms_in, AreSolved, IsNumbered};
 ghost use Rattle.mu_affine.specs.Takings.{of_equations, AreFirsts};
 
+use crate::form::{ExactForm, Place, Sizes};
+use crate::form_fault::AffineErr;
 use crate::walk::form_of;
-use mu_flat::{FlatEquation, FlatRole, FlatVar};
-use mu_forms::fault::AffineErr;
-use mu_forms::form::{ExactForm, Place, Sizes};
 use mu_num::Ratio;
+use mu_tree::{FlatEquation, FlatRole, FlatVar};
 use std::alloc::{AllocError, Global};
 
 /// How many states and discrete variables there are.

@@ -1,18 +1,18 @@
 // The forms of the algebraic variables in their order.
 
 ghost use Rattle.std.specs.Prelude.{◌≡◌, ◌<◌, ◌+◌, ◌^◌, length, map, All, IfOk};
-ghost use Rattle.mu_flat.specs.FlatExpression.{flat_model, flat_equation};
+ghost use Rattle.mu_tree.specs.FlatExpression.{flat_model, flat_equation};
 ghost use Rattle.mu_affine.specs.Solution.{sizes_of};
-ghost use Rattle.mu_affine.specs.Normal.{solve, solve_all, nothing_taken};
+ghost use Rattle.mu_affine.specs.FormSequence.{solve, solve_all, nothing_taken};
 ghost use Rattle.mu_affine.specs.Walks.{IsNumbered};
 ghost use Rattle.mu_affine.specs.Takings.{of_equations, AreFirsts, AreZeros, solved_so_far, IsSolved, Solves, SolvesAll};
 
 use crate::counting::{CountedForms, counted};
+use crate::form::{ExactForm, Sizes};
+use crate::form_fault::AffineErr;
 use crate::sides::right_side_form;
-use mu_flat::FlatModel;
-use mu_forms::fault::AffineErr;
-use mu_forms::form::{ExactForm, Sizes};
 use mu_num::Ratio;
+use mu_tree::FlatModel;
 use std::alloc::{AllocError, Global};
 
 // So many forms that are 0.

@@ -1,21 +1,21 @@
 // The form of an expression, part by part.
 
 ghost use Rattle.std.specs.Prelude.{◌≡◌, ◌<◌, ◌+◌, ◌^◌, false, pos, map, length, Ok, Err, if◌then◌else◌};
-ghost use Rattle.mu_flat.specs.FlatExpression.{Variable, flat_expression, flat_terms_of, flat_factors_of, flat_signed, flat_scaled};
+ghost use Rattle.mu_tree.specs.FlatExpression.{Variable, flat_expression, flat_terms_of, flat_factors_of, flat_signed, flat_scaled};
 ghost use Rattle.mu_num.specs.Fraction.{whole};
-ghost use Rattle.mu_forms.specs.declared.fault.AffineErr.TheVariants.{TimeHere};
-ghost use Rattle.mu_forms.specs.AffineForm.{constant_form, name_form, time_form, none};
-ghost use Rattle.mu_forms.specs.Forms.{form_meaning, sum_meaning, IsOver, IsFinished, IsReducedSum};
-ghost use Rattle.mu_forms.specs.Parts.{join_forms, multiply_forms, IsAnswer};
+ghost use Rattle.mu_affine.specs.declared.form_fault.AffineErr.TheVariants.{TimeHere};
+ghost use Rattle.mu_affine.specs.AffineForm.{constant_form, name_form, time_form, none};
+ghost use Rattle.mu_affine.specs.FinishedForms.{form_meaning, sum_meaning, IsOver, IsFinished, IsReducedSum};
+ghost use Rattle.mu_affine.specs.FormParts.{join_forms, multiply_forms, IsAnswer};
 ghost use Rattle.mu_affine.specs.FormOf.{form_of, sum_form, product_of};
 ghost use Rattle.mu_affine.specs.Walks.{context_of, AreSolved, IsNumbered, AreNumbered, AreNumberedFactors, JoinsTerm};
 
-use mu_flat::{FlatExpr, FlatFactor, FlatTerm};
-use mu_forms::fault::AffineErr;
-use mu_forms::form::{ExactForm, Place};
-use mu_forms::product::{divide, multiply, raise};
-use mu_forms::sum::RunningForm;
+use crate::form::{ExactForm, Place};
+use crate::form_fault::AffineErr;
+use crate::product::{divide, multiply, raise};
+use crate::sum::RunningForm;
 use mu_num::Ratio;
+use mu_tree::{FlatExpr, FlatFactor, FlatTerm};
 use std::alloc::Global;
 
 // The form of a variable: a state or a discrete variable is a name, an algebraic one has a form.
@@ -76,7 +76,7 @@ pub(crate) fn join_term(
 ) -> Result<(), AffineErr>
     requires form { IsFinished place form.now }
     requires reduced { IsReducedSum total.old }
-    requires over { IsOver place (sum_meaning total.old) }
+    requires overflow { IsOver place (sum_meaning total.old) }
     ensures { JoinsTerm place minus at total.old total.new form.now result }
 {
     match total.join(minus, form)? {

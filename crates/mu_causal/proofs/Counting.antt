@@ -3,15 +3,15 @@ use Rattle.std.proofs.Common.{◌≡◌, ◌∙◌, ℕ, ap, subst, arith, inl, 
 use Rattle.std.specs.Prelude.{true, false, if◌then◌else◌, nat_eq, Option, Some, None, slice_get, ◌⊎◌}
 use Rattle.std.proofs.lemmas.Option.{slice_get_within, slice_get-get_or, slice_get-map}
 use Rattle.std.proofs.lemmas.Bool.{cases_lt}
-use Rattle.mu_flat.specs.declared.flat.FlatVar.{FlatVar}
-use Rattle.mu_flat.specs.FlatExpression.{flat_variable, FlatVariable, FlatModelTree}
+use Rattle.mu_tree.specs.declared.flat.FlatVar.{FlatVar}
+use Rattle.mu_tree.specs.FlatExpression.{flat_variable, FlatVariable, FlatModelTree}
 use Rattle.std.proofs.lemmas.Bool.Decides.{nat_tests}
 use Rattle.std.proofs.lemmas.List.{take_more, map-append, length-map, length-take-le, append-nil, get_or_default}
-use Rattle.mu_flat.specs.declared.flat.FlatEquation.{FlatEquation}
-use Rattle.mu_flat.specs.FlatExpression.{flat_equation, FlatEquationTree}
+use Rattle.mu_tree.specs.declared.flat.FlatEquation.{FlatEquation}
+use Rattle.mu_tree.specs.FlatExpression.{flat_equation, FlatEquationTree}
 use Rattle.mu_causal.specs.declared.count.Given.{Given}
 use Rattle.mu_causal.specs.declared.count.Given.TheVariants.{Never}
-use Rattle.mu_causal.specs.Answers.{IsGiven}
+use Rattle.mu_causal.specs.OrderResults.{IsGiven}
 use Rattle.mu_causal.specs.Dependencies.{numbers_from, wants_equation, HasOneEquation, AreCounted, AreCountedBelow}
 
 -- the variable that is read at a place

@@ -6,13 +6,13 @@ use Rattle.std.proofs.lemmas.Bool.{eqb-true}
 use Rattle.std.proofs.lemmas.List.Elements.{Contains-append_cases, Contains-append_left, Contains-append_right}
 use Rattle.std.proofs.lemmas.Option.{slice_get_within}
 use Rattle.std.proofs.Common.{eq-eqb}
-use Rattle.mu_flat.specs.declared.flat.FlatRole.{FlatRole}
-use Rattle.mu_flat.specs.declared.flat.FlatRole.TheVariants.{State, Discrete, Algebraic}
-use Rattle.mu_flat.specs.FlatExpression.{FlatVariable, FlatEquationTree, FlatModelTree}
+use Rattle.mu_tree.specs.declared.flat.FlatRole.{FlatRole}
+use Rattle.mu_tree.specs.declared.flat.FlatRole.TheVariants.{State, Discrete, Algebraic}
+use Rattle.mu_tree.specs.FlatExpression.{FlatVariable, FlatEquationTree, FlatModelTree}
 use Rattle.std.specs.declared.vec.Vec.{Vec}
 use Rattle.std.specs.declared.alloc.Global.{Global}
 use Rattle.mu_causal.specs.Graphs.{Graph, IsClosed}
-use Rattle.mu_causal.specs.Marks.{IsUnmarked, IsOpen, Needs}
+use Rattle.mu_causal.specs.VisitMarks.{IsUnmarked, IsOpen, Needs}
 use Rattle.mu_causal.specs.Dependencies.{names_of, IsAlgebraic, DependsOn, IsNumbered}
 use Rattle.mu_causal.specs.Flat.{is_known, names_for, row_for, IsGraphOf}
 use Rattle.mu_causal.proofs.Orders.{SaySame}

@@ -1,8 +1,8 @@
-pub mod Passing
+mod Passing
 pub mod Listing
 pub mod Rounds
 pub mod Cycles
 pub mod Orders
-pub mod FlatShapes
+mod FlatShapes
 pub mod FlatGraphs
-pub mod Counting
+mod Counting

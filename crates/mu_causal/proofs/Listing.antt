@@ -10,7 +10,7 @@ use Rattle.std.proofs.Math.ListN.{length-set}
 use Rattle.std.proofs.Math.Seq.{take-append_seam}
 use Rattle.mu_causal.specs.Causality.{IsReady, IsNext, Follow, IsOrder}
 use Rattle.mu_causal.specs.Graphs.{Graph}
-use Rattle.mu_causal.specs.Marks.{IsMarked, IsUnmarked, IsBlocked, IsUnblocked, ArePassed, AreMarks, IsOpen, Needs, IsListing}
+use Rattle.mu_causal.specs.VisitMarks.{IsMarked, IsUnmarked, IsBlocked, IsUnblocked, ArePassed, AreMarks, IsOpen, Needs, IsListing}
 
 -- how many numbers are not marked
 abbrev pub unmarked_count : List Bool → ℕ

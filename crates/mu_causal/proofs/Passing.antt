@@ -10,7 +10,7 @@ use Rattle.std.proofs.Math.ListN.{length-set}
 use Rattle.std.specs.declared.vec.Vec.{Vec}
 use Rattle.std.specs.declared.alloc.Global.{Global}
 use Rattle.mu_causal.specs.Graphs.{Graph, Names, IsClosed}
-use Rattle.mu_causal.specs.Marks.{IsMarked, IsUnmarked, IsBlocked, IsUnblocked, ArePassed}
+use Rattle.mu_causal.specs.VisitMarks.{IsMarked, IsUnmarked, IsBlocked, IsUnblocked, ArePassed}
 
 -- what is read is there
 pub row_there : (g : Graph) (v : ℕ) (row : Vec ℕ Global) → v < length g → row ≡ get_or g v row → slice_get g v ≡ Some row

@@ -4,7 +4,7 @@ use Rattle.std.specs.Prelude.{Contains, Bool, true, false, AllPairs}
 use Prim.Native.Nat.{zero, suc}
 use Rattle.std.proofs.lemmas.List.{get_or_default, take-append-drop, get_or-set_other, get_or-take, get_or-drop, get_or_append_left, get_or-append_right, length-take-le}
 use Rattle.std.proofs.lemmas.Bool.{cases_eq, cases_lt}
-use Rattle.mu_causal.specs.Marks.{IsMarked, IsUnmarked}
+use Rattle.mu_causal.specs.VisitMarks.{IsMarked, IsUnmarked}
 use Rattle.std.proofs.lemmas.List.Elements.{Contains-append_left, Contains-append_right, Contains-append_cases, Contains-push, Contains-get_or}
 use Rattle.std.proofs.lemmas.List.Quantifiers.{all_pairs_push}
 use Rattle.std.proofs.lemmas.Grind.{common_steps, get_or-set_at}

@@ -2,9 +2,9 @@
 use Rattle.std.specs.Prelude.{ℕ, ◌≡◌, Bool, true, false, nat_eq, if◌then◌else◌, List, [], ◌∷◌, ◌++◌, length, Some, slice_get}
 use Rattle.std.specs.declared.vec.Vec.{Vec}
 use Rattle.std.specs.declared.alloc.Global.{Global}
-use Rattle.mu_flat.specs.declared.flat.FlatRole.{FlatRole}
-use Rattle.mu_flat.specs.declared.flat.FlatRole.TheVariants.{State, Discrete, Algebraic}
-use Rattle.mu_flat.specs.FlatExpression.{FlatVariable, FlatEquationTree, FlatModelTree}
+use Rattle.mu_tree.specs.declared.flat.FlatRole.{FlatRole}
+use Rattle.mu_tree.specs.declared.flat.FlatRole.TheVariants.{State, Discrete, Algebraic}
+use Rattle.mu_tree.specs.FlatExpression.{FlatVariable, FlatEquationTree, FlatModelTree}
 use Rattle.mu_causal.specs.Dependencies.{names_of}
 use Rattle.mu_causal.specs.Graphs.{Graph}
 

@@ -1,7 +1,7 @@
 pub mod Causality
 pub mod Graphs
-pub mod Marks
+pub mod VisitMarks
 pub mod Rounds
 pub mod Dependencies
 pub mod Flat
-pub mod Answers
+pub mod OrderResults

@@ -1,13 +1,13 @@
 // How many equations each variable has.
 
 ghost use Rattle.std.specs.Prelude.{◌≡◌, ℕ, ◌<◌, ◌^◌, List, [], ◌∷◌, ◌++◌, length, map, slice_index_or, OnOk, IfOk, IfErr};
-ghost use Rattle.mu_flat.specs.FlatExpression.{flat_equation, flat_model};
+ghost use Rattle.mu_tree.specs.FlatExpression.{flat_equation, flat_model};
 ghost use Rattle.mu_causal.specs.declared.count.Given.TheVariants.{Never};
-ghost use Rattle.mu_causal.specs.Answers.{IsGiven, IsCausalFault};
+ghost use Rattle.mu_causal.specs.OrderResults.{IsGiven, IsCausalFault};
 ghost use Rattle.mu_causal.specs.Dependencies.{numbers_from, AreCounted, IsNumbered, wants_equation};
 
 use crate::answer::CausalErr;
-use mu_flat::{FlatEquation, FlatModel, FlatRole};
+use mu_tree::{FlatEquation, FlatModel, FlatRole};
 use std::alloc::{AllocError, Global};
 
 /// Which equations give a variable, by their numbers from 1 on.

@@ -3,7 +3,7 @@
 ghost use Rattle.std.specs.Prelude.{◌≡◌, ℕ, ◌<◌, ◌≤◌, ◌^◌, length, Contains, IfOk, slice_index};
 ghost use Rattle.mu_causal.specs.Causality.{IsCycle};
 ghost use Rattle.mu_causal.specs.Graphs.{Names, IsClosed};
-ghost use Rattle.mu_causal.specs.Marks.{IsUnmarked, IsBlocked, Needs};
+ghost use Rattle.mu_causal.specs.VisitMarks.{IsUnmarked, IsBlocked, Needs};
 ghost use Rattle.mu_causal.specs.Rounds.{IsTurned};
 
 use crate::graph::first_unmarked;

@@ -2,8 +2,8 @@
 
 ghost use Rattle.std.specs.Prelude.{◌≡◌, ℕ, Bool, true, false, ◌<◌, ◌≤◌, ◌^◌, List, length, slice_index_or, Contains, All, MatchOption, IfOk, IfSome, IfNone};
 ghost use Rattle.mu_causal.specs.Graphs.{Graph, Names, IsClosed};
-ghost use Rattle.mu_causal.specs.Answers.{IsCausality};
-ghost use Rattle.mu_causal.specs.Marks.{IsMarked, IsUnmarked, IsBlocked, IsUnblocked, ArePassed, IsListing};
+ghost use Rattle.mu_causal.specs.OrderResults.{IsCausality};
+ghost use Rattle.mu_causal.specs.VisitMarks.{IsMarked, IsUnmarked, IsBlocked, IsUnblocked, ArePassed, IsListing};
 
 use crate::cycle::cycle_from;
 use std::alloc::{AllocError, Global};

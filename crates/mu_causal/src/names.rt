@@ -1,11 +1,11 @@
 // The names of right sides.
 
 ghost use Rattle.std.specs.Prelude.{◌≡◌, ◌<◌, ◌^◌, ◌++◌, length, map, OnOk, IfOk};
-ghost use Rattle.mu_flat.specs.FlatExpression.{flat_expression, flat_terms_of, flat_factors_of, flat_signed, flat_scaled, flat_equation, flat_variable, flat_model};
+ghost use Rattle.mu_tree.specs.FlatExpression.{flat_expression, flat_terms_of, flat_factors_of, flat_signed, flat_scaled, flat_equation, flat_variable, flat_model};
 ghost use Rattle.mu_causal.specs.Dependencies.{names_of, names_of_terms, names_of_factors};
 ghost use Rattle.mu_causal.specs.Flat.{names_for, is_known, IsGraphOf};
 
-use mu_flat::{FlatEquation, FlatExpr, FlatFactor, FlatModel, FlatRole, FlatTerm, FlatVar};
+use mu_tree::{FlatEquation, FlatExpr, FlatFactor, FlatModel, FlatRole, FlatTerm, FlatVar};
 use std::alloc::{AllocError, Global};
 
 // Appends the variables that an expression names.

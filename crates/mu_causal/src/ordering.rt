@@ -1,17 +1,17 @@
 // The order of a flat model.
 
 ghost use Rattle.std.specs.Prelude.{◌≡◌, ℕ, List, IfOk, IfErr};
-ghost use Rattle.mu_flat.specs.FlatExpression.{flat_model, FlatModelTree};
+ghost use Rattle.mu_tree.specs.FlatExpression.{flat_model, FlatModelTree};
 ghost use Rattle.mu_causal.specs.Causality.{Chain, IsOrder, IsCycle};
 ghost use Rattle.mu_causal.specs.Dependencies.{IsNumbered, AreCounted, IsAlgebraic, DependsOn};
-ghost use Rattle.mu_causal.specs.Answers.{IsCausalFault};
+ghost use Rattle.mu_causal.specs.OrderResults.{IsCausalFault};
 
 use crate::answer::{CausalErr, Order};
 use crate::count::check_counts;
 use crate::graph::{Causality, causality_of};
 use crate::names::{graph_of, known_of};
-use mu_flat::FlatModel;
 use mu_io::Items;
+use mu_tree::FlatModel;
 use std::alloc::Global;
 
 /// The order of the algebraic variables: each next one is the least-numbered one that is not listed

@@ -14,8 +14,8 @@ use Rattle.mu_grammar.specs.Lists.{Runs, no_more, one_more, Listed, listed_end, 
 use Rattle.mu_grammar.specs.Loops.{IsRange, in_range}
 use Rattle.mu_grammar.specs.Bodies as bodies
 use Rattle.mu_grammar.specs.Bodies.{IsBareEquation, equation_kind, IsEquation, IsBareStatement, statement_kind, IsStatement, branch, AreBranches, IsBareClause, clause_kind, IsClause}
-use Rattle.mu_grammar.specs.Models as models
-use Rattle.mu_grammar.specs.Models.{Sections, sections, AddsEquation, AddsClause, AddsStart, IsSection}
+use Rattle.mu_grammar.specs.ModelGrammar as models
+use Rattle.mu_grammar.specs.ModelGrammar.{Sections, sections, AddsEquation, AddsClause, AddsStart, IsSection}
 use Rattle.mu_grammar.specs.States.{Draft, Loop, OpenWhen, OpenBranch, Body, in_equations, in_starts, in_clauses, in_branch, Aim, plain, derivative, initial, assigned, restarted, for_index, for_side, for_first, for_last, State, expects, in_condition, at_body, at_variable, at_target, behind_target_name, behind_target, begin, level, branch_level, body_level, aim_level}
 use Rattle.mu_grammar.specs.DeclarationMachine.{between}
 use Rattle.mu_grammar.specs.BodyMachine.{put_equation, put_start, put_clause, put_statement, enter, next_branch, new_when, new_branch, close_equation}

@@ -12,10 +12,10 @@ use Rattle.mu_grammar.specs.declared.shape.Fixed.TheVariants as fixed
 use Rattle.mu_grammar.specs.Grammar.{Symbol, name, quoted, word, mark}
 use Rattle.mu_grammar.specs.Lists.{Commas, Runs, no_more, one_more, InRound, MaybeString, no_string, a_string}
 use Rattle.mu_grammar.specs.Skipped.{is_named, is_imported, IsImported, import_end, import_token}
-use Rattle.mu_grammar.specs.Declarations as grammar
-use Rattle.mu_grammar.specs.Declarations.{begins_mod, begins_own, begins_arg, begins_set, IsBareMod, IsMod, IsMods, IsSet, IsExperiment, IsOwnArg, IsOwnAnnotation, Settled, IsArg, IsAnnotation, whole_of, IsKind, IsSize, IsValue, IsComponent, IsDeclaration}
-use Rattle.mu_grammar.specs.Models as models
-use Rattle.mu_grammar.specs.Models.{IsHead}
+use Rattle.mu_grammar.specs.DeclarationGrammar as grammar
+use Rattle.mu_grammar.specs.DeclarationGrammar.{begins_mod, begins_own, begins_arg, begins_set, IsBareMod, IsMod, IsMods, IsSet, IsExperiment, IsOwnArg, IsOwnAnnotation, Settled, IsArg, IsAnnotation, whole_of, IsKind, IsSize, IsValue, IsComponent, IsDeclaration}
+use Rattle.mu_grammar.specs.ModelGrammar as models
+use Rattle.mu_grammar.specs.ModelGrammar.{IsHead}
 use Rattle.mu_grammar.specs.States.{Draft, Component, Owner, of_component, of_model, modifications, own_arguments, arguments, settings, for_size, for_start, for_value, for_quantum, for_setting, State, expects, at_heads, importing, at_type, at_component, behind_name, behind_size, behind_modifications, behind_string, behind_annotation, at_item, at_each, behind_item, at_end_name, begin}
 use Rattle.mu_grammar.specs.DeclarationMachine.{new_component, unsettled, between, head, follow_title, follow_declared, follow_component, follow_string, follow_value, follow_modifications, follow_size, follow_name, closed, start_or_skipped, own_or_skipped, open_experiment, argument_or_skipped, setting_or_skipped}
 use Rattle.mu_grammar.proofs.ModelReaders.{GoodEffect, IsModelReader, Follow, follow, read, sum_begins}

@@ -5,8 +5,8 @@ use Rattle.mu_lexer.specs.declared.token.Mark.TheVariants as marks
 use Rattle.mu_tree.specs.ModelTree.{ModelTree}
 use Rattle.mu_grammar.specs.declared.shape.Fixed.TheVariants as fixed
 use Rattle.mu_grammar.specs.Grammar.{Symbol, name, word, mark}
-use Rattle.mu_grammar.specs.Models as models
-use Rattle.mu_grammar.specs.Models.{sections, model_of, SpellsModel}
+use Rattle.mu_grammar.specs.ModelGrammar as models
+use Rattle.mu_grammar.specs.ModelGrammar.{sections, model_of, SpellsModel}
 use Rattle.mu_grammar.specs.States.{State, at_model_name, behind_title, at_end_name, at_last}
 use Rattle.mu_grammar.specs.DeclarationMachine.{new_draft}
 use Rattle.mu_grammar.specs.ModelMachine.{model_machine}

@@ -11,7 +11,7 @@ use Rattle.mu_grammar.specs.Grammar.{Symbol, word, mark}
 use Rattle.mu_grammar.specs.SumMachine.{Frame, Position, at_sum, after_primary, first_part}
 use Rattle.mu_grammar.specs.Conditions.{compared}
 use Rattle.mu_grammar.specs.ConditionMachine.{Stage, before, in_left, in_right, behind, inside, nested}
-use Rattle.mu_grammar.specs.Fronts.{IsToken}
+use Rattle.mu_grammar.specs.Prefixes.{IsToken}
 use Rattle.mu_grammar.proofs.SumsEnds.{ends, one, one_token, token_then}
 use Rattle.mu_grammar.proofs.ConditionsComplete.{IsConditionReader, InLeft, AfterLeft, AfterRight, AfterCondition, left_reader, right_reader, behind_read, after_left_relation}
 

@@ -13,12 +13,12 @@ use Rattle.mu_grammar.specs.Grammar as grammar
 use Rattle.mu_grammar.specs.Conditions.{compared, compare}
 use Rattle.mu_grammar.specs.Lists.{no_more, one_more, last_one, one_then, some_inside, listed_end, listed_then, no_string, a_string}
 use Rattle.mu_grammar.specs.Skipped.{balanced_end, balanced_token, balanced_nested, skipped, skipped_nested, import_end, import_token}
-use Rattle.mu_grammar.specs.Declarations as declarations
-use Rattle.mu_grammar.specs.Declarations.{IsMods}
+use Rattle.mu_grammar.specs.DeclarationGrammar as declarations
+use Rattle.mu_grammar.specs.DeclarationGrammar.{IsMods}
 use Rattle.mu_grammar.specs.Loops as loops
 use Rattle.mu_grammar.specs.Bodies as bodies
-use Rattle.mu_grammar.specs.Models as models
-use Rattle.mu_grammar.specs.Models.{SpellsModel, sections, model_of}
+use Rattle.mu_grammar.specs.ModelGrammar as models
+use Rattle.mu_grammar.specs.ModelGrammar.{SpellsModel, sections, model_of}
 
 -- a number alone
 number_alone : {limit d at : ℕ} {digits : List ℕ} {rest : List Symbol} → IsSum limit d (number digits at ∷ rest) rest (Number digits at)

@@ -3,7 +3,7 @@ use Rattle.std.proofs.Common.{◌≡◌, true, false, refl, Result, Ok, Err, IfO
 use Rattle.mu_lexer.specs.declared.token.Mark.TheVariants as marks
 use Rattle.mu_grammar.specs.declared.shape.Fixed.TheVariants as fixed
 use Rattle.mu_grammar.specs.Grammar.{Symbol, mark}
-use Rattle.mu_grammar.specs.Machines.{advances, descends}
+use Rattle.mu_grammar.specs.ReaderMachines.{advances, descends}
 use Rattle.mu_grammar.specs.Shapes.{is_fixed}
 use Rattle.mu_grammar.specs.States.{Component, Place, modifications, for_size, for_value, at_item, begin}
 use Rattle.mu_grammar.specs.DeclarationMachine.{closed, begin_item, begin_first_item, follow_name, follow_size, follow_modifications, follow_value}

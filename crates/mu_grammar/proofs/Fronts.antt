@@ -3,8 +3,8 @@ use Rattle.std.proofs.Common.{◌≡◌, ℕ, ◌+◌, ◌<◌, ◌≤◌, Bool,
 use Rattle.std.proofs.lemmas.List.{take_more, take-append-drop}
 use Rattle.std.proofs.lemmas.List.Elements.{All-nil}
 use Rattle.mu_grammar.specs.Grammar.{Symbol}
-use Rattle.mu_grammar.specs.Machines.{Effect, advances, descends, finishes, refuses, Next, go, done, syntax, deep, Machine, deeper, allow, step_on, after}
-use Rattle.mu_grammar.specs.Fronts.{IsToken, IsFront, StopsForGood, StopsDeep, EndsEarly, Decides}
+use Rattle.mu_grammar.specs.ReaderMachines.{Effect, advances, descends, finishes, refuses, Next, go, done, syntax, deep, Machine, deeper, allow, step_on, after}
+use Rattle.mu_grammar.specs.Prefixes.{IsToken, IsFront, StopsForGood, StopsDeep, EndsEarly, Decides}
 
 -- with more levels allowed, a machine goes the same way, unless it was too deep
 pub data Wider {S T : Type 0} : Next S T → Next S T → Type 0 where

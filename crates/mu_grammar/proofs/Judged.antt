@@ -6,8 +6,8 @@ use Rattle.std.proofs.lemmas.List.Elements.{All-append, All-drop, All-take}
 use Rattle.mu_grammar.specs.declared.fault.ParseErr.{ParseErr}
 use Rattle.mu_grammar.specs.declared.fault.ParseErr.TheVariants as errors
 use Rattle.mu_grammar.specs.Grammar.{Symbol}
-use Rattle.mu_grammar.specs.Machines.{Next, go, done, syntax, deep, Machine, step_on, after}
-use Rattle.mu_grammar.specs.Fronts.{IsToken, IsFront, StopsAt, StopsForGood, StopsDeep, IsReason, AreJudged, JudgedOnce, Decides}
+use Rattle.mu_grammar.specs.ReaderMachines.{Next, go, done, syntax, deep, Machine, step_on, after}
+use Rattle.mu_grammar.specs.Prefixes.{IsToken, IsFront, StopsAt, StopsForGood, StopsDeep, IsReason, AreJudged, JudgedOnce, Decides}
 use Rattle.mu_grammar.proofs.Fronts.{after-next, stops_for_good, stops_deep, ends_early}
 
 neither : (a b : ℕ) → (a < b → ⊥) → (b < a → ⊥) → a ≡ b

@@ -1,33 +1,33 @@
-pub mod CompleteBodies
-pub mod CompleteDeclarations
-pub mod CompleteLists
-pub mod CompleteLoops
-pub mod CompleteModels
-pub mod ConditionsComplete
-pub mod ConditionsEnds
-pub mod ConditionsSound
-pub mod Examples
+mod CompleteBodies
+mod CompleteDeclarations
+mod CompleteLists
+mod CompleteLoops
+mod CompleteModels
+mod ConditionsComplete
+mod ConditionsEnds
+mod ConditionsSound
+mod Examples
 pub mod Follows
 pub mod Fronts
 pub mod Judged
 pub mod Levels
 pub mod ModelDecides
-pub mod ModelEnds
-pub mod ModelReaders
-pub mod Names
+mod ModelEnds
+mod ModelReaders
+mod Names
 pub mod ReadBackBodies
 pub mod ReadBackDeclarations
-pub mod ReadBackHeads
+mod ReadBackHeads
 pub mod ReadBackModels
 pub mod ReadBackSums
-pub mod ReadBackTexts
+mod ReadBackTexts
 pub mod Reading
-pub mod SoundBodies
-pub mod SoundDeclarations
-pub mod SoundLists
-pub mod SoundModels
-pub mod SoundStates
-pub mod SumsComplete
-pub mod SumsEnds
-pub mod SumsSound
+mod SoundBodies
+mod SoundDeclarations
+mod SoundLists
+mod SoundModels
+mod SoundStates
+mod SumsComplete
+mod SumsEnds
+mod SumsSound
 pub mod SourceTokens

@@ -2,9 +2,9 @@
 use Rattle.std.proofs.Common.{◌≡◌, ℕ, ◌<◌, Bool, true, false, List, [], ◌∷◌, refl, sym, subst, nat_lt, arith}
 use Rattle.mu_tree.specs.ModelTree.{ModelTree}
 use Rattle.mu_grammar.specs.Grammar.{Symbol}
-use Rattle.mu_grammar.specs.Machines.{Effect, advances, descends, finishes, refuses, Next, go, done, syntax, deep, deeper, allow, after}
-use Rattle.mu_grammar.specs.Fronts.{Decides}
-use Rattle.mu_grammar.specs.Models.{SpellsModel}
+use Rattle.mu_grammar.specs.ReaderMachines.{Effect, advances, descends, finishes, refuses, Next, go, done, syntax, deep, deeper, allow, after}
+use Rattle.mu_grammar.specs.Prefixes.{Decides}
+use Rattle.mu_grammar.specs.ModelGrammar.{SpellsModel}
 use Rattle.mu_grammar.specs.States.{State}
 use Rattle.mu_grammar.specs.ModelMachine.{model_turn, model_machine}
 use Rattle.mu_grammar.proofs.Fronts.{after-syntax, after-deep}

@@ -5,7 +5,7 @@ use Rattle.mu_lexer.specs.declared.token.Mark.TheVariants as marks
 use Rattle.mu_tree.specs.Expression.{Expression}
 use Rattle.mu_tree.specs.ModelTree.{Condition, ModelTree}
 use Rattle.mu_grammar.specs.Grammar.{Symbol, number, name, quoted, word, mark, IsSum}
-use Rattle.mu_grammar.specs.Machines.{Effect, advances, descends, finishes, refuses}
+use Rattle.mu_grammar.specs.ReaderMachines.{Effect, advances, descends, finishes, refuses}
 use Rattle.mu_grammar.specs.SumMachine as machine
 use Rattle.mu_grammar.specs.SumMachine.{Position, Frame, at_sum, depth_at, Move, moves, opens, wrong, step}
 use Rattle.mu_grammar.specs.ConditionMachine.{Stage, Turn, goes, nests, holds, fails, turn, depth_of}

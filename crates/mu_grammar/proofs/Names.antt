@@ -8,7 +8,7 @@ use Rattle.mu_tree.specs.ModelTree.{Setting}
 use Rattle.mu_tree.specs.declared.tree.SettingName.{SettingName}
 use Rattle.mu_grammar.specs.Grammar.{Symbol, number, name, quoted, word, mark}
 use Rattle.mu_grammar.specs.Skipped.{is_named}
-use Rattle.mu_grammar.specs.Declarations.{Settled, not, begins_mod, begins_own, begins_arg, begins_set, is_none, setting_of}
+use Rattle.mu_grammar.specs.DeclarationGrammar.{Settled, not, begins_mod, begins_own, begins_arg, begins_set, is_none, setting_of}
 use Rattle.mu_grammar.specs.States.{Draft, Component, Owner, modifications, own_arguments, arguments, settings}
 use Rattle.mu_grammar.specs.DeclarationMachine.{begin_skipped, start_or_skipped, begin_bare_mod, begin_mod, own_or_skipped, begin_own, argument_or_skipped, begin_argument, setting_or_skipped, begin_setting}
 

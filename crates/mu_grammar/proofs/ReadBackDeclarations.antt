@@ -13,9 +13,9 @@ use Rattle.mu_tree.specs.Canonical.{written_kind}
 use Rattle.mu_grammar.specs.Grammar.{Symbol, word}
 use Rattle.mu_grammar.specs.Lists.{Runs, no_more, one_more, Commas, last_one, one_then, InRound, nothing_inside, some_inside}
 use Rattle.mu_grammar.specs.Skipped.{Balanced, balanced_end, balanced_token, balanced_nested, IsSkipped, skipped, skipped_nested, IsImported, import_end, import_token}
-use Rattle.mu_grammar.specs.Declarations.{IsBareMod, start, other_mod, IsMod, IsMods, no_mods, mods, IsSet, set, other_set, IsExperiment, experiment, IsOwnArg, own_quantum, own_experiment, own_other, IsOwnAnnotation, no_annotation, own_annotation, Settled, IsArg, first_experiment, other_arg, IsAnnotation, no_settings, annotation, IsKind, parameter, constant, discrete, plain, IsSize, no_size, size, IsValue, no_value, value, IsComponent, component, declares}
-use Rattle.mu_grammar.specs.Declarations as grammar
-use Rattle.mu_grammar.specs.Models.{IsHead, import_line, declaration}
+use Rattle.mu_grammar.specs.DeclarationGrammar.{IsBareMod, start, other_mod, IsMod, IsMods, no_mods, mods, IsSet, set, other_set, IsExperiment, experiment, IsOwnArg, own_quantum, own_experiment, own_other, IsOwnAnnotation, no_annotation, own_annotation, Settled, IsArg, first_experiment, other_arg, IsAnnotation, no_settings, annotation, IsKind, parameter, constant, discrete, plain, IsSize, no_size, size, IsValue, no_value, value, IsComponent, component, declares}
+use Rattle.mu_grammar.specs.DeclarationGrammar as grammar
+use Rattle.mu_grammar.specs.ModelGrammar.{IsHead, import_line, declaration}
 use Rattle.mu_grammar.proofs.ReadBackTexts.{past, laid_end, lay_word, Repeats}
 use Rattle.mu_grammar.proofs.ReadBackSums.{Tokens, behind, here, OwnAgain, sum_read}
 use Rattle.mu_grammar.proofs.ReadBackBodies.{behind_string}

@@ -16,9 +16,9 @@ use Rattle.mu_tree.specs.Bare.{bare, bare_declaration, bare_setting}
 use Rattle.mu_tree.specs.Canonical.{optional, written_declaration, setting_name, written_settings, written_annotation}
 use Rattle.mu_grammar.specs.Grammar.{Symbol, name, word, mark}
 use Rattle.mu_grammar.specs.Lists.{Runs, no_more, one_more, Commas, last_one, one_then, some_inside, no_string}
-use Rattle.mu_grammar.specs.Declarations.{start, IsMods, no_mods, mods, setting_of, IsSet, set, experiment, own_quantum, IsOwnAnnotation, no_annotation, own_annotation, first_experiment, IsAnnotation, no_settings, annotation, IsSize, no_size, size, IsValue, no_value, value, component, declares}
-use Rattle.mu_grammar.specs.Declarations as grammar
-use Rattle.mu_grammar.specs.Models.{IsHead, declaration}
+use Rattle.mu_grammar.specs.DeclarationGrammar.{start, IsMods, no_mods, mods, setting_of, IsSet, set, experiment, own_quantum, IsOwnAnnotation, no_annotation, own_annotation, first_experiment, IsAnnotation, no_settings, annotation, IsSize, no_size, size, IsValue, no_value, value, component, declares}
+use Rattle.mu_grammar.specs.DeclarationGrammar as grammar
+use Rattle.mu_grammar.specs.ModelGrammar.{IsHead, declaration}
 use Rattle.mu_grammar.proofs.ReadBackTexts.{past, laid_end, lay_mark, lay_word, lay_name, lay_both, Repeats}
 use Rattle.mu_grammar.proofs.ReadBackSums.{sum_part}
 use Rattle.mu_grammar.proofs.ReadBackBodies.{le_self}

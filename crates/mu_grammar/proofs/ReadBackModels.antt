@@ -10,10 +10,10 @@ use Rattle.mu_tree.specs.ModelTree.{EquationTree, StatementTree, ClauseTree, Mod
 use Rattle.mu_tree.specs.Bare.{bare_equation, bare_statement, bare_clause, bare_declaration, bare_setting, bare_model}
 use Rattle.mu_tree.specs.Canonical.{section, written_equation, written_equations, written_statement, written_statements, written_clause, written_clauses, written_model}
 use Rattle.mu_grammar.specs.Grammar.{Symbol, name, word, mark}
-use Rattle.mu_grammar.specs.Fronts.{IsToken}
+use Rattle.mu_grammar.specs.Prefixes.{IsToken}
 use Rattle.mu_grammar.specs.Lists.{Runs, no_more, one_more, no_string}
 use Rattle.mu_grammar.specs.Bodies.{IsEquation, IsStatement, IsClause}
-use Rattle.mu_grammar.specs.Models.{IsHead, Sections, sections, AddsEquation, adds_equation, AddsClause, adds_clause, AddsStart, adds_start, IsSection, equations, clauses, starts, model_of, SpellsModel, model}
+use Rattle.mu_grammar.specs.ModelGrammar.{IsHead, Sections, sections, AddsEquation, adds_equation, AddsClause, adds_clause, AddsStart, adds_start, IsSection, equations, clauses, starts, model_of, SpellsModel, model}
 use Rattle.mu_grammar.specs.ReadBack.{ReadsBack}
 use Rattle.mu_grammar.proofs.ReadBackTexts.{past, laid_end, lay_mark, lay_word, lay_name, lay_both, Again, Repeats, laid_source}
 use Rattle.mu_grammar.proofs.ReadBackSums.{Tokens, tokens_of, behind, here}

@@ -14,7 +14,7 @@ use Rattle.mu_tree.specs.Bare.{bare, bare_reference, bare_terms, bare_factors}
 use Rattle.mu_tree.specs.Canonical.{Texts, bracketed, bracketed_if, is_sum, is_sum_or_product, is_compound, written, written_reference, written_terms, written_factors}
 use Rattle.mu_grammar.specs.Grammar.{Symbol, number, name, word, mark, first_place, sum_of, product_of, exponent_of, signed, scaled, IsSum, MoreTerms, IsProduct, MoreFactors, IsFactor, IsPrimary, IsReference}
 use Rattle.mu_grammar.specs.Grammar as grammar
-use Rattle.mu_grammar.specs.Fronts.{IsToken}
+use Rattle.mu_grammar.specs.Prefixes.{IsToken}
 use Rattle.mu_grammar.proofs.ReadBackTexts.{past, laid_end, lay_mark, lay_word, lay_name, lay_number, lay_both, Repeats, by_rule}
 
 -- what an expression is by itself: a sum, a product, a power or a primary

@@ -9,7 +9,7 @@ use Rattle.mu_lexer.specs.declared.token.Kind.{Kind}
 use Rattle.mu_lexer.specs.declared.token.Kind.TheVariants as kinds
 use Rattle.mu_lexer.specs.declared.token.Mark.{Mark}
 use Rattle.mu_lexer.specs.declared.token.Word.{Word}
-use Rattle.mu_lexer.specs.Reading.{is_blank, AreTokens}
+use Rattle.mu_lexer.specs.Tokens.{is_blank, AreTokens}
 use Rattle.mu_lexer.specs.Spelling.{SpellsToken, mark_text, word_text}
 use Rattle.mu_lexer.specs.Spaced.{Piece, IsSpelled, spaced_text, spaced_tokens}
 use Rattle.mu_lexer.proofs.SpacedTexts.{spaced_read}

@@ -6,8 +6,8 @@ use Rattle.mu_lexer.specs.declared.token.Token.{Token}
 use Rattle.mu_grammar.specs.declared.fault.ParseErr.{ParseErr}
 use Rattle.mu_grammar.specs.declared.fault.ParseErr.TheVariants as errors
 use Rattle.mu_grammar.specs.Grammar.{Symbol}
-use Rattle.mu_grammar.specs.Machines.{Next, go, done, syntax, deep, Machine, step_on, after}
-use Rattle.mu_grammar.specs.Fronts.{IsFault, Gives, Decides}
+use Rattle.mu_grammar.specs.ReaderMachines.{Next, go, done, syntax, deep, Machine, step_on, after}
+use Rattle.mu_grammar.specs.Prefixes.{IsFault, Gives, Decides}
 use Rattle.mu_grammar.specs.Symbols.{symbols, symbol_of}
 use Rattle.mu_grammar.proofs.Fronts.{after-next, stops_for_good, stops_deep, syntax_unspelled, deep_unspelled, ends_early}
 

@@ -13,8 +13,8 @@ use Rattle.mu_grammar.specs.Lists.{no_more, one_more, Listed, listed_end, listed
 use Rattle.mu_grammar.specs.Loops.{Kind, IsRange, in_range, IsItem, AreItems, bare, loop, no_items}
 use Rattle.mu_grammar.specs.Bodies as bodies
 use Rattle.mu_grammar.specs.Bodies.{IsBareEquation, equation_kind, IsBareStatement, statement_kind, IsStatement, branch, AreBranches, IsBareClause, clause_kind}
-use Rattle.mu_grammar.specs.Models as models
-use Rattle.mu_grammar.specs.Models.{Sections, AddsEquation, AddsClause, AddsStart}
+use Rattle.mu_grammar.specs.ModelGrammar as models
+use Rattle.mu_grammar.specs.ModelGrammar.{Sections, AddsEquation, AddsClause, AddsStart}
 use Rattle.mu_grammar.specs.States.{Draft, Loop, OpenWhen, OpenBranch, Body, in_equations, in_starts, in_clauses, in_branch, Aim, plain, derivative, initial, assigned, restarted, in_condition, level, branch_level, body_level, aim_level}
 use Rattle.mu_grammar.specs.BodyMachine.{with_equation, with_initial, with_clause, with_statement, put_equation, put_start, put_clause, put_statement, branches_of, next_branch, new_when, new_branch, end_branch, leave, begin_equation, begin_start, begin_clause, begin_statement, begin_bare, body_token, variable_token, target_token, follow_target, follow_target_name}
 use Rattle.mu_grammar.proofs.ConditionsSound.{CloseThen}

@@ -7,9 +7,9 @@ use Rattle.mu_tree.specs.ModelTree.{Setting, ModelTree}
 use Rattle.mu_grammar.specs.declared.shape.Fixed.TheVariants as fixed
 use Rattle.mu_grammar.specs.Grammar.{Symbol, name, quoted, word, mark}
 use Rattle.mu_grammar.specs.Lists.{no_string, a_string}
-use Rattle.mu_grammar.specs.Declarations.{IsAnnotation, with_setting}
-use Rattle.mu_grammar.specs.Models as models
-use Rattle.mu_grammar.specs.Models.{model_of, SpellsModel}
+use Rattle.mu_grammar.specs.DeclarationGrammar.{IsAnnotation, with_setting}
+use Rattle.mu_grammar.specs.ModelGrammar as models
+use Rattle.mu_grammar.specs.ModelGrammar.{model_of, SpellsModel}
 use Rattle.mu_grammar.specs.SumMachine as machine
 use Rattle.mu_grammar.specs.SumMachine.{Move, moves, opens, wrong, step, depth_at}
 use Rattle.mu_grammar.specs.ConditionMachine.{Turn, goes, nests, holds, fails, turn, depth_of}

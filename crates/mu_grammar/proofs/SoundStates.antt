@@ -13,14 +13,14 @@ use Rattle.mu_grammar.specs.declared.shape.Bracket.{Bracket}
 use Rattle.mu_grammar.specs.Grammar.{Symbol, name, word, mark, IsSum, IsReference}
 use Rattle.mu_grammar.specs.Lists.{Commas, Runs, InRound, Listed, MaybeString}
 use Rattle.mu_grammar.specs.Skipped.{Balanced, IsImported}
-use Rattle.mu_grammar.specs.Declarations.{IsBareMod, IsMod, IsSet, IsOwnArg, Settled, IsArg, IsAnnotation, whole_of, IsComponent, with_setting}
+use Rattle.mu_grammar.specs.DeclarationGrammar.{IsBareMod, IsMod, IsSet, IsOwnArg, Settled, IsArg, IsAnnotation, whole_of, IsComponent, with_setting}
 use Rattle.mu_grammar.specs.Loops.{Kind, IsRange, AreItems}
 use Rattle.mu_grammar.specs.Bodies.{IsBareEquation, equation_kind, IsBareStatement, statement_kind, IsStatement, AreBranches, IsBareClause, clause_kind}
-use Rattle.mu_grammar.specs.Models.{AddsEquation, AddsClause, AddsStart, IsSection, IsHead, model_of}
-use Rattle.mu_grammar.specs.Machines.{Effect, advances, descends, finishes, refuses}
+use Rattle.mu_grammar.specs.ModelGrammar.{AddsEquation, AddsClause, AddsStart, IsSection, IsHead, model_of}
+use Rattle.mu_grammar.specs.ReaderMachines.{Effect, advances, descends, finishes, refuses}
 use Rattle.mu_grammar.specs.Shapes.{fixed_token, closing}
 use Rattle.mu_grammar.specs.States.{Draft, Component, Loop, OpenWhen, OpenBranch, Body, in_equations, in_starts, in_clauses, in_branch, Aim, plain, derivative, initial, assigned, restarted, Owner, of_component, of_model, Place, modifications, own_arguments, arguments, settings, Waiting, for_size, for_start, for_value, for_quantum, for_setting, for_index, for_side, for_first, for_last, State, expects, in_sum, in_condition, at_model_name, behind_title, at_heads, importing, at_type, at_component, behind_name, behind_size, behind_modifications, behind_string, behind_annotation, at_first_item, at_item, at_each, behind_item, skipping, at_body, at_variable, at_target, behind_target_name, behind_target, at_end_name, at_last, level, branch_level, body_level, aim_level, side_level, place_level, outside}
-use Rattle.mu_grammar.specs.DeclarationMachine.{new_draft, with_size, with_start, with_value, with_quantum, with_component, settled}
+use Rattle.mu_grammar.specs.DeclarationMachine.{new_draft, with_size, with_start, with_value, with_quantum, with_component, after_handlers}
 use Rattle.mu_grammar.specs.BodyMachine.{with_equation, with_initial, with_clause, with_statement, put_equation, put_start, put_statement, enter, branches_of, next_branch, new_branch}
 use Rattle.mu_grammar.proofs.SumsSound.{Completes}
 use Rattle.mu_grammar.proofs.ConditionsSound.{CompletesStage}
@@ -154,7 +154,7 @@ module _ (limit : ℕ) (out : ModelTree) where
 
   abbrev pub ExperimentEnd : Owner → List Setting → List Symbol → Type 0
   ExperimentEnd (of_component c) ss ts = Behind (BehindAnnotation c) (OwnItems c c.declared.quantum) ts
-  ExperimentEnd (of_model d) ss ts = Behind (ArgumentsEnd d (settled ss)) (ArgumentItems d (settled ss)) ts
+  ExperimentEnd (of_model d) ss ts = Behind (ArgumentsEnd d (after_handlers ss)) (ArgumentItems d (after_handlers ss)) ts
 
   -- further items of a place
   abbrev pub ItemsThen : Place → List Symbol → Type 0

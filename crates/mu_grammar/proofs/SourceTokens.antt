@@ -3,12 +3,12 @@ use Rattle.std.proofs.Common.{◌≡◌, ℕ, ◌+◌, ◌-◌, List, take, drop
 use Rattle.std.specs.List.{All}
 use Rattle.std.proofs.lemmas.List.{drop-drop}
 use Rattle.std.proofs.lemmas.List.Elements.{All-nil, All-cons}
-use Rattle.mu_lexer.specs.Reading.{Reads, stay as at_end, blank as over_space, comment as over_remark, token as over_word, AreTokens}
+use Rattle.mu_lexer.specs.Tokens.{Reads, stay as at_end, blank as over_space, comment as over_remark, token as over_word, AreTokens}
 use Rattle.mu_lexer.specs.Spelling.{SpellsToken}
 use Rattle.mu_lexer.specs.declared.token.Kind.{Kind}
 use Rattle.mu_lexer.specs.declared.token.Kind.TheVariants as kind
 use Rattle.mu_lexer.specs.declared.token.Token.{Token}
-use Rattle.mu_grammar.specs.Fronts.{IsToken}
+use Rattle.mu_grammar.specs.Prefixes.{IsToken}
 use Rattle.mu_grammar.specs.SourceTokens.{TokensAreTokens}
 use Rattle.mu_grammar.specs.Symbols.{symbol_with, symbol_of, symbols}
 

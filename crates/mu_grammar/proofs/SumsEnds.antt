@@ -7,7 +7,7 @@ use Rattle.mu_lexer.proofs.TokenKinds.{kind_spelled}
 use Rattle.mu_lexer.specs.declared.token.Mark.TheVariants as marks
 use Rattle.mu_tree.specs.Expression.{Expression, Number, Variable, Previous, Power, Reference, Whole, Element}
 use Rattle.mu_grammar.specs.Grammar.{Symbol, number, name, mark, sum_of}
-use Rattle.mu_grammar.specs.Fronts.{IsToken}
+use Rattle.mu_grammar.specs.Prefixes.{IsToken}
 use Rattle.mu_grammar.specs.SumMachine as machine
 use Rattle.mu_grammar.specs.SumMachine.{Part, Use, previous, Frame, bracket, index, Position, at_sum, at_term, at_operand, at_bracket, at_name, after_name, after_reference, after_primary, at_exponent, after_factor, behind, depth, depth_at, first_part, next_factor, with_term, Move, moves, opens, wrong, after_sum, follow_term, follow_factor, follow_primary, follow_reference, follow_name, operand, begin_sum, begin_bracket, begin_name, follow_caret, step}
 use Rattle.mu_grammar.proofs.SumsComplete.{IsReader, GoodSum, sum_as_term, term_as_factor, factor_as_primary, reference_as_name, primary_as_reference}

@@ -6,10 +6,10 @@ use Rattle.mu_tree.specs.Expression.{Expression, Reference, Whole}
 use Rattle.mu_tree.specs.ModelTree.{Condition, Range, EquationTree, Derivative, Algebraic, EachEquation, equations_of, StatementTree, Assign, Restart, EachStatement, statements_of, BranchTree, ClauseTree, Branches, EachClause, clauses_of, ModelTree}
 use Rattle.mu_grammar.specs.declared.shape.Fixed.TheVariants as fixed
 use Rattle.mu_grammar.specs.Grammar.{Symbol, name, quoted, word, mark}
-use Rattle.mu_grammar.specs.Machines.{Effect, advances, descends, refuses}
+use Rattle.mu_grammar.specs.ReaderMachines.{Effect, advances, descends, refuses}
 use Rattle.mu_grammar.specs.ConditionMachine.{before, Turn, goes, nests, holds, fails}
 use Rattle.mu_grammar.specs.Bodies.{branch}
-use Rattle.mu_grammar.specs.Models.{sections}
+use Rattle.mu_grammar.specs.ModelGrammar.{sections}
 use Rattle.mu_grammar.specs.States.{Draft, Loop, OpenWhen, OpenBranch, Body, in_equations, in_starts, in_clauses, in_branch, Aim, plain, derivative, initial, assigned, restarted, for_index, for_side, for_first, for_last, State, expects, in_condition, at_body, at_variable, at_target, behind_target_name, behind_target, begin, level, branch_level, body_level, aim_level}
 use Rattle.mu_grammar.specs.DeclarationMachine.{between}
 

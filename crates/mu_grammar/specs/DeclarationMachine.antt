@@ -13,11 +13,11 @@ use Rattle.mu_grammar.specs.declared.shape.Bracket.TheVariants as brackets
 use Rattle.mu_grammar.specs.declared.shape.Shape.{Shape}
 use Rattle.mu_grammar.specs.declared.shape.Shape.TheVariants as shapes
 use Rattle.mu_grammar.specs.Grammar.{Symbol, name, quoted, word, mark}
-use Rattle.mu_grammar.specs.Machines.{Effect, advances, descends, refuses}
+use Rattle.mu_grammar.specs.ReaderMachines.{Effect, advances, descends, refuses}
 use Rattle.mu_grammar.specs.Shapes.{shape_of, is_same}
 use Rattle.mu_grammar.specs.Skipped.{is_named}
-use Rattle.mu_grammar.specs.Declarations.{Settled, setting_of}
-use Rattle.mu_grammar.specs.Models.{sections}
+use Rattle.mu_grammar.specs.DeclarationGrammar.{Settled, setting_of}
+use Rattle.mu_grammar.specs.ModelGrammar.{sections}
 use Rattle.mu_grammar.specs.States.{Draft, Component, Owner, of_component, of_model, Place, modifications, own_arguments, arguments, settings, for_size, for_start, for_value, for_quantum, for_setting, State, expects, at_heads, importing, at_type, at_component, behind_name, behind_size, behind_modifications, behind_string, behind_annotation, at_first_item, at_item, at_each, behind_item, skipping, at_body, at_end_name, in_equations, in_starts, in_clauses, begin, level, place_level}
 
 -- a model of which the name is read
@@ -49,8 +49,8 @@ abbrev pub unsettled : Settled
 unsettled = record { seen = false; settings = [] }
 
 -- an experiment with these settings was read
-abbrev pub settled : List Setting → Settled
-settled ss = record { seen = true; settings = ss }
+abbrev pub after_handlers : List Setting → Settled
+after_handlers ss = record { seen = true; settings = ss }
 
 -- what may follow the head of a model, a section, or the last of its items
 abbrev pub between : Draft → Symbol → Effect State ModelTree
@@ -132,7 +132,7 @@ closed (modifications c) = behind_modifications c
 closed (own_arguments c) = behind_annotation c
 closed (arguments d s) = expects fixed.Semicolon (expects fixed.EndWord (at_end_name d s.settings))
 closed (settings (of_component c) ss) = behind_item (own_arguments c)
-closed (settings (of_model d) ss) = behind_item (arguments d (settled ss))
+closed (settings (of_model d) ss) = behind_item (arguments d (after_handlers ss))
 
 -- behind an item
 abbrev pub follow_item : Place → Symbol → Effect State ModelTree

@@ -5,12 +5,12 @@ use Rattle.mu_tree.specs.Expression.{Expression, Element}
 use Rattle.mu_tree.specs.ModelTree.{range, Setting, ModelTree}
 use Rattle.mu_grammar.specs.declared.shape.Fixed.TheVariants as fixed
 use Rattle.mu_grammar.specs.Grammar.{Symbol, name, mark}
-use Rattle.mu_grammar.specs.Machines.{Effect, advances, descends, finishes, refuses, Machine}
+use Rattle.mu_grammar.specs.ReaderMachines.{Effect, advances, descends, finishes, refuses, Machine}
 use Rattle.mu_grammar.specs.Shapes.{is_fixed, shape_of}
 use Rattle.mu_grammar.specs.SumMachine.{Move, moves, opens, ends, wrong, step, depth_at}
 use Rattle.mu_grammar.specs.ConditionMachine.{turn, depth_of}
-use Rattle.mu_grammar.specs.Declarations.{with_setting}
-use Rattle.mu_grammar.specs.Models.{model_of}
+use Rattle.mu_grammar.specs.DeclarationGrammar.{with_setting}
+use Rattle.mu_grammar.specs.ModelGrammar.{model_of}
 use Rattle.mu_grammar.specs.States.{Draft, modifications, own_arguments, settings, Waiting, for_size, for_start, for_value, for_quantum, for_setting, for_index, for_side, for_first, for_last, State, expects, in_sum, in_condition, at_model_name, behind_title, at_heads, importing, at_type, at_component, behind_name, behind_size, behind_modifications, behind_string, behind_annotation, at_first_item, at_item, at_each, behind_item, skipping, at_body, at_variable, at_target, behind_target_name, behind_target, at_end_name, at_last, level, outside}
 use Rattle.mu_grammar.specs.DeclarationMachine.{new_draft, with_size, with_start, with_value, with_quantum, head, follow_title, import_token, type_token, component_token, follow_component, follow_string, follow_value, follow_modifications, follow_size, follow_name, follow_item, skip_shape, begin_bare_mod, begin_item, begin_first_item, close_size}
 use Rattle.mu_grammar.specs.BodyMachine.{body_token, variable_token, close_first, close_last, target_token, follow_target, follow_target_name, close_index, close_side, condition_turn}

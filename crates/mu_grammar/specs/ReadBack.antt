@@ -1,11 +1,11 @@
 -- What it means that a model's canonical text reads back as this model.
 use Rattle.std.specs.Prelude.{◌≡◌, ℕ, List}
 use Rattle.mu_lexer.specs.declared.token.Token.{Token}
-use Rattle.mu_lexer.specs.Reading.{AreTokens}
+use Rattle.mu_lexer.specs.Tokens.{AreTokens}
 use Rattle.mu_tree.specs.Bare.{bare_model}
 use Rattle.mu_tree.specs.Canonical.{canonical_text}
 use Rattle.mu_tree.specs.ModelTree.{ModelTree}
-use Rattle.mu_grammar.specs.Models.{SpellsModel}
+use Rattle.mu_grammar.specs.ModelGrammar.{SpellsModel}
 use Rattle.mu_grammar.specs.Symbols.{symbols}
 
 -- the canonical text has tokens, and these spell the model but for its places, nested at most limit deep

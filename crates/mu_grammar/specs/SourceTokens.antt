@@ -1,8 +1,8 @@
 -- The tokens that a lexer finds, as the grammar's laws speak of them.
 use Rattle.std.specs.Prelude.{ℕ, List, All}
-use Rattle.mu_lexer.specs.Reading.{AreTokens}
+use Rattle.mu_lexer.specs.Tokens.{AreTokens}
 use Rattle.mu_lexer.specs.declared.token.Token.{Token}
-use Rattle.mu_grammar.specs.Fronts.{IsToken}
+use Rattle.mu_grammar.specs.Prefixes.{IsToken}
 use Rattle.mu_grammar.specs.Symbols.{symbols}
 
 -- what a lexer finds in a source are tokens

@@ -8,8 +8,8 @@ use Rattle.mu_grammar.specs.declared.shape.Fixed.{Fixed}
 use Rattle.mu_grammar.specs.declared.shape.Bracket.{Bracket}
 use Rattle.mu_grammar.specs.SumMachine.{Position, Frame, at_sum}
 use Rattle.mu_grammar.specs.ConditionMachine.{Stage}
-use Rattle.mu_grammar.specs.Declarations.{Settled}
-use Rattle.mu_grammar.specs.Models.{Sections}
+use Rattle.mu_grammar.specs.DeclarationGrammar.{Settled}
+use Rattle.mu_grammar.specs.ModelGrammar.{Sections}
 
 -- a model of which the name, and these components and sections, are read
 pub record Draft : Type 0 where

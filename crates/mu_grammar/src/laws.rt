@@ -2,10 +2,10 @@
 
 ghost use Rattle.std.specs.Prelude.{ℕ, List, All};
 ghost use Rattle.mu_tree.specs.ModelTree.{ModelTree};
-ghost use Rattle.mu_grammar.specs.Fronts.{AreJudged, Decides, IsToken, JudgedOnce};
+ghost use Rattle.mu_grammar.specs.Prefixes.{AreJudged, Decides, IsToken, JudgedOnce};
 ghost use Rattle.mu_grammar.specs.Grammar.{Symbol};
 ghost use Rattle.mu_grammar.specs.ModelMachine.{model_machine};
-ghost use Rattle.mu_grammar.specs.Models.{SpellOneModel, SpellsModel};
+ghost use Rattle.mu_grammar.specs.ModelGrammar.{SpellOneModel, SpellsModel};
 ghost use Rattle.mu_grammar.specs.ReadBack.{ReadsBack};
 ghost use Rattle.mu_grammar.specs.SourceTokens.{TokensAreTokens};
 

@@ -1,7 +1,7 @@
 // A writer of std that tells what it took.
 ghost use Rattle.std.specs.Prelude.{◌≡◌, []};
 
-use crate::{Call, Log};
+use crate::log::{Call, Log};
 use std::io;
 use std::io::Write;
 

@@ -2,7 +2,7 @@
 ghost use Rattle.std.specs.Prelude.{◌≡◌, ◌≢◌, ◌≤◌, ◌<◌, ℕ, List, length, Option, Some, None, IsSome, IfSome, IsSomeAnd, IfOk, OnOk, OnErr, MatchResult};
 ghost use Rattle.std.specs.Io.{ReadsAtMost};
 ghost use Rattle.std.specs.Io.KnownBytes.{ReadConsumes};
-ghost use Rattle.mu_io.specs.Faults.{Rose, OnlyCounts};
+ghost use Rattle.mu_io.specs.FaultCounts.{Rose, OnlyCounts};
 ghost use Rattle.mu_io.specs.Files.{Files, Place, file_of, advanced, bytes_left};
 
 use std::alloc::Global;
@@ -45,7 +45,7 @@ pub trait Shelf {
         ensures nothing { OnErr result (selected self.new ≡ None) }
         ensures files { files self.new ≡ files self.old }
         ensures counts { OnlyCounts name.now (faults self.old) (faults self.new) }
-        ensures calm { result ≢ Err SelectErr.Fault
+        ensures no_new_fault { result ≢ Err SelectErr.Fault
             → faults self.new name.now ≡ faults self.old name.now }
         ensures cause { result ≡ Err SelectErr.Fault → Rose (faults self.old name.now) (faults self.new name.now) };
 
@@ -60,7 +60,7 @@ pub trait Shelf {
         ensures files { files self.new ≡ files self.old }
         ensures counts { IfSome (selected self.old)
             (λ place. OnlyCounts place.0 (faults self.old) (faults self.new)) }
-        ensures calm { OnOk result
+        ensures no_new_fault { OnOk result
             (IfSome (selected self.old)
             (λ place. faults self.new place.0 ≡ faults self.old place.0)) }
         ensures cause { OnErr result (IfSome (selected self.old) (λ place. Rose (faults self.old place.0) (faults self.new place.0))) };
@@ -84,7 +84,7 @@ pub fn read_all<S: Shelf>(
         (λ files. IsSomeAnd (file_of files name.now) (λ bytes. limit < length bytes)) }
     ensures files { S.files shelf.new ≡ S.files shelf.old }
     ensures counts { OnlyCounts name.now (S.faults shelf.old) (S.faults shelf.new) }
-    ensures calm { result ≢ Err ReadErr.Fault
+    ensures no_new_fault { result ≢ Err ReadErr.Fault
         → S.faults shelf.new name.now ≡ S.faults shelf.old name.now }
     ensures cause { result ≡ Err ReadErr.Fault
         → Rose (S.faults shelf.old name.now) (S.faults shelf.new name.now) }

@@ -1,8 +1,8 @@
-pub mod Numbers
+mod Numbers
 pub mod Places
 pub mod Progress
-pub mod Runs
-pub mod Scans
+mod Runs
+mod Scans
 pub mod SpacedTexts
-pub mod Spellings
+mod Spellings
 pub mod TokenKinds

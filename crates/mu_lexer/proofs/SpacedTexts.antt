@@ -14,7 +14,7 @@ use Rattle.mu_lexer.specs.declared.token.Kind.TheVariants as kind
 use Rattle.mu_lexer.specs.declared.lex.Standing.TheVariants as standing
 use Rattle.mu_lexer.specs.Spelling.{SpellsToken}
 use Rattle.mu_lexer.specs.Automaton.{after_mark, begin, next, ending, run, kind_from, named, kind_of}
-use Rattle.mu_lexer.specs.Reading.{is_blank, begins_blank, begins_slash, begins_comment, IsLongest, Stands, Reads, stay, blank, token, AreTokens}
+use Rattle.mu_lexer.specs.Tokens.{is_blank, begins_blank, begins_slash, begins_comment, IsLongest, Stands, Reads, stay, blank, token, AreTokens}
 use Rattle.mu_lexer.specs.Spaced.{Piece, IsSpelled, spaced_text, spaced_tokens}
 use Rattle.mu_lexer.proofs.TokenKinds.{spelled_kind}
 use Rattle.mu_lexer.proofs.Runs.{run-take_more, stuck}

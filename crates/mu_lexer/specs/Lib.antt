@@ -1,4 +1,4 @@
 pub mod Automaton
-pub mod Reading
+pub mod Tokens
 pub mod Spaced
 pub mod Spelling

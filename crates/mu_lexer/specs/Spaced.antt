@@ -4,7 +4,7 @@ use Rattle.std.specs.List.{flat_map}
 use Rattle.mu_lexer.specs.declared.token.Kind.{Kind}
 use Rattle.mu_lexer.specs.declared.token.Token.{Token}
 use Rattle.mu_lexer.specs.Spelling.{SpellsToken}
-use Rattle.mu_lexer.specs.Reading.{is_blank}
+use Rattle.mu_lexer.specs.Tokens.{is_blank}
 
 -- a token to be written: its kind, its text, and the blank behind it
 pub record Piece : Type 0 where

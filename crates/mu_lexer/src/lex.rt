@@ -2,7 +2,7 @@
 
 ghost use Rattle.std.specs.Prelude.{◌≡◌, ◌==◌, ◌&&◌, ◌≢◌, ℕ, ◌^◌, ◌≤◌, List, [], ◌⊎◌, All, length, vec_len, IfOk, IfErr, IsTrue};
 ghost use Rattle.mu_lexer.specs.Automaton.{word_among, named};
-ghost use Rattle.mu_lexer.specs.Reading.{
+ghost use Rattle.mu_lexer.specs.Tokens.{
   is_blank,
   begins_blank,
   begins_slash,

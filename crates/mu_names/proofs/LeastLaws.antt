@@ -7,7 +7,7 @@ use Rattle.mu_names.specs.declared.fault.NameErr.{NameErr}
 use Rattle.mu_names.specs.declared.fault.NameErr.TheVariants.{EndName, Duplicate, Unknown, Misused, NoValue, NotWhole, Size, ConstFault, Memory}
 use Rattle.mu_tree.specs.ModelTree.{ModelTree}
 use Rattle.mu_names.specs.Roles.{model_faults, IsRefusal}
-use Rattle.mu_names.specs.Least.{is_before, lesser, least_of, IsLeastFault}
+use Rattle.mu_names.specs.LeastFaults.{is_before, lesser, least_of, IsLeastFault}
 
 -- no fault comes before itself
 before_self : (f : NameErr) → is_before f f ≡ false

@@ -2,7 +2,7 @@
 use Rattle.std.proofs.Common.{◌≡◌, List, [], ◌∷◌, ◌++◌, refl, sym, ap, ◌∙◌}
 use Rattle.std.specs.Prelude.{Option}
 use Rattle.mu_names.specs.declared.fault.NameErr.{NameErr}
-use Rattle.mu_names.specs.Least.{least_of, lesser}
+use Rattle.mu_names.specs.LeastFaults.{least_of, lesser}
 
 -- the least fault of two lists is found one list after the other
 pub least_of_append : (least : Option NameErr) (xs ys : List NameErr) → least_of least (xs ++ ys) ≡ least_of (least_of least xs) ys

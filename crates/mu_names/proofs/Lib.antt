@@ -1,4 +1,4 @@
-pub mod LeastLemmas
+mod LeastLemmas
 pub mod Shapes
 pub mod LeastLaws
-pub mod TableLemmas
+mod TableLemmas

@@ -24,10 +24,10 @@ use Rattle.mu_tree.specs.ModelTree.{Declaration, Setting}
 use Rattle.mu_names.specs.declared.standing.Standing.{Standing}
 use Prim.Native.Nat.{suc}
 use Rattle.mu_num.specs.Fraction.{Fraction}
-use Rattle.mu_names.specs.Declarations.{all_valued, constants_with, meaning_after}
+use Rattle.mu_names.specs.DeclarationFaults.{all_valued, constants_with, meaning_after}
 use Rattle.mu_names.specs.Roles.{is_set, setting_number}
-use Rattle.mu_names.specs.Stands.{declared_by, first_declared, name_of}
-use Rattle.mu_names.specs.Tables.{added_at, entry_at}
+use Rattle.mu_names.specs.DeclaredRoles.{declared_by, first_declared, name_of}
+use Rattle.mu_names.specs.NameTables.{added_at, entry_at}
 
 -- two names that test as one are one
 pub same_bytes : (a b : List ℕ) → bytes_eq a b ≡ true → a ≡ b

@@ -1,7 +1,7 @@
 pub mod Constant
-pub mod Least
-pub mod Tables
-pub mod Stands
+pub mod LeastFaults
+pub mod NameTables
+pub mod DeclaredRoles
 pub mod Naming
-pub mod Declarations
+pub mod DeclarationFaults
 pub mod Roles

@@ -12,7 +12,7 @@ use Rattle.mu_names.specs.declared.standing.Wanted.{Wanted}
 use Rattle.mu_names.specs.declared.standing.Wanted.TheVariants as wanted
 use Rattle.mu_names.specs.declared.standing.Reading.{Reading}
 use Rattle.mu_names.specs.declared.standing.Reading.TheVariants as reading
-use Rattle.mu_names.specs.Stands.{name_of, standing_in}
+use Rattle.mu_names.specs.DeclaredRoles.{name_of, standing_in}
 
 -- a role that a place wants: any value, a constant, a name of one role, one that has a start value, or none at all
 abbrev pub is_wanted : Wanted → Role → Bool

@@ -4,7 +4,7 @@ use Rattle.std.specs.List.{list_any}
 use Rattle.mu_num.specs.Fraction.{Fraction, whole}
 use Rattle.mu_tree.specs.declared.tree.SettingName.{SettingName}
 use Rattle.mu_tree.specs.declared.tree.SettingName.TheVariants as setting
-use Rattle.mu_flat.specs.declared.flat.Settings.{Settings}
+use Rattle.mu_tree.specs.declared.flat.Settings.{Settings}
 use Rattle.mu_tree.specs.ModelTree.{Declaration, Setting, ModelTree, equations_of, statements_of, clauses_of}
 use Rattle.mu_names.specs.declared.fault.NameErr.{NameErr}
 use Rattle.mu_names.specs.declared.fault.NameErr.TheVariants.{EndName, Duplicate, Memory}
@@ -16,9 +16,9 @@ use Rattle.mu_names.specs.declared.scope.Known.{Known}
 use Rattle.mu_names.specs.declared.scope.Scope.{Scope}
 use Rattle.mu_names.specs.declared.scope.Valued.{Valued}
 use Rattle.mu_names.specs.Constant.{value, faults}
-use Rattle.mu_names.specs.Least.{IsLeastFault}
-use Rattle.mu_names.specs.Stands.{derived_in, declared_in, role_of}
-use Rattle.mu_names.specs.Declarations.{no_constants, meaning_after, constants_after, all_valued, declarations_faults, repeated_faults}
+use Rattle.mu_names.specs.LeastFaults.{IsLeastFault}
+use Rattle.mu_names.specs.DeclaredRoles.{derived_in, declared_in, role_of}
+use Rattle.mu_names.specs.DeclarationFaults.{no_constants, meaning_after, constants_after, all_valued, declarations_faults, repeated_faults}
 use Rattle.mu_names.specs.Naming.{starts_faults, equations_faults, clauses_faults}
 
 -- the place of a setting among the six

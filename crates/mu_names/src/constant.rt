@@ -5,7 +5,7 @@ ghost use Rattle.mu_num.specs.Fraction.{Fraction, whole};
 ghost use Rattle.mu_num.specs.declared.NumErr.{NumErr};
 ghost use Rattle.mu_tree.specs.Expression.{expression, reference, signed, scaled, terms_of, factors_of};
 ghost use Rattle.mu_names.specs.declared.meaning.Meaning.{Meaning};
-ghost use Rattle.mu_names.specs.Least.{least_of};
+ghost use Rattle.mu_names.specs.LeastFaults.{least_of};
 ghost use Rattle.mu_names.specs.Constant.{value_of, faults_of, both, both_faults, joined, multiplied, one, one_faults, raised, constant_of, name_faults, indexed_faults, value, sum_value, product_value, reference_value, faults, sum_faults, product_faults, reference_faults, previous_faults};
 
 use crate::fault::{NameErr, note};

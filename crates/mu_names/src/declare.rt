@@ -4,12 +4,12 @@ ghost use Rattle.std.specs.Prelude.{◌≡◌, pos, ℕ, List, [], ◌∷◌, �
 ghost use Rattle.std.specs.Option.{option_map};
 ghost use Rattle.mu_tree.specs.Expression.{expression};
 ghost use Rattle.mu_tree.specs.ModelTree.{declaration, equation, equations_of, model, setting};
-ghost use Rattle.mu_names.specs.Declarations.{all_valued, binding_faults, constants_after, constants_with, declaration_faults, declarations_faults, is_constant, is_size, meaning_after, meaning_of, optional_faults, optional_value, repeated_faults, size_faults, size_of, valued, whole_faults};
-ghost use Rattle.mu_names.specs.Stands.{declared_in, derived, derived_all, derived_in, is_among, role_by};
-ghost use Rattle.mu_names.specs.Least.{least_of};
+ghost use Rattle.mu_names.specs.DeclarationFaults.{all_valued, binding_faults, constants_after, constants_with, declaration_faults, declarations_faults, is_constant, is_size, meaning_after, meaning_of, optional_faults, optional_value, repeated_faults, size_faults, size_of, valued, whole_faults};
+ghost use Rattle.mu_names.specs.DeclaredRoles.{declared_in, derived, derived_all, derived_in, is_among, role_by};
+ghost use Rattle.mu_names.specs.LeastFaults.{least_of};
 ghost use Rattle.mu_names.specs.declared.fault.NameErr.TheVariants.{Duplicate};
 ghost use Rattle.mu_names.specs.Roles.{all_known, known_as, default_settings, role_value, setting_number, settings_faults, settings_from, with_setting};
-ghost use Rattle.mu_names.specs.Tables.{added_at, entry_at, standing_at, is_entry};
+ghost use Rattle.mu_names.specs.NameTables.{added_at, entry_at, standing_at, is_entry};
 
 use crate::constant::{Meanings, evaluate};
 use crate::fault::{NameErr, note};
@@ -18,8 +18,8 @@ use crate::naming::{declared_standing, note_taken};
 use crate::scope::{Known, Valued};
 use crate::standing::{Role, Standing};
 use crate::table::{add, find};
-use mu_flat::Settings;
 use mu_num::Ratio;
+use mu_tree::Settings;
 use mu_tree::expr::Expr;
 use mu_tree::tree::{Decl, Equation, Model, Prefix, SettingItem, SettingName};
 use std::alloc::{AllocError, Global};

@@ -3,10 +3,10 @@
 ghost use Rattle.std.specs.Prelude.{◌≡◌, ℕ, List, [], ◌∷◌, ◌++◌, map, OnOk, IfOk};
 ghost use Rattle.mu_tree.specs.Expression.{expression, reference, signed, scaled, terms_of, factors_of};
 ghost use Rattle.mu_tree.specs.ModelTree.{branch, clause, clauses_of, condition, equation, equations_of, range, statement, statements_of};
-ghost use Rattle.mu_names.specs.Stands.{standing_in, is_among};
-ghost use Rattle.mu_names.specs.Least.{least_of};
+ghost use Rattle.mu_names.specs.DeclaredRoles.{standing_in, is_among};
+ghost use Rattle.mu_names.specs.LeastFaults.{least_of};
 ghost use Rattle.mu_names.specs.Naming.{named_faults, time_faults, taken_faults, expression_faults, reference_faults, terms_faults, factors_faults, range_faults, sides_faults, equation_faults, equations_faults, statement_faults, statements_faults, start_faults, starts_faults, branch_faults, branches_faults, clause_faults, clauses_faults};
-ghost use Rattle.mu_names.specs.Tables.{standing_at};
+ghost use Rattle.mu_names.specs.NameTables.{standing_at};
 
 use crate::fault::{NameErr, note};
 use crate::standing::{Reading, Standing, Wanted};

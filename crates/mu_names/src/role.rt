@@ -3,7 +3,7 @@
 ghost use Rattle.std.specs.Prelude.{◌≡◌, [], bytes_eq, if◌then◌else◌, ◌∷◌, OnOk, IfOk, IfErr};
 ghost use Rattle.mu_tree.specs.ModelTree.{model};
 ghost use Rattle.mu_names.specs.declared.fault.NameErr.TheVariants.{EndName};
-ghost use Rattle.mu_names.specs.Least.{least_of};
+ghost use Rattle.mu_names.specs.LeastFaults.{least_of};
 ghost use Rattle.mu_names.specs.Roles.{model_faults, scope_of, IsRefusal};
 
 use crate::declare::{

@@ -1,9 +1,9 @@
 // What the names of a model come to.
 
 use crate::standing::Role;
-use mu_flat::Settings;
 use mu_io::{Items, Name};
 use mu_num::Ratio;
+use mu_tree::Settings;
 
 /// A declared name.
 #[derive(Drop)]

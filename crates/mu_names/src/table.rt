@@ -1,7 +1,7 @@
 // Tables of names.
 
 ghost use Rattle.std.specs.Prelude.{◌≡◌, OnOk};
-ghost use Rattle.mu_names.specs.Tables.{added_at, entry_at};
+ghost use Rattle.mu_names.specs.NameTables.{added_at, entry_at};
 
 use std::alloc::AllocError;
 use std::collections::BTreeMap;

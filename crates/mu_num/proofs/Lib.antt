@@ -2,15 +2,15 @@ pub mod Integers
 pub mod Tests
 pub mod SizeTests
 pub mod Quotients
-pub mod NearestCases
-pub mod TickLaws
+mod NearestCases
+mod TickLaws
 pub mod FirstTicks
 pub mod NearLevels
-pub mod Divisors
-pub mod Kept
+mod Divisors
+mod Kept
 pub mod Lowest
 pub mod Powers
-pub mod Reading
-pub mod Tokens
-pub mod Decimals
+mod Reading
+mod Tokens
+mod Decimals
 pub mod CurveLaws

@@ -23,7 +23,7 @@ search_step k n d q rest false e low hit none go =
       | inl lt ↦ go lt
       | inr ge ↦
           let same : k ≡ q = omega arith in
-          let passes : nat_eq ((n * k) % d) 0 ≡ true = eq-eqb _ _ (subst (λ x. (n * x) % d ≡ 0) (sym same) hit) in
+          let exceeds : nat_eq ((n * k) % d) 0 ≡ true = eq-eqb _ _ (subst (λ x. (n * x) % d ≡ 0) (sym same) hit) in
           cc
     ]
 

@@ -3,20 +3,20 @@ use Rattle.std.proofs.Common.{◌≡◌, ℕ, ◌^◌, true, false, ℤ, pos, ne
 use Rattle.std.proofs.lemmas.Int.{ints}
 use Rattle.std.proofs.lemmas.Bool.Decides.{nat_tests}
 use Rattle.std.specs.Int.RustNames.{int_lt}
-use Rattle.mu_num.specs.Sizes.{IsWithin, passes}
+use Rattle.mu_num.specs.Sizes.{IsWithin, exceeds}
 
 -- what does not pass is within
-pub passes-within : (bits : ℕ) (z : ℤ) → passes bits z ≡ false → IsWithin bits z
+pub passes-within : (bits : ℕ) (z : ℤ) → exceeds bits z ≡ false → IsWithin bits z
 passes-within bits z e = grind (arith, nat_tests)
 
 -- what is within does not pass
-pub within-passes : (bits : ℕ) (z : ℤ) → IsWithin bits z → passes bits z ≡ false
+pub within-passes : (bits : ℕ) (z : ℤ) → IsWithin bits z → exceeds bits z ≡ false
 within-passes bits z h = grind (arith, nat_tests)
 
 -- what is above the greatest number within passes
-pub above-passes : (bits : ℕ) (z : ℤ) → pos (2 ^ bits) <ℤ z → passes bits z ≡ true
+pub above-passes : (bits : ℕ) (z : ℤ) → pos (2 ^ bits) <ℤ z → exceeds bits z ≡ true
 above-passes bits z h = grind (arith, ints, nat_tests)
 
 -- one that is not above it passes where it is below the least
-pub below-passes : (bits : ℕ) (z least : ℤ) → least ≡ neg_ℤ (pos (2 ^ bits)) → z ≤ℤ pos (2 ^ bits) → int_lt z least ≡ passes bits z
+pub below-passes : (bits : ℕ) (z least : ℤ) → least ≡ neg_ℤ (pos (2 ^ bits)) → z ≤ℤ pos (2 ^ bits) → int_lt z least ≡ exceeds bits z
 below-passes bits z least e high = grind (arith, ints, nat_tests)

@@ -3,8 +3,8 @@ use Rattle.std.specs.Prelude.{ℤ, pos, ◌-ℤ◌, ◌*ℤ◌, ◌<ℤ◌, unsi
 use Rattle.mu_num.specs.Rounding.{floor_of, ceiling_of, nearest_of}
 
 -- the free rule: any level less than one level away from the state
-abbrev pub Free : ℤ → ℤ → ℤ → ℤ → Type 0
-Free unit state old new = pos (unsigned_abs (state -ℤ unit *ℤ new)) <ℤ unit
+abbrev pub IsWithinOneLevel : ℤ → ℤ → ℤ → ℤ → Type 0
+IsWithinOneLevel unit state old new = pos (unsigned_abs (state -ℤ unit *ℤ new)) <ℤ unit
 
 -- the greatest level at most the state
 abbrev pub floor_level : ℤ → ℤ → ℤ → ℤ
@@ -19,7 +19,7 @@ abbrev pub inward_level : ℤ → ℤ → ℤ → ℤ
 inward_level unit state old = if int_lt (unit *ℤ old) state then floor_of state unit else ceiling_of state unit
 
 -- each rule takes a level that the free rule allows
-pub record LevelsAreNear : Type 0 where
-  pub floor : (unit state old : ℤ) → pos 0 <ℤ unit → Free unit state old (floor_level unit state old)
-  pub near : (unit state old : ℤ) → pos 0 <ℤ unit → Free unit state old (near_level unit state old)
-  pub inward : (unit state old : ℤ) → pos 0 <ℤ unit → Free unit state old (inward_level unit state old)
+pub record RulesStayWithinOneLevel : Type 0 where
+  pub floor : (unit state old : ℤ) → pos 0 <ℤ unit → IsWithinOneLevel unit state old (floor_level unit state old)
+  pub near : (unit state old : ℤ) → pos 0 <ℤ unit → IsWithinOneLevel unit state old (near_level unit state old)
+  pub inward : (unit state old : ℤ) → pos 0 <ℤ unit → IsWithinOneLevel unit state old (inward_level unit state old)

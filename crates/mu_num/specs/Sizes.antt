@@ -6,8 +6,8 @@ abbrev pub IsWithin : ℕ → ℤ → Type 0
 IsWithin bits z = unsigned_abs z ≤ 2 ^ bits
 
 -- more than 2 ^ bits in size
-abbrev pub passes : ℕ → ℤ → Bool
-passes bits z = nat_lt (2 ^ bits) (unsigned_abs z)
+abbrev pub exceeds : ℕ → ℤ → Bool
+exceeds bits z = nat_lt (2 ^ bits) (unsigned_abs z)
 
 -- from 1 to 2 ^ bits
 pub record IsPositiveWithin (bits : ℕ) (z : ℤ) : Type 0 where

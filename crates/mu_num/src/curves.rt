@@ -4,7 +4,7 @@ ghost use Rattle.std.specs.Prelude.{◌≡◌, ℕ, pos, ◌^◌, ◌<◌, ◌�
 ghost use Rattle.mu_num.specs.Sizes.{IsWithin};
 ghost use Rattle.mu_num.specs.Curves.{sum_to, curve_at, FirstUpTo, FirstReaching};
 
-use crate::ticks::first_past;
+use crate::ticks::first_tick_beyond;
 
 // 0 + 1 + .. + (n - 1).
 fn sum_to(n: u64) -> i128
@@ -114,7 +114,7 @@ fn turn_of(b: i128, back: i128, reach: u64) -> u64
     ensures rises { (m : ℕ) → m < result → (pos m *ℤ back) ≤ℤ b }
     ensures falls { (m : ℕ) → result ≤ m → m < reach → b ≤ℤ (pos m *ℤ back) }
 {
-    match first_past(b, back) {
+    match first_tick_beyond(b, back) {
         Some(n) if n < reach => n,
         _ => reach,
     }

@@ -2,7 +2,7 @@
 
 ghost use Rattle.mu_num.specs.Rounding.{QuotientsAreRight};
 ghost use Rattle.mu_num.specs.Fraction.{LowestTermsAreRight};
-ghost use Rattle.mu_num.specs.Levels.{LevelsAreNear};
+ghost use Rattle.mu_num.specs.Levels.{RulesStayWithinOneLevel};
 ghost use Rattle.mu_num.specs.Decimal.{DecimalsAreRight};
 
 /// The rounded quotients are the numbers that their inequalities allow, and the only ones.
@@ -16,8 +16,8 @@ pub fn lowest_terms_are_right()
 {}
 
 /// Each named rule takes a level less than one level away from the state.
-pub fn levels_are_near()
-    ensures { LevelsAreNear }
+pub fn rules_stay_within_one_level()
+    ensures { RulesStayWithinOneLevel }
 {}
 
 /// A number token has the value that it spells exactly where this is in range.

@@ -13,12 +13,14 @@ mod ticks;
 
 pub use curves::first_curve;
 pub use division::{ceil_div, floor_div, near_div};
-pub use laws::{decimals_are_right, levels_are_near, lowest_terms_are_right, quotients_are_right};
+pub use laws::{
+    decimals_are_right, lowest_terms_are_right, quotients_are_right, rules_stay_within_one_level,
+};
 pub use literal::decimal;
 pub use ratio::{Ratio, nearest};
 pub use root::root_up;
-pub use sizes::{passes, shifted, unit};
-pub use ticks::{first_past, first_tick, tick_later};
+pub use sizes::{exceeds, times_power_of_two, unit};
+pub use ticks::{first_tick, first_tick_beyond, ticks_after};
 
 /// Why a number is refused.
 #[derive(Clone, Copy, PartialEq, Eq, Debug, Drop)]

@@ -148,7 +148,7 @@ fn continued(digits: Digits, byte: u8) -> Digits
     ensures zeros { result.zeros
         ≡ (byte_after (record { number = digits.number; zeros = digits.zeros }) byte).zeros }
     ensures cut { result.number ≤ 2 ^ 64 }
-    ensures few { result.zeros ≤ digits.zeros + 1 }
+    ensures count_limit { result.zeros ≤ digits.zeros + 1 }
 {
     if !is_digit(byte) {
         return digits;
@@ -169,7 +169,7 @@ fn continued(digits: Digits, byte: u8) -> Digits
 fn digits_of(text: &[u8]) -> Digits
     ensures number { result.number ≡ min (significand text.now).number (2 ^ 64) }
     ensures zeros { result.zeros ≡ (significand text.now).zeros }
-    ensures few { result.zeros ≤ length text.now }
+    ensures count_limit { result.zeros ≤ length text.now }
     ensures cut { result.number ≤ 2 ^ 64 }
 {
     let mut digits = Digits {

@@ -7,7 +7,7 @@ ghost use Rattle.mu_num.specs.Fraction.{lowest, checked, sum, difference, produc
 
 use crate::NumErr;
 use crate::division::near_div;
-use crate::sizes::shifted;
+use crate::sizes::times_power_of_two;
 use std::marker::Model;
 
 /// A fraction in lowest terms, over a positive denominator, both terms at most 2^62 in size.
@@ -196,5 +196,5 @@ pub fn nearest(r: Ratio, bits: u8) -> i128
     ensures nearest { IsNearest (r.num *ℤ pos (2 ^ bits)) (pos r.den) result }
     ensures value { result ≡ nearest_of (r.num *ℤ pos (2 ^ bits)) (pos r.den) }
 {
-    near_div(shifted(r.num, bits), r.den())
+    near_div(times_power_of_two(r.num, bits), r.den())
 }

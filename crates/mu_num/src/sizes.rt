@@ -1,7 +1,7 @@
 // Sizes of whole numbers, and powers of 2.
 
 ghost use Rattle.std.specs.Prelude.{◌≡◌, ◌^◌, ◌≤◌, pos, ◌*ℤ◌, ◌<ℤ◌, ◌≤ℤ◌, unsigned_abs, IsTrue, ◌↔◌};
-ghost use Rattle.mu_num.specs.Sizes.{passes};
+ghost use Rattle.mu_num.specs.Sizes.{exceeds};
 
 /// Whether a number is one of 64 bits without a sign.
 pub(crate) fn is_short(z: i128) -> bool
@@ -11,9 +11,9 @@ pub(crate) fn is_short(z: i128) -> bool
 }
 
 /// Whether a number is more than 2^bits in size.
-pub fn passes(z: i128, bits: u8) -> bool
+pub fn exceeds(z: i128, bits: u8) -> bool
     requires { bits ≤ 126 }
-    ensures { result ≡ passes bits z }
+    ensures { result ≡ exceeds bits z }
 {
     let most = unit(bits);
     z > most || z < -most
@@ -38,7 +38,7 @@ fn times(num: i128, unit: i128) -> i128
 }
 
 /// A number of at most 2^62 in size in units of 2^-bits.
-pub fn shifted(num: i128, bits: u8) -> i128
+pub fn times_power_of_two(num: i128, bits: u8) -> i128
     requires num { unsigned_abs num ≤ 2 ^ 62 }
     requires bits { bits ≤ 64 }
     ensures value { result ≡ num *ℤ pos (2 ^ bits) }

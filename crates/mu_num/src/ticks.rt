@@ -60,7 +60,7 @@ fn later_past(dist: i128, speed: i128) -> Option<u64>
 
 /// The first tick n from 1 to 2^32 with `dist < n * speed`; `None` where there is none. It divides only
 /// where the answer is above 1.
-pub fn first_past(dist: i128, speed: i128) -> Option<u64>
+pub fn first_tick_beyond(dist: i128, speed: i128) -> Option<u64>
     ensures { FirstAfter (λ n. dist <ℤ (pos n *ℤ speed)) 0 result }
 {
     if dist < speed {
@@ -83,7 +83,7 @@ pub fn first_tick(dist: i128, speed: i128) -> Option<u64>
 }
 
 /// So many ticks later, where that is at most 2^32.
-pub fn tick_later(from: u64, ticks: Option<u64>) -> Option<u64>
+pub fn ticks_after(from: u64, ticks: Option<u64>) -> Option<u64>
     requires { from ≤ 2 ^ 32 }
     ensures { result ≡ later_tick from ticks }
 {

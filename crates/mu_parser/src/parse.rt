@@ -1,18 +1,18 @@
 // Reads the model that tokens spell.
 
 ghost use Rattle.std.specs.Prelude.{◌≡◌, ◌<◌, ◌≤◌, ◌^◌, All, IfErr, IfOk, List, Ok, Err, length, ℕ};
-ghost use Rattle.mu_lexer.specs.Reading.{IsWithin};
+ghost use Rattle.mu_lexer.specs.Tokens.{IsWithin};
 ghost use Rattle.mu_tree.specs.ModelTree.{ModelTree, model};
 ghost use Rattle.mu_grammar.specs.declared.fault.ParseErr.{ParseErr};
-ghost use Rattle.mu_grammar.specs.Fronts.{Gives, IsFault};
-ghost use Rattle.mu_grammar.specs.Models.{SpellsModel};
+ghost use Rattle.mu_grammar.specs.Prefixes.{Gives, IsFault};
+ghost use Rattle.mu_grammar.specs.ModelGrammar.{SpellsModel};
 ghost use Rattle.mu_grammar.specs.Symbols.{symbols};
 
+use crate::model::{Next, State, Then, advance};
 pub use mu_grammar::fault::ParseErr;
 use mu_grammar::shape::Fixed;
 use mu_grammar::symbol::Symbol;
 use mu_lexer::token::Token;
-use mu_states::model::{Next, State, Then, advance};
 use mu_tree::tree::Model;
 use std::alloc::Global;
 
@@ -23,7 +23,7 @@ use std::alloc::Global;
 /// tokens where they end too early. `Deep` names the first one such that they begin only deeper models. `Memory` is want of
 /// memory.
 pub fn parse(alloc: Global, source: &[u8], tokens: &[Token]) -> Result<Model, ParseErr>
-    requires few { length tokens.now < 2 ^ 32 }
+    requires count_limit { length tokens.now < 2 ^ 32 }
     requires spans { All (IsWithin source.now) tokens.now }
     ensures spelled { IfOk result (λ m. SpellsModel 64 (symbols source.now tokens.now) (model m)) }
     ensures only { (m : ModelTree) → SpellsModel 64 (symbols source.now tokens.now) m

@@ -1,15 +1,13 @@
 // Copies, and the canonical text of each construct.
 
-use mu_copy::Copied;
-use mu_flat::{
-    FlatBranch, FlatClause, FlatEquation, FlatExpr, FlatFactor, FlatModel, FlatRole, FlatStatement,
-    FlatTerm, FlatVar, Settings,
-};
 use mu_io::Name;
 use mu_num::Ratio;
-use mu_print::write_model;
 use mu_tree::expr::{Expr, Factor, Ref, Term};
 use mu_tree::tree::{Decl, Equation, Model, Prefix, Rel, SettingItem, SettingName};
+use mu_tree::{
+    Copied, FlatBranch, FlatClause, FlatEquation, FlatExpr, FlatFactor, FlatModel, FlatRole,
+    FlatStatement, FlatTerm, FlatVar, Settings, write_model,
+};
 use std::alloc::{AllocError, Global};
 use std::test::Fail;
 

@@ -1,8 +1,8 @@
 // Outside examples.
 
 use mu_num::{
-    NumErr, Ratio, ceil_div, decimal, first_past, first_tick, floor_div, near_div, nearest,
-    root_up, tick_later,
+    NumErr, Ratio, ceil_div, decimal, first_tick, first_tick_beyond, floor_div, near_div, nearest,
+    root_up, ticks_after,
 };
 use std::test::Fail;
 
@@ -55,8 +55,8 @@ fn quotients_and_ticks(rt: HostRuntime) -> Result<(), Fail> {
     assert_eq!(rt; first_tick(10, 5), Some(2));
     assert_eq!(rt; first_tick(-10, -20), None);
     assert_eq!(rt; first_tick(1 << 33, 2), Some(1 << 32));
-    assert_eq!(rt; first_past(10, 5), Some(3));
-    assert_eq!(rt; tick_later(1, Some(1 << 32)), None);
+    assert_eq!(rt; first_tick_beyond(10, 5), Some(3));
+    assert_eq!(rt; ticks_after(1, Some(1 << 32)), None);
     assert_eq!(rt; root_up(17), 5);
     Ok(())
 }

@@ -1,1 +1,2 @@
-pub mod Shapes
+mod Shapes
+pub mod FlatShapes

@@ -2,3 +2,5 @@ pub mod Bare
 pub mod Canonical
 pub mod Expression
 pub mod ModelTree
+pub mod FlatExpression
+pub mod FlatModels

@@ -3,8 +3,8 @@ use Rattle.std.proofs.Common.{◌≡◌, ◌∙◌, refl, sym, ap}
 use Rattle.std.specs.Prelude.{Result, Ok, Err}
 use Rattle.mu_unroll.specs.declared.fault.UnrollErr.{UnrollErr}
 use Rattle.mu_unroll.specs.declared.fault.UnrollErr.TheVariants.{Index, NotWhole, TooMany, ConstFault, Memory}
-use Rattle.mu_unroll.specs.Faults.{IsFault}
-use Rattle.mu_unroll.specs.Values.{then_do}
+use Rattle.mu_unroll.specs.UnrollFaults.{IsFault}
+use Rattle.mu_unroll.specs.ConstantValues.{then_do}
 
 -- a defined fault is one
 pub is_fault : {A : Type 0} (r : Result A UnrollErr) (f : UnrollErr) → r ≡ Err f → IsFault r f

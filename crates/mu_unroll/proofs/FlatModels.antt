@@ -6,11 +6,11 @@ use Rattle.std.proofs.lemmas.List.{length-map}
 use Rattle.std.proofs.lemmas.List.Elements.{All-contains}
 use Prim.Native.Nat.{zero, suc}
 use Rattle.mu_num.specs.Fraction.{Fraction}
-use Rattle.mu_flat.specs.declared.flat.FlatRole.{FlatRole}
-use Rattle.mu_flat.specs.declared.flat.FlatRole.TheVariants as flat_role
+use Rattle.mu_tree.specs.declared.flat.FlatRole.{FlatRole}
+use Rattle.mu_tree.specs.declared.flat.FlatRole.TheVariants as flat_role
 use Rattle.mu_tree.specs.Expression.{Expression, Reference}
-use Rattle.mu_flat.specs.FlatExpression.{FlatExpression, FlatVariable, FlatEquationTree, FlatBranchTree, FlatModelTree}
-use Rattle.mu_flat.specs.FlatModels.{IsFlatExpression, IsFlatClause, IsFlatModel}
+use Rattle.mu_tree.specs.FlatExpression.{FlatExpression, FlatVariable, FlatEquationTree, FlatBranchTree, FlatModelTree}
+use Rattle.mu_tree.specs.FlatModels.{IsFlatExpression, IsFlatClause, IsFlatModel}
 use Rattle.mu_tree.specs.ModelTree.{Range, EquationTree, Derivative, Algebraic, EachEquation, EquationTrees, no_equations, equation_then, StatementTree, Assign, Restart, EachStatement, StatementTrees, no_statements, statement_then, equations_of, statements_of, clauses_of, ModelTree}
 use Rattle.mu_causal.specs.Dependencies.{IsNumbered, names_of}
 use Rattle.mu_names.specs.declared.scope.Known.{Known}
@@ -23,9 +23,9 @@ use Rattle.mu_unroll.specs.declared.place.LoopVar.{LoopVar}
 use Rattle.mu_unroll.specs.declared.place.Meant.{Meant}
 use Rattle.mu_unroll.specs.Counting.{no_counts, with_item}
 use Rattle.mu_unroll.specs.Flattening.{constants_in, found}
-use Rattle.mu_unroll.specs.Places.{count_of_kind, meant_in, scalar_count, scalars_in}
+use Rattle.mu_unroll.specs.VariablePlaces.{count_of_kind, meant_in, scalar_count, scalars_in}
 use Rattle.mu_unroll.specs.Unrolling.{Progress, declared_in, inside, one_start, progress, start_at, unrolled, unrolled_clauses, unrolled_equations, unrolled_start, unrolled_starts, unrolled_with, with_start}
-use Rattle.mu_unroll.specs.Values.{constant_value, then_do}
+use Rattle.mu_unroll.specs.ConstantValues.{constant_value, then_do}
 use Rattle.mu_unroll.specs.WellFormed.{EquationHas, EquationsHave, HasSmallPowers, IsWellFormed}
 use Rattle.mu_unroll.proofs.FlatParts.{AreNamed, expression_flat, expression_named}
 use Rattle.mu_unroll.proofs.Keeping.{IsCounted, IsOfCounts, IsEquationOf, IsSameCount, Kept, KeptClauses, KeptEquations, clause_items, clause_nodes, clauses_kept, equation_nodes, equations_kept, item_counted, kept_none, loop_keeps, sum_ones}

@@ -5,13 +5,13 @@ use Rattle.std.proofs.lemmas.Int.{ints}
 use Rattle.std.proofs.lemmas.List.Elements.{All-append, All-nil, All-cons}
 use Rattle.mu_num.specs.Fraction.{Fraction}
 use Rattle.mu_num.specs.Decimal.{decimal_value}
-use Rattle.mu_flat.specs.declared.flat.FlatRole.{FlatRole}
-use Rattle.mu_flat.specs.declared.flat.FlatRole.TheVariants.{State, Discrete, Algebraic}
+use Rattle.mu_tree.specs.declared.flat.FlatRole.{FlatRole}
+use Rattle.mu_tree.specs.declared.flat.FlatRole.TheVariants.{State, Discrete, Algebraic}
 use Rattle.mu_tree.specs.Expression.{Expression, Number, Variable, Now, Previous, Sum, Product, Power, Reference, Whole, Element, Terms, no_terms, term, Factors, no_factors, factor}
-use Rattle.mu_flat.specs.FlatExpression.{FlatExpression, FlatSigned, FlatScaled, FlatVariable, flat_terms_of, flat_factors_of}
-use Rattle.mu_flat.specs.FlatModels.{IsFlatExpression, AreFlatTerms, AreFlatFactors}
-use Rattle.mu_flat.specs.FlatExpression as trees
-use Rattle.mu_flat.specs.FlatModels as flat
+use Rattle.mu_tree.specs.FlatExpression.{FlatExpression, FlatSigned, FlatScaled, FlatVariable, flat_terms_of, flat_factors_of}
+use Rattle.mu_tree.specs.FlatModels.{IsFlatExpression, AreFlatTerms, AreFlatFactors}
+use Rattle.mu_tree.specs.FlatExpression as trees
+use Rattle.mu_tree.specs.FlatModels as flat
 use Rattle.mu_causal.specs.Dependencies.{names_of, names_of_terms, names_of_factors}
 use Rattle.mu_unroll.specs.declared.fault.UnrollErr.{UnrollErr}
 use Rattle.mu_unroll.specs.declared.fault.UnrollErr.TheVariants.{Index}
@@ -21,8 +21,8 @@ use Rattle.mu_unroll.specs.declared.place.Meant.{Meant}
 use Rattle.mu_unroll.specs.declared.place.Meant.TheVariants as meant
 use Rattle.mu_unroll.specs.Counting.{node_count, term_nodes, factor_nodes}
 use Rattle.mu_unroll.specs.Flattening.{constants_in, element_found, flattened, flattened_factors, flattened_terms, found, index_in, literal_part, number_of_kind, part_of, place_of, previous_part, whole_found}
-use Rattle.mu_unroll.specs.Places.{is_kind, width}
-use Rattle.mu_unroll.specs.Values.{constant_value, placed, then_do, whole_at}
+use Rattle.mu_unroll.specs.VariablePlaces.{is_kind, width}
+use Rattle.mu_unroll.specs.ConstantValues.{constant_value, placed, then_do, whole_at}
 use Rattle.mu_unroll.specs.WellFormed.{HasSmallPowers, HaveSmallPowersTerms, HaveSmallPowersFactors}
 use Rattle.mu_unroll.proofs.Numbering.{AllPoint, PointsTo, below_all, role_at, roles_of}
 use Rattle.mu_unroll.proofs.Rounding.{le_of}

@@ -5,13 +5,13 @@ use Rattle.std.proofs.lemmas.Bool.Decides.{nat_tests}
 use Rattle.std.proofs.lemmas.List.Elements.{All-nil, All-push, All-head, All-tail}
 use Rattle.std.proofs.lemmas.List.Sums.{sum_by_push, sum_by-cons}
 use Prim.Native.Nat.{zero, suc}
-use Rattle.mu_flat.specs.declared.flat.FlatRole.{FlatRole}
-use Rattle.mu_flat.specs.declared.flat.FlatRole.TheVariants.{State, Discrete}
+use Rattle.mu_tree.specs.declared.flat.FlatRole.{FlatRole}
+use Rattle.mu_tree.specs.declared.flat.FlatRole.TheVariants.{State, Discrete}
 use Rattle.mu_tree.specs.Expression.{Expression, Reference}
-use Rattle.mu_flat.specs.FlatExpression.{FlatExpression, FlatVariable, FlatEquationTree, FlatAction, FlatBranchTree}
-use Rattle.mu_flat.specs.FlatExpression as trees
-use Rattle.mu_flat.specs.FlatModels.{HasRole, IsFlatExpression, IsFlatAction, IsFlatBranch, IsFlatClause, action_nodes, target_role}
-use Rattle.mu_flat.specs.FlatModels as flat
+use Rattle.mu_tree.specs.FlatExpression.{FlatExpression, FlatVariable, FlatEquationTree, FlatAction, FlatBranchTree}
+use Rattle.mu_tree.specs.FlatExpression as trees
+use Rattle.mu_tree.specs.FlatModels.{HasRole, IsFlatExpression, IsFlatAction, IsFlatBranch, IsFlatClause, action_nodes, target_role}
+use Rattle.mu_tree.specs.FlatModels as flat
 use Rattle.mu_tree.specs.ModelTree.{Range, EquationTree, Derivative, Algebraic, EachEquation, EquationTrees, no_equations, equation_then, StatementTree, Assign, Restart, EachStatement, StatementTrees, no_statements, statement_then, BranchTree, ClauseTree, Branches, EachClause, ClauseTrees, no_clauses, clause_then, statements_of}
 use Rattle.mu_unroll.specs.declared.counts.Counts.{Counts}
 use Rattle.mu_unroll.specs.declared.fault.UnrollErr.{UnrollErr}
@@ -20,12 +20,12 @@ use Rattle.mu_unroll.specs.declared.place.Found.{Found}
 use Rattle.mu_unroll.specs.declared.place.LoopVar.{LoopVar}
 use Rattle.mu_unroll.specs.declared.place.Meant.{Meant}
 use Rattle.mu_unroll.specs.declared.value.Rounds.{Rounds}
-use Rattle.mu_unroll.specs.Bounds.{bounds_of}
+use Rattle.mu_unroll.specs.LoopBounds.{bounds_of}
 use Rattle.mu_unroll.specs.Counting.{node_count, with_item, with_round}
 use Rattle.mu_unroll.specs.Flattening.{flattened, found, number_of_kind}
-use Rattle.mu_unroll.specs.Places.{meant_in}
+use Rattle.mu_unroll.specs.VariablePlaces.{meant_in}
 use Rattle.mu_unroll.specs.Unrolling.{Progress, assign_to, equation_for, inside, looped, one_action, one_clause, one_equation, progress, repeated, restart_of, rounds_from, unrolled_branch, unrolled_branches, unrolled_clause, unrolled_clauses, unrolled_equation, unrolled_equations, unrolled_statement, unrolled_statements, with_maybe, with_more}
-use Rattle.mu_unroll.specs.Values.{then_do}
+use Rattle.mu_unroll.specs.ConstantValues.{then_do}
 use Rattle.mu_unroll.specs.WellFormed.{EquationHas, EquationsHave, StatementHas, StatementsHave, BranchHas, ClauseHas, ClausesHave, HasSmallPowers}
 use Rattle.mu_unroll.proofs.FlatParts.{Flattens, IsFlat, IsFoundIn, expression_flat, found_in, number_in}
 use Rattle.mu_unroll.proofs.Numbering.{AllPoint, points_inside, role_at, roles_of}

@@ -1,13 +1,13 @@
-pub mod Faulty
-pub mod Totals
-pub mod Rounding
-pub mod Starts
-pub mod Prefixes
-pub mod Placing
+mod Faulty
+mod Totals
+mod Rounding
+mod Starts
+mod Prefixes
+mod Placing
 pub mod Stepping
-pub mod Numbering
-pub mod FlatParts
-pub mod Keeping
+mod Numbering
+mod FlatParts
+mod Keeping
 pub mod FlatModels
 pub mod Listed
-pub mod Whole
+mod Whole

@@ -3,10 +3,10 @@ use Rattle.std.proofs.Common.{◌≡◌, ◌∙◌, ℕ, ◌+◌, ◌^◌, List,
 use Rattle.std.specs.Prelude.{ℤ, pos, ◌+ℤ◌, nat_lt, Bool, true, false, if◌then◌else◌, Option, Some, None, Result, Ok, Err, option_to_list}
 use Prim.Native.Nat.{zero, suc}
 use Rattle.mu_num.specs.Fraction.{Fraction}
-use Rattle.mu_flat.specs.declared.flat.FlatRole.{FlatRole}
-use Rattle.mu_flat.specs.declared.flat.FlatRole.TheVariants as flat_role
+use Rattle.mu_tree.specs.declared.flat.FlatRole.{FlatRole}
+use Rattle.mu_tree.specs.declared.flat.FlatRole.TheVariants as flat_role
 use Rattle.mu_tree.specs.Expression.{Expression, Reference}
-use Rattle.mu_flat.specs.FlatExpression.{FlatExpression, FlatVariable, FlatEquationTree, FlatAction, FlatBranchTree, FlatModelTree}
+use Rattle.mu_tree.specs.FlatExpression.{FlatExpression, FlatVariable, FlatEquationTree, FlatAction, FlatBranchTree, FlatModelTree}
 use Rattle.mu_tree.specs.ModelTree.{Range, EquationTree, Derivative, Algebraic, EachEquation, EquationTrees, no_equations, equation_then, StatementTree, Assign, Restart, EachStatement, StatementTrees, no_statements, statement_then, BranchTree, ClauseTree, Branches, EachClause, ClauseTrees, no_clauses, clause_then, equations_of, statements_of, clauses_of, ModelTree}
 use Rattle.mu_names.specs.declared.scope.Known.{Known}
 use Rattle.mu_unroll.specs.declared.counts.Counts.{Counts}
@@ -16,13 +16,13 @@ use Rattle.mu_unroll.specs.declared.place.Found.{Found}
 use Rattle.mu_unroll.specs.declared.place.LoopVar.{LoopVar}
 use Rattle.mu_unroll.specs.declared.place.Meant.{Meant}
 use Rattle.mu_unroll.specs.declared.value.Rounds.{Rounds}
-use Rattle.mu_unroll.specs.Bounds.{bounds_of}
+use Rattle.mu_unroll.specs.LoopBounds.{bounds_of}
 use Rattle.mu_unroll.specs.Counting.{no_counts, node_count, with_item, with_round}
 use Rattle.mu_unroll.specs.Flattening.{constants_in, found, flattened, number_of_kind}
 use Rattle.mu_unroll.specs.Listing.{StartValue, each_round, each_value, followed, listed, listed_branches, listed_clause, listed_clauses, listed_equation, listed_equations, listed_start, listed_starts, listed_statement, listed_statements, started, the_action, the_branch, the_equation}
-use Rattle.mu_unroll.specs.Places.{meant_in, scalar_count, scalars_in}
+use Rattle.mu_unroll.specs.VariablePlaces.{meant_in, scalar_count, scalars_in}
 use Rattle.mu_unroll.specs.Unrolling.{Progress, assign_to, declared_in, equation_for, inside, looped, one_action, one_clause, one_equation, one_start, progress, repeated, restart_of, rounds_from, unrolled, unrolled_branch, unrolled_branches, unrolled_clause, unrolled_clauses, unrolled_equation, unrolled_equations, unrolled_start, unrolled_starts, unrolled_statement, unrolled_statements, unrolled_with, with_maybe, with_more, with_start}
-use Rattle.mu_unroll.specs.Values.{constant_value, then_do}
+use Rattle.mu_unroll.specs.ConstantValues.{constant_value, then_do}
 use Rattle.mu_unroll.proofs.Faulty.{after}
 use Rattle.mu_unroll.proofs.Stepping.{any_answer, each_then, each_weaker, itself}
 

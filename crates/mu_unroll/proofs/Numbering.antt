@@ -5,15 +5,15 @@ use Rattle.std.specs.List.Sorted.{IsNonDecreasing}
 use Rattle.std.proofs.lemmas.List.{map-append, replicate-append-replicate, length-replicate}
 use Prim.Native.Nat.{zero, suc}
 use Rattle.mu_num.specs.Fraction.{Fraction}
-use Rattle.mu_flat.specs.declared.flat.FlatRole.{FlatRole}
-use Rattle.mu_flat.specs.declared.flat.FlatRole.TheVariants.{State, Discrete, Algebraic}
-use Rattle.mu_flat.specs.FlatExpression.{FlatVariable}
-use Rattle.mu_flat.specs.FlatModels.{HasRole, rank}
+use Rattle.mu_tree.specs.declared.flat.FlatRole.{FlatRole}
+use Rattle.mu_tree.specs.declared.flat.FlatRole.TheVariants.{State, Discrete, Algebraic}
+use Rattle.mu_tree.specs.FlatExpression.{FlatVariable}
+use Rattle.mu_tree.specs.FlatModels.{HasRole, rank}
 use Rattle.mu_names.specs.declared.scope.Known.{Known}
 use Rattle.mu_unroll.specs.declared.place.LoopVar.{LoopVar}
 use Rattle.mu_unroll.specs.declared.place.Meant.{Meant}
 use Rattle.mu_unroll.specs.declared.place.Meant.TheVariants.{Constant, Variable, Nothing}
-use Rattle.mu_unroll.specs.Places.{count_of_kind, elements_from, first_meant, first_of_kind, has_kind, kind_of, loop_value, meant_after, meant_in, scalar, scalar_count, scalars_in, scalars_of, scalars_of_kind, width}
+use Rattle.mu_unroll.specs.VariablePlaces.{count_of_kind, elements_from, first_meant, first_of_kind, has_kind, kind_of, loop_value, meant_after, meant_in, scalar, scalar_count, scalars_in, scalars_of, scalars_of_kind, width}
 use Rattle.mu_unroll.specs.Unrolling.{declared_in}
 use Rattle.mu_unroll.proofs.Placing.{count-append, count-one, width_of}
 

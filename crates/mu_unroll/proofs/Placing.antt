@@ -6,15 +6,15 @@ use Rattle.std.proofs.Math.Path.{fun_ext}
 use Rattle.std.proofs.Math.Seq.{take-suc}
 use Rattle.std.proofs.lemmas.List.{take-append-drop}
 use Prim.Native.Nat.{zero, suc}
-use Rattle.mu_flat.specs.declared.flat.FlatRole.{FlatRole}
-use Rattle.mu_flat.specs.declared.flat.FlatRole.TheVariants.{State, Discrete, Algebraic}
+use Rattle.mu_tree.specs.declared.flat.FlatRole.{FlatRole}
+use Rattle.mu_tree.specs.declared.flat.FlatRole.TheVariants.{State, Discrete, Algebraic}
 use Rattle.mu_names.specs.declared.scope.Known.{Known}
-use Rattle.mu_names.specs.Tables.{added_at}
+use Rattle.mu_names.specs.NameTables.{added_at}
 use Rattle.mu_unroll.specs.declared.place.Meant.{Meant}
 use Rattle.mu_unroll.specs.declared.place.Meant.TheVariants.{Constant, Variable, Nothing}
 use Rattle.mu_unroll.specs.declared.variables.Next.{Next}
 use Rattle.mu_unroll.specs.Nexts.{next_number, next_after, meant_at_next, after_known}
-use Rattle.mu_unroll.specs.Places.{ArePlaced, IsPlaced, count_of_kind, element_name, elements_from, first_meant, first_of_kind, has_kind, is_kind, kind_of, meant_after, scalar, scalar_count, width}
+use Rattle.mu_unroll.specs.VariablePlaces.{ArePlaced, IsPlaced, count_of_kind, element_name, elements_from, first_meant, first_of_kind, has_kind, is_kind, kind_of, meant_after, scalar, scalar_count, width}
 use Rattle.mu_unroll.specs.Unrolling.{declared_in}
 
 -- one element and those after it

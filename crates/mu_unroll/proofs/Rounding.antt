@@ -9,11 +9,11 @@ use Rattle.mu_unroll.specs.declared.counts.Counts.{Counts}
 use Rattle.mu_unroll.specs.declared.fault.UnrollErr.{UnrollErr}
 use Rattle.mu_unroll.specs.declared.place.Meant.{Meant}
 use Rattle.mu_unroll.specs.Counting.{with_round}
-use Rattle.mu_unroll.specs.Faults.{IsFault}
+use Rattle.mu_unroll.specs.UnrollFaults.{IsFault}
 use Rattle.mu_unroll.specs.declared.value.Rounds.{Rounds}
-use Rattle.mu_unroll.specs.Bounds.{IsNear, bounds_of}
+use Rattle.mu_unroll.specs.LoopBounds.{AreRoundsBounded, bounds_of}
 use Rattle.mu_unroll.specs.Unrolling.{Progress, looped, natural, progress, repeated, rounds_from}
-use Rattle.mu_unroll.specs.Values.{then_do}
+use Rattle.mu_unroll.specs.ConstantValues.{then_do}
 use Rattle.mu_unroll.proofs.Faulty.{after, fault_after, fault_same, fault_then}
 
 -- by the difference
@@ -70,11 +70,11 @@ pub loop_begins : {X : Type 0} (known : List ℕ → Meant) (range : Range) (onc
 loop_begins {X} known range once p r e = after (bounds_of known range.at range.from range.to) (λ (x : Rounds). repeated once x.next (rounds_from x.next x.last) p) r e
 
 -- the rounds that are left are near
-pub near_next : (r : Rounds) → IsNear r → IsNear (record { next = r.next +ℤ pos 1; last = r.last })
+pub near_next : (r : Rounds) → AreRoundsBounded r → AreRoundsBounded (record { next = r.next +ℤ pos 1; last = r.last })
 near_next r n = record { low = omega (arith, ints, n.low); high = n.high }
 
 -- a value of a loop variable is small
-pub near_small : (r : Rounds) → IsNear r → r.next ≤ℤ r.last → unsigned_abs r.next ≤ 2 ^ 62
+pub near_small : (r : Rounds) → AreRoundsBounded r → r.next ≤ℤ r.last → unsigned_abs r.next ≤ 2 ^ 62
 near_small r n h = small r.next (omega (arith, ints, n.low)) (omega (arith, ints, n.high))
   where
     small : (z : ℤ) → (neg_ℤ (pos (2 ^ 62))) ≤ℤ z → z ≤ℤ pos (2 ^ 62) → unsigned_abs z ≤ 2 ^ 62

@@ -2,8 +2,8 @@
 use Rattle.std.proofs.Common.{◌≡◌, ◌<◌, ◌≤◌, ℕ, List, [], ◌∷◌, length, map, set, get_or, refl, ap, arith}
 use Prim.Native.Nat.{zero, suc}
 use Rattle.mu_num.specs.Fraction.{Fraction}
-use Rattle.mu_flat.specs.declared.flat.FlatVar.{FlatVar}
-use Rattle.mu_flat.specs.FlatExpression.{FlatVariable, flat_variable}
+use Rattle.mu_tree.specs.declared.flat.FlatVar.{FlatVar}
+use Rattle.mu_tree.specs.FlatExpression.{FlatVariable, flat_variable}
 use Rattle.mu_unroll.specs.Unrolling.{start_at}
 
 -- the variable at a place gets a start value

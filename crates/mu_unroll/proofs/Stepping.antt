@@ -2,7 +2,7 @@
 use Rattle.std.proofs.Common.{◌≡◌, IfOk, refl}
 use Rattle.std.specs.Prelude.{Result, Ok, Err}
 use Rattle.mu_unroll.specs.declared.fault.UnrollErr.{UnrollErr}
-use Rattle.mu_unroll.specs.Values.{then_do}
+use Rattle.mu_unroll.specs.ConstantValues.{then_do}
 
 -- what holds of the second answer, where this holds of the first
 pub each_then : {A B : Type 0} (P : A → Type 0) (Q : B → Type 0) (r : Result A UnrollErr) (next : A → Result B UnrollErr) → IfOk r P → ((a : A) → P a → IfOk (next a) Q) → IfOk (then_do r next) Q

@@ -1,9 +1,9 @@
 -- The whole of unrolling, by its steps.
 use Rattle.std.proofs.Common.{◌≡◌, ◌∙◌, ℕ, ◌+◌, ◌^◌, List, IfOk, refl, sym, ap, ap₂, subst}
 use Rattle.std.specs.Prelude.{nat_lt, Bool, true, false, if◌then◌else◌, Result, Ok, Err}
-use Rattle.mu_flat.specs.declared.flat.FlatModel.{FlatModel}
-use Rattle.mu_flat.specs.FlatExpression.{FlatVariable, FlatModelTree, flat_model}
-use Rattle.mu_flat.specs.FlatModels.{IsFlatModel}
+use Rattle.mu_tree.specs.declared.flat.FlatModel.{FlatModel}
+use Rattle.mu_tree.specs.FlatExpression.{FlatVariable, FlatModelTree, flat_model}
+use Rattle.mu_tree.specs.FlatModels.{IsFlatModel}
 use Rattle.mu_tree.specs.ModelTree.{ModelTree}
 use Rattle.mu_causal.specs.Dependencies.{IsNumbered}
 use Rattle.mu_names.specs.declared.scope.Known.{Known}
@@ -11,7 +11,7 @@ use Rattle.mu_unroll.specs.declared.fault.UnrollErr.{UnrollErr}
 use Rattle.mu_unroll.specs.declared.fault.UnrollErr.TheVariants.{TooMany}
 use Rattle.mu_unroll.specs.declared.place.Meant.{Meant}
 use Rattle.mu_unroll.specs.Listing.{listed}
-use Rattle.mu_unroll.specs.Places.{scalar_count, scalars_in}
+use Rattle.mu_unroll.specs.VariablePlaces.{scalar_count, scalars_in}
 use Rattle.mu_unroll.specs.Unrolling.{declared_in, unrolled, unrolled_with}
 use Rattle.mu_unroll.specs.WellFormed.{IsWellFormed}
 use Rattle.mu_unroll.proofs.FlatModels.{flat_model_right, numbered_right}

@@ -2,19 +2,19 @@
 use Rattle.std.specs.Prelude.{ℕ, ℤ, pos, ◌+◌, ◌-◌, ◌&&◌, int_le, unsigned_abs, Bool, true, false, if◌then◌else◌, List, [], ◌∷◌, Option, Some, None, Result, Ok, Err}
 use Rattle.mu_num.specs.Fraction.{Fraction}
 use Rattle.mu_num.specs.Decimal.{decimal_value}
-use Rattle.mu_flat.specs.declared.flat.FlatRole.{FlatRole}
-use Rattle.mu_flat.specs.declared.flat.FlatRole.TheVariants as flat_role
+use Rattle.mu_tree.specs.declared.flat.FlatRole.{FlatRole}
+use Rattle.mu_tree.specs.declared.flat.FlatRole.TheVariants as flat_role
 use Rattle.mu_tree.specs.Expression.{Expression, Number, Variable, Now, Previous, Sum, Product, Power, Reference, Whole, Element, Terms, no_terms, term, Factors, no_factors, factor}
-use Rattle.mu_flat.specs.FlatExpression.{FlatExpression, FlatSigned, FlatScaled, flat_terms_of, flat_factors_of, Constant}
-use Rattle.mu_flat.specs.FlatExpression as flat
+use Rattle.mu_tree.specs.FlatExpression.{FlatExpression, FlatSigned, FlatScaled, flat_terms_of, flat_factors_of, Constant}
+use Rattle.mu_tree.specs.FlatExpression as flat
 use Rattle.mu_unroll.specs.declared.fault.UnrollErr.{UnrollErr}
 use Rattle.mu_unroll.specs.declared.fault.UnrollErr.TheVariants.{Index}
 use Rattle.mu_unroll.specs.declared.place.Found.{Found}
 use Rattle.mu_unroll.specs.declared.place.Found.TheVariants.{Value, Numbered, Unfound}
 use Rattle.mu_unroll.specs.declared.place.Meant.{Meant}
 use Rattle.mu_unroll.specs.declared.place.Meant.TheVariants as meant
-use Rattle.mu_unroll.specs.Values.{then_do, placed, zero_value, constant_value, whole_at}
-use Rattle.mu_unroll.specs.Places.{constant_of, is_kind}
+use Rattle.mu_unroll.specs.ConstantValues.{then_do, placed, zero_value, constant_value, whole_at}
+use Rattle.mu_unroll.specs.VariablePlaces.{constant_of, is_kind}
 
 -- the constants among what names stand for
 abbrev pub constants_in : (List ℕ → Meant) → List ℕ → Option Fraction

@@ -1,10 +1,10 @@
-pub mod Values
-pub mod Faults
-pub mod Places
-pub mod Tables
+pub mod ConstantValues
+pub mod UnrollFaults
+pub mod VariablePlaces
+pub mod VariableTables
 pub mod Counting
 pub mod Flattening
-pub mod Bounds
+pub mod LoopBounds
 pub mod Unrolling
 pub mod Nexts
 pub mod WellFormed

@@ -3,22 +3,22 @@
 use Rattle.std.specs.Prelude.{ℕ, ℤ, pos, ◌+ℤ◌, Bool, true, false, List, [], ◌∷◌, ◌++◌, Option, Some, None, Result, Ok, Err, option_to_list}
 use Prim.Native.Nat.{zero, suc}
 use Rattle.mu_num.specs.Fraction.{Fraction}
-use Rattle.mu_flat.specs.declared.flat.FlatRole.{FlatRole}
-use Rattle.mu_flat.specs.declared.flat.FlatRole.TheVariants as flat_role
+use Rattle.mu_tree.specs.declared.flat.FlatRole.{FlatRole}
+use Rattle.mu_tree.specs.declared.flat.FlatRole.TheVariants as flat_role
 use Rattle.mu_tree.specs.Expression.{Expression, Reference}
-use Rattle.mu_flat.specs.FlatExpression.{FlatExpression, FlatVariable, FlatEquationTree, FlatAction, FlatBranchTree, FlatModelTree}
-use Rattle.mu_flat.specs.FlatModels.{target_role}
+use Rattle.mu_tree.specs.FlatExpression.{FlatExpression, FlatVariable, FlatEquationTree, FlatAction, FlatBranchTree, FlatModelTree}
+use Rattle.mu_tree.specs.FlatModels.{target_role}
 use Rattle.mu_tree.specs.ModelTree.{Range, EquationTree, Derivative, Algebraic, EachEquation, EquationTrees, no_equations, equation_then, StatementTree, Assign, Restart, EachStatement, StatementTrees, no_statements, statement_then, BranchTree, ClauseTree, Branches, EachClause, ClauseTrees, no_clauses, clause_then, equations_of, statements_of, clauses_of, ModelTree}
 use Rattle.mu_names.specs.declared.scope.Known.{Known}
 use Rattle.mu_unroll.specs.declared.fault.UnrollErr.{UnrollErr}
 use Rattle.mu_unroll.specs.declared.place.Found.{Found}
 use Rattle.mu_unroll.specs.declared.place.LoopVar.{LoopVar}
 use Rattle.mu_unroll.specs.declared.place.Meant.{Meant}
-use Rattle.mu_unroll.specs.Bounds.{bounds_of}
+use Rattle.mu_unroll.specs.LoopBounds.{bounds_of}
 use Rattle.mu_unroll.specs.Flattening.{constants_in, found, flattened, number_of_kind}
-use Rattle.mu_unroll.specs.Places.{meant_in, scalars_in}
+use Rattle.mu_unroll.specs.VariablePlaces.{meant_in, scalars_in}
 use Rattle.mu_unroll.specs.Unrolling.{assign_to, declared_in, equation_for, inside, restart_of, rounds_from, with_start}
-use Rattle.mu_unroll.specs.Values.{then_do, constant_value}
+use Rattle.mu_unroll.specs.ConstantValues.{then_do, constant_value}
 
 -- one list and then another
 abbrev pub followed : {X : Type 0} → Result (List X) UnrollErr → Result (List X) UnrollErr → Result (List X) UnrollErr

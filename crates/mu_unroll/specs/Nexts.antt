@@ -1,12 +1,12 @@
 -- The number of the next variable of each kind.
 use Rattle.std.specs.Prelude.{ℕ, ◌≡◌, ◌+◌, ◌≤◌, Option, Some, None}
-use Rattle.mu_flat.specs.declared.flat.FlatRole.{FlatRole}
-use Rattle.mu_flat.specs.declared.flat.FlatRole.TheVariants.{State, Discrete, Algebraic}
+use Rattle.mu_tree.specs.declared.flat.FlatRole.{FlatRole}
+use Rattle.mu_tree.specs.declared.flat.FlatRole.TheVariants.{State, Discrete, Algebraic}
 use Rattle.mu_names.specs.declared.scope.Known.{Known}
 use Rattle.mu_unroll.specs.declared.place.Meant.{Meant}
 use Rattle.mu_unroll.specs.declared.place.Meant.TheVariants.{Constant, Variable}
 use Rattle.mu_unroll.specs.declared.variables.Next.{Next}
-use Rattle.mu_unroll.specs.Places.{kind_of, width}
+use Rattle.mu_unroll.specs.VariablePlaces.{kind_of, width}
 
 abbrev pub next_number : Next → FlatRole → ℕ
 next_number n State = n.state

@@ -3,12 +3,12 @@
 use Rattle.std.specs.Prelude.{ℕ, ℤ, pos, negsuc, ◌+◌, ◌+ℤ◌, ◌-ℤ◌, ◌^◌, nat_lt, if◌then◌else◌, Bool, true, false, unwrap_or, List, [], ◌∷◌, ◌++◌, Option, Some, None, Result, Ok, Err}
 use Prim.Native.Nat.{zero, suc}
 use Rattle.mu_num.specs.Fraction.{Fraction, whole}
-use Rattle.mu_flat.specs.declared.flat.FlatRole.{FlatRole}
-use Rattle.mu_flat.specs.declared.flat.FlatRole.TheVariants as flat_role
+use Rattle.mu_tree.specs.declared.flat.FlatRole.{FlatRole}
+use Rattle.mu_tree.specs.declared.flat.FlatRole.TheVariants as flat_role
 use Rattle.mu_tree.specs.Expression.{Expression, Reference}
-use Rattle.mu_flat.specs.FlatExpression.{FlatVariable, FlatEquationTree, FlatAction, FlatBranchTree, FlatModelTree}
-use Rattle.mu_flat.specs.FlatExpression as flat
-use Rattle.mu_flat.specs.FlatModels.{target_role}
+use Rattle.mu_tree.specs.FlatExpression.{FlatVariable, FlatEquationTree, FlatAction, FlatBranchTree, FlatModelTree}
+use Rattle.mu_tree.specs.FlatExpression as flat
+use Rattle.mu_tree.specs.FlatModels.{target_role}
 use Rattle.mu_tree.specs.ModelTree.{Range, EquationTree, Derivative, Algebraic, EachEquation, EquationTrees, no_equations, equation_then, StatementTree, Assign, Restart, EachStatement, StatementTrees, no_statements, statement_then, BranchTree, ClauseTree, Branches, EachClause, ClauseTrees, no_clauses, clause_then, equations_of, statements_of, clauses_of, ModelTree}
 use Rattle.mu_names.specs.declared.scope.Known.{Known}
 use Rattle.mu_names.specs.declared.scope.Scope.{Scope}
@@ -20,10 +20,10 @@ use Rattle.mu_unroll.specs.declared.place.Found.TheVariants as found_as
 use Rattle.mu_unroll.specs.declared.place.Meant.{Meant}
 use Rattle.mu_unroll.specs.declared.place.Meant.TheVariants as meant
 use Rattle.mu_unroll.specs.declared.place.LoopVar.{LoopVar}
-use Rattle.mu_unroll.specs.Values.{then_do, constant_value}
-use Rattle.mu_unroll.specs.Places.{meant_in, first_meant, scalars_in, scalar_count}
+use Rattle.mu_unroll.specs.ConstantValues.{then_do, constant_value}
+use Rattle.mu_unroll.specs.VariablePlaces.{meant_in, first_meant, scalars_in, scalar_count}
 use Rattle.mu_unroll.specs.Counting.{node_count, with_item, with_round, no_counts}
-use Rattle.mu_unroll.specs.Bounds.{bounds_of}
+use Rattle.mu_unroll.specs.LoopBounds.{bounds_of}
 use Rattle.mu_unroll.specs.Flattening.{constants_in, found, flattened, number_of_kind}
 
 -- what was made so far, and what was counted

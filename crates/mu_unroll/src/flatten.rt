@@ -2,18 +2,18 @@
 
 ghost use Rattle.std.specs.Prelude.{◌≡◌, map, Ok, IfOk, IfErr};
 ghost use Rattle.mu_tree.specs.Expression.{expression, reference, signed, scaled, terms_of, factors_of};
-ghost use Rattle.mu_flat.specs.FlatExpression.{flat_expression, flat_signed, flat_scaled};
-ghost use Rattle.mu_unroll.specs.Faults.{IsFault};
+ghost use Rattle.mu_tree.specs.FlatExpression.{flat_expression, flat_signed, flat_scaled};
+ghost use Rattle.mu_unroll.specs.UnrollFaults.{IsFault};
 ghost use Rattle.mu_unroll.specs.Flattening.{element_found, flattened, flattened_factors, flattened_terms, found, literal_part, number_of_kind, part_of, place_of, previous_part, whole_found};
-ghost use Rattle.mu_unroll.specs.Places.{ArePlaced, IsPlaced, is_kind, meant_in};
-ghost use Rattle.mu_unroll.specs.Tables.{meant_at};
+ghost use Rattle.mu_unroll.specs.VariablePlaces.{ArePlaced, IsPlaced, is_kind, meant_in};
+ghost use Rattle.mu_unroll.specs.VariableTables.{meant_at};
 
 use crate::fault::UnrollErr;
 use crate::place::{Found, LoopVar, Meant, meaning_of};
 use crate::value::{constant_value, index_in, literal, whole_at};
-use mu_flat::{FlatExpr, FlatFactor, FlatRole, FlatTerm};
 use mu_num::Ratio;
 use mu_tree::expr::{Expr, Factor, Ref, Term};
+use mu_tree::{FlatExpr, FlatFactor, FlatRole, FlatTerm};
 use std::alloc::Global;
 use std::collections::BTreeMap;
 

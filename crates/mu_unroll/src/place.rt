@@ -2,13 +2,13 @@
 
 ghost use Rattle.std.specs.Prelude.{◌≡◌, ◌++◌, ◌∷◌, [], ◌≤◌, ◌^◌, unsigned_abs, IfOk};
 ghost use Rattle.mu_num.specs.Fraction.{whole};
-ghost use Rattle.mu_unroll.specs.Places.{loop_value, meant_in, constant_of};
-ghost use Rattle.mu_unroll.specs.Tables.{meant_at};
+ghost use Rattle.mu_unroll.specs.VariablePlaces.{loop_value, meant_in, constant_of};
+ghost use Rattle.mu_unroll.specs.VariableTables.{meant_at};
 
-use mu_flat::FlatRole;
 use mu_io::Name;
 use mu_names::table::find;
 use mu_num::Ratio;
+use mu_tree::FlatRole;
 use std::alloc::{AllocError, Global};
 use std::collections::BTreeMap;
 

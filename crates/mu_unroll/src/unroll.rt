@@ -2,13 +2,13 @@
 
 ghost use Rattle.std.specs.Prelude.{◌≡◌, map, Ok, IfOk, IfErr};
 ghost use Rattle.mu_tree.specs.Expression.{expression, reference};
-ghost use Rattle.mu_flat.specs.FlatExpression.{flat_action, flat_branch, flat_clause, flat_equation, flat_model, flat_variable};
-ghost use Rattle.mu_flat.specs.FlatModels.{IsFlatModel, target_role};
+ghost use Rattle.mu_tree.specs.FlatExpression.{flat_action, flat_branch, flat_clause, flat_equation, flat_model, flat_variable};
+ghost use Rattle.mu_tree.specs.FlatModels.{IsFlatModel, target_role};
 ghost use Rattle.mu_tree.specs.ModelTree.{branch, clause, clauses_of, equation, equations_of, model, statement, statements_of};
 ghost use Rattle.mu_causal.specs.Dependencies.{IsNumbered};
-ghost use Rattle.mu_unroll.specs.Faults.{IsFault};
-ghost use Rattle.mu_unroll.specs.Places.{ArePlaced, meant_in};
-ghost use Rattle.mu_unroll.specs.Tables.{meant_at};
+ghost use Rattle.mu_unroll.specs.UnrollFaults.{IsFault};
+ghost use Rattle.mu_unroll.specs.VariablePlaces.{ArePlaced, meant_in};
+ghost use Rattle.mu_unroll.specs.VariableTables.{meant_at};
 ghost use Rattle.mu_unroll.specs.Unrolling.{assign_to, one_action, one_equation, one_start, progress, restart_of, one_clause, start_at, unrolled, unrolled_branch, unrolled_branches, unrolled_clause, unrolled_clauses, unrolled_equation, unrolled_equations, unrolled_start, unrolled_starts, unrolled_statement, unrolled_statements, unrolled_with, with_start};
 ghost use Rattle.mu_unroll.specs.Listing.{listed};
 ghost use Rattle.mu_unroll.specs.WellFormed.{IsWellFormed};
@@ -19,11 +19,11 @@ use crate::flatten::{flatten, found, number_of_kind};
 use crate::place::{Found, LoopVar, Meant, inner_loops};
 use crate::value::{bounds_of, constant_value};
 use crate::variables::{are_too_many, declared_names, scalars_in};
-use mu_flat::{FlatBranch, FlatClause, FlatEquation, FlatModel, FlatRole, FlatStatement, FlatVar};
 use mu_names::scope::Scope;
 use mu_num::Ratio;
 use mu_tree::expr::{Expr, Ref};
 use mu_tree::tree::{Branch, Clause, Equation, Model, Statement};
+use mu_tree::{FlatBranch, FlatClause, FlatEquation, FlatModel, FlatRole, FlatStatement, FlatVar};
 use std::alloc::Global;
 use std::collections::BTreeMap;
 

@@ -4,11 +4,11 @@ ghost use Rattle.std.specs.Prelude.{◌≡◌, pos, map, ◌≤◌, ◌^◌, ◌
 ghost use Rattle.mu_num.specs.Decimal.{decimal_value};
 ghost use Rattle.mu_num.specs.Fraction.{whole};
 ghost use Rattle.mu_tree.specs.Expression.{expression, reference, signed, scaled, terms_of, factors_of};
-ghost use Rattle.mu_unroll.specs.Bounds.{IsNear, bounds_of};
+ghost use Rattle.mu_unroll.specs.LoopBounds.{AreRoundsBounded, bounds_of};
 ghost use Rattle.mu_unroll.specs.Flattening.{bound_of, constants_in, index_in};
-ghost use Rattle.mu_unroll.specs.Places.{constant_of, meant_in};
-ghost use Rattle.mu_unroll.specs.Tables.{meant_at};
-ghost use Rattle.mu_unroll.specs.Values.{constant_value, placed, product_value, reference_value, sum_value, whole_at, zero_value};
+ghost use Rattle.mu_unroll.specs.VariablePlaces.{constant_of, meant_in};
+ghost use Rattle.mu_unroll.specs.VariableTables.{meant_at};
+ghost use Rattle.mu_unroll.specs.ConstantValues.{constant_value, placed, product_value, reference_value, sum_value, whole_at, zero_value};
 
 use crate::fault::UnrollErr;
 use crate::place::{LoopVar, Meant, meaning_of};
@@ -197,7 +197,7 @@ impl Rounds {
 
     /// The rounds after the next one.
     pub fn after_next(self) -> Rounds
-        requires near { IsNear self }
+        requires near { AreRoundsBounded self }
         requires there { self.next ≤ℤ self.last }
         ensures { result ≡ record { next = self.next +ℤ pos 1; last = self.last } }
     {
@@ -219,7 +219,7 @@ pub fn bounds_of(
     ensures value { result
         ≡ bounds_of (meant_in loops.now (meant_at declared.now)) at (expression from.now)
         (expression to.now) }
-    ensures near { IfOk result IsNear }
+    ensures near { IfOk result AreRoundsBounded }
 {
     let next = match bound_of(declared, loops, at, from) {
         Ok(next) => next,

@@ -1,19 +1,19 @@
 // The scalar variables of a scope, and what its names stand for.
 
 ghost use Rattle.std.specs.Prelude.{◌≡◌, ◌+◌, ◌^◌, ◌++◌, ◌≤◌, map, min, nat_lt, OnOk, IfOk};
-ghost use Rattle.mu_flat.specs.FlatExpression.{flat_variable};
-ghost use Rattle.mu_unroll.specs.Places.{ArePlaced, count_of_kind, elements_from, element_name, has_kind, is_kind, kind_of, scalar, scalar_count, scalars_in, scalars_of, scalars_of_kind, width};
+ghost use Rattle.mu_tree.specs.FlatExpression.{flat_variable};
+ghost use Rattle.mu_unroll.specs.VariablePlaces.{ArePlaced, count_of_kind, elements_from, element_name, has_kind, is_kind, kind_of, scalar, scalar_count, scalars_in, scalars_of, scalars_of_kind, width};
 ghost use Rattle.mu_unroll.specs.Nexts.{HasRoom, after_known, meant_at_next, next_after, next_number};
-ghost use Rattle.mu_unroll.specs.Tables.{meant_at};
+ghost use Rattle.mu_unroll.specs.VariableTables.{meant_at};
 ghost use Rattle.mu_unroll.specs.Unrolling.{declared_in};
 
 use crate::flatten::is_kind;
 use crate::place::Meant;
-use mu_flat::{FlatRole, FlatVar};
 use mu_io::Name;
 use mu_names::scope::Known;
 use mu_names::standing::Role;
 use mu_names::table::add;
+use mu_tree::{FlatRole, FlatVar};
 use std::alloc::{AllocError, Global};
 use std::collections::BTreeMap;
 

@@ -1,10 +1,10 @@
 // Answers to bytes, with texts that were worked out by hand.
 use mu_io::MemSink;
+use qss_cli::{Share, Task};
 use qss_top::{
-    Given, GivenRuns, Outcome, answer_certificate, answer_comparison, answer_source, answer_trace,
-    answer_upgrade, report,
+    Outcome, RunSource, RunSources, answer_certificate, answer_comparison, answer_source,
+    answer_trace, answer_upgrade, report,
 };
-use qss_words::{Share, Task};
 use std::alloc::Global;
 use std::process::Abort;
 use std::test::Fail;
@@ -61,9 +61,9 @@ fn bytes_are_answered(rt: HostRuntime) -> Result<(), Fail> {
     let outcome = answer_trace(alloc, model, HALVES.as_bytes(), &mut out);
     let summary = "places,scale,refine\n3,1,2\n";
     assert_became(&rt, alloc, &outcome, &out, (0, summary, ""))?;
-    let runs = GivenRuns {
-        one: Given::First,
-        two: Given::Traced(HALVES.as_bytes()),
+    let runs = RunSources {
+        one: RunSource::First,
+        two: RunSource::Traced(HALVES.as_bytes()),
     };
     let mut out = sink(alloc)?;
     let outcome = answer_comparison(alloc, model, CERTIFICATE.as_bytes(), runs, &mut out);
@@ -83,9 +83,9 @@ fn bytes_are_too_many(rt: HostRuntime) -> Result<(), Fail> {
     assert_became(&rt, alloc, &outcome, &out, (5, "", "refused: top 1\n"))?;
     let outcome = answer_upgrade(alloc, &model, &[], &mut out);
     assert_became(&rt, alloc, &outcome, &out, (5, "", "refused: top 1\n"))?;
-    let runs = GivenRuns {
-        one: Given::First,
-        two: Given::Second,
+    let runs = RunSources {
+        one: RunSource::First,
+        two: RunSource::Second,
     };
     let outcome = answer_comparison(alloc, &model, &[], runs, &mut out);
     assert_became(&rt, alloc, &outcome, &out, (5, "", "refused: top 1\n"))?;

@@ -3,7 +3,7 @@
 
 ghost use Rattle.std.specs.Prelude.{◌≡◌, ◌≢◌, ◌⊎◌, [], OnOk, OnErr};
 ghost use Rattle.std.specs.Io.KnownBytes.{Appends};
-ghost use Rattle.mu_io.specs.Faults.{Rose};
+ghost use Rattle.mu_io.specs.FaultCounts.{Rose};
 ghost use Rattle.mu_io.specs.Sinks.{AppendsPrefix};
 
 use mu_io::{FileShelf, LoggedWriter, StdSink, WriteErr, write_all};

@@ -1,29 +1,29 @@
 -- What a phase answers as its fault is a refusal of the source, or want of memory.
 use Rattle.std.proofs.Common.{◌≡◌, ap, sym, subst, refl, inl, inr, ◌⊎◌, ℕ, List}
-use Rattle.mu_affine.specs.Kept.{AreForms, IsAffineFault}
-use Rattle.mu_forms.specs.declared.fault.AffineErr.{AffineErr}
-use Rattle.mu_forms.specs.declared.fault.AffineErr.TheVariants as forming
-use Rattle.mu_causal.specs.Answers.{IsCausalFault}
+use Rattle.mu_affine.specs.KeptForms.{AreForms, IsAffineFault}
+use Rattle.mu_affine.specs.declared.form_fault.AffineErr.{AffineErr}
+use Rattle.mu_affine.specs.declared.form_fault.AffineErr.TheVariants as forming
+use Rattle.mu_causal.specs.OrderResults.{IsCausalFault}
 use Rattle.mu_causal.specs.declared.answer.CausalErr.{CausalErr}
 use Rattle.mu_causal.specs.declared.answer.CausalErr.TheVariants as ordering
-use Rattle.mu_forms.specs.declared.form.Forms.{Forms}
-use Rattle.mu_grammar.specs.Fronts.{IsFault}
-use Rattle.mu_grammar.specs.Models.{SpellsModel}
+use Rattle.mu_affine.specs.declared.form.Forms.{Forms}
+use Rattle.mu_grammar.specs.Prefixes.{IsFault}
+use Rattle.mu_grammar.specs.ModelGrammar.{SpellsModel}
 use Rattle.mu_grammar.specs.Symbols.{symbols}
 use Rattle.mu_grammar.specs.declared.fault.ParseErr.{ParseErr}
 use Rattle.mu_grammar.specs.declared.fault.ParseErr.TheVariants as parsing
-use Rattle.mu_lexer.specs.Reading.{AreTokens, IsFirstFault}
+use Rattle.mu_lexer.specs.Tokens.{AreTokens, IsFirstFault}
 use Rattle.mu_lexer.specs.declared.lex.LexErr.{LexErr}
 use Rattle.mu_lexer.specs.declared.lex.LexErr.TheVariants as lexing
 use Rattle.mu_lexer.specs.declared.token.Token.{Token}
-use Rattle.mu_machine.specs.Checks.{machine_checks, IsRefusal as IsLimit}
-use Rattle.mu_machine.specs.declared.fault.MachineErr.{MachineErr}
+use Rattle.mu_affine.specs.MachineChecks.{machine_checks, IsRefusal as IsLimit}
+use Rattle.mu_affine.specs.declared.machine_fault.MachineErr.{MachineErr}
 use Rattle.mu_names.specs.Roles.{scope_of, IsRefusal}
 use Rattle.mu_names.specs.declared.fault.NameErr.{NameErr}
 use Rattle.mu_names.specs.declared.fault.NameErr.TheVariants as naming
-use Rattle.mu_flat.specs.FlatExpression.{FlatModelTree}
+use Rattle.mu_tree.specs.FlatExpression.{FlatModelTree}
 use Rattle.mu_tree.specs.ModelTree.{ModelTree}
-use Rattle.mu_unroll.specs.Faults as unroll
+use Rattle.mu_unroll.specs.UnrollFaults as unroll
 use Rattle.mu_unroll.specs.Unrolling.{unrolled}
 use Rattle.mu_unroll.specs.declared.fault.UnrollErr.{UnrollErr}
 use Rattle.mu_unroll.specs.declared.fault.UnrollErr.TheVariants as unrolling

@@ -12,19 +12,19 @@ use Rattle.std.specs.Option.{unwrap_or}
 use Rattle.std.proofs.lemmas.Map.{lookup-none}
 use Rattle.std.proofs.lemmas.Map.Entries.{lookup_head, lookup_tail, none_below_head}
 use Rattle.std.proofs.lemmas.Map.Keys.{sorted_head, sorted_tail}
-use Rattle.mu_affine.specs.Kept.{AreForms}
-use Rattle.mu_affine.specs.Normal.{Taken, forms_of}
+use Rattle.mu_affine.specs.KeptForms.{AreForms}
+use Rattle.mu_affine.specs.FormSequence.{Taken, forms_of}
 use Rattle.mu_affine.specs.Solution.{sizes_of}
-use Rattle.mu_forms.specs.AffineForm.{AffineForm, none, is_nonzero}
-use Rattle.mu_forms.specs.Forms.{form_meaning, IsCoefficient, IsCanonical}
-use Rattle.mu_forms.specs.Rows.{named, paired, value_at, IsRising}
-use Rattle.mu_forms.specs.declared.form.ExactEntry.{ExactEntry}
-use Rattle.mu_forms.specs.declared.form.ExactForm.{ExactForm}
-use Rattle.mu_forms.specs.declared.form.Forms.{Forms}
-use Rattle.mu_forms.specs.declared.form.ExactProduct.{ExactProduct}
-use Rattle.mu_forms.proofs.Rows.{IsKeyOrder, level_self, nat_order, pair_order}
+use Rattle.mu_affine.specs.AffineForm.{AffineForm, none, is_nonzero}
+use Rattle.mu_affine.specs.FinishedForms.{form_meaning, IsCoefficient, IsCanonical}
+use Rattle.mu_affine.specs.FormRows.{named, paired, value_at, IsRising}
+use Rattle.mu_affine.specs.declared.form.ExactEntry.{ExactEntry}
+use Rattle.mu_affine.specs.declared.form.ExactForm.{ExactForm}
+use Rattle.mu_affine.specs.declared.form.Forms.{Forms}
+use Rattle.mu_affine.specs.declared.form.ExactProduct.{ExactProduct}
+use Rattle.mu_affine.proofs.RowForms.{IsKeyOrder, level_self, nat_order, pair_order}
 use Rattle.mu_num.specs.Fraction.{Fraction}
-use Rattle.mu_flat.specs.FlatExpression.{FlatModelTree}
+use Rattle.mu_tree.specs.FlatExpression.{FlatModelTree}
 
 -- 0 is no coefficient
 zero_is_none : (a : Fraction) → a ≡ none → is_nonzero a ≡ true → ⊥

@@ -8,9 +8,9 @@ use Rattle.mu_causal.specs.Causality.{IsOrder, IsCycle}
 use Rattle.mu_causal.specs.Dependencies.{names_of, IsAlgebraic, DependsOn, WantsEquation, wants_equation, equation_numbers, HasOneEquation, AreCounted, AreCountedBelow}
 use Rattle.mu_causal.specs.declared.answer.CausalErr.TheVariants as ordering
 use Rattle.mu_causal.proofs.FlatGraphs.{Source}
-use Rattle.mu_flat.specs.FlatExpression.{FlatVariable, FlatEquationTree, FlatModelTree}
-use Rattle.mu_flat.specs.declared.flat.FlatRole.{FlatRole}
-use Rattle.mu_flat.specs.declared.flat.FlatRole.TheVariants.{State, Discrete, Algebraic}
+use Rattle.mu_tree.specs.FlatExpression.{FlatVariable, FlatEquationTree, FlatModelTree}
+use Rattle.mu_tree.specs.declared.flat.FlatRole.{FlatRole}
+use Rattle.mu_tree.specs.declared.flat.FlatRole.TheVariants.{State, Discrete, Algebraic}
 use Rattle.qss_compile.specs.Causes.{of_order, with_names}
 use Rattle.qss_compile.specs.Phases.{HasOrder, OrderRefuses}
 use Rattle.qss_compile.proofs.Deciding.{Decides}

@@ -1,6 +1,6 @@
 -- Phases that follow each other.
 use Rattle.std.proofs.Common.{◌≡◌, sym, subst, inl, inr, ◌⊎◌}
-use Rattle.qss_compile.specs.Laws.{AreAlike}
+use Rattle.qss_compile.specs.SourceLaws.{AreAlike}
 use Rattle.qss_compile.specs.Meanings.{Through, IsFirstRefusal}
 use Rattle.qss_compile.specs.declared.fault.Refused.{Refused}
 

@@ -2,36 +2,36 @@
 use Rattle.std.proofs.Common.{◌≡◌, sym, subst, refl, inl, inr, ◌⊎◌, ℕ, ◌<◌, List, Result, Ok, Err, Some, None}
 use Rattle.std.proofs.lemmas.Result.{IfOk-at_ok}
 use Rattle.std.specs.declared.option.Option.{Option}
-use Rattle.mu_affine.specs.Kept.{AreForms}
-use Rattle.mu_affine.specs.Normal.{Taken, forms_of}
-use Rattle.mu_forms.specs.declared.fault.AffineErr.{AffineErr}
-use Rattle.mu_forms.specs.declared.form.Forms.{Forms}
-use Rattle.mu_grammar.specs.Fronts.{IsReason}
+use Rattle.mu_affine.specs.KeptForms.{AreForms}
+use Rattle.mu_affine.specs.FormSequence.{Taken, forms_of}
+use Rattle.mu_affine.specs.declared.form_fault.AffineErr.{AffineErr}
+use Rattle.mu_affine.specs.declared.form.Forms.{Forms}
+use Rattle.mu_grammar.specs.Prefixes.{IsReason}
 use Rattle.mu_grammar.specs.ModelMachine.{model_machine}
-use Rattle.mu_grammar.specs.Models.{SpellsModel}
+use Rattle.mu_grammar.specs.ModelGrammar.{SpellsModel}
 use Rattle.mu_grammar.specs.Symbols.{symbols}
 use Rattle.mu_grammar.specs.declared.fault.ParseErr.{ParseErr}
 use Rattle.mu_grammar.proofs.Judged.{judged}
 use Rattle.mu_grammar.proofs.ModelDecides.{model_decides}
-use Rattle.mu_lexer.specs.Reading.{AreTokens}
+use Rattle.mu_lexer.specs.Tokens.{AreTokens}
 use Rattle.mu_lexer.specs.declared.token.Token.{Token}
-use Rattle.mu_machine.proofs.OneMachine.{machine_exists}
-use Rattle.mu_machine.specs.Checks.{machine_fault}
-use Rattle.mu_machine.specs.Machines.{IsMachineOf}
-use Rattle.mu_machine.specs.declared.fault.MachineErr.{MachineErr}
-use Rattle.mu_names.specs.Least.{least_of}
+use Rattle.mu_affine.proofs.OneMachine.{machine_exists}
+use Rattle.mu_affine.specs.MachineChecks.{machine_fault}
+use Rattle.mu_affine.specs.RoundedMachines.{IsMachineOf}
+use Rattle.mu_affine.specs.declared.machine_fault.MachineErr.{MachineErr}
+use Rattle.mu_names.specs.LeastFaults.{least_of}
 use Rattle.mu_names.specs.Roles.{model_faults, scope_of, settings_in}
 use Rattle.mu_names.specs.declared.fault.NameErr.{NameErr}
 use Rattle.mu_names.proofs.LeastLaws.{least_is, none_left}
-use Rattle.mu_flat.specs.FlatExpression.{FlatModelTree}
-use Rattle.mu_flat.specs.FlatModels.{IsFlatModel}
+use Rattle.mu_tree.specs.FlatExpression.{FlatModelTree}
+use Rattle.mu_tree.specs.FlatModels.{IsFlatModel}
 use Rattle.mu_tree.specs.ModelTree.{ModelTree}
-use Rattle.mu_flat.specs.declared.flat.Settings.{Settings}
+use Rattle.mu_tree.specs.declared.flat.Settings.{Settings}
 use Rattle.mu_unroll.proofs.FlatModels.{flat_model_right}
 use Rattle.mu_unroll.specs.Unrolling.{unrolled}
 use Rattle.mu_unroll.specs.declared.fault.UnrollErr.{UnrollErr}
 use Rattle.qss_compile.specs.Causes.{of_lexer, of_parser, of_names, of_unrolling, of_forms, of_rounding, without_names, with_names}
-use Rattle.qss_compile.specs.Laws.{SourcesAreDecided}
+use Rattle.qss_compile.specs.SourceLaws.{SourcesAreDecided}
 use Rattle.qss_compile.specs.Meanings.{Through, IsFirstRefusal, FlatSource, IsFlatOf, IsNotFlat, IsUnspelled, SpellsTree, FlatMeans, IsFlatRefused, TreeMeans, IsTreeRefused}
 use Rattle.qss_compile.specs.Phases.{LexerRefuses, Spells, ParserRefuses, AreFaultless, HasOrder, OrderRefuses, FormsRefuse, RoundingRefuses}
 use Rattle.qss_compile.proofs.Bridge.{forms_for}

@@ -4,18 +4,18 @@ use Rattle.std.specs.Prelude.{All, slice_get, nat_eq, nat_lt, if◌then◌else�
 use Rattle.std.proofs.lemmas.Bool.Decides.{nat_tests}
 use Rattle.mu_affine.proofs.Bridges.{equation_numbered, left_numbered, right_numbered, action_numbered}
 use Rattle.mu_affine.specs.FormOf.{form_of}
-use Rattle.mu_affine.specs.Kept.{AreForms, equation_place, clause_place}
-use Rattle.mu_affine.specs.Normal.{Taken, then_take, counted, solve, solve_all, keep, keep_states, condition_form, action_form, keep_actions, keep_branches, keep_clauses, right_side, nothing_taken, forms_of}
+use Rattle.mu_affine.specs.KeptForms.{AreForms, equation_place, clause_place}
+use Rattle.mu_affine.specs.FormSequence.{Taken, then_take, counted, solve, solve_all, keep, keep_states, condition_form, action_form, keep_actions, keep_branches, keep_clauses, right_side, nothing_taken, forms_of}
 use Rattle.mu_affine.specs.Solution.{sizes_of, equation_context, clause_context}
 use Rattle.mu_affine.specs.Walks.{IsNumbered}
-use Rattle.mu_forms.specs.AffineForm.{AffineForm, none}
-use Rattle.mu_forms.specs.Forms.{form_meaning, IsFinished}
-use Rattle.mu_forms.specs.declared.fault.AffineErr.{AffineErr}
-use Rattle.mu_forms.specs.declared.form.ExactForm.{ExactForm}
-use Rattle.mu_forms.specs.declared.form.Forms.{Forms}
-use Rattle.mu_forms.specs.declared.form.Place.{Place}
-use Rattle.mu_flat.specs.FlatExpression.{FlatEquationTree, FlatAction, FlatBranchTree, FlatModelTree}
-use Rattle.mu_flat.specs.FlatModels.{IsFlatEquation, IsFlatAction, IsFlatBranch, IsFlatClause, IsFlatModel}
+use Rattle.mu_affine.specs.AffineForm.{AffineForm, none}
+use Rattle.mu_affine.specs.FinishedForms.{form_meaning, IsFinished}
+use Rattle.mu_affine.specs.declared.form_fault.AffineErr.{AffineErr}
+use Rattle.mu_affine.specs.declared.form.ExactForm.{ExactForm}
+use Rattle.mu_affine.specs.declared.form.Forms.{Forms}
+use Rattle.mu_affine.specs.declared.form.Place.{Place}
+use Rattle.mu_tree.specs.FlatExpression.{FlatEquationTree, FlatAction, FlatBranchTree, FlatModelTree}
+use Rattle.mu_tree.specs.FlatModels.{IsFlatEquation, IsFlatAction, IsFlatBranch, IsFlatClause, IsFlatModel}
 use Rattle.qss_compile.proofs.Lengths.{taken_of, made, solve_all_kept, keep_length, keep_states_length, keep_actions_length, keep_branches_length}
 use Rattle.qss_compile.proofs.Listing.{IsTidy, form_listed}
 use Rattle.qss_compile.proofs.Tidy.{AreTidy, Gives, constant_tidy, form_gives, condition_gives, action_gives}

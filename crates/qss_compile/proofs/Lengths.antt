@@ -3,13 +3,13 @@ use Rattle.std.proofs.Common.{◌≡◌, ◌∙◌, ap, sym, refl, arith, ℕ, z
 use Rattle.std.specs.Prelude.{sum_by, nat_eq, if◌then◌else◌}
 use Rattle.std.proofs.lemmas.List.Sums.{sum_by-cons}
 use Rattle.mu_affine.specs.FormOf.{form_of}
-use Rattle.mu_affine.specs.Normal.{Taken, then_take, counted, solve, solve_all, keep, keep_states, condition_form, action_form, keep_actions, keep_branches, right_side}
+use Rattle.mu_affine.specs.FormSequence.{Taken, then_take, counted, solve, solve_all, keep, keep_states, condition_form, action_form, keep_actions, keep_branches, right_side}
 use Rattle.mu_affine.specs.Solution.{sizes_of, equation_context, clause_context}
-use Rattle.mu_forms.specs.AffineForm.{AffineForm}
-use Rattle.mu_forms.specs.declared.fault.AffineErr.{AffineErr}
-use Rattle.mu_forms.specs.declared.form.Sizes.{Sizes}
-use Rattle.mu_machine.specs.Places.{branch_forms}
-use Rattle.mu_flat.specs.FlatExpression.{FlatAction, FlatBranchTree, FlatModelTree}
+use Rattle.mu_affine.specs.AffineForm.{AffineForm}
+use Rattle.mu_affine.specs.declared.form_fault.AffineErr.{AffineErr}
+use Rattle.mu_affine.specs.declared.form.Sizes.{Sizes}
+use Rattle.mu_affine.specs.FormPlaces.{branch_forms}
+use Rattle.mu_tree.specs.FlatExpression.{FlatAction, FlatBranchTree, FlatModelTree}
 
 -- of two steps that succeed the first one does
 pub taken_of : {A B : Type 0} (r : Result A AffineErr) (next : A → Result B AffineErr) (b : B) → then_take r next ≡ Ok b → (a : A) × (r ≡ Ok a) × (next a ≡ Ok b)

@@ -4,7 +4,7 @@ use Rattle.std.specs.declared.option.Option.{Option}
 use Rattle.std.specs.List.{All}
 use Rattle.std.proofs.lemmas.List.{drop-drop}
 use Rattle.mu_lexer.specs.Automaton.{kind_from, BestUpTo, better, named, word_among, kind_named}
-use Rattle.mu_lexer.specs.Reading.{begins_blank, begins_quote, begins_comment, comment_length, Stands, StopsReading, Reads, stay as at_end, blank as over_space, comment as over_remark, token as over_word, AreTokens, IsFirstFault}
+use Rattle.mu_lexer.specs.Tokens.{begins_blank, begins_quote, begins_comment, comment_length, Stands, StopsReading, Reads, stay as at_end, blank as over_space, comment as over_remark, token as over_word, AreTokens, IsFirstFault}
 use Rattle.mu_lexer.specs.Spelling.{SpellsToken}
 use Rattle.mu_lexer.specs.declared.lex.LexErr.{LexErr}
 use Rattle.mu_lexer.specs.declared.lex.Standing.{Standing}

@@ -1,15 +1,15 @@
 pub mod Deciding
-pub mod Lexing
+mod Lexing
 pub mod WellFormed
-pub mod Orderings
-pub mod Causal
-pub mod Canonical
-pub mod Answering
-pub mod Lengths
-pub mod Bridge
+mod Orderings
+mod Causal
+mod Canonical
+mod Answering
+mod Lengths
+mod Bridge
 pub mod Singles
 pub mod Existence
-pub mod Listing
-pub mod Tidy
-pub mod Formed
-pub mod Settled
+mod Listing
+mod Tidy
+mod Formed
+mod Settled

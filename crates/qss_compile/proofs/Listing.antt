@@ -8,16 +8,16 @@ use Rattle.std.specs.Map.{keys_of}
 use Rattle.std.specs.Ordering.{nat_cmp, ordering_then, is_eq}
 use Rattle.std.specs.declared.cmp.Ordering.{Ordering}
 use Rattle.std.specs.declared.cmp.Ordering.TheVariants.{Less, Equal, Greater}
-use Rattle.mu_forms.proofs.Finishing.{value_at-nonzeros, AreFinished-nonzeros}
-use Rattle.mu_forms.proofs.Fractions.{reduced_zero}
-use Rattle.mu_forms.proofs.Rows.{IsKeyOrder, level_self, nat_order, pair_order}
-use Rattle.mu_forms.specs.AffineForm.{AffineForm, none, is_nonzero}
-use Rattle.mu_forms.specs.Forms.{form_meaning, AreFinished, IsOver, IsFinished}
-use Rattle.mu_forms.specs.Rows.{named, paired, pair_cmp, value_at, IsRising, AreReduced}
-use Rattle.mu_forms.specs.declared.form.ExactEntry.{ExactEntry}
-use Rattle.mu_forms.specs.declared.form.ExactForm.{ExactForm}
-use Rattle.mu_forms.specs.declared.form.ExactProduct.{ExactProduct}
-use Rattle.mu_forms.specs.declared.form.Place.{Place}
+use Rattle.mu_affine.proofs.Finishing.{value_at-nonzeros, AreFinished-nonzeros}
+use Rattle.mu_affine.proofs.Fractions.{reduced_zero}
+use Rattle.mu_affine.proofs.RowForms.{IsKeyOrder, level_self, nat_order, pair_order}
+use Rattle.mu_affine.specs.AffineForm.{AffineForm, none, is_nonzero}
+use Rattle.mu_affine.specs.FinishedForms.{form_meaning, AreFinished, IsOver, IsFinished}
+use Rattle.mu_affine.specs.FormRows.{named, paired, pair_cmp, value_at, IsRising, AreReduced}
+use Rattle.mu_affine.specs.declared.form.ExactEntry.{ExactEntry}
+use Rattle.mu_affine.specs.declared.form.ExactForm.{ExactForm}
+use Rattle.mu_affine.specs.declared.form.ExactProduct.{ExactProduct}
+use Rattle.mu_affine.specs.declared.form.Place.{Place}
 use Rattle.mu_num.specs.Fraction.{Fraction, IsReduced}
 use Rattle.qss_compile.proofs.Canonical.{head_value, tail_value}
 

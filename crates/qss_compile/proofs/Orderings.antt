@@ -5,7 +5,7 @@ use Rattle.std.proofs.lemmas.Bool.{cases_Bool, cases_lt}
 use Rattle.std.proofs.lemmas.List.{get_or_default}
 use Rattle.std.proofs.Math.ListN.{length-set}
 use Rattle.mu_causal.specs.Causality.{IsReady, IsNext, Follow, IsOrder, IsCycle}
-use Rattle.mu_causal.specs.Marks.{IsMarked, IsUnmarked}
+use Rattle.mu_causal.specs.VisitMarks.{IsMarked, IsUnmarked}
 use Rattle.mu_causal.proofs.Listing.{unmarked_count, unmarked_count-set, not_both, Follow-push}
 use Rattle.mu_causal.proofs.Rounds.{Leads, IsRound, AreDistinct, Leads-push, round_from, distinct_drop, distinct_push, cycle_from_round, on_path_push, seen_push}
 

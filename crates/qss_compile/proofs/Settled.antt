@@ -4,10 +4,10 @@ use Rattle.std.specs.Prelude.{if◌then◌else◌, nat_eq, bytes_eq, unsigned_ab
 use Rattle.std.specs.Option.{option_or}
 use Rattle.std.specs.declared.option.Option.{Option}
 use Rattle.mu_names.specs.Constant.{value_of, constant_of, joined, multiplied, both, one, raised, reference_value, value, sum_value, product_value}
-use Rattle.mu_names.specs.Declarations.{other_meaning, meaning_of, meaning_after, optional_value, is_constant, constants_with, no_constants, constants_after}
+use Rattle.mu_names.specs.DeclarationFaults.{other_meaning, meaning_of, meaning_after, optional_value, is_constant, constants_with, no_constants, constants_after}
 use Rattle.mu_names.specs.Roles.{with_setting, default_settings, settings_from, meaning_in, settings_in}
-use Rattle.mu_names.specs.Stands.{declared_in}
-use Rattle.mu_names.specs.Tables.{added_at}
+use Rattle.mu_names.specs.DeclaredRoles.{declared_in}
+use Rattle.mu_names.specs.NameTables.{added_at}
 use Rattle.mu_names.specs.declared.meaning.Meaning.{Meaning}
 use Rattle.mu_names.specs.declared.standing.Role.TheVariants.{State, Discrete, Algebraic, Parameter}
 use Rattle.mu_names.specs.declared.standing.Standing.{Standing}
@@ -18,7 +18,7 @@ use Rattle.mu_num.specs.declared.NumErr.{NumErr}
 use Rattle.mu_num.specs.declared.NumErr.TheVariants.{Range, ZeroDivisor}
 use Rattle.mu_tree.specs.Expression.{Expression, Number, Variable, Now, Previous, Sum, Product, Power, Reference, Whole, Element, Terms, no_terms, term, Factors, no_factors, factor}
 use Rattle.mu_tree.specs.ModelTree.{Declaration, Setting, ModelTree}
-use Rattle.mu_flat.specs.declared.flat.Settings.{Settings}
+use Rattle.mu_tree.specs.declared.flat.Settings.{Settings}
 use Rattle.mu_tree.specs.declared.tree.SettingName.{SettingName}
 use Rattle.mu_tree.specs.declared.tree.SettingName.TheVariants as setting
 

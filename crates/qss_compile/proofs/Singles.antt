@@ -4,40 +4,40 @@ use Rattle.std.specs.Prelude.{Contains}
 use Rattle.std.specs.declared.option.Option.{Option}
 use Rattle.std.proofs.lemmas.Bool.{cases_lt}
 use Rattle.std.proofs.lemmas.Bool.Decides.{nat_tests}
-use Rattle.mu_causal.specs.Answers.{IsCausalFault}
+use Rattle.mu_causal.specs.OrderResults.{IsCausalFault}
 use Rattle.mu_causal.specs.Dependencies.{AreCounted, AreCountedBelow, HasOneEquation, WantsEquation, equation_numbers, IsAlgebraic, DependsOn}
 use Rattle.mu_causal.specs.declared.answer.CausalErr.{CausalErr}
 use Rattle.mu_causal.specs.declared.answer.CausalErr.TheVariants as ordering
 use Rattle.mu_causal.proofs.Cycles.{no_cycle}
 use Rattle.mu_causal.proofs.Orders.{one_order}
-use Rattle.mu_affine.specs.Kept.{AreForms}
-use Rattle.mu_affine.specs.Normal.{forms_of}
-use Rattle.mu_forms.specs.declared.form.Forms.{Forms}
-use Rattle.mu_grammar.specs.Fronts.{JudgedOnce}
+use Rattle.mu_affine.specs.KeptForms.{AreForms}
+use Rattle.mu_affine.specs.FormSequence.{forms_of}
+use Rattle.mu_affine.specs.declared.form.Forms.{Forms}
+use Rattle.mu_grammar.specs.Prefixes.{JudgedOnce}
 use Rattle.mu_grammar.specs.ModelMachine.{model_machine}
-use Rattle.mu_grammar.specs.Models.{SpellsModel}
+use Rattle.mu_grammar.specs.ModelGrammar.{SpellsModel}
 use Rattle.mu_grammar.specs.Symbols.{symbols}
 use Rattle.mu_grammar.proofs.Fronts.{unique}
 use Rattle.mu_grammar.proofs.Judged.{judged_once}
 use Rattle.mu_grammar.proofs.ModelDecides.{model_decides}
-use Rattle.mu_lexer.specs.Reading.{AreTokens, IsFirstFault}
+use Rattle.mu_lexer.specs.Tokens.{AreTokens, IsFirstFault}
 use Rattle.mu_lexer.specs.declared.lex.LexErr.{LexErr}
 use Rattle.mu_lexer.specs.declared.token.Token.{Token}
 use Rattle.mu_lexer.proofs.Progress.{one_list}
-use Rattle.mu_machine.specs.Checks.{machine_fault}
-use Rattle.mu_machine.specs.Machines.{IsMachineOf}
-use Rattle.mu_machine.specs.declared.fault.MachineErr.{MachineErr}
-use Rattle.mu_names.specs.Least.{place, number, is_before, IsLeastFault}
+use Rattle.mu_affine.specs.MachineChecks.{machine_fault}
+use Rattle.mu_affine.specs.RoundedMachines.{IsMachineOf}
+use Rattle.mu_affine.specs.declared.machine_fault.MachineErr.{MachineErr}
+use Rattle.mu_names.specs.LeastFaults.{place, number, is_before, IsLeastFault}
 use Rattle.mu_names.specs.Roles.{model_faults, scope_of}
 use Rattle.mu_names.specs.declared.fault.NameErr.{NameErr}
 use Rattle.mu_names.specs.declared.fault.NameErr.TheVariants as naming
-use Rattle.mu_flat.specs.FlatExpression.{FlatModelTree}
+use Rattle.mu_tree.specs.FlatExpression.{FlatModelTree}
 use Rattle.mu_tree.specs.ModelTree.{ModelTree}
 use Rattle.mu_unroll.specs.Unrolling.{unrolled}
-use Rattle.mu_flat.specs.declared.flat.Settings.{Settings}
-use Rattle.mu_machine.proofs.OneMachine.{one_machine}
+use Rattle.mu_tree.specs.declared.flat.Settings.{Settings}
+use Rattle.mu_affine.proofs.OneMachine.{one_machine}
 use Rattle.qss_compile.specs.Causes.{of_lexer, of_parser, of_names, of_unrolling, of_order, of_forms, of_rounding, without_names, with_names}
-use Rattle.qss_compile.specs.Laws.{AreAlike}
+use Rattle.qss_compile.specs.SourceLaws.{AreAlike}
 use Rattle.qss_compile.specs.Meanings.{Through, IsFirstRefusal, FlatSource, IsFlatOf, IsNotFlat, IsUnspelled, SpellsTree, FlatMeans, IsFlatRefused, TreeMeans, IsTreeRefused, Means, IsRefused}
 use Rattle.qss_compile.specs.Phases.{LexerRefuses, Spells, ParserRefuses, NamesRefuse, HasOrder, OrderRefuses, FormsRefuse, RoundingRefuses}
 use Rattle.qss_compile.specs.declared.fault.ModelErr.TheVariants.{Names}

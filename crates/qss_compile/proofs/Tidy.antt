@@ -8,26 +8,26 @@ use Rattle.std.proofs.lemmas.Bool.{cases_Bool, and_parts}
 use Rattle.std.proofs.lemmas.Bool.Decides.{nat_tests}
 use Rattle.std.proofs.lemmas.Int.{ints}
 use Rattle.mu_affine.specs.FormOf.{Context, form_of, sum_form, product_of, variable_form}
-use Rattle.mu_affine.specs.Normal.{condition_form, action_form}
+use Rattle.mu_affine.specs.FormSequence.{condition_form, action_form}
 use Rattle.mu_affine.specs.Walks.{IsNumbered, AreNumbered, AreNumberedFactors, IsNumberedAction}
-use Rattle.mu_forms.proofs.Checks.{any_from-some}
-use Rattle.mu_forms.proofs.Fractions.{IsReduced-none, zero_num, zero_from_num, lowest-zero}
-use Rattle.mu_forms.proofs.Making.{IsReduced-one}
-use Rattle.mu_forms.proofs.Products.{product_zero_left, product_zero_right, sum_zeros}
-use Rattle.mu_forms.proofs.Showing.{pair_shows}
-use Rattle.mu_forms.specs.AffineForm.{AffineForm, none, is_nonzero, any_from, constant_form, name_form, time_form, has_coefficient, has_pairs, may_multiply, is_pair, combined, product_form, quotient_form, is_in_range, lowest_form, checked_form}
-use Rattle.mu_forms.specs.Forms.{IsName, IsPair, MayStand, IsOver}
-use Rattle.mu_forms.specs.Parts.{placed, kept, then_form, join_forms, multiply_forms, raise_form}
-use Rattle.mu_forms.specs.Rows.{joined}
-use Rattle.mu_forms.specs.declared.fault.AffineErr.{AffineErr}
-use Rattle.mu_forms.specs.declared.fault.AffineErr.TheVariants.{NotAffine, TimeHere, ConstFault}
-use Rattle.mu_forms.specs.declared.form.Place.{Place}
-use Rattle.mu_forms.specs.declared.form.Sizes.{Sizes}
+use Rattle.mu_affine.proofs.Checks.{any_from-some}
+use Rattle.mu_affine.proofs.Fractions.{IsReduced-none, zero_num, zero_from_num, lowest-zero}
+use Rattle.mu_affine.proofs.Making.{IsReduced-one}
+use Rattle.mu_affine.proofs.Products.{product_zero_left, product_zero_right, sum_zeros}
+use Rattle.mu_affine.proofs.Showing.{pair_shows}
+use Rattle.mu_affine.specs.AffineForm.{AffineForm, none, is_nonzero, any_from, constant_form, name_form, time_form, has_coefficient, has_pairs, may_multiply, is_pair, combined, product_form, quotient_form, is_in_range, lowest_form, checked_form}
+use Rattle.mu_affine.specs.FinishedForms.{IsName, IsPair, MayStand, IsOver}
+use Rattle.mu_affine.specs.FormParts.{placed, kept, then_form, join_forms, multiply_forms, raise_form}
+use Rattle.mu_affine.specs.FormRows.{joined}
+use Rattle.mu_affine.specs.declared.form_fault.AffineErr.{AffineErr}
+use Rattle.mu_affine.specs.declared.form_fault.AffineErr.TheVariants.{NotAffine, TimeHere, ConstFault}
+use Rattle.mu_affine.specs.declared.form.Place.{Place}
+use Rattle.mu_affine.specs.declared.form.Sizes.{Sizes}
 use Rattle.mu_num.proofs.Lowest.{lowest_terms}
 use Rattle.mu_num.specs.Fraction.{Fraction, whole, sum, difference, product, quotient, sign, power, checked, lowest, least_denominator, least_multiplier, is_small, IsReduced}
 use Rattle.mu_num.specs.declared.NumErr.{NumErr}
 use Rattle.mu_num.specs.declared.NumErr.TheVariants.{Range, ZeroDivisor}
-use Rattle.mu_flat.specs.FlatExpression.{FlatExpression, Constant, Variable, Previous, Now, Sum, Product, Power, FlatTerms, no_terms, term, FlatFactors, no_factors, factor, FlatAction, Assign, Restart, FlatBranchTree}
+use Rattle.mu_tree.specs.FlatExpression.{FlatExpression, Constant, Variable, Previous, Now, Sum, Product, Power, FlatTerms, no_terms, term, FlatFactors, no_factors, factor, FlatAction, Assign, Restart, FlatBranchTree}
 use Rattle.qss_compile.proofs.Listing.{IsTidy}
 
 -- lowest terms over 0 are whole

@@ -9,7 +9,7 @@ use Rattle.mu_grammar.specs.Grammar.{Symbol, first_place, signed, scaled, sum_of
 use Rattle.mu_grammar.specs.Grammar as grammar
 use Rattle.mu_grammar.specs.Lists.{Runs, no_more, one_more, Listed, listed_end, listed_then}
 use Rattle.mu_grammar.specs.Loops.{Kind, IsItem, bare, loop, AreItems, no_items, item_then}
-use Rattle.mu_grammar.specs.Models.{Sections, AddsEquation, adds_equation, AddsClause, adds_clause, AddsStart, adds_start, IsSection, equations, clauses, starts, SpellsModel, model}
+use Rattle.mu_grammar.specs.ModelGrammar.{Sections, AddsEquation, adds_equation, AddsClause, adds_clause, AddsStart, adds_start, IsSection, equations, clauses, starts, SpellsModel, model}
 use Rattle.mu_tree.specs.Expression.{Expression, Signed, Scaled, Sum, terms_of, factors_of}
 use Rattle.mu_tree.specs.ModelTree.{Condition, Range, EquationTree, StatementTree, BranchTree, ClauseTree, equations_of, statements_of, clauses_of, ModelTree}
 use Rattle.mu_unroll.specs.WellFormed.{HasSmallPowers, HaveSmallPowersTerms, HaveSmallPowersFactors, EquationHas, EquationsHave, StatementHas, StatementsHave, BranchHas, ClauseHas, ClausesHave, IsWellFormed}

@@ -10,11 +10,11 @@ use Rattle.mu_unroll.specs.declared.fault.UnrollErr.{UnrollErr}
 use Rattle.mu_unroll.specs.declared.fault.UnrollErr.TheVariants as unrolling
 use Rattle.mu_causal.specs.declared.answer.CausalErr.{CausalErr}
 use Rattle.mu_causal.specs.declared.answer.CausalErr.TheVariants as ordering
-use Rattle.mu_forms.specs.declared.fault.AffineErr.{AffineErr}
-use Rattle.mu_forms.specs.declared.fault.AffineErr.TheVariants as forming
-use Rattle.mu_machine.specs.declared.fault.MachineErr.{MachineErr}
-use Rattle.mu_machine.specs.declared.fault.MachineErr.TheVariants as rounding
-use Rattle.mu_flat.specs.FlatExpression.{FlatModelTree}
+use Rattle.mu_affine.specs.declared.form_fault.AffineErr.{AffineErr}
+use Rattle.mu_affine.specs.declared.form_fault.AffineErr.TheVariants as forming
+use Rattle.mu_affine.specs.declared.machine_fault.MachineErr.{MachineErr}
+use Rattle.mu_affine.specs.declared.machine_fault.MachineErr.TheVariants as rounding
+use Rattle.mu_tree.specs.FlatExpression.{FlatModelTree}
 use Rattle.qss_compile.specs.declared.fault.ModelErr.{ModelErr}
 use Rattle.qss_compile.specs.declared.fault.ModelErr.TheVariants.{Lex, Parse, Names, Unroll, Causal, Affine, Machine, Memory}
 use Rattle.qss_compile.specs.declared.fault.Refused.{Refused}

@@ -3,7 +3,7 @@ use Rattle.std.specs.Prelude.{ℕ, List, decimal}
 use Rattle.std.specs.Fmt.{signed_decimal}
 use Rattle.qss_compile.specs.declared.line.Field.{Field}
 use Rattle.qss_compile.specs.declared.line.Field.TheVariants.{Number, Whole, Share, Setting, Variable}
-use Rattle.qss_compile.specs.Lines.{ratio_text, setting_text, variable_text}
+use Rattle.qss_compile.specs.RefusalLines.{ratio_text, setting_text, variable_text}
 
 -- the text of a field, where the variables have these names
 abbrev pub field_text : List (List ℕ) → Field → List ℕ

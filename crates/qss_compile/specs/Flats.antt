@@ -1,5 +1,5 @@
 -- What the code calls a flat model with its settings.
-use Rattle.mu_flat.specs.FlatExpression.{flat_model}
+use Rattle.mu_tree.specs.FlatExpression.{flat_model}
 use Rattle.qss_compile.specs.Meanings.{FlatSource}
 use Rattle.qss_compile.specs.declared.phases.Flat.{Flat}
 

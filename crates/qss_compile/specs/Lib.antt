@@ -2,8 +2,8 @@
 pub mod Causes
 pub mod Phases
 pub mod Meanings
-pub mod Lines
-pub mod Laws
+pub mod RefusalLines
+pub mod SourceLaws
 -- how contracts see the code
 pub mod Fields
 pub mod Flats

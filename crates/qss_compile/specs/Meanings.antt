@@ -1,12 +1,12 @@
 -- What a source means: phase after phase, from its bytes to its machine, or to the refusal of the first phase that refuses.
 use Rattle.std.specs.Prelude.{◌≡◌, ◌⊎◌, ℕ, List}
-use Rattle.mu_affine.specs.Kept.{AreForms}
-use Rattle.mu_lexer.specs.Reading.{AreTokens}
-use Rattle.mu_machine.specs.Machines.{IsMachineOf}
+use Rattle.mu_affine.specs.KeptForms.{AreForms}
+use Rattle.mu_lexer.specs.Tokens.{AreTokens}
+use Rattle.mu_affine.specs.RoundedMachines.{IsMachineOf}
 use Rattle.mu_names.specs.Roles.{settings_in}
-use Rattle.mu_flat.specs.FlatExpression.{FlatModelTree}
+use Rattle.mu_tree.specs.FlatExpression.{FlatModelTree}
 use Rattle.mu_tree.specs.ModelTree.{ModelTree}
-use Rattle.mu_flat.specs.declared.flat.Settings.{Settings}
+use Rattle.mu_tree.specs.declared.flat.Settings.{Settings}
 use Rattle.qss_compile.specs.Phases.{LexerRefuses, Spells, ParserRefuses, AreFaultless, NamesRefuse, UnrollsTo, UnrollingRefuses, HasOrder, OrderRefuses, FormsRefuse, RoundingRefuses}
 use Rattle.qss_compile.specs.declared.fault.ModelErr.TheVariants.{Memory}
 use Rattle.qss_compile.specs.declared.fault.Refused.{Refused}

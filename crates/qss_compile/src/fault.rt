@@ -1,11 +1,11 @@
 // Why a source means no machine.
 
+use mu_affine::MachineErr;
+use mu_affine::form_fault::AffineErr;
 use mu_causal::answer::CausalErr;
-use mu_forms::fault::AffineErr;
 use mu_grammar::fault::ParseErr;
 use mu_io::{Items, Name};
 use mu_lexer::lex::LexErr;
-use mu_machine::MachineErr;
 use mu_names::fault::NameErr;
 use mu_unroll::fault::UnrollErr;
 use std::alloc::Global;

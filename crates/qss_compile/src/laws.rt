@@ -1,6 +1,6 @@
 // Laws on what sources mean.
 
-ghost use Rattle.qss_compile.specs.Laws.{MeaningsAreUnique, MeaningsAreNotRefused, CausesAreUnique, SourcesAreDecided, SpelledModelsAreWellFormed};
+ghost use Rattle.qss_compile.specs.SourceLaws.{MeaningsAreUnique, MeaningsAreNotRefused, CausesAreUnique, SourcesAreDecided, SpelledModelsAreWellFormed};
 
 /// Law: a source means at most one machine.
 pub fn law_of_one_machine()

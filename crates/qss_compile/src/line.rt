@@ -2,16 +2,16 @@
 
 ghost use Rattle.std.specs.Prelude.{◌≡◌, ◌++◌, ◌∷◌, [], map, codes, decimal, IfOk, OnOk};
 ghost use Rattle.std.specs.Fmt.{signed_decimal};
-ghost use Rattle.qss_compile.specs.Lines as Spec;
+ghost use Rattle.qss_compile.specs.RefusalLines as Spec;
 ghost use Rattle.qss_compile.specs.Fields.{field_text};
 
 use crate::fault::{ModelErr, Refused};
+use mu_affine::MachineErr;
+use mu_affine::form_fault::AffineErr;
 use mu_causal::answer::CausalErr;
-use mu_forms::fault::AffineErr;
 use mu_grammar::fault::ParseErr;
 use mu_io::Name;
 use mu_lexer::lex::LexErr;
-use mu_machine::MachineErr;
 use mu_names::fault::NameErr;
 use mu_num::{NumErr, Ratio};
 use mu_tree::tree::SettingName;

@@ -2,8 +2,8 @@
 
 ghost use Rattle.std.specs.Prelude.{◌≡◌, ◌≤◌, ◌^◌, length, map, IfOk, IfErr};
 ghost use Rattle.mu_causal.specs.Dependencies.{IsNumbered};
-ghost use Rattle.mu_flat.specs.FlatExpression.{flat_model};
-ghost use Rattle.mu_flat.specs.FlatModels.{IsFlatModel};
+ghost use Rattle.mu_tree.specs.FlatExpression.{flat_model};
+ghost use Rattle.mu_tree.specs.FlatModels.{IsFlatModel};
 ghost use Rattle.mu_tree.specs.ModelTree.{model};
 ghost use Rattle.qss_compile.specs.Meanings as Spec;
 ghost use Rattle.qss_compile.specs.Flats.{flat_source};
@@ -11,14 +11,14 @@ ghost use Rattle.qss_compile.specs.Causes.{with_names, without_names};
 
 use crate::fault::{ModelErr, Refused};
 use mu_affine::normal::normal;
+use mu_affine::to_machine;
 use mu_causal::ordering::order;
-use mu_flat::{FlatModel, FlatVar, Settings};
 use mu_io::{Items, Name};
 use mu_lexer::lex::lex;
-use mu_machine::to_machine;
 use mu_names::role::roles;
 use mu_parser::parse::parse;
 use mu_tree::tree::Model;
+use mu_tree::{FlatModel, FlatVar, Settings};
 use mu_unroll::unroll::unroll;
 use qss_machine::Machine;
 use std::alloc::{AllocError, Global};

@@ -3,7 +3,7 @@ ghost use Rattle.mu_num.specs.Ticks.{FirstAfter, tick_limit};
 ghost use Rattle.std.specs.Int.{w128, int_wrap};
 ghost use Rattle.qss_cross.specs.Crossing.{IsSmall, bound_of};
 
-use mu_num::{first_past, tick_later};
+use mu_num::{first_tick_beyond, ticks_after};
 use qss_machine::Rel;
 use std::marker::Model;
 
@@ -50,9 +50,9 @@ fn first_across(value: i128, bound: i128, speed: i128) -> Option<u64>
         result }
 {
     if value >= bound {
-        first_past(value - bound, -speed)
+        first_tick_beyond(value - bound, -speed)
     } else {
-        first_past(bound - 1 - value, speed)
+        first_tick_beyond(bound - 1 - value, speed)
     }
 }
 
@@ -94,7 +94,7 @@ impl Detector {
         ensures { FirstAfter (λ tick. holds_at self.now tick ≢ compares self.now.rel self.now.value)
             self.now.tick result }
     {
-        tick_later(
+        ticks_after(
             self.tick,
             first_across(self.value, bound_of(self.rel), self.speed),
         )
@@ -103,8 +103,8 @@ impl Detector {
     /// Moves the value along its line to a tick.
     pub fn move_to(&mut self, tick: u64)
         requires later { self.old.tick ≤ tick }
-        requires in_time { tick ≤ tick_limit }
-        requires small { IsSmall (value_at self.old tick) }
+        requires tick_limit { tick ≤ tick_limit }
+        requires size_limit { IsSmall (value_at self.old tick) }
         ensures { self.new ≡ record self.old { tick = tick; value = value_at self.old tick } }
     {
         self.value = moved(self.value, tick - self.tick, self.speed);

@@ -1,20 +1,25 @@
-pub mod Ticks
-pub mod Places
-pub mod Leaving
-pub mod Filled
-pub mod Inputs
-pub mod InputsTold
-pub mod Lines
-pub mod LinesTold
-pub mod FunctionsTold
-pub mod Across
-pub mod Moving
-pub mod Agreement
-pub mod Variables
-pub mod Told
-pub mod Keeping
-pub mod Standing
-pub mod Sent
-pub mod RowsTold
-pub mod NamedSends
-pub mod Passing
+mod Begun
+mod ToldAgain
+mod Telling
+mod ToldParts
+mod DueFlags
+mod ToldRows
+mod Coasting
+mod WorldRows
+mod FirstStands
+mod NextVisits
+mod AgreeTold
+mod Overs
+mod OwnLevels
+mod OwnTurns
+mod OwnSlopes
+mod LevelTurns
+mod LevelsTaken
+mod SlopeTurns
+mod SlopesSent
+mod Readings
+mod ReadParts
+mod Stays
+mod Followed
+mod Arrivals
+mod TickEnds

@@ -1,9 +1,6 @@
-pub mod Messages
-pub mod Integrators
-pub mod Functions
-pub mod Crossings
-pub mod Models
-pub mod Places
-pub mod Turns
-pub mod Agreement
-pub mod Laws
+pub mod Starts
+pub mod Coupling
+pub mod CoupledSteps
+pub mod CoupledEvents
+pub mod Flags
+pub mod CoupledViews

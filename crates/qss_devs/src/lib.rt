@@ -1,29 +1,29 @@
-//! Components of a machine as models of their own: quantized integrators, static functions and crossings, which tell each
-//! other what changes by messages.
+//! The DEVS form of a machine: its components coupled by messages, and their run.
 #![tactic(auto)]
 
-mod advance;
-mod atomic;
-mod crossing_model;
-mod function_model;
-mod input;
-mod integrator_model;
-mod laws;
-mod message;
-mod numbered;
-mod sums;
-mod turn;
+mod arrival;
+mod assigned;
+mod clauses;
+mod components;
+mod coupled;
+mod coupled_playing;
+mod coupled_run;
+mod ends;
+mod events;
+mod firing;
+mod levels;
+mod limits;
+mod next;
+mod run_event;
+mod settling;
+mod skip_to_event;
+mod slopes;
+mod start;
+mod start_store;
+mod start_values;
+mod store;
 
-pub use advance::{is_due, least_advance};
-pub use atomic::Atomic;
-pub use crossing_model::{CrossingModel, watch_of};
-pub use function_model::FunctionModel;
-pub use input::Input;
-pub use integrator_model::IntegratorModel;
-pub use laws::{
-    agreement_lasts, components_move, components_stand, crossings_tell, messages_keep_agreement,
-    named_sends_one, rows_tell_handlers, settled_stand,
-};
-pub use message::Message;
-pub use numbered::{least_leaving, tell_integrator, turn_integrator};
-pub use turn::{Turn, make_turn};
+pub use components::Components;
+pub use coupled_playing::write_coupled_run;
+pub use start_values::StartValues;
+pub use store::{Store, Truths};

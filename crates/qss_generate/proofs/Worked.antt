@@ -2,7 +2,7 @@
 use Rattle.std.proofs.Common.{refl}
 use Rattle.std.specs.Fmt.{digits}
 use Rattle.qss_generate.specs.Source.{source}
-use Rattle.qss_generate.specs.Laws.{SourcesWorked}
+use Rattle.qss_generate.specs.GenerationLaws.{SourcesWorked}
 
 pub sources_worked : SourcesWorked
 unfolding source digits

@@ -5,7 +5,7 @@ use Rattle.std.proofs.lemmas.List.{length-set, length-append}
 use Rattle.std.proofs.lemmas.List.Folds.{fold_stuck}
 use Rattle.std.proofs.lemmas.List.Sums.{fold_more}
 use Rattle.std.specs.Prelude.{is_some, Option, Some, None}
-use Rattle.mu_num.specs.Sizes.{IsWithin, passes}
+use Rattle.mu_num.specs.Sizes.{IsWithin, exceeds}
 use Rattle.mu_num.proofs.SizeTests.{passes-within}
 use Rattle.mu_num.proofs.Tests.{if_cases}
 use Rattle.qss_machine.specs.declared.parts.Action.{Action}
@@ -13,14 +13,14 @@ use Rattle.qss_machine.specs.declared.parts.Action.TheVariants.{Set, Reinit}
 use Rattle.qss_machine.specs.declared.rows.Row.{Row}
 use Rattle.qss_machine.specs.declared.rows.RowKind.TheVariants as kind
 use Rattle.qss_machine.specs.declared.system.Machine.{Machine}
-use Rattle.qss_machine.specs.Handlers.{Handling, assigned_value, assign, run_action}
+use Rattle.qss_machine.specs.Handlers.{HandlerState, assigned_value, assign, run_action}
 use Rattle.qss_hand.specs.Values.{Values}
 use Rattle.qss_hand.specs.Works.{AreValuesOf, handling_of, values_after}
 
 module _ (m : Machine) (w : Values) where
   fits_assign : (tick : ℕ) (action : Action) (z : ℤ) → AreValuesOf m w → AreValuesOf m (values_after w (assign m tick (handling_of w) action z))
   fits_assign tick (Set var form) z fits =
-      if_cases (λ (h : Handling). AreValuesOf m (values_after w h)) (passes 43 z) _ _ (λ e. fits)
+      if_cases (λ (h : HandlerState). AreValuesOf m (values_after w h)) (exceeds 43 z) _ _ (λ e. fits)
       (λ e. record {
         states = fits.states;
         discretes = length-set w.d _ z ∙ fits.discretes;
@@ -31,7 +31,7 @@ module _ (m : Machine) (w : Values) where
         in_time = fits.in_time;
       })
   fits_assign tick (Reinit var form) z fits =
-      if_cases (λ (h : Handling). AreValuesOf m (values_after w h)) (passes 88 z) _ _ (λ e. fits)
+      if_cases (λ (h : HandlerState). AreValuesOf m (values_after w h)) (exceeds 88 z) _ _ (λ e. fits)
       (λ e. record {
         states = length-set w.x var z ∙ fits.states;
         discretes = fits.discretes;
@@ -46,27 +46,27 @@ module _ (m : Machine) (w : Values) where
   pub fits_action : (tick : ℕ) (before : List ℤ) (action : Action) → AreValuesOf m w → AreValuesOf m (values_after w (run_action m tick before (handling_of w) action))
   fits_action tick before action fits = fits_assign tick action (assigned_value m tick before (handling_of w) action) fits
 
-module _ (m : Machine) (h : Handling) where
+module _ (m : Machine) (h : HandlerState) where
   rows_assign : (tick : ℕ) (action : Action) (z : ℤ) → length (assign m tick h action z).rows ≤ length h.rows + 1
   rows_assign tick (Set var form) z =
       let new : ℤ → Row = λ z. record { tick = tick; kind = kind.Set; var = var; level = z; state = pos 0 } in
-      if_cases (λ (g : Handling). length g.rows ≤ length h.rows + 1) (passes 43 z) _ _ (λ e. omega arith) (λ e. omega (arith, length-append h.rows (new z ∷ [])))
+      if_cases (λ (g : HandlerState). length g.rows ≤ length h.rows + 1) (exceeds 43 z) _ _ (λ e. omega arith) (λ e. omega (arith, length-append h.rows (new z ∷ [])))
   rows_assign tick (Reinit var form) z =
       let new : ℤ → Row = λ z. record { tick = tick; kind = kind.Reinit; var = var; level = pos 0; state = z } in
-      if_cases (λ (g : Handling). length g.rows ≤ length h.rows + 1) (passes 88 z) _ _ (λ e. omega arith) (λ e. omega (arith, length-append h.rows (new z ∷ [])))
+      if_cases (λ (g : HandlerState). length g.rows ≤ length h.rows + 1) (exceeds 88 z) _ _ (λ e. omega arith) (λ e. omega (arith, length-append h.rows (new z ∷ [])))
 
   -- at most one row more
   pub rows_action : (tick : ℕ) (before : List ℤ) (action : Action) → length (run_action m tick before h action).rows ≤ length h.rows + 1
   rows_action tick before action =
-      if_cases (λ (g : Handling). length g.rows ≤ length h.rows + 1) (is_some h.overflow) h _ (λ e. omega arith)
+      if_cases (λ (g : HandlerState). length g.rows ≤ length h.rows + 1) (is_some h.overflow) h _ (λ e. omega arith)
       (λ e. rows_assign tick action (assigned_value m tick before h action))
 
 -- after an overflow statements change nothing
-pub action_stays : (m : Machine) (tick : ℕ) (before : List ℤ) (h : Handling) (var : ℕ) → h.overflow ≡ Some var → (action : Action) → run_action m tick before h action ≡ h
-action_stays m tick before h var e action = if_cases (λ (g : Handling). g ≡ h) (is_some h.overflow) h _ (λ t. refl) (λ f. let some : is_some h.overflow ≡ true = ap is_some e in absurd (cc))
+pub action_stays : (m : Machine) (tick : ℕ) (before : List ℤ) (h : HandlerState) (var : ℕ) → h.overflow ≡ Some var → (action : Action) → run_action m tick before h action ≡ h
+action_stays m tick before h var e action = if_cases (λ (g : HandlerState). g ≡ h) (is_some h.overflow) h _ (λ t. refl) (λ f. let some : is_some h.overflow ≡ true = ap is_some e in absurd (cc))
 
 -- a handling that has not overflowed is the one of its values
-pub whole : (h : Handling) → h.overflow ≡ None → record h { overflow = None } ≡ h
+pub whole : (h : HandlerState) → h.overflow ≡ None → record h { overflow = None } ≡ h
 whole h e = ap (λ (o : Option ℕ). record h { overflow = o }) (sym e)
 
 last_is : (m : Machine) (w0 w : Values) (actions : List Action) (i : ℕ) (item : Action) → item ≡ get_or actions i item →
@@ -95,16 +95,16 @@ pub stuck : (m : Machine) (w0 w : Values) (actions : List Action) (i : ℕ) (ite
     Some var ≡ (run_action m w.tick w.pre (handling_of w) item).overflow →
     run_action m w.tick w.pre (handling_of w) item ≡ fold (run_action m w0.tick w0.pre) (handling_of w0) actions
 stuck m w0 w actions i item var h is tick before so_far over =
-    let end : Handling = run_action m w.tick w.pre (handling_of w) item in
+    let end : HandlerState = run_action m w.tick w.pre (handling_of w) item in
     fold_stuck (run_action m w0.tick w0.pre) end (action_stays m w0.tick w0.pre end var (sym over)) (handling_of w0) actions i item h
     (sym (last_is m w0 w actions i item is tick before so_far))
 
 -- values that a handling leaves, from those at the start
-pub from_start : (w0 w : Values) (h : Handling) → w.tick ≡ w0.tick → w.pre ≡ w0.pre → w.room ≡ w0.room → values_after w h ≡ values_after w0 h
+pub from_start : (w0 w : Values) (h : HandlerState) → w.tick ≡ w0.tick → w.pre ≡ w0.pre → w.room ≡ w0.room → values_after w h ≡ values_after w0 h
 from_start w0 w h tick before room =
     ap (λ (t : ℕ). record { x = h.states; d = h.discretes; pre = w.pre; tick = t; log = h.rows; room = w.room }) tick
     ∙ ap (λ (p : List ℤ). record { x = h.states; d = h.discretes; pre = p; tick = w0.tick; log = h.rows; room = w.room }) before
     ∙ ap (λ (r : ℕ). record { x = h.states; d = h.discretes; pre = w0.pre; tick = w0.tick; log = h.rows; room = r }) room
 
-pub all_done : (w0 w : Values) (h : Handling) → handling_of w ≡ h → w.tick ≡ w0.tick → w.pre ≡ w0.pre → w.room ≡ w0.room → w ≡ values_after w0 h
+pub all_done : (w0 w : Values) (h : HandlerState) → handling_of w ≡ h → w.tick ≡ w0.tick → w.pre ≡ w0.pre → w.room ≡ w0.room → w ≡ values_after w0 h
 all_done w0 w h e tick before room = ap (values_after w) e ∙ from_start w0 w h tick before room

@@ -2,4 +2,4 @@ pub mod Targets
 pub mod Branches
 pub mod AfterStatements
 pub mod Turns
-pub mod Assigned
+mod Assigned

@@ -4,7 +4,7 @@ use Rattle.std.proofs.lemmas.Bool.Decides.{nat_tests}
 use Rattle.std.specs.Prelude.{IsTrue}
 use Rattle.qss_machine.specs.declared.parts.Action.TheVariants.{Set, Reinit}
 use Rattle.qss_machine.specs.declared.parts.Form.{Form}
-use Rattle.qss_machine.specs.Limits.{has_target}
+use Rattle.qss_machine.specs.MachineLimits.{has_target}
 
 -- of n states and g discrete variables, one of the latter
 pub target_set : (n g var : ℕ) (form : Form) → IsTrue (has_target n g (Set var form)) → (n ≤ var) × (var < n + g)

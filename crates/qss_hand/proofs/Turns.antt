@@ -9,9 +9,9 @@ use Rattle.qss_machine.specs.declared.parts.Action.{Action}
 use Rattle.qss_machine.specs.declared.parts.BranchInfo.{BranchInfo}
 use Rattle.qss_machine.specs.declared.parts.ClauseInfo.{ClauseInfo}
 use Rattle.qss_machine.specs.declared.system.Machine.{Machine}
-use Rattle.qss_machine.specs.Handlers.{Handling, conditions, run_action, fire_row, run_branch, run_first_due, run_clause, run_clauses}
+use Rattle.qss_machine.specs.Handlers.{HandlerState, conditions, run_action, fire_row, run_branch, run_first_due, run_clause, run_clauses}
 use Rattle.qss_machine.specs.Firing.{flag_at}
-use Rattle.qss_machine.specs.Limits.{IsClause, item_count}
+use Rattle.qss_machine.specs.MachineLimits.{IsClause, item_count}
 use Rattle.qss_hand.specs.Works.{row_room}
 use Rattle.qss_hand.specs.Rooms.{clause_room}
 use Rattle.qss_hand.proofs.AfterStatements.{rows_action}
@@ -19,16 +19,16 @@ use Rattle.qss_hand.proofs.Branches.{width_of}
 
 module _ (m : Machine) (tick : ℕ) (before : List ℤ) where
   -- after an overflow clauses change nothing
-  pub clauses_stay : (number : ℕ) (h : Handling) (var : ℕ) (clauses : List ClauseInfo) (due : List Bool) → h.overflow ≡ Some var → run_clauses m tick before number h clauses due ≡ h
+  pub clauses_stay : (number : ℕ) (h : HandlerState) (var : ℕ) (clauses : List ClauseInfo) (due : List Bool) → h.overflow ≡ Some var → run_clauses m tick before number h clauses due ≡ h
   clauses_stay number h var [] due e = refl
   clauses_stay number h var (clause ∷ clauses) due e =
       let some : is_some h.overflow ≡ true = ap is_some e in
-      let stays = if_cases (λ (g : Handling). g ≡ h) (is_some h.overflow) h (run_first_due m tick before number 0 h clause.branches (take (length clause.branches) due)) (λ t. refl) (λ f. absurd (cc)) in
-      ap (λ (g : Handling). run_clauses m tick before (number + 1) g clauses (drop (length clause.branches) due)) stays
+      let stays = if_cases (λ (g : HandlerState). g ≡ h) (is_some h.overflow) h (run_first_due m tick before number 0 h clause.branches (take (length clause.branches) due)) (λ t. refl) (λ f. absurd (cc)) in
+      ap (λ (g : HandlerState). run_clauses m tick before (number + 1) g clauses (drop (length clause.branches) due)) stays
       ∙ clauses_stay (number + 1) h var clauses (drop (length clause.branches) due) e
 
   -- a clause of which no branch is due does nothing
-  pub none_due : (clause number : ℕ) (h : Handling) (branches : List BranchInfo) (due : List Bool) → ((k : ℕ) → flag_at due k ≡ false) →
+  pub none_due : (clause number : ℕ) (h : HandlerState) (branches : List BranchInfo) (due : List Bool) → ((k : ℕ) → flag_at due k ≡ false) →
       run_first_due m tick before clause number h branches due ≡ h
   none_due clause number h [] due none = refl
   none_due clause number h (branch ∷ branches) [] none = refl
@@ -36,7 +36,7 @@ module _ (m : Machine) (tick : ℕ) (before : List ℤ) where
   none_due clause number h (branch ∷ branches) (false ∷ due) none = none_due clause (number + 1) h branches due (λ k. none (suc k))
 
   -- a clause's first due branch fires
-  pub first_fires : (clause number b : ℕ) (h : Handling) (branches : List BranchInfo) (due : List Bool) (d : BranchInfo) → b < length branches →
+  pub first_fires : (clause number b : ℕ) (h : HandlerState) (branches : List BranchInfo) (due : List Bool) (d : BranchInfo) → b < length branches →
       ((k : ℕ) → k < b → flag_at due k ≡ false) → flag_at due b ≡ true →
       run_first_due m tick before clause number h branches due ≡ run_branch m tick before clause (number + b) h (get_or branches b d).actions
   first_fires clause number b h [] due d inside none here = absurd (omega (arith, inside))
@@ -50,17 +50,17 @@ module _ (m : Machine) (tick : ℕ) (before : List ℤ) where
       first_fires clause (number + 1) b h branches due d (omega (arith, inside)) (λ k below. none (suc k) (omega arith)) here
       ∙ ap (λ n. run_branch m tick before clause n h (get_or branches b d).actions) e
 
-  rows_actions : (h : Handling) (actions : List Action) → length (fold (run_action m tick before) h actions).rows ≤ length h.rows + length actions
+  rows_actions : (h : HandlerState) (actions : List Action) → length (fold (run_action m tick before) h actions).rows ≤ length h.rows + length actions
   rows_actions h [] = omega arith
   rows_actions h (action ∷ actions) = omega (arith, rows_actions (run_action m tick before h action) actions, rows_action m h tick before action)
 
   -- a branch adds one row, and one for each statement at most
-  pub rows_branch : (clause branch : ℕ) (h : Handling) (actions : List Action) → length (run_branch m tick before clause branch h actions).rows ≤ length h.rows + 1 + length actions
+  pub rows_branch : (clause branch : ℕ) (h : HandlerState) (actions : List Action) → length (run_branch m tick before clause branch h actions).rows ≤ length h.rows + 1 + length actions
   rows_branch clause branch h actions =
       omega (arith, rows_actions (record h { rows = h.rows ++ fire_row tick clause branch ∷ [] }) actions, length-append h.rows (fire_row tick clause branch ∷ []))
 
   -- and a clause no more than one row and its statements
-  pub rows_turn : (clause number : ℕ) (h : Handling) (branches : List BranchInfo) (due : List Bool) →
+  pub rows_turn : (clause number : ℕ) (h : HandlerState) (branches : List BranchInfo) (due : List Bool) →
       length (run_first_due m tick before clause number h branches due).rows ≤ length h.rows + (1 + sum_by (λ (b : BranchInfo). length b.actions) branches)
   rows_turn clause number h [] due = omega arith
   rows_turn clause number h (branch ∷ branches) [] = omega arith
@@ -70,19 +70,19 @@ module _ (m : Machine) (tick : ℕ) (before : List ℤ) where
       omega (arith, rows_turn clause (number + 1) h branches due, sum_by-cons (λ (b : BranchInfo). length b.actions) branch branches)
 
   -- and all clauses no more than their room
-  pub rows_clauses : (number : ℕ) (h : Handling) (clauses : List ClauseInfo) (due : List Bool) →
+  pub rows_clauses : (number : ℕ) (h : HandlerState) (clauses : List ClauseInfo) (due : List Bool) →
       length (run_clauses m tick before number h clauses due).rows ≤ length h.rows + row_room clauses
   rows_clauses number h [] due = omega arith
   rows_clauses number h (clause ∷ clauses) due =
       let flags = take (length clause.branches) due in
       let next = run_clause m tick before number h clause flags in
       let turn : length next.rows ≤ length h.rows + clause_room clause =
-      if_cases (λ (g : Handling). length g.rows ≤ length h.rows + clause_room clause) (is_some h.overflow) h (run_first_due m tick before number 0 h clause.branches flags)
+      if_cases (λ (g : HandlerState). length g.rows ≤ length h.rows + clause_room clause) (is_some h.overflow) h (run_first_due m tick before number 0 h clause.branches flags)
       (λ t. omega arith) (λ f. rows_turn number 0 h clause.branches flags) in
       omega (arith, rows_clauses (number + 1) next clauses (drop (length clause.branches) due), turn, sum_by-cons clause_room clause clauses)
 
   -- clauses go on with the next one
-  pub next_turn : (i first : ℕ) (h next : Handling) (clauses : List ClauseInfo) (due : List Bool) (d : ClauseInfo) → i < length clauses → h.overflow ≡ None →
+  pub next_turn : (i first : ℕ) (h next : HandlerState) (clauses : List ClauseInfo) (due : List Bool) (d : ClauseInfo) → i < length clauses → h.overflow ≡ None →
       next ≡ run_first_due m tick before i 0 h (get_or clauses i d).branches (take (length (get_or clauses i d).branches) (drop first due)) →
       run_clauses m tick before i h (drop i clauses) (drop first due)
       ≡ run_clauses m tick before (i + 1) next (drop (i + 1) clauses) (drop (first + length (get_or clauses i d).branches) due)
@@ -90,10 +90,10 @@ module _ (m : Machine) (tick : ℕ) (before : List ℤ) where
       let clause : ClauseInfo = get_or clauses i d in
       let width : ℕ = length clause.branches in
       let turn : run_clause m tick before i h clause (take width (drop first due)) ≡ next =
-      if_cases (λ (g : Handling). g ≡ next) (is_some h.overflow) h (run_first_due m tick before i 0 h clause.branches (take width (drop first due)))
+      if_cases (λ (g : HandlerState). g ≡ next) (is_some h.overflow) h (run_first_due m tick before i 0 h clause.branches (take width (drop first due)))
       (λ t. let none : is_some h.overflow ≡ false = ap is_some calm in absurd (cc)) (λ f. sym is) in
       ap (λ (rest : List ClauseInfo). run_clauses m tick before i h rest (drop first due)) (drop_more clauses i d inside)
-      ∙ ap (λ (g : Handling). run_clauses m tick before (i + 1) g (drop (i + 1) clauses) (drop width (drop first due))) turn
+      ∙ ap (λ (g : HandlerState). run_clauses m tick before (i + 1) g (drop (i + 1) clauses) (drop width (drop first due))) turn
       ∙ ap (run_clauses m tick before (i + 1) next (drop (i + 1) clauses)) (drop-drop width first due)
 
 -- how many branches clauses have

@@ -1,7 +1,7 @@
 -- Discrete values and those before the tick, and the places at which they may differ.
 use Rattle.std.specs.Prelude.{◌≡◌, ℕ, ◌<◌, ◌≤◌, false, List, length, All, ℤ, ◌==◌}
 use Rattle.std.specs.List.{list_any}
-use Rattle.qss_machine.specs.Numbers.{int_at}
+use Rattle.qss_machine.specs.IndexedSums.{int_at}
 
 -- numbers that are the same but for those at these places
 abbrev pub AreSameBut : List ℕ → List ℤ → List ℤ → Type 0

@@ -8,15 +8,15 @@ use Rattle.qss_machine.specs.declared.parts.ClauseInfo.{ClauseInfo}
 use Rattle.qss_machine.specs.declared.parts.Rel.TheVariants.{Less}
 use Rattle.qss_machine.specs.declared.system.Machine.{Machine}
 use Rattle.qss_machine.specs.Machines.{state_count, discrete_count}
-use Rattle.qss_machine.specs.Handlers.{Handling}
+use Rattle.qss_machine.specs.Handlers.{HandlerState}
 use Rattle.qss_hand.specs.Values.{Values}
 
 -- the values as handlers see them, where no assignment passed its limit
-abbrev pub handling_of : Values → Handling
+abbrev pub handling_of : Values → HandlerState
 handling_of w = record { states = w.x; discretes = w.d; rows = w.log; overflow = None }
 
 -- the values after handlers
-abbrev pub values_after : Values → Handling → Values
+abbrev pub values_after : Values → HandlerState → Values
 values_after w h = record w { x = h.states; d = h.discretes; log = h.rows }
 
 -- the variable whose assignment passed its limit

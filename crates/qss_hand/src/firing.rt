@@ -35,7 +35,7 @@ pub fn fire(m: &Machine, clause: u32, branch: u32, w: &mut Work) -> Result<(), O
         ≡ values_after w.old
         (run_branch m.now w.old.tick w.old.pre clause branch (handling_of w.old)
         (branch_at m.now clause branch).actions) }
-    ensures over { overflow_of result
+    ensures overflow { overflow_of result
         ≡ (run_branch m.now w.old.tick w.old.pre clause branch (handling_of w.old)
         (branch_at m.now clause branch).actions).overflow }
     ensures fits { AreValuesOf m.now w.new }

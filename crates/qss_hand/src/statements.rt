@@ -2,15 +2,15 @@
 
 ghost use Rattle.std.specs.Prelude.{◌≡◌, ◌+◌, ◌<◌, ◌≤◌, ◌^◌, ◌++◌, ◌∷◌, [], length, pos, Some, None, All, fold, slice_set, if◌then◌else◌};
 ghost use Rattle.mu_num.specs.Rounding.{nearest_of};
-ghost use Rattle.mu_num.specs.Sizes.{passes};
-ghost use Rattle.qss_machine.specs.Limits.{IsBounded, IsAction};
+ghost use Rattle.mu_num.specs.Sizes.{exceeds};
+ghost use Rattle.qss_machine.specs.MachineLimits.{IsBounded, IsAction};
 ghost use Rattle.qss_machine.specs.Machines.{state_count, discrete_count, value_of};
 ghost use Rattle.qss_machine.specs.Handlers.{run_action};
 ghost use Rattle.qss_machine.specs.declared.rows.RowKind.TheVariants as kind;
 ghost use Rattle.qss_hand.specs.Works.{AreValuesOf, handling_of, values_after, overflow_of};
 
 use crate::work::Work;
-use mu_num::{near_div, passes, unit};
+use mu_num::{exceeds, near_div, unit};
 use qss_machine::{Action, Form, Machine, Row, RowKind};
 
 /// The variable whose assigned value passed its limit: 2^43 in size for a discrete value, 2^88 for a state.
@@ -43,7 +43,7 @@ fn set_discrete(w: &mut Work, var: u32, place: u32, value: i128) -> Result<(), O
     requires place { place < length w.old.d }
     requires room { length w.old.log < w.old.room }
     ensures values { w.new
-        ≡ (if passes 43 value
+        ≡ (if exceeds 43 value
         then w.old
         else
         record w.old {
@@ -58,9 +58,9 @@ fn set_discrete(w: &mut Work, var: u32, place: u32, value: i128) -> Result<(), O
               }
               ∷ [];
         }) }
-    ensures over { overflow_of result ≡ (if passes 43 value then Some var else None) }
+    ensures overflow { overflow_of result ≡ (if exceeds 43 value then Some var else None) }
 {
-    if passes(value, 43) {
+    if exceeds(value, 43) {
         return Err(Over { var });
     }
     let level = value as i64;
@@ -80,7 +80,7 @@ fn reinitialize(w: &mut Work, var: u32, value: i128) -> Result<(), Over>
     requires var { var < length w.old.x }
     requires room { length w.old.log < w.old.room }
     ensures values { w.new
-        ≡ (if passes 88 value
+        ≡ (if exceeds 88 value
         then w.old
         else
         record w.old {
@@ -95,9 +95,9 @@ fn reinitialize(w: &mut Work, var: u32, value: i128) -> Result<(), Over>
               }
               ∷ [];
         }) }
-    ensures over { overflow_of result ≡ (if passes 88 value then Some var else None) }
+    ensures overflow { overflow_of result ≡ (if exceeds 88 value then Some var else None) }
 {
-    if passes(value, 88) {
+    if exceeds(value, 88) {
         return Err(Over { var });
     }
     w.x[var as usize] = value;
@@ -120,7 +120,7 @@ fn run(m: &Machine, action: &Action, w: &mut Work) -> Result<(), Over>
     ensures values { w.new
         ≡ values_after w.old
         (run_action m.now w.old.tick w.old.pre (handling_of w.old) action.now) }
-    ensures over { overflow_of result
+    ensures overflow { overflow_of result
         ≡ (run_action m.now w.old.tick w.old.pre (handling_of w.old) action.now).overflow }
 {
     match action {
@@ -145,7 +145,7 @@ pub(crate) fn run_all(m: &Machine, actions: &[Action], w: &mut Work) -> Result<(
     ensures values { w.new
         ≡ values_after w.old
         (fold (run_action m.now w.old.tick w.old.pre) (handling_of w.old) actions.now) }
-    ensures over { overflow_of result
+    ensures overflow { overflow_of result
         ≡ (fold (run_action m.now w.old.tick w.old.pre) (handling_of w.old) actions.now).overflow }
     ensures fits { AreValuesOf m.now w.new }
 {

@@ -59,7 +59,7 @@ fn start_discretes(alloc: Global, m: &Machine) -> Result<Vec<i64>, AllocError>
 
 // The values at these places are those of another list, where the others are.
 fn restore(places: &[u32], values: &[i64], before: &mut [i64])
-    requires as_many { length before.old ≡ length values.now }
+    requires same_length { length before.old ≡ length values.now }
     requires below { All (λ place. place < length values.now) places.now }
     requires same { AreSameBut places.now values.now before.old }
     ensures { before.new ≡ values.now }

@@ -10,7 +10,7 @@ use Rattle.std.specs.List.Sorted.{IsStrictlyIncreasing}
 use Rattle.mu_num.proofs.Tests.{if-true, if-false, eqb-yes, eqb-no}
 use Rattle.qss_machine.specs.declared.parts.Entry.{Entry}
 use Rattle.mu_num.specs.Sizes.{IsWithin}
-use Rattle.qss_machine.specs.Numbers.{size, sum_over}
+use Rattle.qss_machine.specs.IndexedSums.{abs_of, sum_over}
 use Rattle.qss_machine.specs.Slopes.{coefficient_of}
 
 tail_rises : (x : ℕ) (xs : List ℕ) → IsStrictlyIncreasing (x ∷ xs) → IsStrictlyIncreasing xs
@@ -69,23 +69,23 @@ coefficient_small (entry ∷ entries) var rising small =
 
 -- an entry without its sign
 abbrev pub plain : Entry → Entry
-plain entry = record { var = entry.var; coef = size entry.coef }
+plain entry = record { var = entry.var; coef = abs_of entry.coef }
 
-plain_own : (entry : Entry) (var : ℕ) → (if entry.var == var then size entry.coef else pos 0) ≡ size (if entry.var == var then entry.coef else pos 0)
+plain_own : (entry : Entry) (var : ℕ) → (if entry.var == var then abs_of entry.coef else pos 0) ≡ abs_of (if entry.var == var then entry.coef else pos 0)
 plain_own entry var = by_case (entry.var == var)
   where
-    by_case : (b : Bool) → (if b then size entry.coef else pos 0) ≡ size (if b then entry.coef else pos 0)
+    by_case : (b : Bool) → (if b then abs_of entry.coef else pos 0) ≡ abs_of (if b then entry.coef else pos 0)
     by_case true = refl
     by_case false = refl
 
 -- where the entries rise, the size of a coefficient is that of the one entry
 pub coefficient_size : (entries : List Entry) (var : ℕ) → IsStrictlyIncreasing (map (λ (entry : Entry). entry.var) entries) →
-    sum_over (λ (entry : Entry). if entry.var == var then size entry.coef else pos 0) entries ≡ size (coefficient_of entries var)
+    sum_over (λ (entry : Entry). if entry.var == var then abs_of entry.coef else pos 0) entries ≡ abs_of (coefficient_of entries var)
 coefficient_size [] var rising = refl
 coefficient_size (entry ∷ entries) var rising =
     let rest = coefficient_size entries var (tail_rises entry.var (map (λ (entry : Entry). entry.var) entries) rising) in
-    ap (λ z. z +ℤ sum_over (λ (entry : Entry). if entry.var == var then size entry.coef else pos 0) entries) (plain_own entry var)
-    ∙ ap (λ z. size (if entry.var == var then entry.coef else pos 0) +ℤ z) rest
+    ap (λ z. z +ℤ sum_over (λ (entry : Entry). if entry.var == var then abs_of entry.coef else pos 0) entries) (plain_own entry var)
+    ∙ ap (λ z. abs_of (if entry.var == var then entry.coef else pos 0) +ℤ z) rest
     ∙ elim (cases_eq entry.var var) [
       | inl same ↦ one_zero (if entry.var == var then entry.coef else pos 0) (coefficient_of entries var)
           (inr (none_at entries var (λ k d within. λ e. rest_differs entry entries rising k d within (e ∙ sym same))))
@@ -93,6 +93,6 @@ coefficient_size (entry ∷ entries) var rising =
           (inl (if-false (entry.var == var) entry.coef (pos 0) (eqb-no entry.var var other)))
     ]
   where
-    one_zero : (a b : ℤ) → (a ≡ pos 0) ⊎ (b ≡ pos 0) → size a +ℤ size b ≡ size (a +ℤ b)
+    one_zero : (a b : ℤ) → (a ≡ pos 0) ⊎ (b ≡ pos 0) → abs_of a +ℤ abs_of b ≡ abs_of (a +ℤ b)
     one_zero a b (inl e) = omega (arith, ints)
     one_zero a b (inr e) = omega (arith, ints)

@@ -9,7 +9,7 @@ use Rattle.qss_machine.specs.declared.parts.DiscreteInfo.{DiscreteInfo}
 use Rattle.qss_machine.specs.declared.parts.SlopeRow.{SlopeRow}
 use Rattle.qss_machine.specs.declared.parts.ClauseInfo.{ClauseInfo}
 use Rattle.qss_machine.specs.declared.system.Machine.{Machine}
-use Rattle.qss_machine.specs.Limits.{HasUnits, AreVariables, AreRows, AreClauses}
+use Rattle.qss_machine.specs.MachineLimits.{HasUnits, AreVariables, AreRows, AreClauses}
 use Rattle.qss_machine.specs.SameData.{HaveSameData}
 
 -- the fields of a machine

@@ -13,27 +13,27 @@ use Rattle.qss_machine.specs.declared.parts.ClauseInfo.{ClauseInfo}
 use Rattle.qss_machine.specs.declared.rows.Row.{Row}
 use Rattle.qss_machine.specs.declared.rows.RowKind.TheVariants as kind
 use Rattle.qss_machine.specs.declared.system.Machine.{Machine}
-use Rattle.mu_num.specs.Sizes.{passes}
-use Rattle.qss_machine.specs.Numbers.{first_past}
-use Rattle.qss_machine.specs.Handlers.{Handling, conditions, truths, due_flags, assigned_value, assign, run_action, run_branch, fire_row, run_first_due, run_clause, run_clauses}
-use Rattle.qss_machine.specs.Ticks.{World, start_world, moved_states, handling_at, StepBy, IsFreeLevel}
-use Rattle.qss_machine.specs.Runs.{LeadsFreely, last_world}
+use Rattle.mu_num.specs.Sizes.{exceeds}
+use Rattle.qss_machine.specs.IndexedSums.{first_exceeding}
+use Rattle.qss_machine.specs.Handlers.{HandlerState, conditions, truths, firing_flags, assigned_value, assign, run_action, run_branch, fire_row, run_first_due, run_clause, run_clauses}
+use Rattle.qss_machine.specs.Ticks.{Snapshot, start_snapshot, moved_states, handlers_at, IsStepBy, IsFreeLevel}
+use Rattle.qss_machine.specs.Runs.{IsFreeExecution, last_snapshot}
 use Rattle.qss_machine.specs.Machines.{truth, start_states, start_discretes}
 use Rattle.qss_machine.proofs.Near.{step_facts}
 use Rattle.qss_machine.specs.Firing.{due_at, flag_at, says_fired, has_fired, first_place, IsFirstDue, HasTruths, BranchesFireWhenDue}
 
 -- ---- flags
 
-due_flag : (now arrived settled : List Bool) (place : ℕ) → flag_at (due_flags now arrived settled) place ≡ true →
-    (flag_at now place ≡ true) × ((flag_at arrived place && flag_at settled place) ≡ false)
-due_flag [] arrived settled place e = absurd (cc)
-due_flag (n ∷ now) [] settled place e = absurd (cc)
-due_flag (n ∷ now) (a ∷ arrived) [] place e = absurd (cc)
-due_flag (true ∷ now) (true ∷ arrived) (true ∷ settled) zero e = absurd (cc)
-due_flag (true ∷ now) (true ∷ arrived) (false ∷ settled) zero e = (refl, refl)
-due_flag (true ∷ now) (false ∷ arrived) (s ∷ settled) zero e = (refl, refl)
-due_flag (false ∷ now) (a ∷ arrived) (s ∷ settled) zero e = absurd (cc)
-due_flag (n ∷ now) (a ∷ arrived) (s ∷ settled) (suc place) e = due_flag now arrived settled place e
+due_flag : (now at_arrival after_handlers : List Bool) (place : ℕ) → flag_at (firing_flags now at_arrival after_handlers) place ≡ true →
+    (flag_at now place ≡ true) × ((flag_at at_arrival place && flag_at after_handlers place) ≡ false)
+due_flag [] at_arrival after_handlers place e = absurd (cc)
+due_flag (n ∷ now) [] after_handlers place e = absurd (cc)
+due_flag (n ∷ now) (a ∷ at_arrival) [] place e = absurd (cc)
+due_flag (true ∷ now) (true ∷ at_arrival) (true ∷ after_handlers) zero e = absurd (cc)
+due_flag (true ∷ now) (true ∷ at_arrival) (false ∷ after_handlers) zero e = (refl, refl)
+due_flag (true ∷ now) (false ∷ at_arrival) (s ∷ after_handlers) zero e = (refl, refl)
+due_flag (false ∷ now) (a ∷ at_arrival) (s ∷ after_handlers) zero e = absurd (cc)
+due_flag (n ∷ now) (a ∷ at_arrival) (s ∷ after_handlers) (suc place) e = due_flag now at_arrival after_handlers place e
 
 flag_take : (n : ℕ) (flags : List Bool) (place : ℕ) → flag_at (take n flags) place ≡ true → flag_at flags place ≡ true
 flag_take zero flags place e = absurd (cc)
@@ -98,24 +98,24 @@ either false true false e = absurd (cc)
 either false false z e = absurd (cc)
 
 module _ (m : Machine) (tick : ℕ) (before : List ℤ) (c b : ℕ) where
-  assign_same : (h : Handling) (action : Action) (z : ℤ) → has_fired c b (assign m tick h action z).rows ≡ has_fired c b h.rows
+  assign_same : (h : HandlerState) (action : Action) (z : ℤ) → has_fired c b (assign m tick h action z).rows ≡ has_fired c b h.rows
   assign_same h (Set var form) z =
-      if_cases (λ (after : Handling). has_fired c b after.rows ≡ has_fired c b h.rows) (passes 43 z) _ _ (λ e. refl)
+      if_cases (λ (after : HandlerState). has_fired c b after.rows ≡ has_fired c b h.rows) (exceeds 43 z) _ _ (λ e. refl)
       (λ e. push_other c b h.rows (record { tick = tick; kind = kind.Set; var = var; level = z; state = pos 0 }) refl)
   assign_same h (Reinit var form) z =
-      if_cases (λ (after : Handling). has_fired c b after.rows ≡ has_fired c b h.rows) (passes 88 z) _ _ (λ e. refl)
+      if_cases (λ (after : HandlerState). has_fired c b after.rows ≡ has_fired c b h.rows) (exceeds 88 z) _ _ (λ e. refl)
       (λ e. push_other c b h.rows (record { tick = tick; kind = kind.Reinit; var = var; level = pos 0; state = z }) refl)
 
-  action_same : (h : Handling) (action : Action) → has_fired c b (run_action m tick before h action).rows ≡ has_fired c b h.rows
+  action_same : (h : HandlerState) (action : Action) → has_fired c b (run_action m tick before h action).rows ≡ has_fired c b h.rows
   action_same h action =
-      if_cases (λ (after : Handling). has_fired c b after.rows ≡ has_fired c b h.rows) (is_some h.overflow) h (assign m tick h action (assigned_value m tick before h action))
+      if_cases (λ (after : HandlerState). has_fired c b after.rows ≡ has_fired c b h.rows) (is_some h.overflow) h (assign m tick h action (assigned_value m tick before h action))
       (λ e. refl) (λ e. assign_same h action (assigned_value m tick before h action))
 
-  actions_same : (h : Handling) (actions : List Action) → has_fired c b (fold (run_action m tick before) h actions).rows ≡ has_fired c b h.rows
+  actions_same : (h : HandlerState) (actions : List Action) → has_fired c b (fold (run_action m tick before) h actions).rows ≡ has_fired c b h.rows
   actions_same h [] = refl
   actions_same h (action ∷ actions) = actions_same (run_action m tick before h action) actions ∙ action_same h action
 
-  branch_fired : (clause branch : ℕ) (h : Handling) (actions : List Action) → has_fired c b (run_branch m tick before clause branch h actions).rows ≡ true →
+  branch_fired : (clause branch : ℕ) (h : HandlerState) (actions : List Action) → has_fired c b (run_branch m tick before clause branch h actions).rows ≡ true →
       (has_fired c b h.rows ≡ true) ⊎ ((c ≡ clause) × (b ≡ branch))
   branch_fired clause branch h actions e =
       let rows = h.rows ++ fire_row tick clause branch ∷ [] in
@@ -124,7 +124,7 @@ module _ (m : Machine) (tick : ℕ) (before : List ℤ) (c b : ℕ) where
       elim (either (has_fired c b h.rows) (c == clause) (b == branch) split) [ inl x ↦ inl x | inr p ↦ inr (eqb-true c clause p.0, eqb-true b branch p.1) ]
 
   -- of a clause's branches
-  first_fired : (clause number : ℕ) (h : Handling) (branches : List BranchInfo) (due : List Bool) →
+  first_fired : (clause number : ℕ) (h : HandlerState) (branches : List BranchInfo) (due : List Bool) →
       has_fired c b (run_first_due m tick before clause number h branches due).rows ≡ true →
       (has_fired c b h.rows ≡ true) ⊎ ((c ≡ clause) × ((j : ℕ) × (b ≡ number + j) × (flag_at due j ≡ true) × NoneBefore due j))
   first_fired clause number h [] due e = inl e
@@ -137,11 +137,11 @@ module _ (m : Machine) (tick : ℕ) (before : List ℤ) (c b : ℕ) where
       later : (j : ℕ) → b ≡ number + 1 + j → b ≡ number + suc j
       later j f = omega arith
 
-  clause_fired : (number : ℕ) (h : Handling) (clause : ClauseInfo) (due : List Bool) →
+  clause_fired : (number : ℕ) (h : HandlerState) (clause : ClauseInfo) (due : List Bool) →
       has_fired c b (run_clause m tick before number h clause due).rows ≡ true →
       (has_fired c b h.rows ≡ true) ⊎ ((c ≡ number) × (flag_at due b ≡ true) × NoneBefore due b)
   clause_fired number h clause due =
-      if_cases (λ (after : Handling). has_fired c b after.rows ≡ true → (has_fired c b h.rows ≡ true) ⊎ ((c ≡ number) × (flag_at due b ≡ true) × NoneBefore due b))
+      if_cases (λ (after : HandlerState). has_fired c b after.rows ≡ true → (has_fired c b h.rows ≡ true) ⊎ ((c ≡ number) × (flag_at due b ≡ true) × NoneBefore due b))
       (is_some h.overflow) h (run_first_due m tick before number 0 h clause.branches due)
       (λ e x. inl x)
       (λ e x. elim (first_fired number 0 h clause.branches due x) [ inl y ↦ inl y | inr p ↦ inr (p.0, (at_place p.1.0 p.1.1 p.1.2 p.1.3).0, (at_place p.1.0 p.1.1 p.1.2 p.1.3).1) ])
@@ -149,7 +149,7 @@ module _ (m : Machine) (tick : ℕ) (before : List ℤ) (c b : ℕ) where
       at_place : (j : ℕ) → b ≡ 0 + j → flag_at due j ≡ true → NoneBefore due j → (flag_at due b ≡ true) × NoneBefore due b
       at_place j f x none = let g : b ≡ j = omega arith in (ap (flag_at due) g ∙ x, λ i h. none i (omega (arith, g)))
 
-  clauses_fired : (number : ℕ) (h : Handling) (clauses : List ClauseInfo) (due : List Bool) →
+  clauses_fired : (number : ℕ) (h : HandlerState) (clauses : List ClauseInfo) (due : List Bool) →
       has_fired c b (run_clauses m tick before number h clauses due).rows ≡ true →
       (has_fired c b h.rows ≡ true)
       ⊎ ((k : ℕ) × (c ≡ number + k) × (flag_at due (first_place clauses k + b) ≡ true) × ((i : ℕ) → i < b → flag_at due (first_place clauses k + i) ≡ false))
@@ -173,9 +173,9 @@ module _ (m : Machine) (tick : ℕ) (before : List ℤ) (c b : ℕ) where
           let low : i < length clause.branches = omega (arith, within) in
           ap (flag_at due) (zero-add i) ∙ sym (flag_taken (length clause.branches) due i low) ∙ none i h
 
-fired_due : (m : Machine) (tick : ℕ) (w : World) (c b : ℕ) → has_fired c b (handling_at m tick w).rows ≡ true → IsFirstDue m tick w c b
+fired_due : (m : Machine) (tick : ℕ) (w : Snapshot) (c b : ℕ) → has_fired c b (handlers_at m tick w).rows ≡ true → IsFirstDue m tick w c b
 fired_due m tick w c b e =
-    elim (clauses_fired m tick w.discretes c b 0 (record { states = moved_states m w; discretes = w.discretes; rows = []; overflow = first_past 88 (moved_states m w) }) m.clauses (due_at m tick w) e) [
+    elim (clauses_fired m tick w.discretes c b 0 (record { states = moved_states m w; discretes = w.discretes; rows = []; overflow = first_exceeding 88 (moved_states m w) }) m.clauses (due_at m tick w) e) [
       | inl x ↦ absurd (cc)
       | inr p ↦ same p.0 p.1 p.2 p.3
     ]
@@ -209,33 +209,33 @@ and_same c b = grind (arith, nat_tests)
 
 module _ (m : Machine) (tick : ℕ) (before : List ℤ) where
   -- a row that stands stays
-  branch_kept : (c b clause branch : ℕ) (h : Handling) (actions : List Action) → has_fired c b h.rows ≡ true → has_fired c b (run_branch m tick before clause branch h actions).rows ≡ true
+  branch_kept : (c b clause branch : ℕ) (h : HandlerState) (actions : List Action) → has_fired c b h.rows ≡ true → has_fired c b (run_branch m tick before clause branch h actions).rows ≡ true
   branch_kept c b clause branch h actions e =
       actions_same m tick before c b (record h { rows = h.rows ++ fire_row tick clause branch ∷ [] }) actions
       ∙ list_any-append (λ (row : Row). says_fired c b row.kind) h.rows (fire_row tick clause branch ∷ [])
       ∙ left_true (has_fired c b h.rows) _ e
 
-  first_kept : (c b clause number : ℕ) (h : Handling) (branches : List BranchInfo) (due : List Bool) → has_fired c b h.rows ≡ true →
+  first_kept : (c b clause number : ℕ) (h : HandlerState) (branches : List BranchInfo) (due : List Bool) → has_fired c b h.rows ≡ true →
       has_fired c b (run_first_due m tick before clause number h branches due).rows ≡ true
   first_kept c b clause number h [] due e = e
   first_kept c b clause number h (branch ∷ branches) [] e = e
   first_kept c b clause number h (branch ∷ branches) (true ∷ due) e = branch_kept c b clause number h branch.actions e
   first_kept c b clause number h (branch ∷ branches) (false ∷ due) e = first_kept c b clause (number + 1) h branches due e
 
-  clauses_kept : (c b number : ℕ) (h : Handling) (clauses : List ClauseInfo) (due : List Bool) → has_fired c b h.rows ≡ true → has_fired c b (run_clauses m tick before number h clauses due).rows ≡ true
+  clauses_kept : (c b number : ℕ) (h : HandlerState) (clauses : List ClauseInfo) (due : List Bool) → has_fired c b h.rows ≡ true → has_fired c b (run_clauses m tick before number h clauses due).rows ≡ true
   clauses_kept c b number h [] due e = e
   clauses_kept c b number h (clause ∷ clauses) due e =
       clauses_kept c b (number + 1) (run_clause m tick before number h clause (take (length clause.branches) due)) clauses (drop (length clause.branches) due)
-      (if_cases (λ (after : Handling). has_fired c b after.rows ≡ true) (is_some h.overflow) h (run_first_due m tick before number 0 h clause.branches (take (length clause.branches) due))
+      (if_cases (λ (after : HandlerState). has_fired c b after.rows ≡ true) (is_some h.overflow) h (run_first_due m tick before number 0 h clause.branches (take (length clause.branches) due))
       (λ x. e) (λ x. first_kept c b number 0 h clause.branches (take (length clause.branches) due) e))
 
-  branch_fires : (clause branch : ℕ) (h : Handling) (actions : List Action) → has_fired clause branch (run_branch m tick before clause branch h actions).rows ≡ true
+  branch_fires : (clause branch : ℕ) (h : HandlerState) (actions : List Action) → has_fired clause branch (run_branch m tick before clause branch h actions).rows ≡ true
   branch_fires clause branch h actions =
       actions_same m tick before clause branch (record h { rows = h.rows ++ fire_row tick clause branch ∷ [] }) actions
       ∙ list_any-append (λ (row : Row). says_fired clause branch row.kind) h.rows (fire_row tick clause branch ∷ [])
       ∙ or_true (has_fired clause branch h.rows) (clause == clause && branch == branch) (and_same clause branch)
 
-  first_fires : (clause number j : ℕ) (h : Handling) (branches : List BranchInfo) (due : List Bool) → j < length branches → flag_at due j ≡ true →
+  first_fires : (clause number j : ℕ) (h : HandlerState) (branches : List BranchInfo) (due : List Bool) → j < length branches → flag_at due j ≡ true →
       ((i : ℕ) → i < j → flag_at due i ≡ false) → has_fired clause (number + j) (run_first_due m tick before clause number h branches due).rows ≡ true
   first_fires clause number j h [] due low flag earlier = absurd (omega arith)
   first_fires clause number j h (branch ∷ branches) [] low flag earlier = absurd (cc)
@@ -250,14 +250,14 @@ module _ (m : Machine) (tick : ℕ) (before : List ℤ) where
       shift : (number j : ℕ) → number + suc j ≡ number + 1 + j
       shift number j = omega arith
 
-  clause_fires : (number b : ℕ) (h : Handling) (clause : ClauseInfo) (due : List Bool) → b < length clause.branches → flag_at due b ≡ true →
+  clause_fires : (number b : ℕ) (h : HandlerState) (clause : ClauseInfo) (due : List Bool) → b < length clause.branches → flag_at due b ≡ true →
       ((i : ℕ) → i < b → flag_at due i ≡ false) → h.overflow ≡ None → has_fired number b (run_clause m tick before number h clause due).rows ≡ true
   clause_fires number b h clause due low flag earlier calm =
-      if_cases (λ (after : Handling). has_fired number b after.rows ≡ true) (is_some h.overflow) h (run_first_due m tick before number 0 h clause.branches due)
+      if_cases (λ (after : HandlerState). has_fired number b after.rows ≡ true) (is_some h.overflow) h (run_first_due m tick before number 0 h clause.branches due)
       (λ e. absurd (let no = sym (ap is_some calm) ∙ e in cc))
       (λ e. ap (λ x. has_fired number x (run_first_due m tick before number 0 h clause.branches due).rows) (sym (zero-add b)) ∙ first_fires number 0 b h clause.branches due low flag earlier)
 
-  clauses_fire : (number k b : ℕ) (h : Handling) (clauses : List ClauseInfo) (due : List Bool) → k < length clauses →
+  clauses_fire : (number k b : ℕ) (h : HandlerState) (clauses : List ClauseInfo) (due : List Bool) → k < length clauses →
       b < length (get_or clauses k (record { branches = [] })).branches → flag_at due (first_place clauses k + b) ≡ true →
       ((i : ℕ) → i < b → flag_at due (first_place clauses k + i) ≡ false) →
       (run_clauses m tick before number h (take k clauses) due).overflow ≡ None → has_fired (number + k) b (run_clauses m tick before number h clauses due).rows ≡ true
@@ -282,48 +282,48 @@ module _ (m : Machine) (tick : ℕ) (before : List ℤ) where
 
 -- ---- due where the truths say so
 
-flag_due : (now arrived settled : List Bool) (place : ℕ) → length arrived ≡ length now → length settled ≡ length now → flag_at now place ≡ true →
-    (flag_at arrived place && flag_at settled place) ≡ false → flag_at (due_flags now arrived settled) place ≡ true
-flag_due [] arrived settled place ea es e f = absurd (cc)
-flag_due (n ∷ now) [] settled place ea es e f = absurd (omega (arith, ea))
-flag_due (n ∷ now) (a ∷ arrived) [] place ea es e f = absurd (omega (arith, es))
-flag_due (true ∷ now) (true ∷ arrived) (true ∷ settled) zero ea es e f = absurd (cc)
-flag_due (true ∷ now) (true ∷ arrived) (false ∷ settled) zero ea es e f = refl
-flag_due (true ∷ now) (false ∷ arrived) (s ∷ settled) zero ea es e f = refl
-flag_due (false ∷ now) (a ∷ arrived) (s ∷ settled) zero ea es e f = absurd (cc)
-flag_due (n ∷ now) (a ∷ arrived) (s ∷ settled) (suc place) ea es e f = flag_due now arrived settled place (omega (arith, ea)) (omega (arith, es)) e f
+flag_due : (now at_arrival after_handlers : List Bool) (place : ℕ) → length at_arrival ≡ length now → length after_handlers ≡ length now → flag_at now place ≡ true →
+    (flag_at at_arrival place && flag_at after_handlers place) ≡ false → flag_at (firing_flags now at_arrival after_handlers) place ≡ true
+flag_due [] at_arrival after_handlers place ea es e f = absurd (cc)
+flag_due (n ∷ now) [] after_handlers place ea es e f = absurd (omega (arith, ea))
+flag_due (n ∷ now) (a ∷ at_arrival) [] place ea es e f = absurd (omega (arith, es))
+flag_due (true ∷ now) (true ∷ at_arrival) (true ∷ after_handlers) zero ea es e f = absurd (cc)
+flag_due (true ∷ now) (true ∷ at_arrival) (false ∷ after_handlers) zero ea es e f = refl
+flag_due (true ∷ now) (false ∷ at_arrival) (s ∷ after_handlers) zero ea es e f = refl
+flag_due (false ∷ now) (a ∷ at_arrival) (s ∷ after_handlers) zero ea es e f = absurd (cc)
+flag_due (n ∷ now) (a ∷ at_arrival) (s ∷ after_handlers) (suc place) ea es e f = flag_due now at_arrival after_handlers place (omega (arith, ea)) (omega (arith, es)) e f
 
 truths_count : (m : Machine) (states discretes : List ℤ) (tick : ℕ) → length (truths m states discretes tick) ≡ length (conditions m)
 truths_count m states discretes tick = length-map (conditions m) (λ condition. truth m condition states discretes tick)
 
-start_truths : (m : Machine) → HasTruths m (start_world m)
+start_truths : (m : Machine) → HasTruths m (start_snapshot m)
 start_truths m = record {
-  arrived = truths_count m (start_states m) (start_discretes m) 0;
-  settled = truths_count m (start_states m) (start_discretes m) 0;
+  at_arrival = truths_count m (start_states m) (start_discretes m) 0;
+  after_handlers = truths_count m (start_states m) (start_discretes m) 0;
 }
 
-step_truths : (m : Machine) (tick : ℕ) (w next : World) → StepBy (IsFreeLevel m) m tick w (Ok next) → HasTruths m next
+step_truths : (m : Machine) (tick : ℕ) (w next : Snapshot) → IsStepBy (IsFreeLevel m) m tick w (Ok next) → HasTruths m next
 step_truths m tick w next s =
     let facts = step_facts (IsFreeLevel m) m tick w next s in
     record {
-      arrived = ap length facts.arrived ∙ truths_count m (moved_states m w) w.discretes tick;
-      settled = ap length facts.settled ∙ truths_count m next.states next.discretes tick;
+      at_arrival = ap length facts.at_arrival ∙ truths_count m (moved_states m w) w.discretes tick;
+      after_handlers = ap length facts.after_handlers ∙ truths_count m next.states next.discretes tick;
     }
 
-leads_truths : (m : Machine) (tick : ℕ) (w : World) (worlds : List World) → HasTruths m w → LeadsFreely m tick w worlds → HasTruths m (last_world w worlds)
+leads_truths : (m : Machine) (tick : ℕ) (w : Snapshot) (snapshots : List Snapshot) → HasTruths m w → IsFreeExecution m tick w snapshots → HasTruths m (last_snapshot w snapshots)
 leads_truths m tick w [] have leads = have
-leads_truths m tick w (next ∷ worlds) have leads = leads_truths m (tick + 1) next worlds (step_truths m (tick + 1) w next leads.0) leads.1
+leads_truths m tick w (next ∷ snapshots) have leads = leads_truths m (tick + 1) next snapshots (step_truths m (tick + 1) w next leads.0) leads.1
 
 pub branches_fire_when_due : BranchesFireWhenDue
 branches_fire_when_due = record {
   only_due = λ m tick w clause branch e. fired_due m tick w clause branch e;
-  due_means = λ m tick w place e. due_flag _ w.arrived w.settled place e;
+  due_means = λ m tick w place e. due_flag _ w.at_arrival w.after_handlers place e;
   due_where = λ m tick w place have now not_both.
       let count = length-map (conditions m) (λ condition. truth m condition (moved_states m w) w.discretes tick) in
-      flag_due (truths m (moved_states m w) w.discretes tick) w.arrived w.settled place (have.arrived ∙ sym count) (have.settled ∙ sym count) now not_both;
-  have_truths = λ m worlds leads. leads_truths m 0 (start_world m) worlds (start_truths m) leads;
+      flag_due (truths m (moved_states m w) w.discretes tick) w.at_arrival w.after_handlers place (have.at_arrival ∙ sym count) (have.after_handlers ∙ sym count) now not_both;
+  have_truths = λ m snapshots leads. leads_truths m 0 (start_snapshot m) snapshots (start_truths m) leads;
   first_due_fires = λ m tick w clause branch low within first calm.
-      ap (λ c. has_fired c branch (handling_at m tick w).rows) (sym (zero-add clause))
-      ∙ clauses_fire m tick w.discretes 0 clause branch (record { states = moved_states m w; discretes = w.discretes; rows = []; overflow = first_past 88 (moved_states m w) })
+      ap (λ c. has_fired c branch (handlers_at m tick w).rows) (sym (zero-add clause))
+      ∙ clauses_fire m tick w.discretes 0 clause branch (record { states = moved_states m w; discretes = w.discretes; rows = []; overflow = first_exceeding 88 (moved_states m w) })
       m.clauses (due_at m tick w) low within first.due first.earlier calm;
 }

@@ -1,4 +1,4 @@
-pub mod WorkedRows
+mod WorkedRows
 pub mod Near
 pub mod Admitted
 pub mod SumLaws
@@ -7,7 +7,7 @@ pub mod Loops
 pub mod Few
 pub mod WeightLaws
 pub mod Fired
-pub mod SlopeLaws
+mod SlopeLaws
 pub mod Distinct
 pub mod ModeTests
 pub mod Powers
@@ -15,7 +15,7 @@ pub mod ProductStates
 pub mod Ranges
 pub mod Rules
 pub mod OneRun
-pub mod Places
-pub mod Marking
+mod Places
+mod Marking
 mod Halving
 mod StateProducts

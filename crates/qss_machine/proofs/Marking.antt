@@ -11,8 +11,8 @@ use Rattle.std.proofs.lemmas.List.FromFn.{fill_by_all}
 use Rattle.std.proofs.lemmas.List.Elements.{All-nil, All-cons}
 use Rattle.qss_machine.specs.declared.parts.BranchInfo.{BranchInfo}
 use Rattle.qss_machine.specs.declared.parts.Condition.{Condition}
-use Rattle.qss_machine.specs.Numbers.{tabulate}
-use Rattle.qss_machine.specs.Uses.{places_from, condition_reads}
+use Rattle.qss_machine.specs.IndexedSums.{tabulate}
+use Rattle.qss_machine.specs.Readers.{places_from, condition_reads}
 use Rattle.qss_machine.specs.Marks.{NotesOnce, IsMarked, MarksBy, Collects}
 use Rattle.qss_machine.proofs.Places.{places-append}
 

@@ -5,26 +5,26 @@ use Rattle.std.proofs.lemmas.List.Recursion.{and_from_places, and_fails_at}
 use Rattle.std.proofs.lemmas.Bool.Decides.{nat_tests}
 use Rattle.std.specs.List.{list_all}
 use Rattle.std.specs.Int.RustNames.{unsigned_abs}
-use Rattle.mu_num.specs.Sizes.{passes}
-use Rattle.qss_machine.specs.Numbers.{tabulate}
+use Rattle.mu_num.specs.Sizes.{exceeds}
+use Rattle.qss_machine.specs.IndexedSums.{tabulate}
 
-pub fits_false : (n i : ℕ) (f : ℕ → ℤ) → i < n → passes 44 (f i) ≡ true → list_all (λ z. not (passes 44 z)) (tabulate n f) ≡ false
+pub fits_false : (n i : ℕ) (f : ℕ → ℤ) → i < n → exceeds 44 (f i) ≡ true → list_all (λ z. not (exceeds 44 z)) (tabulate n f) ≡ false
 fits_false n i f h e =
-    and_fails_at (list_all (λ z. not (passes 44 z))) (λ z. not (passes 44 z)) refl (λ x xs. refl) (tabulate n f) i (pos 0)
+    and_fails_at (list_all (λ z. not (exceeds 44 z))) (λ z. not (exceeds 44 z)) refl (λ x xs. refl) (tabulate n f) i (pos 0)
     (rw (length-map-range_with_len f 0 n) h)
-    (ap (λ z. not (passes 44 z)) (get_or-map-range_with_len f 0 n i i (pos 0) h (omega arith)) ∙ ap not e)
+    (ap (λ z. not (exceeds 44 z)) (get_or-map-range_with_len f 0 n i i (pos 0) h (omega arith)) ∙ ap not e)
 
-pub fits_true : (n : ℕ) (f : ℕ → ℤ) → ((i : ℕ) → i < n → passes 44 (f i) ≡ false) → list_all (λ z. not (passes 44 z)) (tabulate n f) ≡ true
+pub fits_true : (n : ℕ) (f : ℕ → ℤ) → ((i : ℕ) → i < n → exceeds 44 (f i) ≡ false) → list_all (λ z. not (exceeds 44 z)) (tabulate n f) ≡ true
 fits_true n f all =
-    and_from_places (list_all (λ z. not (passes 44 z))) (λ z. not (passes 44 z)) refl (λ x xs. refl) (tabulate n f) (pos 0)
+    and_from_places (list_all (λ z. not (exceeds 44 z))) (λ z. not (exceeds 44 z)) refl (λ x xs. refl) (tabulate n f) (pos 0)
     (λ i within.
     let h : i < n = omega (arith, length-map-range_with_len f 0 n) in
-    ap (λ z. not (passes 44 z)) (get_or-map-range_with_len f 0 n i i (pos 0) h (omega arith)) ∙ ap not (all i h))
+    ap (λ z. not (exceeds 44 z)) (get_or-map-range_with_len f 0 n i i (pos 0) h (omega arith)) ∙ ap not (all i h))
 
 -- where all fit, each is within the limit
-pub fits_at : (n i : ℕ) (f : ℕ → ℤ) → i < n → list_all (λ z. not (passes 44 z)) (tabulate n f) ≡ true → unsigned_abs (f i) ≤ 2 ^ 44
-fits_at n i f h all = within_from (passes 44 (f i)) refl
+pub fits_at : (n i : ℕ) (f : ℕ → ℤ) → i < n → list_all (λ z. not (exceeds 44 z)) (tabulate n f) ≡ true → unsigned_abs (f i) ≤ 2 ^ 44
+fits_at n i f h all = within_from (exceeds 44 (f i)) refl
   where
-    within_from : (b : Bool) → passes 44 (f i) ≡ b → unsigned_abs (f i) ≤ 2 ^ 44
+    within_from : (b : Bool) → exceeds 44 (f i) ≡ b → unsigned_abs (f i) ≤ 2 ^ 44
     within_from true e = absurd (let no = fits_false n i f h e in cc)
     within_from false e = grind (arith, nat_tests)

@@ -13,46 +13,46 @@ use Rattle.mu_num.proofs.Tests.{int_lt-true}
 use Rattle.mu_num.proofs.Quotients.{floor_meets}
 use Rattle.qss_machine.specs.declared.parts.StateInfo.{StateInfo}
 use Rattle.qss_machine.specs.declared.system.Machine.{Machine}
-use Rattle.qss_machine.specs.Numbers.{int_at, first_past}
-use Rattle.qss_machine.specs.Limits.{level_below}
+use Rattle.qss_machine.specs.IndexedSums.{int_at, first_exceeding}
+use Rattle.qss_machine.specs.MachineLimits.{level_below}
 use Rattle.qss_machine.specs.Machines.{state_count, level_unit, quanta, quantum_of, slope_at, start_states}
 use Rattle.qss_machine.specs.Handlers.{truths}
-use Rattle.mu_num.specs.Levels.{Free}
-use Rattle.qss_machine.specs.Ticks.{World, start_world, handling_at, moved_states, AreLevelsBy, is_near, world_unless, StepBy, IsFreeLevel}
-use Rattle.qss_machine.specs.Runs.{LeadsFreely, last_world}
-use Rattle.qss_machine.specs.Laws.{IsNear, StaysNear, RunsStayNear}
+use Rattle.mu_num.specs.Levels.{IsWithinOneLevel}
+use Rattle.qss_machine.specs.Ticks.{Snapshot, start_snapshot, handlers_at, moved_states, AreLevelsBy, is_within_quantum, snapshot_unless, IsStepBy, IsFreeLevel}
+use Rattle.qss_machine.specs.Runs.{IsFreeExecution, last_snapshot}
+use Rattle.qss_machine.specs.RunLaws.{IsWithinQuantum, StaysWithinDrift, RunsStayWithinDrift}
 
 -- ---- what a step gives
 
-world_unless-Ok : (overflow : Option ℕ) (w next : World) → Ok next ≡ world_unless overflow w → (overflow ≡ None) × (next ≡ w)
-world_unless-Ok None w next e = (refl, cc)
-world_unless-Ok (Some var) w next e = absurd (cc)
+snapshot_unless-Ok : (overflow : Option ℕ) (w next : Snapshot) → Ok next ≡ snapshot_unless overflow w → (overflow ≡ None) × (next ≡ w)
+snapshot_unless-Ok None w next e = (refl, cc)
+snapshot_unless-Ok (Some var) w next e = absurd (cc)
 
 option_or-None : (o p : Option ℕ) → option_or o p ≡ None → (o ≡ None) × (p ≡ None)
 option_or-None None p e = (refl, e)
 option_or-None (Some var) p e = absurd (cc)
 
 -- the world after a step, by its parts
-pub record StepFacts (Allows : ℕ → ℤ → ℤ → ℤ → Type 0) (m : Machine) (tick : ℕ) (w next : World) : Type 0 where
-  pub no_overflow : (handling_at m tick w).overflow ≡ None
-  pub states : next.states ≡ (handling_at m tick w).states
-  pub discretes : next.discretes ≡ (handling_at m tick w).discretes
-  pub arrived : next.arrived ≡ truths m (moved_states m w) w.discretes tick
-  pub settled : next.settled ≡ truths m next.states next.discretes tick
+pub record StepFacts (Allows : ℕ → ℤ → ℤ → ℤ → Type 0) (m : Machine) (tick : ℕ) (w next : Snapshot) : Type 0 where
+  pub no_overflow : (handlers_at m tick w).overflow ≡ None
+  pub states : next.states ≡ (handlers_at m tick w).states
+  pub discretes : next.discretes ≡ (handlers_at m tick w).discretes
+  pub at_arrival : next.at_arrival ≡ truths m (moved_states m w) w.discretes tick
+  pub after_handlers : next.after_handlers ≡ truths m next.states next.discretes tick
   pub levels : AreLevelsBy Allows m next.states w.levels next.levels
-  pub small_levels : first_past 43 next.levels ≡ None
+  pub small_levels : first_exceeding 43 next.levels ≡ None
 
-pub step_facts : (Allows : ℕ → ℤ → ℤ → ℤ → Type 0) (m : Machine) (tick : ℕ) (w next : World) → StepBy Allows m tick w (Ok next) → StepFacts Allows m tick w next
+pub step_facts : (Allows : ℕ → ℤ → ℤ → ℤ → Type 0) (m : Machine) (tick : ℕ) (w next : Snapshot) → IsStepBy Allows m tick w (Ok next) → StepFacts Allows m tick w next
 step_facts Allows m tick w next s =
-    let facts = world_unless-Ok _ _ next s.2 in
-    let calm = option_or-None (handling_at m tick w).overflow _ facts.0 in
-    let small = option_or-None (first_past 43 s.0) _ calm.1 in
+    let facts = snapshot_unless-Ok _ _ next s.2 in
+    let calm = option_or-None (handlers_at m tick w).overflow _ facts.0 in
+    let small = option_or-None (first_exceeding 43 s.0) _ calm.1 in
     subst (StepFacts Allows m tick w) (sym facts.1) (record {
       no_overflow = calm.0;
       states = refl;
       discretes = refl;
-      arrived = refl;
-      settled = refl;
+      at_arrival = refl;
+      after_handlers = refl;
       levels = s.1 calm.0;
       small_levels = small.0;
     })
@@ -87,19 +87,19 @@ next_near : (m : Machine) (j : ℕ) (state old new : ℤ) → j < state_count m 
     pos (unsigned_abs (state -ℤ level_unit m *ℤ new)) <ℤ (level_unit m *ℤ quantum_of m j new)
 next_near m j state old new h level = elim level [ inl kept ↦ at_old kept.0 kept.1 | inr free ↦ within free ]
   where
-    at_old : is_near m j state old ≡ true → new ≡ old → pos (unsigned_abs (state -ℤ level_unit m *ℤ new)) <ℤ (level_unit m *ℤ quantum_of m j new)
+    at_old : is_within_quantum m j state old ≡ true → new ≡ old → pos (unsigned_abs (state -ℤ level_unit m *ℤ new)) <ℤ (level_unit m *ℤ quantum_of m j new)
     at_old e same = subst (λ z. pos (unsigned_abs (state -ℤ level_unit m *ℤ z)) <ℤ (level_unit m *ℤ quantum_of m j z)) (sym same) (int_lt-true _ _ e)
 
-    within : Free (level_unit m) state old new → pos (unsigned_abs (state -ℤ level_unit m *ℤ new)) <ℤ (level_unit m *ℤ quantum_of m j new)
+    within : IsWithinOneLevel (level_unit m) state old new → pos (unsigned_abs (state -ℤ level_unit m *ℤ new)) <ℤ (level_unit m *ℤ quantum_of m j new)
     within free = omega (arith, ints, free, unit_le (2 ^ (m.p + m.k)) (quantum_of m j new) (quantum_positive m j new h))
 
 -- a number and what is left when it is rounded down
 floor_near : (x d : ℤ) → pos 0 <ℤ d → pos (unsigned_abs (x -ℤ d *ℤ floor_of x d)) <ℤ d
 floor_near x d h = let f = floor_meets x d h in omega (arith, ints, f.at_most, f.greatest)
 
-pub start_near : (m : Machine) → IsNear m (start_world m)
+pub start_near : (m : Machine) → IsWithinQuantum m (start_snapshot m)
 start_near m j h =
-    let e : int_at (start_world m).levels j ≡ level_below (level_unit m) (int_at (start_states m) j) =
+    let e : int_at (start_snapshot m).levels j ≡ level_below (level_unit m) (int_at (start_states m) j) =
     get_or-map (level_below (level_unit m)) (start_states m) j (pos 0) (pos 0) (rw (length-map m.states (λ (state : StateInfo). state.x0)) h) in
     rw e (omega (
       arith,
@@ -108,14 +108,14 @@ start_near m j h =
       unit_le (2 ^ (m.p + m.k)) (quantum_of m j (level_below (level_unit m) (int_at (start_states m) j))) (quantum_positive m j (level_below (level_unit m) (int_at (start_states m) j)) h),
     ))
 
-pub step_near : (m : Machine) (tick : ℕ) (w next : World) → StepBy (IsFreeLevel m) m tick w (Ok next) → IsNear m next
+pub step_near : (m : Machine) (tick : ℕ) (w next : Snapshot) → IsStepBy (IsFreeLevel m) m tick w (Ok next) → IsWithinQuantum m next
 step_near m tick w next s j h =
     let facts = step_facts (IsFreeLevel m) m tick w next s in
     next_near m j (int_at next.states j) (int_at w.levels j) (int_at next.levels j) h (facts.levels.each j h)
 
-pub steps_near : (m : Machine) (tick : ℕ) (w : World) (worlds : List World) → IsNear m w → LeadsFreely m tick w worlds → IsNear m (last_world w worlds)
+pub steps_near : (m : Machine) (tick : ℕ) (w : Snapshot) (snapshots : List Snapshot) → IsWithinQuantum m w → IsFreeExecution m tick w snapshots → IsWithinQuantum m (last_snapshot w snapshots)
 steps_near m tick w [] near steps = near
-steps_near m tick w (next ∷ worlds) near steps = steps_near m (tick + 1) next worlds (step_near m (tick + 1) w next steps.0) steps.1
+steps_near m tick w (next ∷ snapshots) near steps = steps_near m (tick + 1) next snapshots (step_near m (tick + 1) w next steps.0) steps.1
 
 -- ---- between two ticks
 
@@ -128,9 +128,9 @@ drift x y (pos n) f a b near low high =
     let rise : a * unsigned_abs f ≤ b * unsigned_abs f = mul-le-mul_right (unsigned_abs f) low in
     omega (arith, ints, mul-sub (pos b) x y, unsigned_abs-mul (pos b) (x -ℤ y), unsigned_abs-mul (pos a) f)
 
-pub near_stays : (m : Machine) (w : World) → IsNear m w → StaysNear m w
+pub near_stays : (m : Machine) (w : Snapshot) → IsWithinQuantum m w → StaysWithinDrift m w
 near_stays m w near j a b h low high =
     drift (int_at w.states j) (level_unit m *ℤ int_at w.levels j) (level_unit m *ℤ quantum_of m j (int_at w.levels j)) (slope_at m j w.levels w.discretes) a b (near j h) low high
 
-pub runs_stay_near : RunsStayNear
-runs_stay_near m worlds steps = near_stays m (last_world (start_world m) worlds) (steps_near m 0 (start_world m) worlds (start_near m) steps)
+pub runs_stay_near : RunsStayWithinDrift
+runs_stay_near m snapshots steps = near_stays m (last_snapshot (start_snapshot m) snapshots) (steps_near m 0 (start_snapshot m) snapshots (start_near m) steps)

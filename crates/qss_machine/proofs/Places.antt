@@ -8,8 +8,8 @@ use Rattle.std.specs.Prelude.{flat_map, sum_by, if◌then◌else◌}
 use Rattle.qss_machine.specs.declared.parts.BranchInfo.{BranchInfo}
 use Rattle.qss_machine.specs.declared.parts.ClauseInfo.{ClauseInfo}
 use Rattle.qss_machine.specs.declared.parts.Condition.{Condition}
-use Rattle.qss_machine.specs.Limits.{item_count}
-use Rattle.qss_machine.specs.Uses.{places_from}
+use Rattle.qss_machine.specs.MachineLimits.{item_count}
+use Rattle.qss_machine.specs.Readers.{places_from}
 
 if_cons : (b : Bool) (i : ℕ) (all first rest : List ℕ) → all ≡ first ++ rest → (if b then i ∷ all else all) ≡ (if b then i ∷ first else first) ++ rest
 if_cons true i all first rest e = ap (λ xs. i ∷ xs) e

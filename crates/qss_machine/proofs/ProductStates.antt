@@ -8,13 +8,13 @@ use Rattle.std.proofs.lemmas.List.{get_or-map, get_or_default, length-map}
 use Rattle.std.specs.Prelude.{slice_index}
 use Rattle.std.specs.List.Sorted.{IsStrictlyIncreasing}
 use Rattle.mu_num.specs.Rounding.{nearest_of}
-use Rattle.mu_num.specs.Sizes.{IsWithin, passes}
+use Rattle.mu_num.specs.Sizes.{IsWithin, exceeds}
 use Rattle.mu_num.proofs.Quotients.{nearest-zero}
 use Rattle.mu_num.proofs.Tests.{if-false, eqb-no}
 use Rattle.qss_machine.specs.declared.parts.Product.{Product}
 use Rattle.qss_machine.specs.declared.parts.SlopeRow.{SlopeRow}
-use Rattle.qss_machine.specs.Limits.{AreProducts, IsRow}
-use Rattle.qss_machine.specs.Numbers.{int_at, sum_below}
+use Rattle.qss_machine.specs.MachineLimits.{AreProducts, IsRow}
+use Rattle.qss_machine.specs.IndexedSums.{int_at, sum_below}
 use Rattle.qss_machine.specs.Slopes.{coefficient_of, products_of, mode_coefficient}
 use Rattle.qss_machine.proofs.Distinct.{coefficient_small}
 use Rattle.qss_machine.proofs.Powers.{power_positive}
@@ -105,10 +105,10 @@ own_mode bits n row discretes state free =
 
 -- and is within the limit
 pub own_mode_fits : (bits n count : ℕ) (row : SlopeRow) (discretes : List ℤ) (state : ℕ) → IsRow n count row → IsFree row.products state →
-    passes 44 (mode_coefficient bits n row discretes state) ≡ false
+    exceeds 44 (mode_coefficient bits n row discretes state) ≡ false
 own_mode_fits bits n count row discretes state is free =
     let small : IsWithin 44 (coefficient_of row.entries state) = coefficient_small row.entries state is.entries.rising is.coefficients in
-    ap (passes 44) (own_mode bits n row discretes state free) ∙ grind (arith, nat_tests)
+    ap (exceeds 44) (own_mode bits n row discretes state free) ∙ grind (arith, nat_tests)
 
 -- ---- sums over states
 

@@ -11,14 +11,14 @@ use Rattle.qss_machine.specs.declared.parts.Action.TheVariants.{Set, Reinit}
 use Rattle.qss_machine.specs.declared.parts.BranchInfo.{BranchInfo}
 use Rattle.qss_machine.specs.declared.parts.ClauseInfo.{ClauseInfo}
 use Rattle.qss_machine.specs.declared.system.Machine.{Machine}
-use Rattle.mu_num.specs.Sizes.{IsWithin, passes}
-use Rattle.qss_machine.specs.Numbers.{int_at, first_past}
-use Rattle.qss_machine.specs.Limits.{level_below, IsState}
+use Rattle.mu_num.specs.Sizes.{IsWithin, exceeds}
+use Rattle.qss_machine.specs.IndexedSums.{int_at, first_exceeding}
+use Rattle.qss_machine.specs.MachineLimits.{level_below, IsState}
 use Rattle.qss_machine.specs.Machines.{level_unit}
-use Rattle.qss_machine.specs.Handlers.{Handling, due_flags, truths, assigned_value, assign, run_action, run_first_due, run_clauses}
-use Rattle.qss_machine.specs.Ticks.{World, start_world, moved_states, handling_at, StepBy}
-use Rattle.qss_machine.specs.Runs.{LeadsBy, last_world}
-use Rattle.qss_machine.specs.Laws.{HasSmallLevels}
+use Rattle.qss_machine.specs.Handlers.{HandlerState, firing_flags, truths, assigned_value, assign, run_action, run_first_due, run_clauses}
+use Rattle.qss_machine.specs.Ticks.{Snapshot, start_snapshot, moved_states, handlers_at, IsStepBy}
+use Rattle.qss_machine.specs.Runs.{IsExecutionBy, last_snapshot}
+use Rattle.qss_machine.specs.RunLaws.{HasSmallLevels}
 use Rattle.qss_machine.proofs.Near.{step_facts}
 
 -- ---- lists in which no number passes a limit
@@ -30,13 +30,13 @@ cond_none : (b : Bool) (i : ℕ) (o : Option ℕ) → cond b (Some i) o ≡ None
 cond_none true i o e = absurd (cc)
 cond_none false i o e = (refl, e)
 
-none_from : (bits i : ℕ) (zs : List ℤ) → position_from (passes bits) i zs ≡ None → (j : ℕ) → IsWithin bits (int_at zs j)
+none_from : (bits i : ℕ) (zs : List ℤ) → position_from (exceeds bits) i zs ≡ None → (j : ℕ) → IsWithin bits (int_at zs j)
 none_from bits i [] e j = zero_within bits
-none_from bits i (z ∷ zs) e zero = passes-within bits z (cond_none (passes bits z) i (position_from (passes bits) (i + 1) zs) e).0
-none_from bits i (z ∷ zs) e (suc j) = none_from bits (i + 1) zs (cond_none (passes bits z) i (position_from (passes bits) (i + 1) zs) e).1 j
+none_from bits i (z ∷ zs) e zero = passes-within bits z (cond_none (exceeds bits z) i (position_from (exceeds bits) (i + 1) zs) e).0
+none_from bits i (z ∷ zs) e (suc j) = none_from bits (i + 1) zs (cond_none (exceeds bits z) i (position_from (exceeds bits) (i + 1) zs) e).1 j
 
-pub none_past : (bits : ℕ) (zs : List ℤ) → first_past bits zs ≡ None → (j : ℕ) → IsWithin bits (int_at zs j)
-none_past bits zs e = none_from bits 0 zs (sym (position_from-zero (passes bits) zs) ∙ e)
+pub none_past : (bits : ℕ) (zs : List ℤ) → first_exceeding bits zs ≡ None → (j : ℕ) → IsWithin bits (int_at zs j)
+none_past bits zs e = none_from bits 0 zs (sym (position_from-zero (exceeds bits) zs) ∙ e)
 
 set_small : (xs : List ℤ) (v : ℕ) (z : ℤ) → IsWithin 88 z → ((j : ℕ) → IsWithin 88 (int_at xs j)) → (j : ℕ) → IsWithin 88 (int_at (set xs v z) j)
 set_small [] v z small all j = all j
@@ -47,41 +47,41 @@ set_small (x ∷ xs) (suc v) z small all (suc j) = set_small xs v z small (λ k.
 
 -- ---- states, while handlers run without an overflow
 
-abbrev HasSmallStates : Handling → Type 0
+abbrev HasSmallStates : HandlerState → Type 0
 HasSmallStates h = h.overflow ≡ None → (j : ℕ) → IsWithin 88 (int_at h.states j)
 
 module _ (m : Machine) (tick : ℕ) (before : List ℤ) where
-  assign_small : (h : Handling) (action : Action) (z : ℤ) → HasSmallStates h → HasSmallStates (assign m tick h action z)
-  assign_small h (Set var form) z small = if_cases HasSmallStates (passes 43 z) _ _ (λ e calm. absurd (cc)) (λ e. small)
+  assign_small : (h : HandlerState) (action : Action) (z : ℤ) → HasSmallStates h → HasSmallStates (assign m tick h action z)
+  assign_small h (Set var form) z small = if_cases HasSmallStates (exceeds 43 z) _ _ (λ e calm. absurd (cc)) (λ e. small)
   assign_small h (Reinit var form) z small =
-      if_cases HasSmallStates (passes 88 z) _ _ (λ e calm. absurd (cc)) (λ e calm. set_small h.states var z (passes-within 88 z e) (small calm))
+      if_cases HasSmallStates (exceeds 88 z) _ _ (λ e calm. absurd (cc)) (λ e calm. set_small h.states var z (passes-within 88 z e) (small calm))
 
-  action_small : (h : Handling) (action : Action) → HasSmallStates h → HasSmallStates (run_action m tick before h action)
+  action_small : (h : HandlerState) (action : Action) → HasSmallStates h → HasSmallStates (run_action m tick before h action)
   action_small h action small =
       if_cases HasSmallStates (is_some h.overflow) h (assign m tick h action (assigned_value m tick before h action))
       (λ e. small) (λ e. assign_small h action (assigned_value m tick before h action) small)
 
-  actions_small : (h : Handling) (actions : List Action) → HasSmallStates h → HasSmallStates (fold (run_action m tick before) h actions)
+  actions_small : (h : HandlerState) (actions : List Action) → HasSmallStates h → HasSmallStates (fold (run_action m tick before) h actions)
   actions_small h [] small = small
   actions_small h (action ∷ actions) small = actions_small (run_action m tick before h action) actions (action_small h action small)
 
-  first_small : (clause number : ℕ) (h : Handling) (branches : List BranchInfo) (due : List Bool) → HasSmallStates h →
+  first_small : (clause number : ℕ) (h : HandlerState) (branches : List BranchInfo) (due : List Bool) → HasSmallStates h →
       HasSmallStates (run_first_due m tick before clause number h branches due)
   first_small clause number h [] due small = small
   first_small clause number h (branch ∷ branches) [] small = small
   first_small clause number h (branch ∷ branches) (true ∷ due) small = actions_small _ branch.actions small
   first_small clause number h (branch ∷ branches) (false ∷ due) small = first_small clause (number + 1) h branches due small
 
-  clauses_small : (number : ℕ) (h : Handling) (clauses : List ClauseInfo) (due : List Bool) → HasSmallStates h →
+  clauses_small : (number : ℕ) (h : HandlerState) (clauses : List ClauseInfo) (due : List Bool) → HasSmallStates h →
       HasSmallStates (run_clauses m tick before number h clauses due)
   clauses_small number h [] due small = small
   clauses_small number h (clause ∷ clauses) due small =
       clauses_small (number + 1) _ clauses _
       (if_cases HasSmallStates (is_some h.overflow) h _ (λ e. small) (λ e. first_small number 0 h clause.branches _ small))
 
-pub states_small : (m : Machine) (tick : ℕ) (w : World) → (handling_at m tick w).overflow ≡ None → (j : ℕ) → IsWithin 88 (int_at (handling_at m tick w).states j)
+pub states_small : (m : Machine) (tick : ℕ) (w : Snapshot) → (handlers_at m tick w).overflow ≡ None → (j : ℕ) → IsWithin 88 (int_at (handlers_at m tick w).states j)
 states_small m tick w =
-    clauses_small m tick w.discretes 0 _ m.clauses (due_flags (truths m (moved_states m w) w.discretes tick) w.arrived w.settled)
+    clauses_small m tick w.discretes 0 _ m.clauses (firing_flags (truths m (moved_states m w) w.discretes tick) w.at_arrival w.after_handlers)
     (none_past 88 (moved_states m w))
 
 -- ---- levels
@@ -91,13 +91,13 @@ all_small unit [] all j = zero_within 43
 all_small unit (s ∷ states) all zero = (all 0 s (omega arith)).level
 all_small unit (s ∷ states) all (suc j) = all_small unit states (λ k d h. all (suc k) d (omega arith)) j
 
-pub start_small : (m : Machine) → HasSmallLevels (start_world m)
+pub start_small : (m : Machine) → HasSmallLevels (start_snapshot m)
 start_small m = all_small (level_unit m) m.states m.has_variables.each_state
 
-pub step_small : (Allows : ℕ → ℤ → ℤ → ℤ → Type 0) (m : Machine) (tick : ℕ) (w next : World) → StepBy Allows m tick w (Ok next) → HasSmallLevels next
+pub step_small : (Allows : ℕ → ℤ → ℤ → ℤ → Type 0) (m : Machine) (tick : ℕ) (w next : Snapshot) → IsStepBy Allows m tick w (Ok next) → HasSmallLevels next
 step_small Allows m tick w next s = none_past 43 next.levels (step_facts Allows m tick w next s).small_levels
 
-pub leads_small : (Allows : ℕ → ℤ → ℤ → ℤ → Type 0) (m : Machine) (tick : ℕ) (w : World) (worlds : List World) → HasSmallLevels w →
-    LeadsBy Allows m tick w worlds → HasSmallLevels (last_world w worlds)
+pub leads_small : (Allows : ℕ → ℤ → ℤ → ℤ → Type 0) (m : Machine) (tick : ℕ) (w : Snapshot) (snapshots : List Snapshot) → HasSmallLevels w →
+    IsExecutionBy Allows m tick w snapshots → HasSmallLevels (last_snapshot w snapshots)
 leads_small Allows m tick w [] small leads = small
-leads_small Allows m tick w (next ∷ worlds) small leads = leads_small Allows m (tick + 1) next worlds (step_small Allows m (tick + 1) w next leads.0) leads.1
+leads_small Allows m tick w (next ∷ snapshots) small leads = leads_small Allows m (tick + 1) next snapshots (step_small Allows m (tick + 1) w next leads.0) leads.1

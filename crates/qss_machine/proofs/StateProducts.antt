@@ -7,8 +7,8 @@ use Rattle.std.specs.Prelude.{if◌then◌else◌, nat_lt}
 use Rattle.std.specs.List.Sorted.{IsPartitionedBy}
 use Rattle.mu_num.proofs.Tests.{if-false, eqb-no}
 use Rattle.qss_machine.specs.declared.parts.Product.{Product}
-use Rattle.qss_machine.specs.Limits.{AreProducts}
-use Rattle.qss_machine.specs.Numbers.{int_at}
+use Rattle.qss_machine.specs.MachineLimits.{AreProducts}
+use Rattle.qss_machine.specs.IndexedSums.{int_at}
 use Rattle.qss_machine.specs.Slopes.{products_of}
 use Rattle.qss_machine.proofs.ProductStates.{rising_states}
 use Rattle.qss_machine.proofs.SumLaws.{sum_over_more}

@@ -10,12 +10,12 @@ use Rattle.std.specs.List.Sorted.{IsStrictlyIncreasing}
 use Rattle.mu_num.proofs.Integers.{add-mul}
 use Rattle.qss_machine.specs.declared.parts.Entry.{Entry}
 use Rattle.qss_machine.specs.declared.parts.SlopeRow.{SlopeRow}
-use Rattle.qss_machine.specs.Numbers.{int_at, size, sum_over, sum_below}
+use Rattle.qss_machine.specs.IndexedSums.{int_at, abs_of, sum_over, sum_below}
 use Rattle.qss_machine.specs.Slopes.{coefficient_of, mode_coefficient, slope_of, weight_of}
 use Rattle.qss_machine.proofs.SumLaws.{sum_below-add, sum_below-same, sum_below-split, weighted_sum-entries}
 use Rattle.qss_machine.proofs.Distinct.{plain, coefficient_size}
 
-size-mul : (a b : ℤ) → size a *ℤ size b ≡ size (a *ℤ b)
+size-mul : (a b : ℤ) → abs_of a *ℤ abs_of b ≡ abs_of (a *ℤ b)
 size-mul a b = pos-*ℤ-pos (unsigned_abs a) (unsigned_abs b) ∙ ap pos (sym (unsigned_abs-mul a b))
 
 sum_over-map : {X Y : Type 0} (g : X → Y) (f : Y → ℤ) (xs : List X) → sum_over f (map g xs) ≡ sum_over (λ x. f (g x)) xs
@@ -26,57 +26,57 @@ sum_over-alike : {X : Type 0} (f g : X → ℤ) (xs : List X) → ((x : X) → f
 sum_over-alike f g [] h = refl
 sum_over-alike f g (x ∷ xs) h = ap (λ z. z +ℤ sum_over f xs) (h x) ∙ ap (λ z. g x +ℤ z) (sum_over-alike f g xs h)
 
-size_at : (values : List ℤ) (var : ℕ) → int_at (map size values) var ≡ size (int_at values var)
-size_at values var = get_or-map size values var (pos 0)
+size_at : (values : List ℤ) (var : ℕ) → int_at (map abs_of values) var ≡ abs_of (int_at values var)
+size_at values var = get_or-map abs_of values var (pos 0)
 
 -- the sizes of coefficients times the sizes of values
 pub sizes_sum : List Entry → List ℤ → ℤ
-sizes_sum entries values = sum_below (length values) (λ var. size (coefficient_of entries var) *ℤ size (int_at values var))
+sizes_sum entries values = sum_below (length values) (λ var. abs_of (coefficient_of entries var) *ℤ abs_of (int_at values var))
 
 pub sizes_sum-entries : (entries : List Entry) (values : List ℤ) → IsStrictlyIncreasing (map (λ (entry : Entry). entry.var) entries) →
-    sum_below (length values) (λ var. size (coefficient_of entries var) *ℤ size (int_at values var)) ≡ sum_over (λ (entry : Entry). size (entry.coef *ℤ int_at values entry.var)) entries
+    sum_below (length values) (λ var. abs_of (coefficient_of entries var) *ℤ abs_of (int_at values var)) ≡ sum_over (λ (entry : Entry). abs_of (entry.coef *ℤ int_at values entry.var)) entries
 sizes_sum-entries entries values rising =
     let each = λ (var : ℕ).
     sum_over-map plain (λ (entry : Entry). if entry.var == var then entry.coef else pos 0) entries ∙ coefficient_size entries var rising in
-    sym (sum_below-same (length values) (λ var. coefficient_of (map plain entries) var *ℤ int_at (map size values) var) (λ var. size (coefficient_of entries var) *ℤ size (int_at values var))
-    (λ var h. ap (λ z. z *ℤ int_at (map size values) var) (each var) ∙ ap (λ z. size (coefficient_of entries var) *ℤ z) (size_at values var)))
-    ∙ ap (λ n. sum_below n (λ var. coefficient_of (map plain entries) var *ℤ int_at (map size values) var)) (sym (length-map values size))
-    ∙ weighted_sum-entries (map plain entries) (map size values)
-    ∙ sum_over-map plain (λ (entry : Entry). entry.coef *ℤ int_at (map size values) entry.var) entries
-    ∙ sum_over-alike (λ (entry : Entry). size entry.coef *ℤ int_at (map size values) entry.var) (λ (entry : Entry). size (entry.coef *ℤ int_at values entry.var)) entries
-    (λ entry. ap (λ z. size entry.coef *ℤ z) (size_at values entry.var) ∙ size-mul entry.coef (int_at values entry.var))
+    sym (sum_below-same (length values) (λ var. coefficient_of (map plain entries) var *ℤ int_at (map abs_of values) var) (λ var. abs_of (coefficient_of entries var) *ℤ abs_of (int_at values var))
+    (λ var h. ap (λ z. z *ℤ int_at (map abs_of values) var) (each var) ∙ ap (λ z. abs_of (coefficient_of entries var) *ℤ z) (size_at values var)))
+    ∙ ap (λ n. sum_below n (λ var. coefficient_of (map plain entries) var *ℤ int_at (map abs_of values) var)) (sym (length-map values abs_of))
+    ∙ weighted_sum-entries (map plain entries) (map abs_of values)
+    ∙ sum_over-map plain (λ (entry : Entry). entry.coef *ℤ int_at (map abs_of values) entry.var) entries
+    ∙ sum_over-alike (λ (entry : Entry). abs_of entry.coef *ℤ int_at (map abs_of values) entry.var) (λ (entry : Entry). abs_of (entry.coef *ℤ int_at values entry.var)) entries
+    (λ entry. ap (λ z. abs_of entry.coef *ℤ z) (size_at values entry.var) ∙ size-mul entry.coef (int_at values entry.var))
 
 -- the entries over levels and discrete values
 sizes_split : (row : SlopeRow) (levels discretes : List ℤ) →
-    sum_below (length (levels ++ discretes)) (λ v. size (coefficient_of row.entries v) *ℤ size (int_at (levels ++ discretes) v)) ≡
-    sum_below (length levels) (λ i. size (coefficient_of row.entries i) *ℤ size (int_at levels i))
-    +ℤ sum_below (length discretes) (λ g. size (coefficient_of row.entries (length levels + g)) *ℤ size (int_at discretes g))
+    sum_below (length (levels ++ discretes)) (λ v. abs_of (coefficient_of row.entries v) *ℤ abs_of (int_at (levels ++ discretes) v)) ≡
+    sum_below (length levels) (λ i. abs_of (coefficient_of row.entries i) *ℤ abs_of (int_at levels i))
+    +ℤ sum_below (length discretes) (λ g. abs_of (coefficient_of row.entries (length levels + g)) *ℤ abs_of (int_at discretes g))
 sizes_split row levels discretes =
-    let f = λ (v : ℕ). size (coefficient_of row.entries v) *ℤ size (int_at (levels ++ discretes) v) in
-    let low = sum_below-same (length levels) f (λ i. size (coefficient_of row.entries i) *ℤ size (int_at levels i))
-    (λ i h. ap (λ z. size (coefficient_of row.entries i) *ℤ size z) (get_or_append_left levels discretes (pos 0) i h)) in
-    let high = sum_below-same (length discretes) (λ g. f (length levels + g)) (λ g. size (coefficient_of row.entries (length levels + g)) *ℤ size (int_at discretes g))
-    (λ g h. ap (λ z. size (coefficient_of row.entries (length levels + g)) *ℤ size z) (get_or-append-add levels discretes g (pos 0))) in
+    let f = λ (v : ℕ). abs_of (coefficient_of row.entries v) *ℤ abs_of (int_at (levels ++ discretes) v) in
+    let low = sum_below-same (length levels) f (λ i. abs_of (coefficient_of row.entries i) *ℤ abs_of (int_at levels i))
+    (λ i h. ap (λ z. abs_of (coefficient_of row.entries i) *ℤ abs_of z) (get_or_append_left levels discretes (pos 0) i h)) in
+    let high = sum_below-same (length discretes) (λ g. f (length levels + g)) (λ g. abs_of (coefficient_of row.entries (length levels + g)) *ℤ abs_of (int_at discretes g))
+    (λ g h. ap (λ z. abs_of (coefficient_of row.entries (length levels + g)) *ℤ abs_of z) (get_or-append-add levels discretes g (pos 0))) in
     ap (λ n. sum_below n f) (length-append levels discretes) ∙ sum_below-split (length levels) (length discretes) f
     ∙ ap (λ z. z +ℤ sum_below (length discretes) (λ g. f (length levels + g))) low
-    ∙ ap (λ z. sum_below (length levels) (λ i. size (coefficient_of row.entries i) *ℤ size (int_at levels i)) +ℤ z) high
+    ∙ ap (λ z. sum_below (length levels) (λ i. abs_of (coefficient_of row.entries i) *ℤ abs_of (int_at levels i)) +ℤ z) high
 
 pub weight_parts : (bits : ℕ) (row : SlopeRow) (levels discretes : List ℤ) →
-    sum_below (length (levels ++ discretes)) (λ v. size (coefficient_of row.entries v) *ℤ size (int_at (levels ++ discretes) v))
-    +ℤ sum_below (length levels) (λ i. (size (mode_coefficient bits (length levels) row discretes i) -ℤ size (coefficient_of row.entries i)) *ℤ size (int_at levels i))
-    +ℤ size row.beta
+    sum_below (length (levels ++ discretes)) (λ v. abs_of (coefficient_of row.entries v) *ℤ abs_of (int_at (levels ++ discretes) v))
+    +ℤ sum_below (length levels) (λ i. (abs_of (mode_coefficient bits (length levels) row discretes i) -ℤ abs_of (coefficient_of row.entries i)) *ℤ abs_of (int_at levels i))
+    +ℤ abs_of row.beta
     ≡ weight_of bits row levels discretes
 weight_parts bits row levels discretes =
-    let a = λ (i : ℕ). size (coefficient_of row.entries i) in
-    let full = λ (i : ℕ). size (mode_coefficient bits (length levels) row discretes i) in
-    let modes : sum_below (length levels) (λ i. full i *ℤ size (int_at levels i)) ≡
-    sum_below (length levels) (λ i. a i *ℤ size (int_at levels i)) +ℤ sum_below (length levels) (λ i. (full i -ℤ a i) *ℤ size (int_at levels i)) =
-    sum_below-same (length levels) (λ i. full i *ℤ size (int_at levels i)) (λ i. a i *ℤ size (int_at levels i) +ℤ (full i -ℤ a i) *ℤ size (int_at levels i))
-    (λ i h. ap (λ z. z *ℤ size (int_at levels i)) (back (full i) (a i)) ∙ add-mul (a i) (full i -ℤ a i) (size (int_at levels i)))
-    ∙ sum_below-add (length levels) (λ i. a i *ℤ size (int_at levels i)) (λ i. (full i -ℤ a i) *ℤ size (int_at levels i)) in
-    regroup (sum_below (length (levels ++ discretes)) (λ v. a v *ℤ size (int_at (levels ++ discretes) v))) (sum_below (length levels) (λ i. a i *ℤ size (int_at levels i)))
-    (sum_below (length discretes) (λ g. size (coefficient_of row.entries (length levels + g)) *ℤ size (int_at discretes g)))
-    (sum_below (length levels) (λ i. (full i -ℤ a i) *ℤ size (int_at levels i))) (sum_below (length levels) (λ i. full i *ℤ size (int_at levels i))) (size row.beta)
+    let a = λ (i : ℕ). abs_of (coefficient_of row.entries i) in
+    let full = λ (i : ℕ). abs_of (mode_coefficient bits (length levels) row discretes i) in
+    let modes : sum_below (length levels) (λ i. full i *ℤ abs_of (int_at levels i)) ≡
+    sum_below (length levels) (λ i. a i *ℤ abs_of (int_at levels i)) +ℤ sum_below (length levels) (λ i. (full i -ℤ a i) *ℤ abs_of (int_at levels i)) =
+    sum_below-same (length levels) (λ i. full i *ℤ abs_of (int_at levels i)) (λ i. a i *ℤ abs_of (int_at levels i) +ℤ (full i -ℤ a i) *ℤ abs_of (int_at levels i))
+    (λ i h. ap (λ z. z *ℤ abs_of (int_at levels i)) (back (full i) (a i)) ∙ add-mul (a i) (full i -ℤ a i) (abs_of (int_at levels i)))
+    ∙ sum_below-add (length levels) (λ i. a i *ℤ abs_of (int_at levels i)) (λ i. (full i -ℤ a i) *ℤ abs_of (int_at levels i)) in
+    regroup (sum_below (length (levels ++ discretes)) (λ v. a v *ℤ abs_of (int_at (levels ++ discretes) v))) (sum_below (length levels) (λ i. a i *ℤ abs_of (int_at levels i)))
+    (sum_below (length discretes) (λ g. abs_of (coefficient_of row.entries (length levels + g)) *ℤ abs_of (int_at discretes g)))
+    (sum_below (length levels) (λ i. (full i -ℤ a i) *ℤ abs_of (int_at levels i))) (sum_below (length levels) (λ i. full i *ℤ abs_of (int_at levels i))) (abs_of row.beta)
     (sizes_split row levels discretes) modes
   where
     back : (z a : ℤ) → z ≡ a +ℤ (z -ℤ a)
@@ -86,7 +86,7 @@ weight_parts bits row levels discretes =
     regroup w a d r m b e f = omega (arith, ints)
 
 -- the size of a sum is at most the sum of what its terms' sizes are at most
-sizes_below : (n : ℕ) (f g : ℕ → ℤ) → ((i : ℕ) → i < n → size (f i) ≤ℤ g i) → size (sum_below n f) ≤ℤ sum_below n g
+sizes_below : (n : ℕ) (f g : ℕ → ℤ) → ((i : ℕ) → i < n → abs_of (f i) ≤ℤ g i) → abs_of (sum_below n f) ≤ℤ sum_below n g
 sizes_below zero f g h = omega (arith, ints)
 sizes_below (suc n) f g h =
     let before = sizes_below n f g (λ i low. h i (omega arith)) in
@@ -94,15 +94,15 @@ sizes_below (suc n) f g h =
     omega (arith, ints, before, last)
 
 -- a slope is at most its weight in size
-pub slope-within_weight : (bits : ℕ) (row : SlopeRow) (levels discretes : List ℤ) → size (slope_of bits row levels discretes) ≤ℤ weight_of bits row levels discretes
+pub slope-within_weight : (bits : ℕ) (row : SlopeRow) (levels discretes : List ℤ) → abs_of (slope_of bits row levels discretes) ≤ℤ weight_of bits row levels discretes
 slope-within_weight bits row levels discretes =
-    let product : (a b : ℤ) → size (a *ℤ b) ≤ℤ (size a *ℤ size b) = λ a b. let e = size-mul a b in omega (arith, ints, e) in
+    let product : (a b : ℤ) → abs_of (a *ℤ b) ≤ℤ (abs_of a *ℤ abs_of b) = λ a b. let e = size-mul a b in omega (arith, ints, e) in
     let mode = λ (i : ℕ). mode_coefficient bits (length levels) row discretes i in
     let own = λ (g : ℕ). coefficient_of row.entries (length levels + g) in
-    let first = sizes_below (length levels) (λ i. mode i *ℤ int_at levels i) (λ i. size (mode i) *ℤ size (int_at levels i)) (λ i h. product (mode i) (int_at levels i)) in
-    let second = sizes_below (length discretes) (λ g. own g *ℤ int_at discretes g) (λ g. size (own g) *ℤ size (int_at discretes g)) (λ g h. product (own g) (int_at discretes g)) in
+    let first = sizes_below (length levels) (λ i. mode i *ℤ int_at levels i) (λ i. abs_of (mode i) *ℤ abs_of (int_at levels i)) (λ i h. product (mode i) (int_at levels i)) in
+    let second = sizes_below (length discretes) (λ g. own g *ℤ int_at discretes g) (λ g. abs_of (own g) *ℤ abs_of (int_at discretes g)) (λ g h. product (own g) (int_at discretes g)) in
     three (sum_below (length levels) (λ i. mode i *ℤ int_at levels i)) (sum_below (length discretes) (λ g. own g *ℤ int_at discretes g)) row.beta
-    (sum_below (length levels) (λ i. size (mode i) *ℤ size (int_at levels i))) (sum_below (length discretes) (λ g. size (own g) *ℤ size (int_at discretes g))) first second
+    (sum_below (length levels) (λ i. abs_of (mode i) *ℤ abs_of (int_at levels i))) (sum_below (length discretes) (λ g. abs_of (own g) *ℤ abs_of (int_at discretes g))) first second
   where
-    three : (a b c x y : ℤ) → size a ≤ℤ x → size b ≤ℤ y → size (a +ℤ (b +ℤ c)) ≤ℤ (x +ℤ (y +ℤ size c))
+    three : (a b c x y : ℤ) → abs_of a ≤ℤ x → abs_of b ≤ℤ y → abs_of (a +ℤ (b +ℤ c)) ≤ℤ (x +ℤ (y +ℤ abs_of c))
     three a b c x y h k = omega (arith, ints)

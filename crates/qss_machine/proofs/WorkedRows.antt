@@ -19,12 +19,12 @@ use Rattle.qss_machine.specs.declared.parts.ClauseInfo.{ClauseInfo}
 use Rattle.qss_machine.specs.declared.rows.Row.{Row}
 use Rattle.qss_machine.specs.declared.rows.RowKind.{RowKind}
 use Rattle.qss_machine.specs.declared.rows.RowKind.TheVariants as kind
-use Rattle.qss_machine.specs.Limits.{IsState, IsRow, IsClause}
+use Rattle.qss_machine.specs.MachineLimits.{IsState, IsRow, IsClause}
 use Rattle.mu_num.specs.Levels.{floor_level, near_level, inward_level}
 use Rattle.qss_machine.specs.Runs.{run_by, run_rows}
 use Rattle.qss_machine.proofs.Fields.{Parts, IsSound, machine_of}
-use Rattle.qss_machine.specs.Counts.{visits, touches}
-use Rattle.qss_machine.specs.Uses.{uses_of}
+use Rattle.qss_machine.specs.EventCounts.{visits, touches}
+use Rattle.qss_machine.specs.Readers.{uses_of}
 
 -- the rows of the machine's run
 abbrev rows_by : (ℤ → ℤ → ℤ → ℤ) → (parts : Parts) → IsSound parts → List Row

@@ -2,7 +2,7 @@
 use Rattle.std.specs.Prelude.{◌≡◌, ℕ, ◌<◌, Bool, ◌||◌, List, [], ◌∷◌, ◌++◌, length, All, slice_index_or, if◌then◌else◌}
 use Rattle.qss_machine.specs.declared.parts.SlopeRow.{SlopeRow}
 use Rattle.qss_machine.specs.declared.parts.Condition.{Condition}
-use Rattle.qss_machine.specs.Uses.{places_from}
+use Rattle.qss_machine.specs.Readers.{places_from}
 
 -- a place is added to a list, unless it is the last there
 pub record NotesOnce (old new : List ℕ) (place : ℕ) : Type 0 where

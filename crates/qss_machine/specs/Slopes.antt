@@ -5,8 +5,8 @@ use Rattle.mu_num.specs.Rounding.{nearest_of}
 use Rattle.qss_machine.specs.declared.parts.Entry.{Entry}
 use Rattle.qss_machine.specs.declared.parts.Product.{Product}
 use Rattle.qss_machine.specs.declared.parts.SlopeRow.{SlopeRow}
-use Rattle.mu_num.specs.Sizes.{passes}
-use Rattle.qss_machine.specs.Numbers.{int_at, tabulate, sum_over, sum_below, size}
+use Rattle.mu_num.specs.Sizes.{exceeds}
+use Rattle.qss_machine.specs.IndexedSums.{int_at, tabulate, sum_over, sum_below, abs_of}
 
 -- the coefficients of a variable, added up
 abbrev pub coefficient_of : List Entry → ℕ → ℤ
@@ -29,20 +29,20 @@ mode_coefficient level_bits state_count row discretes state =
 -- the mode coefficients are at most 2 ^ 44 in size
 abbrev pub mode_fits : ℕ → ℕ → SlopeRow → List ℤ → Bool
 mode_fits level_bits state_count row discretes =
-    list_all (λ coefficient. not (passes 44 coefficient)) (tabulate state_count (mode_coefficient level_bits state_count row discretes))
+    list_all (λ coefficient. not (exceeds 44 coefficient)) (tabulate state_count (mode_coefficient level_bits state_count row discretes))
 
 -- the part of a slope that no level changes
-abbrev pub drive_of : ℕ → SlopeRow → List ℤ → ℤ
-drive_of state_count row discretes =
+abbrev pub constant_part : ℕ → SlopeRow → List ℤ → ℤ
+constant_part state_count row discretes =
     sum_below (length discretes) (λ g. coefficient_of row.entries (state_count + g) *ℤ int_at discretes g) +ℤ row.beta
 
 -- how much a state rises in a tick: each level by its mode coefficient, each discrete value by its coefficient, and the constant
 abbrev pub slope_of : ℕ → SlopeRow → List ℤ → List ℤ → ℤ
 slope_of level_bits row levels discretes =
-    sum_below (length levels) (λ i. mode_coefficient level_bits (length levels) row discretes i *ℤ int_at levels i) +ℤ drive_of (length levels) row discretes
+    sum_below (length levels) (λ i. mode_coefficient level_bits (length levels) row discretes i *ℤ int_at levels i) +ℤ constant_part (length levels) row discretes
 
 -- the same sum taken over sizes
 abbrev pub weight_of : ℕ → SlopeRow → List ℤ → List ℤ → ℤ
 weight_of level_bits row levels discretes =
-    sum_below (length levels) (λ i. size (mode_coefficient level_bits (length levels) row discretes i) *ℤ size (int_at levels i))
-    +ℤ (sum_below (length discretes) (λ g. size (coefficient_of row.entries (length levels + g)) *ℤ size (int_at discretes g)) +ℤ size row.beta)
+    sum_below (length levels) (λ i. abs_of (mode_coefficient level_bits (length levels) row discretes i) *ℤ abs_of (int_at levels i))
+    +ℤ (sum_below (length discretes) (λ g. abs_of (coefficient_of row.entries (length levels + g)) *ℤ abs_of (int_at discretes g)) +ℤ abs_of row.beta)

@@ -2,7 +2,7 @@
 
 ghost use Rattle.std.specs.Prelude.{◌≡◌, ℕ, ◌+◌, ◌*◌, ◌^◌, ◌<◌, ◌≤◌, length, map, All, pos, ◌*ℤ◌, ◌+ℤ◌, ◌≤ℤ◌, ◌++◌, unsigned_abs, sum_by};
 ghost use Rattle.mu_num.specs.Sizes.{IsWithin};
-ghost use Rattle.qss_machine.specs.Numbers.{int_at};
+ghost use Rattle.qss_machine.specs.IndexedSums.{int_at};
 ghost use Rattle.qss_machine.specs.Slopes.{weighted_sum};
 
 use crate::parts::Entry;
@@ -34,7 +34,7 @@ fn input_at(states: &[i128], discretes: &[i64], before: &[i64], unit_bits: u8, v
     requires states { All (IsWithin 88) states.now }
     requires discretes { All (IsWithin 43) discretes.now }
     requires before { All (IsWithin 43) before.now }
-    requires few { length states.now + length discretes.now + length before.now < 2 ^ 32 }
+    requires count_limit { length states.now + length discretes.now + length before.now < 2 ^ 32 }
     ensures value { result
         ≡ int_at
         (states.now
@@ -79,7 +79,7 @@ fn entry_value(
     requires states { All (IsWithin 88) states.now }
     requires discretes { All (IsWithin 43) discretes.now }
     requires before { All (IsWithin 43) before.now }
-    requires few { length states.now + length discretes.now + length before.now < 2 ^ 32 }
+    requires count_limit { length states.now + length discretes.now + length before.now < 2 ^ 32 }
     ensures value { result
         ≡ entry.coef *ℤ int_at
         (states.now
@@ -107,7 +107,7 @@ pub(crate) fn form_sum(
     requires states { All (IsWithin 88) states.now }
     requires discretes { All (IsWithin 43) discretes.now }
     requires before { All (IsWithin 43) before.now }
-    requires few { length states.now + length discretes.now + length before.now < 2 ^ 32 }
+    requires count_limit { length states.now + length discretes.now + length before.now < 2 ^ 32 }
     ensures value { result
         ≡ weighted_sum entries.now
         (states.now

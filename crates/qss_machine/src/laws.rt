@@ -1,6 +1,6 @@
 //! Laws of all runs, each the contract of a function that does nothing.
 
-ghost use Rattle.qss_machine.specs.Laws.{RulesAreFree, RunsAreUnique, RunsStayNear, RunsAreLegitimate, SlopesAreWithinWeights};
+ghost use Rattle.qss_machine.specs.RunLaws.{RulesAreFree, RunsAreUnique, RunsStayWithinDrift, RunsAreLegitimate, SlopesAreWithinWeights};
 ghost use Rattle.qss_machine.specs.Firing.{BranchesFireWhenDue};
 ghost use Rattle.qss_machine.specs.SameData.{SameDataIsEqual};
 
@@ -16,7 +16,7 @@ pub fn runs_are_unique()
 
 /// Through each tick a state is within its quantum and one tick's drift of its level.
 pub fn runs_stay_near()
-    ensures { RunsStayNear }
+    ensures { RunsStayWithinDrift }
 {}
 
 /// The runs of a machine without clauses are legitimate.

@@ -4,12 +4,12 @@ ghost use Rattle.std.specs.Prelude.{◌≡◌, ℕ, ◌+◌, ◌*◌, ◌^◌, �
 ghost use Rattle.mu_num.specs.Rounding.{nearest_of};
 ghost use Rattle.mu_num.specs.Sizes.{IsWithin};
 ghost use Rattle.qss_machine.specs.Slopes.{coefficient_of, products_of, mode_coefficient, mode_fits};
-ghost use Rattle.qss_machine.specs.Limits.{IsRow};
+ghost use Rattle.qss_machine.specs.MachineLimits.{IsRow};
 
 use crate::parts::SlopeRow;
 use crate::sums::{coefficient_among, product_sum};
 use crate::units::short_unit;
-use mu_num::{near_div, passes};
+use mu_num::{exceeds, near_div};
 
 // A sum of products in units of a coefficient. It is a call of its own where products are looked at for each reader.
 #[inline(never)]
@@ -32,9 +32,9 @@ pub(crate) fn rounded_products(
     state: u32,
 ) -> i128
     requires bits { level_bits ≤ 24 }
-    requires few { state_count + length discretes.now ≤ 4096 }
+    requires count_limit { state_count + length discretes.now ≤ 4096 }
     requires row { IsRow state_count (length discretes.now) row.now }
-    requires small { All (IsWithin 43) discretes.now }
+    requires size_limit { All (IsWithin 43) discretes.now }
     ensures value { result
         ≡ nearest_of (products_of row.now.products state_count discretes.now state)
         (pos (2 ^ level_bits)) }
@@ -59,9 +59,9 @@ pub(crate) fn mode_coefficient_from(
 ) -> i128
     requires own { own ≡ coefficient_of row.now.entries state }
     requires bits { level_bits ≤ 24 }
-    requires few { state_count + length discretes.now ≤ 4096 }
+    requires count_limit { state_count + length discretes.now ≤ 4096 }
     requires row { IsRow state_count (length discretes.now) row.now }
-    requires small { All (IsWithin 43) discretes.now }
+    requires size_limit { All (IsWithin 43) discretes.now }
     ensures value { result ≡ mode_coefficient level_bits state_count row.now discretes.now state }
     ensures bound { IsWithin 112 result }
 {
@@ -81,9 +81,9 @@ pub(crate) fn mode_coefficient_of(
     state: u32,
 ) -> i128
     requires bits { level_bits ≤ 24 }
-    requires few { state_count + length discretes.now ≤ 4096 }
+    requires count_limit { state_count + length discretes.now ≤ 4096 }
     requires row { IsRow state_count (length discretes.now) row.now }
-    requires small { All (IsWithin 43) discretes.now }
+    requires size_limit { All (IsWithin 43) discretes.now }
     ensures value { result ≡ mode_coefficient level_bits state_count row.now discretes.now state }
     ensures bound { IsWithin 112 result }
 {
@@ -99,9 +99,9 @@ pub(crate) fn modes_fit(
     discretes: &[i64],
 ) -> bool
     requires bits { level_bits ≤ 24 }
-    requires few { state_count + length discretes.now ≤ 4096 }
+    requires count_limit { state_count + length discretes.now ≤ 4096 }
     requires row { IsRow state_count (length discretes.now) row.now }
-    requires small { All (IsWithin 43) discretes.now }
+    requires size_limit { All (IsWithin 43) discretes.now }
     ensures { result ≡ mode_fits level_bits state_count row.now discretes.now }
 {
     let mut past = 0;
@@ -111,7 +111,7 @@ pub(crate) fn modes_fit(
             continue;
         }
         let mode = mode_coefficient_of(row, level_bits, state_count, discretes, state);
-        if passes(mode, 44) {
+        if exceeds(mode, 44) {
             return false;
         }
         past = state + 1;

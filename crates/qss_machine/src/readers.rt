@@ -3,8 +3,8 @@
 ghost use Rattle.std.specs.Prelude.{◌≡◌, ◌+◌, ◌<◌, ◌≤◌, ◌++◌, [], length, map, flat_map, IfOk, ◌||◌, ◌==◌, All, replicate, List};
 ghost use Rattle.std.specs.List.{list_any};
 ghost use Rattle.qss_machine.specs.declared.parts.Condition.{Condition};
-ghost use Rattle.qss_machine.specs.Numbers.{tabulate};
-ghost use Rattle.qss_machine.specs.Uses.{has_entry, row_reads, condition_reads, places_from};
+ghost use Rattle.qss_machine.specs.IndexedSums.{tabulate};
+ghost use Rattle.qss_machine.specs.Readers.{has_entry, row_reads, condition_reads, places_from};
 ghost use Rattle.qss_machine.specs.Marks.{NotesOnce, MarksBy, Collects, IsRowOf, IsConditionOf};
 
 use crate::parts::{BranchInfo, ClauseInfo, Entry, Product, SlopeRow};
@@ -98,11 +98,11 @@ fn mark_branches(
     branches: &[BranchInfo],
     first: u32,
 ) -> Result<u32, AllocError>
-    requires few { first + length branches.now ≤ 16384 }
+    requires count_limit { first + length branches.now ≤ 16384 }
     requires known { All (λ branch. IsConditionOf (length lists.old.items) branch.condition)
         branches.now }
     ensures next { IfOk result (λ next. next ≡ first + length branches.now) }
-    ensures as_many { IfOk result (λ next. length lists.new.items ≡ length lists.old.items) }
+    ensures same_length { IfOk result (λ next. length lists.new.items ≡ length lists.old.items) }
     ensures marks { IfOk result
         (λ next. (before : List Condition)
         → length before ≡ first
@@ -135,7 +135,7 @@ pub(crate) fn rows_by_variable(
     rows: &[SlopeRow],
     count: u32,
 ) -> Result<Vec<Vec<u32>>, AllocError>
-    requires few { length rows.now ≤ 4096 }
+    requires count_limit { length rows.now ≤ 4096 }
     requires known { All (IsRowOf count) rows.now }
     ensures { IfOk result
         (λ lists. map (λ list. list.items) lists.items
@@ -154,7 +154,7 @@ pub(crate) fn conditions_by_variable(
     clauses: &[ClauseInfo],
     count: u32,
 ) -> Result<Vec<Vec<u32>>, AllocError>
-    requires few { length
+    requires count_limit { length
         (flat_map (λ clause. map (λ branch. branch.condition) clause.branches) clauses.now)
         ≤ 16384 }
     requires known { All

@@ -3,9 +3,9 @@
 ghost use Rattle.std.specs.Prelude.{◌≡◌, ℕ, ◌+◌, ◌*◌, ◌^◌, ◌<◌, ◌≤◌, length, All, IsTrue, pos, ◌*ℤ◌, ◌+ℤ◌, unsigned_abs};
 ghost use Rattle.mu_num.specs.Rounding.{nearest_of};
 ghost use Rattle.mu_num.specs.Sizes.{IsWithin};
-ghost use Rattle.qss_machine.specs.Numbers.{int_at, sum_below};
+ghost use Rattle.qss_machine.specs.IndexedSums.{int_at, sum_below};
 ghost use Rattle.qss_machine.specs.Slopes.{products_of, mode_fits, slope_of};
-ghost use Rattle.qss_machine.specs.Limits.{IsRow};
+ghost use Rattle.qss_machine.specs.MachineLimits.{IsRow};
 
 use crate::forms::add_three;
 use crate::modes::rounded_products;
@@ -31,7 +31,7 @@ fn product_level(
     state: usize,
 ) -> i128
     requires bits { level_bits ≤ 24 }
-    requires few { length levels.now + length discretes.now ≤ 4096 }
+    requires count_limit { length levels.now + length discretes.now ≤ 4096 }
     requires row { IsRow (length levels.now) (length discretes.now) row.now }
     requires levels { All (IsWithin 43) levels.now }
     requires discretes { All (IsWithin 43) discretes.now }
@@ -49,7 +49,7 @@ fn product_level(
 // Each state's rounded products times its level, added up over the states that have products.
 fn product_slope(row: &SlopeRow, level_bits: u8, levels: &[i64], discretes: &[i64]) -> i128
     requires bits { level_bits ≤ 24 }
-    requires few { length levels.now + length discretes.now ≤ 4096 }
+    requires count_limit { length levels.now + length discretes.now ≤ 4096 }
     requires row { IsRow (length levels.now) (length discretes.now) row.now }
     requires levels { All (IsWithin 43) levels.now }
     requires discretes { All (IsWithin 43) discretes.now }
@@ -76,7 +76,7 @@ fn product_slope(row: &SlopeRow, level_bits: u8, levels: &[i64], discretes: &[i6
 /// The slope of a row at these levels and discrete values.
 pub(crate) fn row_slope(row: &SlopeRow, level_bits: u8, levels: &[i64], discretes: &[i64]) -> i128
     requires bits { level_bits ≤ 24 }
-    requires few { length levels.now + length discretes.now ≤ 4096 }
+    requires count_limit { length levels.now + length discretes.now ≤ 4096 }
     requires row { IsRow (length levels.now) (length discretes.now) row.now }
     requires levels { All (IsWithin 43) levels.now }
     requires discretes { All (IsWithin 43) discretes.now }

@@ -3,8 +3,8 @@
 ghost use Rattle.std.specs.Prelude.{◌≡◌, ℕ, ◌+◌, ◌*◌, ◌^◌, ◌<◌, ◌≤◌, length, All, pos, ◌-◌, ◌*ℤ◌, ◌++◌, map, unsigned_abs, ◌==◌, if◌then◌else◌};
 ghost use Rattle.std.specs.List.Sorted.{IsStrictlyIncreasing};
 ghost use Rattle.mu_num.specs.Sizes.{IsWithin};
-ghost use Rattle.qss_machine.specs.Numbers.{int_at};
-ghost use Rattle.qss_machine.specs.Limits.{AreProducts};
+ghost use Rattle.qss_machine.specs.IndexedSums.{int_at};
+ghost use Rattle.qss_machine.specs.MachineLimits.{AreProducts};
 ghost use Rattle.qss_machine.specs.Slopes.{weighted_sum, coefficient_of, products_of};
 
 use crate::parts::{Entry, Product};
@@ -48,7 +48,7 @@ fn coefficient_in(entry: Entry, var: u32) -> i128
 
 /// The coefficient of a variable, 0 where no entry is of it.
 pub fn coefficient(entries: &[Entry], var: u32) -> i128
-    requires few { length entries.now ≤ 2 ^ 32 }
+    requires count_limit { length entries.now ≤ 2 ^ 32 }
     ensures value { result ≡ coefficient_of entries.now var }
     ensures bound { IsWithin 95 result }
 {
@@ -72,7 +72,7 @@ pub(crate) fn coefficient_among(entries: &[Entry], var: u32) -> i64
 
 /// An entry's coefficient times the value of its variable.
 pub(crate) fn entry_term(entry: Entry, first: &[i64], second: &[i64]) -> i128
-    requires small { IsWithin 44 entry.coef }
+    requires size_limit { IsWithin 44 entry.coef }
     requires known { entry.var < length first.now + length second.now }
     requires firsts { All (IsWithin 43) first.now }
     requires seconds { All (IsWithin 43) second.now }
@@ -84,8 +84,8 @@ pub(crate) fn entry_term(entry: Entry, first: &[i64], second: &[i64]) -> i128
 
 /// Each entry's coefficient times the value of its variable, added up.
 pub(crate) fn entry_sum(entries: &[Entry], first: &[i64], second: &[i64]) -> i128
-    requires few { length entries.now ≤ 4096 }
-    requires small { All (λ entry. IsWithin 44 entry.coef) entries.now }
+    requires count_limit { length entries.now ≤ 4096 }
+    requires size_limit { All (λ entry. IsWithin 44 entry.coef) entries.now }
     requires known { All (λ entry. entry.var < length first.now + length second.now) entries.now }
     requires firsts { All (IsWithin 43) first.now }
     requires seconds { All (IsWithin 43) second.now }
@@ -101,7 +101,7 @@ pub(crate) fn entry_sum(entries: &[Entry], first: &[i64], second: &[i64]) -> i12
 
 // A product's coefficient times the value of its discrete variable.
 fn product_term(product: Product, first: usize, discretes: &[i64]) -> i128
-    requires small { IsWithin 44 product.coef }
+    requires size_limit { IsWithin 44 product.coef }
     requires from { first ≤ product.discrete }
     requires to { product.discrete < first + length discretes.now }
     requires values { All (IsWithin 43) discretes.now }
@@ -117,7 +117,7 @@ fn product_term(product: Product, first: usize, discretes: &[i64]) -> i128
 // The same where the product is of this state, else 0.
 #[inline(always)]
 fn term_of(product: Product, first: usize, discretes: &[i64], state: u32) -> i128
-    requires small { IsWithin 44 product.coef }
+    requires size_limit { IsWithin 44 product.coef }
     requires from { first ≤ product.discrete }
     requires to { product.discrete < first + length discretes.now }
     requires values { All (IsWithin 43) discretes.now }
@@ -136,9 +136,9 @@ fn term_of(product: Product, first: usize, discretes: &[i64], state: u32) -> i12
 /// The products of a state, each with the value of its discrete variable, added up. A row with products has mostly one.
 #[inline(always)]
 pub(crate) fn product_sum(products: &[Product], first: usize, discretes: &[i64], state: u32) -> i128
-    requires few { length products.now ≤ 2 ^ 24 }
+    requires count_limit { length products.now ≤ 2 ^ 24 }
     requires products { AreProducts first (length discretes.now) products.now }
-    requires small { All (λ product. IsWithin 44 product.coef) products.now }
+    requires size_limit { All (λ product. IsWithin 44 product.coef) products.now }
     requires values { All (IsWithin 43) discretes.now }
     ensures value { result ≡ products_of products.now first discretes.now state }
     ensures bound { IsWithin 111 result }
@@ -152,9 +152,9 @@ pub(crate) fn product_sum(products: &[Product], first: usize, discretes: &[i64],
 // The same. It halves the products to find the first of the state's.
 #[inline(never)]
 fn halved_sum(products: &[Product], first: usize, discretes: &[i64], state: u32) -> i128
-    requires few { length products.now ≤ 2 ^ 24 }
+    requires count_limit { length products.now ≤ 2 ^ 24 }
     requires products { AreProducts first (length discretes.now) products.now }
-    requires small { All (λ product. IsWithin 44 product.coef) products.now }
+    requires size_limit { All (λ product. IsWithin 44 product.coef) products.now }
     requires values { All (IsWithin 43) discretes.now }
     ensures value { result ≡ products_of products.now first discretes.now state }
     ensures bound { IsWithin 111 result }

@@ -1,7 +1,7 @@
 //! A machine, and what its rows and forms give.
 
 ghost use Rattle.std.specs.Prelude.{pos, ◌+◌, ◌^◌, length};
-ghost use Rattle.qss_machine.specs.Limits.{HasUnits, AreVariables, AreRows, AreClauses};
+ghost use Rattle.qss_machine.specs.MachineLimits.{HasUnits, AreVariables, AreRows, AreClauses};
 
 use crate::forms::{add_three, constant_part, form_sum, time_part};
 use crate::modes::{mode_coefficient_from, mode_coefficient_of, modes_fit};
@@ -41,7 +41,7 @@ impl Machine {
     ghost use Rattle.std.specs.Prelude.{◌≡◌, ◌<◌, ◌≤◌, All, IsTrue, unsigned_abs};
     ghost use Rattle.mu_num.specs.Sizes.{IsWithin};
     ghost use Rattle.qss_machine.specs.Slopes.{mode_fits};
-    ghost use Rattle.qss_machine.specs.Limits.{IsBounded};
+    ghost use Rattle.qss_machine.specs.MachineLimits.{IsBounded};
     ghost use Rattle.qss_machine.specs.Machines.{state_count, discrete_count, row_at, row_coefficient, mode_coefficient_at, slope_at, weight_at, level_unit, quantum_of, value_of, speed_of};
 
     /// The coefficient of a state in a row under these discrete values, in units of 2^-p: its own, and the sum of
@@ -49,8 +49,8 @@ impl Machine {
     pub fn mode_coef(&self, row: u32, state: u32, discretes: &[i64]) -> i128
         requires row { row < state_count self.now }
         requires state { state < state_count self.now }
-        requires as_many { length discretes.now ≡ discrete_count self.now }
-        requires small { All (IsWithin 43) discretes.now }
+        requires same_length { length discretes.now ≡ discrete_count self.now }
+        requires size_limit { All (IsWithin 43) discretes.now }
         ensures { result ≡ mode_coefficient_at self.now row state discretes.now }
     {
         let states = self.states.as_slice().len();
@@ -63,8 +63,8 @@ impl Machine {
     pub fn mode_coef_from(&self, own: i64, row: u32, state: u32, discretes: &[i64]) -> i128
         requires row { row < state_count self.now }
         requires own { own ≡ row_coefficient self.now row state }
-        requires as_many { length discretes.now ≡ discrete_count self.now }
-        requires small { All (IsWithin 43) discretes.now }
+        requires same_length { length discretes.now ≡ discrete_count self.now }
+        requires size_limit { All (IsWithin 43) discretes.now }
         ensures { result ≡ mode_coefficient_at self.now row state discretes.now }
     {
         let states = self.states.as_slice().len();
@@ -84,8 +84,8 @@ impl Machine {
     /// Whether the mode coefficients of a row are at most 2^44 in size.
     pub fn mode_fits(&self, row: u32, discretes: &[i64]) -> bool
         requires row { row < state_count self.now }
-        requires as_many { length discretes.now ≡ discrete_count self.now }
-        requires small { All (IsWithin 43) discretes.now }
+        requires same_length { length discretes.now ≡ discrete_count self.now }
+        requires size_limit { All (IsWithin 43) discretes.now }
         ensures { result
             ≡ mode_fits self.now.f (state_count self.now) (row_at self.now row) discretes.now }
     {
@@ -165,8 +165,8 @@ impl Machine {
     /// How much a form's value changes in a tick at these slopes.
     pub fn form_speed(&self, form: &Form, slopes: &[i128]) -> i128
         requires form { IsBounded form.now }
-        requires as_many { length slopes.now ≡ state_count self.now }
-        requires small { All (IsWithin 88) slopes.now }
+        requires same_length { length slopes.now ≡ state_count self.now }
+        requires size_limit { All (IsWithin 88) slopes.now }
         ensures value { result ≡ speed_of self.now form.now slopes.now }
         ensures bound { unsigned_abs result < 2 ^ 127 }
     {

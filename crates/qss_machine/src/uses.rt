@@ -1,7 +1,7 @@
 //! Which rows and which conditions read each variable of a machine, and its coefficients in those rows.
 
 ghost use Rattle.std.specs.Prelude.{◌≡◌, ◌<◌, length, IfOk, slice_index_or, []};
-ghost use Rattle.qss_machine.specs.Uses.{uses_of};
+ghost use Rattle.qss_machine.specs.Readers.{uses_of};
 
 use crate::coefficients::coefficients_by_variable;
 use crate::readers::{conditions_by_variable, rows_by_variable};

@@ -1,25 +1,25 @@
 //! Weights of rows: their slopes taken over sizes.
 
 ghost use Rattle.std.specs.Prelude.{◌≡◌, ℕ, ◌+◌, ◌*◌, ◌^◌, ◌<◌, ◌≤◌, ◌&&◌, not, length, All, IsTrue, pos, ◌*ℤ◌, ◌-ℤ◌, ◌++◌, unsigned_abs};
-ghost use Rattle.mu_num.specs.Sizes.{IsWithin, passes};
-ghost use Rattle.qss_machine.specs.Numbers.{int_at, size, sum_over, sum_below};
+ghost use Rattle.mu_num.specs.Sizes.{IsWithin, exceeds};
+ghost use Rattle.qss_machine.specs.IndexedSums.{int_at, abs_of, sum_over, sum_below};
 ghost use Rattle.qss_machine.specs.Slopes.{coefficient_of, mode_coefficient, mode_fits, weight_of};
-ghost use Rattle.qss_machine.specs.Limits.{IsRow};
+ghost use Rattle.qss_machine.specs.MachineLimits.{IsRow};
 
 use crate::forms::add_three;
 use crate::modes::{mode_coefficient_from, modes_fit};
 use crate::parts::{Entry, SlopeRow};
 use crate::slopes::wide_term;
 use crate::sums::{coefficient_among, entry_term};
-use mu_num::passes;
+use mu_num::exceeds;
 
 /// The size of an entry's coefficient times the value of its variable.
 pub fn entry_size(entry: Entry, first: &[i64], second: &[i64]) -> i128
-    requires small { IsWithin 44 entry.coef }
+    requires size_limit { IsWithin 44 entry.coef }
     requires known { entry.var < length first.now + length second.now }
     requires firsts { All (IsWithin 43) first.now }
     requires seconds { All (IsWithin 43) second.now }
-    ensures value { result ≡ size (entry.coef *ℤ int_at (first.now ++ second.now) entry.var) }
+    ensures value { result ≡ abs_of (entry.coef *ℤ int_at (first.now ++ second.now) entry.var) }
     ensures bound { unsigned_abs result ≤ 2 ^ 87 }
 {
     entry_term(entry, first, second).abs()
@@ -27,13 +27,13 @@ pub fn entry_size(entry: Entry, first: &[i64], second: &[i64]) -> i128
 
 /// The sizes of all entries' coefficients times the values of their variables, added up.
 pub fn entry_weight(entries: &[Entry], first: &[i64], second: &[i64]) -> i128
-    requires few { length entries.now ≤ 4096 }
-    requires small { All (λ entry. IsWithin 44 entry.coef) entries.now }
+    requires count_limit { length entries.now ≤ 4096 }
+    requires size_limit { All (λ entry. IsWithin 44 entry.coef) entries.now }
     requires known { All (λ entry. entry.var < length first.now + length second.now) entries.now }
     requires firsts { All (IsWithin 43) first.now }
     requires seconds { All (IsWithin 43) second.now }
     ensures value { result
-        ≡ sum_over (λ entry. size (entry.coef *ℤ int_at (first.now ++ second.now) entry.var))
+        ≡ sum_over (λ entry. abs_of (entry.coef *ℤ int_at (first.now ++ second.now) entry.var))
         entries.now }
     ensures bound { unsigned_abs result ≤ 2 ^ 99 }
 {
@@ -47,7 +47,7 @@ pub fn entry_weight(entries: &[Entry], first: &[i64], second: &[i64]) -> i128
 // A level without its sign.
 fn level_size(level: i64) -> i64
     requires { IsWithin 43 level }
-    ensures value { result ≡ size level }
+    ensures value { result ≡ abs_of level }
     ensures bound { IsWithin 43 result }
 {
     level.abs()
@@ -57,7 +57,7 @@ fn level_size(level: i64) -> i64
 fn excess(mode: i128, own: i128) -> i128
     requires mode { IsWithin 44 mode }
     requires own { IsWithin 44 own }
-    ensures value { result ≡ size mode -ℤ size own }
+    ensures value { result ≡ abs_of mode -ℤ abs_of own }
     ensures bound { IsWithin 45 result }
 {
     mode.abs() - own.abs()
@@ -72,16 +72,16 @@ fn state_excess(
     state: usize,
 ) -> i128
     requires bits { level_bits ≤ 24 }
-    requires few { length levels.now + length discretes.now ≤ 4096 }
+    requires count_limit { length levels.now + length discretes.now ≤ 4096 }
     requires row { IsRow (length levels.now) (length discretes.now) row.now }
     requires levels { All (IsWithin 43) levels.now }
     requires discretes { All (IsWithin 43) discretes.now }
     requires modes { IsTrue (mode_fits level_bits (length levels.now) row.now discretes.now) }
     requires state { state < length levels.now }
     ensures value { result
-        ≡ (size (mode_coefficient level_bits (length levels.now) row.now discretes.now state) -ℤ
-        size (coefficient_of row.now.entries state))
-        *ℤ size (int_at levels.now state) }
+        ≡ (abs_of (mode_coefficient level_bits (length levels.now) row.now discretes.now state) -ℤ
+        abs_of (coefficient_of row.now.entries state))
+        *ℤ abs_of (int_at levels.now state) }
     ensures bound { unsigned_abs result ≤ 2 ^ 88 }
 {
     let own = coefficient_among(row.entries.as_slice(), state as u32);
@@ -92,7 +92,7 @@ fn state_excess(
 // What products add to a row's weight.
 fn excess_sum(row: &SlopeRow, level_bits: u8, levels: &[i64], discretes: &[i64]) -> i128
     requires bits { level_bits ≤ 24 }
-    requires few { length levels.now + length discretes.now ≤ 4096 }
+    requires count_limit { length levels.now + length discretes.now ≤ 4096 }
     requires row { IsRow (length levels.now) (length discretes.now) row.now }
     requires levels { All (IsWithin 43) levels.now }
     requires discretes { All (IsWithin 43) discretes.now }
@@ -100,9 +100,9 @@ fn excess_sum(row: &SlopeRow, level_bits: u8, levels: &[i64], discretes: &[i64])
     ensures value { result
         ≡ sum_below (length levels.now)
         (λ i.
-        (size (mode_coefficient level_bits (length levels.now) row.now discretes.now i) -ℤ
-        size (coefficient_of row.now.entries i))
-        *ℤ size (int_at levels.now i)) }
+        (abs_of (mode_coefficient level_bits (length levels.now) row.now discretes.now i) -ℤ
+        abs_of (coefficient_of row.now.entries i))
+        *ℤ abs_of (int_at levels.now i)) }
     ensures bound { unsigned_abs result ≤ 2 ^ 100 }
 {
     let mut sum: i128 = 0;
@@ -121,7 +121,7 @@ fn excess_sum(row: &SlopeRow, level_bits: u8, levels: &[i64], discretes: &[i64])
 /// The weight of a row at these levels and discrete values.
 pub(crate) fn row_weight(row: &SlopeRow, level_bits: u8, levels: &[i64], discretes: &[i64]) -> i128
     requires bits { level_bits ≤ 24 }
-    requires few { length levels.now + length discretes.now ≤ 4096 }
+    requires count_limit { length levels.now + length discretes.now ≤ 4096 }
     requires row { IsRow (length levels.now) (length discretes.now) row.now }
     requires levels { All (IsWithin 43) levels.now }
     requires discretes { All (IsWithin 43) discretes.now }
@@ -137,14 +137,14 @@ pub(crate) fn row_weight(row: &SlopeRow, level_bits: u8, levels: &[i64], discret
 /// discrete values.
 pub fn is_light(row: &SlopeRow, level_bits: u8, levels: &[i64], discretes: &[i64]) -> bool
     requires bits { level_bits ≤ 24 }
-    requires few { length levels.now + length discretes.now ≤ 4096 }
+    requires count_limit { length levels.now + length discretes.now ≤ 4096 }
     requires row { IsRow (length levels.now) (length discretes.now) row.now }
     requires levels { All (IsWithin 43) levels.now }
     requires discretes { All (IsWithin 43) discretes.now }
     ensures { result
         ≡ (mode_fits level_bits (length levels.now) row.now discretes.now
-        && not (passes 88 (weight_of level_bits row.now levels.now discretes.now))) }
+        && not (exceeds 88 (weight_of level_bits row.now levels.now discretes.now))) }
 {
     modes_fit(row, level_bits, levels.len(), discretes)
-        && !passes(row_weight(row, level_bits, levels, discretes), 88)
+        && !exceeds(row_weight(row, level_bits, levels, discretes), 88)
 }

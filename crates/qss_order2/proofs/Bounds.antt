@@ -9,13 +9,13 @@ use Rattle.std.specs.Option.{option_or}
 use Rattle.std.specs.Prelude.{All, Option, Some, None}
 use Rattle.mu_num.specs.Sizes.{IsWithin}
 use Rattle.qss_machine.specs.declared.system.Machine.{Machine}
-use Rattle.qss_machine.specs.Numbers.{int_at, tabulate, size, sum_below, first_past}
+use Rattle.qss_machine.specs.IndexedSums.{int_at, tabulate, abs_of, sum_below, first_exceeding}
 use Rattle.qss_machine.specs.Machines.{state_count}
 use Rattle.qss_machine.specs.Legitimate.{start_coefficient}
 use Rattle.qss_machine.proofs.Ranges.{none_past}
 use Rattle.qss_order2.specs.declared.motion.Motion.{Motion}
-use Rattle.qss_order2.specs.Worlds.{rise_at, rise_weight, bend_weight, reach_of, past_limit}
-use Rattle.qss_order2.specs.Laws.{bend_at}
+use Rattle.qss_order2.specs.SecondSteps.{rise_at, rise_weight, rise_change_weight, reach_of, first_exceeding_limit}
+use Rattle.qss_order2.specs.SecondRunLaws.{bend_at}
 use Rattle.qss_order2.specs.Stores.{Moves}
 use Rattle.qss_order2.proofs.Sizes.{unit_fits, reach_small}
 use Rattle.qss_order2.proofs.Tables.{at_table, all_of}
@@ -28,11 +28,11 @@ pub none_of : (o p : Option ℕ) → option_or o p ≡ None → (o ≡ None) × 
 none_of None p e = (refl, e)
 none_of (Some var) p e = absurd (cc)
 
-sum_within_sizes : (n : ℕ) (f : ℕ → ℤ) → size (sum_below n f) ≤ℤ sum_below n (λ i. size (f i))
+sum_within_sizes : (n : ℕ) (f : ℕ → ℤ) → abs_of (sum_below n f) ≤ℤ sum_below n (λ i. abs_of (f i))
 sum_within_sizes zero f = omega (arith, ints)
 sum_within_sizes (suc n) f = omega (arith, ints, sum_within_sizes n f)
 
-pub rise_by_weight : (m : Machine) (levels : List ℤ) → first_past 94 (tabulate (state_count m) (rise_weight m levels)) ≡ None → (j : ℕ) → j < state_count m → IsWithin 94 (rise_at m j levels)
+pub rise_by_weight : (m : Machine) (levels : List ℤ) → first_exceeding 94 (tabulate (state_count m) (rise_weight m levels)) ≡ None → (j : ℕ) → j < state_count m → IsWithin 94 (rise_at m j levels)
 rise_by_weight m levels light j h =
     let weights = tabulate (state_count m) (rise_weight m levels) in
     let own : IsWithin 94 (int_at weights j) = none_past 94 weights light j in
@@ -40,8 +40,8 @@ rise_by_weight m levels light j h =
     omega (arith, ints, heavy, sum_within_sizes (state_count m) (λ i. start_coefficient m j i *ℤ int_at levels i))
 
 -- no state is past a limit
-module _ (m : Machine) (levels changes : List ℤ) (within : past_limit m levels changes ≡ None) where
-  parts : (first_past 49 levels ≡ None) × (option_or (first_past 94 (tabulate (state_count m) (rise_weight m levels))) (first_past 94 (tabulate (state_count m) (bend_weight m changes))) ≡ None)
+module _ (m : Machine) (levels changes : List ℤ) (within : first_exceeding_limit m levels changes ≡ None) where
+  parts : (first_exceeding 49 levels ≡ None) × (option_or (first_exceeding 94 (tabulate (state_count m) (rise_weight m levels))) (first_exceeding 94 (tabulate (state_count m) (rise_change_weight m changes))) ≡ None)
   parts = none_of _ _ within
 
   pub level_within : (j : ℕ) → IsWithin 49 (int_at levels j)
@@ -50,10 +50,10 @@ module _ (m : Machine) (levels changes : List ℤ) (within : past_limit m levels
   pub rise_within : (j : ℕ) → j < state_count m → IsWithin 94 (rise_at m j levels)
   rise_within j h = rise_by_weight m levels (none_of _ _ parts.1).0 j h
 
-  pub bends_flat : (j : ℕ) → j < state_count m → IsWithin 94 (bend_weight m changes j)
+  pub bends_flat : (j : ℕ) → j < state_count m → IsWithin 94 (rise_change_weight m changes j)
   bends_flat j h =
-      let weights = tabulate (state_count m) (bend_weight m changes) in
-      subst (IsWithin 94) (at_table (state_count m) (bend_weight m changes) j h) (none_past 94 weights (none_of _ _ parts.1).1 j)
+      let weights = tabulate (state_count m) (rise_change_weight m changes) in
+      subst (IsWithin 94) (at_table (state_count m) (rise_change_weight m changes) j h) (none_past 94 weights (none_of _ _ parts.1).1 j)
 
   pub bend_within : (j : ℕ) → j < state_count m → IsWithin 94 (bend_at m j changes)
   bend_within j h = omega (arith, ints, bends_flat j h, sum_within_sizes (state_count m) (λ i. start_coefficient m j i *ℤ int_at changes i))

@@ -5,14 +5,14 @@ use Rattle.std.proofs.lemmas.Int.{ints, unsigned_abs-mul}
 use Rattle.std.specs.Option.{option_or}
 use Rattle.std.specs.Prelude.{Option, Some, None, replicate}
 use Rattle.mu_num.proofs.SizeTests.{within-passes}
-use Rattle.mu_num.specs.Sizes.{IsWithin, passes}
+use Rattle.mu_num.specs.Sizes.{IsWithin, exceeds}
 use Rattle.qss_machine.specs.declared.system.Machine.{Machine}
 use Rattle.qss_machine.specs.Legitimate.{start_coefficient}
 use Rattle.qss_machine.specs.Machines.{state_count}
-use Rattle.qss_machine.specs.Numbers.{int_at, tabulate, size, sum_below}
+use Rattle.qss_machine.specs.IndexedSums.{int_at, tabulate, abs_of, sum_below}
 use Rattle.qss_machine.proofs.Ranges.{none_past}
-use Rattle.qss_order2.specs.Limits.{past_levels}
-use Rattle.qss_order2.specs.Worlds.{rise_weight}
+use Rattle.qss_order2.specs.SecondRunLimits.{past_levels}
+use Rattle.qss_order2.specs.SecondSteps.{rise_weight}
 use Rattle.qss_order2.proofs.Bounds.{none_of}
 use Rattle.qss_order2.proofs.Sizes.{sum_from_zero}
 use Rattle.qss_order2.proofs.SizeSums.{size_from_zero}
@@ -27,7 +27,7 @@ sum_below-le : (n : ℕ) (f g : ℕ → ℤ) → ((i : ℕ) → i < n → f i �
 sum_below-le zero f g each = omega (arith, ints)
 sum_below-le (suc n) f g each = omega (arith, ints, sum_below-le n f g (λ i h. each i (omega arith)), each n (omega arith))
 
-size_le : (a x : ℤ) (b : ℕ) → size x ≤ℤ pos b → size (a *ℤ x) ≤ℤ size (a *ℤ pos b)
+size_le : (a x : ℤ) (b : ℕ) → abs_of x ≤ℤ pos b → abs_of (a *ℤ x) ≤ℤ abs_of (a *ℤ pos b)
 size_le a x b small =
     let low : unsigned_abs x ≤ b = omega (arith, ints, small) in
     omega (arith, ints, unsigned_abs-mul a x, unsigned_abs-mul a (pos b), mul-le-mul_left (unsigned_abs a) low)
@@ -37,13 +37,13 @@ both None b e f = f
 both (Some var) b e f = absurd (cc)
 
 module _ (m : Machine) (b : ℕ) (none : past_levels m (replicate (state_count m) (pos b)) ≡ None) (levels : List ℤ) (many : length levels ≡ state_count m)
-    (small : (j : ℕ) → j < state_count m → size (int_at levels j) ≤ℤ pos b) where
+    (small : (j : ℕ) → j < state_count m → abs_of (int_at levels j) ≤ℤ pos b) where
   abbrev all : List ℤ
   all = replicate (state_count m) (pos b)
 
-  term_le : (j i : ℕ) → i < state_count m → size (start_coefficient m j i *ℤ int_at levels i) ≤ℤ size (start_coefficient m j i *ℤ int_at all i)
+  term_le : (j i : ℕ) → i < state_count m → abs_of (start_coefficient m j i *ℤ int_at levels i) ≤ℤ abs_of (start_coefficient m j i *ℤ int_at all i)
   term_le j i h =
-      subst (λ z. size (start_coefficient m j i *ℤ int_at levels i) ≤ℤ size (start_coefficient m j i *ℤ z)) (sym (at_copies (state_count m) i (pos b) h))
+      subst (λ z. abs_of (start_coefficient m j i *ℤ int_at levels i) ≤ℤ abs_of (start_coefficient m j i *ℤ z)) (sym (at_copies (state_count m) i (pos b) h))
       (size_le (start_coefficient m j i) (int_at levels i) b (small i h))
 
   weight_le : (j : ℕ) → j < state_count m → IsWithin 94 (rise_weight m levels j)
@@ -51,8 +51,8 @@ module _ (m : Machine) (b : ℕ) (none : past_levels m (replicate (state_count m
       let n = state_count m in
       let weights = tabulate n (rise_weight m all) in
       let own : IsWithin 94 (rise_weight m all j) = subst (IsWithin 94) (at_table n (rise_weight m all) j h) (none_past 94 weights (none_of _ _ none).1 j) in
-      let le = sum_below-le n (λ i. size (start_coefficient m j i *ℤ int_at levels i)) (λ i. size (start_coefficient m j i *ℤ int_at all i)) (term_le j) in
-      let low = sum_from_zero n (λ i. size (start_coefficient m j i *ℤ int_at levels i)) (λ i. size_from_zero (start_coefficient m j i *ℤ int_at levels i)) in
+      let le = sum_below-le n (λ i. abs_of (start_coefficient m j i *ℤ int_at levels i)) (λ i. abs_of (start_coefficient m j i *ℤ int_at all i)) (term_le j) in
+      let low = sum_from_zero n (λ i. abs_of (start_coefficient m j i *ℤ int_at levels i)) (λ i. size_from_zero (start_coefficient m j i *ℤ int_at levels i)) in
       omega (arith, ints, own, le, low)
 
   level_le : (j : ℕ) → j < state_count m → IsWithin 49 (int_at levels j)
@@ -62,5 +62,5 @@ module _ (m : Machine) (b : ℕ) (none : past_levels m (replicate (state_count m
 
   pub calm : past_levels m levels ≡ None
   calm =
-      both _ _ (none_is (passes 49) levels (pos 0) (λ k h. within-passes 49 (int_at levels k) (level_le k (omega (arith, h, many)))))
-      (none_of_table (passes 94) (state_count m) (rise_weight m levels) (λ k h. within-passes 94 (rise_weight m levels k) (weight_le k h)))
+      both _ _ (none_is (exceeds 49) levels (pos 0) (λ k h. within-passes 49 (int_at levels k) (level_le k (omega (arith, h, many)))))
+      (none_of_table (exceeds 94) (state_count m) (rise_weight m levels) (λ k h. within-passes 94 (rise_weight m levels k) (weight_le k h)))

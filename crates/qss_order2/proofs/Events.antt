@@ -5,18 +5,18 @@ use Rattle.qss_machine.specs.declared.system.Machine.{Machine}
 use Rattle.qss_order2.specs.declared.outcome2.Outcome2.{Outcome2}
 use Rattle.qss_order2.specs.declared.outcome2.Outcome2.TheVariants.{Events, Done, Over}
 use Rattle.qss_order2.specs.declared.store.Store.{Store}
-use Rattle.qss_order2.specs.Calls.{standing_of, tick_of, end_of}
+use Rattle.qss_order2.specs.Calls.{view_of, tick_of, end_of}
 use Rattle.qss_order2.specs.Events.{IsNext2}
 use Rattle.qss_order2.specs.Stores.{Stands}
-use Rattle.qss_order2.specs.Worlds.{past_limit}
+use Rattle.qss_order2.specs.SecondSteps.{first_exceeding_limit}
 
 none_over : (o : Option ℕ) (tick : ℕ) → 0 + 1 ≤ tick → ((var : ℕ) → o ≡ Some var → tick ≡ 0) → o ≡ None
 none_over None tick later start = refl
 none_over (Some var) tick later start = absurd (omega (arith, start var refl, later))
 
 pub within_then : (Rule : ℤ → ℤ → ℤ → Type 0) (m : Machine) (from : ℕ) (s : Store) (outcome : Outcome2) (to : ℕ) (after : Store) →
-    IsNext2 Rule (standing_of m from s None) (standing_of m to after (end_of outcome)) outcome → (end_of outcome ≡ None → Stands m (tick_of m.last outcome) after) → end_of outcome ≡ None →
-    past_limit m after.motion.levels.items after.motion.changes.items ≡ None
+    IsNext2 Rule (view_of m from s None) (view_of m to after (end_of outcome)) outcome → (end_of outcome ≡ None → Stands m (tick_of m.last outcome) after) → end_of outcome ≡ None →
+    first_exceeding_limit m after.motion.levels.items after.motion.changes.items ≡ None
 within_then Rule m from s (Events tick) to after n stands e =
     let there = stands e in
     there.over ∙ none_over after.over tick (omega (arith, n.1.is_next)) there.at_start

@@ -7,9 +7,9 @@ use Rattle.std.specs.Int.RustNames.{FitsSigned}
 use Rattle.std.specs.Prelude.{vec_len}
 use Rattle.mu_num.specs.Sizes.{IsWithin}
 use Rattle.qss_machine.specs.declared.parts.Entry.{Entry}
-use Rattle.qss_machine.specs.Legitimate.{start_drive}
+use Rattle.qss_machine.specs.Legitimate.{start_constant_part}
 use Rattle.qss_machine.specs.Machines.{state_count}
-use Rattle.qss_machine.specs.Numbers.{int_at}
+use Rattle.qss_machine.specs.IndexedSums.{int_at}
 use Rattle.qss_order2.specs.declared.fixed_machine.FixedMachine.{FixedMachine}
 use Rattle.qss_order2.specs.Fixed.{AreModes}
 use Rattle.qss_order2.proofs.Bounds.{at_index}
@@ -22,14 +22,14 @@ wide z small = omega (arith, ints, small)
 
 module _ (f : FixedMachine) (j : ℕ) (h : j < state_count f.machine) where
   many_drives : length f.drives.items ≡ state_count f.machine
-  many_drives = ap length f.is_fixed.own_drives ∙ length-map-range_with_len (start_drive f.machine) 0 (state_count f.machine)
+  many_drives = ap length f.is_fixed.own_drives ∙ length-map-range_with_len (start_constant_part f.machine) 0 (state_count f.machine)
 
   pub in_drives : j < vec_len f.drives
   in_drives = omega (arith, h, many_drives, f.drives.ok.0)
 
-  pub drive_is : (z : ℤ) → z ≡ get_or f.drives.items j z → z ≡ start_drive f.machine j
+  pub drive_is : (z : ℤ) → z ≡ get_or f.drives.items j z → z ≡ start_constant_part f.machine j
   drive_is z is = at_index f.drives.items j (state_count f.machine) z many_drives h is ∙ ap (λ (xs : List ℤ). int_at xs j) f.is_fixed.own_drives
-      ∙ at_table (state_count f.machine) (start_drive f.machine) j h
+      ∙ at_table (state_count f.machine) (start_constant_part f.machine) j h
 
   pub drive_within : (z : ℤ) → z ≡ get_or f.drives.items j z → IsWithin 88 z
   drive_within z is = subst (IsWithin 88) (sym (drive_is z is)) (drive_small f.machine j h)

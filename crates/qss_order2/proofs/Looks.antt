@@ -8,10 +8,10 @@ use Rattle.mu_num.proofs.Tests.{eqb-true, eqb-false, eqb-yes}
 use Rattle.mu_num.specs.Rounding.{floor_of}
 use Rattle.qss_machine.specs.declared.system.Machine.{Machine}
 use Rattle.qss_machine.specs.Firing.{flag_at}
-use Rattle.qss_machine.specs.Numbers.{int_at}
+use Rattle.qss_machine.specs.IndexedSums.{int_at}
 use Rattle.qss_machine.specs.Machines.{state_count, level_unit}
-use Rattle.qss_order2.specs.Worlds.{World2, leaves, moved_state, moved_level, next_states, next_levels, requantizes, is_look, look_span}
-use Rattle.qss_order2.specs.Laws.{world2_after}
+use Rattle.qss_order2.specs.SecondSteps.{SecondSnapshot, leaves_quantum, moved_state, moved_level, next_states, next_levels, is_requantization, is_limit_check, limit_check_period}
+use Rattle.qss_order2.specs.SecondRunLaws.{second_snapshot_after}
 use Rattle.qss_order2.specs.Stores.{levels_after, is_due, IsDue2, IsNextLook, IsMovedOn}
 use Rattle.qss_order2.proofs.Calm.{state_later, level_later}
 use Rattle.qss_order2.proofs.DueTicks.{dues_calm, due_leaves, undue_stays}
@@ -32,18 +32,18 @@ any_of p first (suc count) j low high leaving = by_test (λ more. any_of p (firs
         later : (a b : ℕ) → a ≤ b → (a ≡ b → ⊥) → a + 1 ≤ b
         later a b le ne = grind arith
 
-module _ (m : Machine) (tick : ℕ) (w : World2) (due : ℕ → Option ℕ) (left : List Bool) (k : ℕ) (next : IsNextLook m tick w due left (suc k)) where
-  leaves_is : (j : ℕ) → j < state_count m → is_due (due j) (suc k) ≡ leaves m (world2_after m w k) j
+module _ (m : Machine) (tick : ℕ) (w : SecondSnapshot) (due : ℕ → Option ℕ) (left : List Bool) (k : ℕ) (next : IsNextLook m tick w due left (suc k)) where
+  leaves_is : (j : ℕ) → j < state_count m → is_due (due j) (suc k) ≡ leaves_quantum m (second_snapshot_after m w k) j
   leaves_is j h = by_due (due j) refl
     where
-      stays : (found : Option ℕ) → due j ≡ found → ((d : ℕ) → found ≡ Some d → suc k < d) → leaves m (world2_after m w k) j ≡ false
+      stays : (found : Option ℕ) → due j ≡ found → ((d : ℕ) → found ≡ Some d → suc k < d) → leaves_quantum m (second_snapshot_after m w k) j ≡ false
       stays found e later = undue_stays m w next.reach k j found h (subst (IsDue2 m w next.reach j) e (next.each j h)) later next.within
 
-      by_due : (found : Option ℕ) → due j ≡ found → is_due found (suc k) ≡ leaves m (world2_after m w k) j
+      by_due : (found : Option ℕ) → due j ≡ found → is_due found (suc k) ≡ leaves_quantum m (second_snapshot_after m w k) j
       by_due None e = sym (stays None e (λ d f. absurd (cc)))
       by_due (Some d) e = by_test (d == suc k) refl
         where
-          by_test : (test : Bool) → (d == suc k) ≡ test → (d == suc k) ≡ leaves m (world2_after m w k) j
+          by_test : (test : Bool) → (d == suc k) ≡ test → (d == suc k) ≡ leaves_quantum m (second_snapshot_after m w k) j
           by_test true f =
               let here : due j ≡ Some (suc k) = e ∙ ap (λ (n : ℕ). Some n) (eqb-true d (suc k) f) in
               f ∙ sym (due_leaves m w next.reach k j h (subst (IsDue2 m w next.reach j) here (next.each j h)))
@@ -58,26 +58,26 @@ module _ (m : Machine) (tick : ℕ) (w : World2) (due : ℕ → Option ℕ) (lef
               strictly : (a b : ℕ) → a ≤ b → (b ≡ a → ⊥) → a < b
               strictly a b le ne = grind arith
 
-  flags_are : (j : ℕ) → j < state_count m → flag_at left j ≡ leaves m (world2_after m w k) j
+  flags_are : (j : ℕ) → j < state_count m → flag_at left j ≡ leaves_quantum m (second_snapshot_after m w k) j
   flags_are j h = next.flags j h ∙ leaves_is j h
 
-  states_are : (world2_after m w (suc k)).states ≡ next_states m (world2_after m w k)
+  states_are : (second_snapshot_after m w (suc k)).states ≡ next_states m (second_snapshot_after m w k)
   states_are = sym (same_table (state_count m) _ _ (state_later m w k))
 
-  levels_are : levels_after m w left (suc k) ≡ next_levels m (world2_after m w k)
+  levels_are : levels_after m w left (suc k) ≡ next_levels m (second_snapshot_after m w k)
   levels_are =
       let n = state_count m in
-      let later = world2_after m w (suc k) in
+      let later = second_snapshot_after m w (suc k) in
       same_table n (λ j. if flag_at left j then floor_of (int_at later.states j) (level_unit m) else int_at later.levels j)
-      (λ j. if leaves m (world2_after m w k) j then floor_of (moved_state m (world2_after m w k) j) (level_unit m) else moved_level (world2_after m w k) j)
+      (λ j. if leaves_quantum m (second_snapshot_after m w k) j then floor_of (moved_state m (second_snapshot_after m w k) j) (level_unit m) else moved_level (second_snapshot_after m w k) j)
       (λ j h.
       ap (λ (b : Bool). if b then floor_of (int_at later.states j) (level_unit m) else int_at later.levels j) (flags_are j h)
-      ∙ ap (λ (x : ℤ). if leaves m (world2_after m w k) j then floor_of x (level_unit m) else int_at later.levels j)
-      (ap (λ (xs : List ℤ). int_at xs j) states_are ∙ at_table n (moved_state m (world2_after m w k)) j h)
-      ∙ ap (λ (x : ℤ). if leaves m (world2_after m w k) j then floor_of (moved_state m (world2_after m w k) j) (level_unit m) else x)
+      ∙ ap (λ (x : ℤ). if leaves_quantum m (second_snapshot_after m w k) j then floor_of x (level_unit m) else int_at later.levels j)
+      (ap (λ (xs : List ℤ). int_at xs j) states_are ∙ at_table n (moved_state m (second_snapshot_after m w k)) j h)
+      ∙ ap (λ (x : ℤ). if leaves_quantum m (second_snapshot_after m w k) j then floor_of (moved_state m (second_snapshot_after m w k) j) (level_unit m) else x)
       (at_table n (λ i. int_at w.levels i +ℤ pos (suc k) *ℤ int_at w.changes i) j h ∙ sym (level_later m w k j h)))
 
-  looks_are : is_look m (tick + k + 1) (requantizes m (world2_after m w k)) ≡ true
+  looks_are : is_limit_check m (tick + k + 1) (is_requantization m (second_snapshot_after m w k)) ≡ true
   looks_are = by_reach (nat_lt (suc k) next.reach) refl
     where
       at_look : (a b c : Bool) → a ≡ true → (a || b || c) ≡ true
@@ -94,24 +94,24 @@ module _ (m : Machine) (tick : ℕ) (w : World2) (due : ℕ → Option ℕ) (lef
       at_leaving false true c e = refl
       at_leaving false false c e = e
 
-      by_end : (suc k ≡ next.reach) → (tick + next.reach ≡ m.last) ⊎ ((tick + next.reach) % look_span ≡ 0) → is_look m (tick + k + 1) (requantizes m (world2_after m w k)) ≡ true
-      by_end e (inl last) = at_last ((tick + k + 1) % look_span == 0) (tick + k + 1 == m.last) (requantizes m (world2_after m w k)) (eqb-yes (tick + k + 1) m.last (omega (arith, e, last)))
+      by_end : (suc k ≡ next.reach) → (tick + next.reach ≡ m.last) ⊎ ((tick + next.reach) % limit_check_period ≡ 0) → is_limit_check m (tick + k + 1) (is_requantization m (second_snapshot_after m w k)) ≡ true
+      by_end e (inl last) = at_last ((tick + k + 1) % limit_check_period == 0) (tick + k + 1 == m.last) (is_requantization m (second_snapshot_after m w k)) (eqb-yes (tick + k + 1) m.last (omega (arith, e, last)))
       by_end e (inr multiple) =
           let here : tick + next.reach ≡ tick + k + 1 = omega (arith, e) in
-          at_look ((tick + k + 1) % look_span == 0) (tick + k + 1 == m.last) (requantizes m (world2_after m w k))
-          (eqb-yes ((tick + k + 1) % look_span) 0 (subst (λ t. t % look_span ≡ 0) here multiple))
+          at_look ((tick + k + 1) % limit_check_period == 0) (tick + k + 1 == m.last) (is_requantization m (second_snapshot_after m w k))
+          (eqb-yes ((tick + k + 1) % limit_check_period) 0 (subst (λ t. t % limit_check_period ≡ 0) here multiple))
 
-      by_reach : (less : Bool) → nat_lt (suc k) next.reach ≡ less → is_look m (tick + k + 1) (requantizes m (world2_after m w k)) ≡ true
+      by_reach : (less : Bool) → nat_lt (suc k) next.reach ≡ less → is_limit_check m (tick + k + 1) (is_requantization m (second_snapshot_after m w k)) ≡ true
       by_reach true e =
           let found = next.reached (grind (arith, nat_tests)) in
-          let leaving : leaves m (world2_after m w k) found.0 ≡ true = due_leaves m w next.reach k found.0 found.1 (subst (IsDue2 m w next.reach found.0) found.2 (next.each found.0 found.1)) in
-          at_leaving ((tick + k + 1) % look_span == 0) (tick + k + 1 == m.last) (requantizes m (world2_after m w k))
-          (any_of (leaves m (world2_after m w k)) 0 (state_count m) found.0 (omega arith) (omega (arith, found.1)) leaving)
+          let leaving : leaves_quantum m (second_snapshot_after m w k) found.0 ≡ true = due_leaves m w next.reach k found.0 found.1 (subst (IsDue2 m w next.reach found.0) found.2 (next.each found.0 found.1)) in
+          at_leaving ((tick + k + 1) % limit_check_period == 0) (tick + k + 1 == m.last) (is_requantization m (second_snapshot_after m w k))
+          (any_of (leaves_quantum m (second_snapshot_after m w k)) 0 (state_count m) found.0 (omega arith) (omega (arith, found.1)) leaving)
       by_reach false e =
           let most : next.reach ≤ suc k = grind (arith, nat_tests) in
           by_end (omega (arith, most, next.within)) next.is_window.ends
 
-  moved_from : (states levels : List ℤ) → states ≡ (world2_after m w (suc k)).states → levels ≡ levels_after m w left (suc k) → IsMovedOn m tick w k left states levels
+  moved_from : (states levels : List ℤ) → states ≡ (second_snapshot_after m w (suc k)).states → levels ≡ levels_after m w left (suc k) → IsMovedOn m tick w k left states levels
   moved_from states levels of_states of_levels =
       let window = next.is_window in
       record {
@@ -125,14 +125,14 @@ module _ (m : Machine) (tick : ℕ) (w : World2) (due : ℕ → Option ℕ) (lef
       }
 
 -- the next look comes later
-pub look_later : (m : Machine) (tick : ℕ) (w : World2) (due : ℕ → Option ℕ) (left : List Bool) (ticks : ℕ) → IsNextLook m tick w due left ticks → 0 < ticks
+pub look_later : (m : Machine) (tick : ℕ) (w : SecondSnapshot) (due : ℕ → Option ℕ) (left : List Bool) (ticks : ℕ) → IsNextLook m tick w due left ticks → 0 < ticks
 look_later m tick w due left zero next =
     let found = next.reached (omega (arith, next.is_window.some)) in
     let first = subst (IsDue2 m w next.reach found.0) found.2 (next.each found.0 found.1) in
     absurd (omega (arith, first.later))
 look_later m tick w due left (suc k) next = omega arith
 
-pub moved_on : (m : Machine) (tick : ℕ) (w : World2) (due : ℕ → Option ℕ) (left : List Bool) (ticks : ℕ) (states levels : List ℤ) → IsNextLook m tick w due left ticks →
-    states ≡ (world2_after m w ticks).states → levels ≡ levels_after m w left ticks → (k : ℕ) × (ticks ≡ suc k) × IsMovedOn m tick w k left states levels
+pub moved_on : (m : Machine) (tick : ℕ) (w : SecondSnapshot) (due : ℕ → Option ℕ) (left : List Bool) (ticks : ℕ) (states levels : List ℤ) → IsNextLook m tick w due left ticks →
+    states ≡ (second_snapshot_after m w ticks).states → levels ≡ levels_after m w left ticks → (k : ℕ) × (ticks ≡ suc k) × IsMovedOn m tick w k left states levels
 moved_on m tick w due left zero states levels next of_states of_levels = absurd (omega (arith, look_later m tick w due left zero next))
 moved_on m tick w due left (suc k) states levels next of_states of_levels = (k, refl, moved_from m tick w due left k next states levels of_states of_levels)

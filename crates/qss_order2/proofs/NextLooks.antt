@@ -6,7 +6,7 @@ use Rattle.mu_num.proofs.Tests.{eqb-true, eqb-false, eqb-yes, eqb-no}
 use Rattle.qss_machine.specs.declared.system.Machine.{Machine}
 use Rattle.qss_machine.specs.Machines.{state_count}
 use Rattle.qss_order2.specs.Stores.{due_at, is_due, until, IsDue2, HasDues}
-use Rattle.qss_order2.specs.Worlds.{World2}
+use Rattle.qss_order2.specs.SecondSteps.{SecondSnapshot}
 
 -- so many ticks earlier, ticks are the same where they were
 same_test : (a b t : ℕ) → t < a → t < b → (a == b) ≡ (a - t == b - t)
@@ -21,7 +21,7 @@ pub until_least : (tick next d : ℕ) (due : Option ℕ) → until tick due ≡ 
 until_least tick next d None e least = absurd (cc)
 until_least tick next d (Some t) e least = let same : t - tick ≡ d = cc in omega (arith, same, least t refl)
 
-module _ (m : Machine) (tick window : ℕ) (w : World2) (dues : List (Option ℕ)) (has : HasDues m tick window w dues) where
+module _ (m : Machine) (tick window : ℕ) (w : SecondSnapshot) (dues : List (Option ℕ)) (has : HasDues m tick window w dues) where
   due_later : (j t : ℕ) → j < state_count m → due_at dues j ≡ Some t → tick < t
   due_later j t h e = let first = subst (λ o. IsDue2 m w (window - tick) j (until tick o)) e (has.each j h) in omega (arith, first.later)
 

@@ -11,7 +11,7 @@ use Rattle.qss_machine.specs.declared.parts.Product.{Product}
 use Rattle.qss_machine.specs.declared.parts.SlopeRow.{SlopeRow}
 use Rattle.qss_machine.specs.declared.system.Machine.{Machine}
 use Rattle.qss_machine.specs.Legitimate.{start_coefficient}
-use Rattle.qss_machine.specs.Limits.{AreProducts}
+use Rattle.qss_machine.specs.MachineLimits.{AreProducts}
 use Rattle.qss_machine.specs.Machines.{state_count, start_discretes, row_at}
 use Rattle.qss_machine.specs.Slopes.{mode_coefficient}
 use Rattle.qss_machine.proofs.Distinct.{none_at}

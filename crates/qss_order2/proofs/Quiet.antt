@@ -11,13 +11,13 @@ use Rattle.qss_machine.specs.declared.system.Machine.{Machine}
 use Rattle.qss_machine.specs.Firing.{flag_at}
 use Rattle.qss_machine.specs.Legitimate.{start_coefficient}
 use Rattle.qss_machine.specs.Machines.{state_count, level_unit}
-use Rattle.qss_machine.specs.Numbers.{int_at, size}
+use Rattle.qss_machine.specs.IndexedSums.{int_at, abs_of}
 use Rattle.qss_machine.specs.Slopes.{coefficient_of}
 use Rattle.qss_machine.proofs.SumLaws.{sum_below-same}
 use Rattle.qss_order2.specs.Fixed.{AreModes}
-use Rattle.qss_order2.specs.Laws.{bend_at, world2_after}
+use Rattle.qss_order2.specs.SecondRunLaws.{bend_at, second_snapshot_after}
 use Rattle.qss_order2.specs.Stores.{levels_after, IsQuiet}
-use Rattle.qss_order2.specs.Worlds.{World2, rise_at, bend_weight}
+use Rattle.qss_order2.specs.SecondSteps.{SecondSnapshot, rise_at, rise_change_weight}
 use Rattle.qss_order2.proofs.Calm.{rise_later}
 use Rattle.qss_order2.proofs.Tables.{at_table}
 
@@ -26,23 +26,23 @@ clash b yes_ no_ = absurd (cc)
 
 -- entries of states that stayed have the coefficient 0 of one that left
 no_entry : (xs : List Entry) (left : List Bool) (i : ℕ) → All (λ (e : Entry). flag_at left e.var ≡ false) xs → flag_at left i ≡ true → coefficient_of xs i ≡ pos 0
-no_entry [] left i none leaves = refl
-no_entry (x ∷ xs) left i none leaves =
+no_entry [] left i none leaves_quantum = refl
+no_entry (x ∷ xs) left i none leaves_quantum =
     let own : flag_at left x.var ≡ false = none 0 x (omega arith) in
     let other : (if x.var == i then x.coef else pos 0) ≡ pos 0 =
-    if-false (x.var == i) x.coef (pos 0) (eqb-no x.var i (λ e. clash (flag_at left i) leaves (subst (λ k. flag_at left k ≡ false) e own))) in
-    omega (arith, ints, other, no_entry xs left i (λ k d h. none (suc k) d (omega arith)) leaves)
+    if-false (x.var == i) x.coef (pos 0) (eqb-no x.var i (λ e. clash (flag_at left i) leaves_quantum (subst (λ k. flag_at left k ≡ false) e own))) in
+    omega (arith, ints, other, no_entry xs left i (λ k d h. none (suc k) d (omega arith)) leaves_quantum)
 
 -- a row whose state stays and whose entries are of states that stayed is quiet
 pub quiet_row : (m : Machine) (left : List Bool) (j : ℕ) (xs : List Entry) → AreModes m j xs → flag_at left j ≡ false → All (λ (e : Entry). flag_at left e.var ≡ false) xs → IsQuiet m left j
-quiet_row m left j xs modes stays none = record { stays = stays; reads_none = λ i h leaves. sym (modes.same i h) ∙ no_entry xs left i none leaves }
+quiet_row m left j xs modes stays none = record { stays = stays; reads_none = λ i h leaves_quantum. sym (modes.same i h) ∙ no_entry xs left i none leaves_quantum }
 
 module _ (m : Machine) (left : List Bool) (j : ℕ) (quiet : IsQuiet m left j) where
   module _ (xs ys : List ℤ) (same : (i : ℕ) → i < state_count m → flag_at left i ≡ false → int_at xs i ≡ int_at ys i) where
     term_same : (i : ℕ) → i < state_count m → start_coefficient m j i *ℤ int_at xs i ≡ start_coefficient m j i *ℤ int_at ys i
     term_same i h = elim (cases_Bool (flag_at left i)) [
-      | inl leaves ↦
-          let none : start_coefficient m j i ≡ pos 0 = quiet.reads_none i h leaves in
+      | inl leaves_quantum ↦
+          let none : start_coefficient m j i ≡ pos 0 = quiet.reads_none i h leaves_quantum in
           ap (λ z. z *ℤ int_at xs i) none ∙ zero-*ℤ (int_at xs i) ∙ sym (zero-*ℤ (int_at ys i)) ∙ sym (ap (λ z. z *ℤ int_at ys i) none)
       | inr stays ↦ ap (λ z. start_coefficient m j i *ℤ z) (same i h stays)
     ]
@@ -50,20 +50,20 @@ module _ (m : Machine) (left : List Bool) (j : ℕ) (quiet : IsQuiet m left j) w
     pub same_bend : bend_at m j xs ≡ bend_at m j ys
     same_bend = sum_below-same (state_count m) (λ i. start_coefficient m j i *ℤ int_at xs i) (λ i. start_coefficient m j i *ℤ int_at ys i) term_same
 
-    pub same_bend_weight : bend_weight m xs j ≡ bend_weight m ys j
+    pub same_bend_weight : rise_change_weight m xs j ≡ rise_change_weight m ys j
     same_bend_weight =
-        sum_below-same (state_count m) (λ i. size (start_coefficient m j i *ℤ int_at xs i)) (λ i. size (start_coefficient m j i *ℤ int_at ys i)) (λ i h. ap size (term_same i h))
+        sum_below-same (state_count m) (λ i. abs_of (start_coefficient m j i *ℤ int_at xs i)) (λ i. abs_of (start_coefficient m j i *ℤ int_at ys i)) (λ i h. ap abs_of (term_same i h))
 
     pub same_rise : rise_at m j xs ≡ rise_at m j ys
     same_rise = omega (arith, ints, same_bend)
 
   -- levels of states that stayed go on along their lines
-  level_stays : (w : World2) (ticks i : ℕ) → i < state_count m → flag_at left i ≡ false → int_at (levels_after m w left ticks) i ≡ int_at (world2_after m w ticks).levels i
+  level_stays : (w : SecondSnapshot) (ticks i : ℕ) → i < state_count m → flag_at left i ≡ false → int_at (levels_after m w left ticks) i ≡ int_at (second_snapshot_after m w ticks).levels i
   level_stays w ticks i h stays =
-      let v = world2_after m w ticks in
+      let v = second_snapshot_after m w ticks in
       at_table (state_count m) (λ i. if flag_at left i then floor_of (int_at v.states i) (level_unit m) else int_at v.levels i) i h
       ∙ if-false (flag_at left i) (floor_of (int_at v.states i) (level_unit m)) (int_at v.levels i) stays
 
   -- so does the rise
-  pub rise_stays : (w : World2) (ticks : ℕ) → rise_at m j (levels_after m w left ticks) ≡ rise_at m j w.levels +ℤ pos ticks *ℤ bend_at m j w.changes
-  rise_stays w ticks = same_rise (levels_after m w left ticks) (world2_after m w ticks).levels (level_stays w ticks) ∙ rise_later m w ticks j
+  pub rise_stays : (w : SecondSnapshot) (ticks : ℕ) → rise_at m j (levels_after m w left ticks) ≡ rise_at m j w.levels +ℤ pos ticks *ℤ bend_at m j w.changes
+  rise_stays w ticks = same_rise (levels_after m w left ticks) (second_snapshot_after m w ticks).levels (level_stays w ticks) ∙ rise_later m w ticks j

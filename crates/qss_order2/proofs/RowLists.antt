@@ -5,11 +5,11 @@ use Rattle.std.proofs.lemmas.List.FromFn.{map-range_with_len_more}
 use Rattle.std.specs.List.{flat_map, range_with_len}
 use Rattle.std.specs.Prelude.{if◌then◌else◌}
 use Rattle.qss_machine.specs.Firing.{flag_at}
-use Rattle.qss_machine.specs.Numbers.{tabulate}
+use Rattle.qss_machine.specs.IndexedSums.{tabulate}
 use Rattle.qss_order2.specs.declared.rows.Row2.{Row2}
 use Rattle.qss_order2.specs.declared.rows.Kind2.{Kind2}
-use Rattle.qss_order2.specs.Worlds.{World2}
-use Rattle.qss_order2.specs.Runs.{level_row, slope_row}
+use Rattle.qss_order2.specs.SecondSteps.{SecondSnapshot}
+use Rattle.qss_order2.specs.SecondRuns.{level_row, slope_row}
 use Rattle.qss_order2.specs.Stores.{rows_of_left}
 
 map-same : (xs : List ℕ) → map (λ (x : ℕ). x) xs ≡ xs
@@ -20,10 +20,10 @@ pub range_more : (n : ℕ) → range_with_len 0 (n + 1) ≡ range_with_len 0 n +
 range_more n = sym (map-same (range_with_len 0 (n + 1))) ∙ map-range_with_len_more (λ (x : ℕ). x) 0 n n (omega arith) ∙ ap (λ xs. xs ++ n ∷ []) (map-same (range_with_len 0 n))
 
 -- the rows of a state, if it left
-abbrev pub left_rows : Kind2 → ℕ → World2 → List Bool → ℕ → List Row2
+abbrev pub left_rows : Kind2 → ℕ → SecondSnapshot → List Bool → ℕ → List Row2
 left_rows kind tick w left j = if flag_at left j then level_row kind tick w j ∷ slope_row tick w j ∷ [] else []
 
-pub left_more : (kind : Kind2) (tick : ℕ) (w : World2) (left : List Bool) (j : ℕ) → rows_of_left kind tick w left (j + 1) ≡ rows_of_left kind tick w left j ++ left_rows kind tick w left j
+pub left_more : (kind : Kind2) (tick : ℕ) (w : SecondSnapshot) (left : List Bool) (j : ℕ) → rows_of_left kind tick w left (j + 1) ≡ rows_of_left kind tick w left j ++ left_rows kind tick w left j
 left_more kind tick w left j =
     ap (flat_map (left_rows kind tick w left)) (range_more j)
     ∙ flat_map-append (left_rows kind tick w left) (range_with_len 0 j) (j ∷ [])

@@ -6,12 +6,12 @@ use Rattle.std.specs.Option.{option_or}
 use Rattle.std.specs.Prelude.{Option, Some, None, MatchBool, if◌then◌else◌}
 use Rattle.mu_num.specs.Sizes.{IsWithin}
 use Rattle.qss_machine.specs.declared.system.Machine.{Machine}
-use Rattle.qss_machine.specs.Numbers.{int_at, tabulate, first_past}
+use Rattle.qss_machine.specs.IndexedSums.{int_at, tabulate, first_exceeding}
 use Rattle.qss_machine.specs.Machines.{state_count, level_unit}
 use Rattle.qss_machine.proofs.Near.{unit_positive}
-use Rattle.qss_order2.specs.Worlds.{rise_at, rise_weight, bend_weight, past_limit, near_change, AreChanges}
-use Rattle.qss_order2.specs.Limits.{past_levels}
-use Rattle.qss_order2.specs.Rules.{IsAnswer, IsRuled2}
+use Rattle.qss_order2.specs.SecondSteps.{rise_at, rise_weight, rise_change_weight, first_exceeding_limit, nearest_change, AreChanges}
+use Rattle.qss_order2.specs.SecondRunLimits.{past_levels}
+use Rattle.qss_order2.specs.SlopeRules.{IsAnswer, IsRuled2}
 use Rattle.qss_order2.proofs.Legitimacy.{nearest_is_free}
 use Rattle.qss_order2.proofs.Sizes.{unit_fits}
 use Rattle.qss_order2.proofs.Tables.{at_table}
@@ -23,16 +23,16 @@ or_again None b c = refl
 or_again (Some v) b c = refl
 
 abbrev pub of_changes : Machine → List ℤ → Option ℕ
-of_changes m changes = first_past 94 (tabulate (state_count m) (bend_weight m changes))
+of_changes m changes = first_exceeding 94 (tabulate (state_count m) (rise_change_weight m changes))
 
 module _ (m : Machine) (levels changes : List ℤ) where
-  again : option_or (past_levels m levels) (of_changes m changes) ≡ past_limit m levels changes
-  again = or_again (first_past 49 levels) (first_past 94 (tabulate (state_count m) (rise_weight m levels))) (of_changes m changes)
+  again : option_or (past_levels m levels) (of_changes m changes) ≡ first_exceeding_limit m levels changes
+  again = or_again (first_exceeding 49 levels) (first_exceeding 94 (tabulate (state_count m) (rise_weight m levels))) (of_changes m changes)
 
-  pub past_first : (var : ℕ) → past_levels m levels ≡ Some var → past_limit m levels changes ≡ Some var
+  pub past_first : (var : ℕ) → past_levels m levels ≡ Some var → first_exceeding_limit m levels changes ≡ Some var
   past_first var e = sym again ∙ ap (λ (o : Option ℕ). option_or o (of_changes m changes)) e
 
-  pub past_then : past_levels m levels ≡ None → past_limit m levels changes ≡ of_changes m changes
+  pub past_then : past_levels m levels ≡ None → first_exceeding_limit m levels changes ≡ of_changes m changes
   past_then e = sym again ∙ ap (λ (o : Option ℕ). option_or o (of_changes m changes)) e
 
 -- ---- changes
@@ -53,16 +53,16 @@ module _ (nearest : Bool) (m : Machine) (asked : ℕ → Bool) (levels old : Lis
 
   -- there are some
   abbrev pub near_ones : List ℤ
-  near_ones = tabulate (state_count m) (λ j. if asked j then near_change (level_unit m) (rise_at m j levels) else int_at old j)
+  near_ones = tabulate (state_count m) (λ j. if asked j then nearest_change (level_unit m) (rise_at m j levels) else int_at old j)
 
-  near_one : (b : Bool) (j : ℕ) → MatchBool b (IsRuled2 nearest (level_unit m) (rise_at m j levels) (if b then near_change (level_unit m) (rise_at m j levels) else int_at old j))
-      ((if b then near_change (level_unit m) (rise_at m j levels) else int_at old j) ≡ int_at old j)
+  near_one : (b : Bool) (j : ℕ) → MatchBool b (IsRuled2 nearest (level_unit m) (rise_at m j levels) (if b then nearest_change (level_unit m) (rise_at m j levels) else int_at old j))
+      ((if b then nearest_change (level_unit m) (rise_at m j levels) else int_at old j) ≡ int_at old j)
   near_one true j = record { close = nearest_is_free (level_unit m) (rise_at m j levels) (unit_positive m); named = λ e. refl }
   near_one false j = refl
 
   pub near_are : AreChanges (IsRuled2 nearest) m asked levels old near_ones
   near_are =
-      let f = λ (j : ℕ). if asked j then near_change (level_unit m) (rise_at m j levels) else int_at old j in
+      let f = λ (j : ℕ). if asked j then nearest_change (level_unit m) (rise_at m j levels) else int_at old j in
       record {
         one_each = length-map-range_with_len f 0 (state_count m);
         each = λ j h. subst (λ z. MatchBool (asked j) (IsRuled2 nearest (level_unit m) (rise_at m j levels) z) (z ≡ int_at old j)) (sym (at_table (state_count m) f j h)) (near_one (asked j) j);

@@ -10,10 +10,10 @@ use Rattle.mu_num.specs.Rounding.{floor_of}
 use Rattle.qss_machine.specs.declared.system.Machine.{Machine}
 use Rattle.qss_machine.specs.Firing.{flag_at}
 use Rattle.qss_machine.specs.Machines.{state_count, level_unit}
-use Rattle.qss_machine.specs.Numbers.{int_at}
-use Rattle.qss_order2.specs.Laws.{bend_at, world2_after, gap_after}
+use Rattle.qss_machine.specs.IndexedSums.{int_at}
+use Rattle.qss_order2.specs.SecondRunLaws.{bend_at, second_snapshot_after, gap_after}
 use Rattle.qss_order2.specs.Stores.{levels_after, due_at, is_due, until, IsDue2, IsWindow, HasDues, KeepsDues, IsNextLook, IsQuiet, AreQuiet}
-use Rattle.qss_order2.specs.Worlds.{World2, rise_at, reach_of, look_span}
+use Rattle.qss_order2.specs.SecondSteps.{SecondSnapshot, rise_at, reach_of, limit_check_period}
 use Rattle.qss_order2.proofs.Calm.{gap_is}
 use Rattle.qss_order2.proofs.Quiet.{rise_stays, same_bend}
 use Rattle.qss_order2.proofs.Tables.{at_table}
@@ -61,14 +61,14 @@ later_window tick last window h is before =
       few = omega (arith, is.few);
       in_time = omega (arith, is.in_time, before);
       no_look = same_span (tick % 65536) h (window - tick) ((tick + h) % 65536) (omega arith) (omega (arith, is.no_look)) (omega (arith, before)) (omega (arith, before));
-      ends = subst (λ n. (n ≡ last) ⊎ (n % look_span ≡ 0)) e is.ends;
+      ends = subst (λ n. (n ≡ last) ⊎ (n % limit_check_period ≡ 0)) e is.ends;
     }
   where
     same_span : (r h reach s : ℕ) → (r + h < 65536 → s ≡ r + h) → r + reach ≤ 65536 → h < reach → window - (tick + h) ≡ reach - h → s + (window - (tick + h)) ≤ 65536
     same_span r h reach s is small less e = omega (arith, is (omega (arith, small, less)), small, less, e)
 
-module _ (m : Machine) (tick window ticks : ℕ) (w next : World2) (dues : List (Option ℕ)) (left : List Bool) (has : HasDues m tick window w dues)
-    (look : IsNextLook m tick w (λ j. until tick (due_at dues j)) left ticks) (states : next.states ≡ (world2_after m w ticks).states) (levels : next.levels ≡ levels_after m w left ticks)
+module _ (m : Machine) (tick window ticks : ℕ) (w next : SecondSnapshot) (dues : List (Option ℕ)) (left : List Bool) (has : HasDues m tick window w dues)
+    (look : IsNextLook m tick w (λ j. until tick (due_at dues j)) left ticks) (states : next.states ≡ (second_snapshot_after m w ticks).states) (levels : next.levels ≡ levels_after m w left ticks)
     (changes : (i : ℕ) → i < state_count m → flag_at left i ≡ false → int_at next.changes i ≡ int_at w.changes i) (before : tick + ticks < window) where
   module _ (j : ℕ) (h : j < state_count m) (quiet : IsQuiet m left j) where
     gap_stays : (k : ℕ) → gap_after m next j k ≡ gap_after m w j (ticks + k)
@@ -79,7 +79,7 @@ module _ (m : Machine) (tick window ticks : ℕ) (w next : World2) (dues : List 
         let f = rise_at m j w.levels in
         let g = bend_at m j w.changes in
         let unit = level_unit m in
-        let later = world2_after m w ticks in
+        let later = second_snapshot_after m w ticks in
         let of_x : int_at next.states j ≡ curve_at x f g ticks =
         ap (λ (xs : List ℤ). int_at xs j) states ∙ at_table (state_count m) (λ j. curve_at (int_at w.states j) (rise_at m j w.levels) (bend_at m j w.changes) ticks) j h in
         let of_l : int_at next.levels j ≡ l +ℤ pos ticks *ℤ v =

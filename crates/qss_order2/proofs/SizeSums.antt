@@ -2,7 +2,7 @@
 use Rattle.std.proofs.Common.{ℕ, zero, suc, ◌<◌, List, [], ◌∷◌, length, get_or, ℤ, pos, ◌≤ℤ◌, arith}
 use Rattle.std.proofs.lemmas.Int.{ints}
 use Rattle.qss_machine.specs.declared.parts.Entry.{Entry}
-use Rattle.qss_machine.specs.Numbers.{size, sum_over}
+use Rattle.qss_machine.specs.IndexedSums.{abs_of, sum_over}
 
 module _ (f : Entry → ℤ) (from_zero : (e : Entry) → pos 0 ≤ℤ f e) where
   pub sum_from_zero : (xs : List Entry) → pos 0 ≤ℤ sum_over f xs
@@ -14,5 +14,5 @@ module _ (f : Entry → ℤ) (from_zero : (e : Entry) → pos 0 ≤ℤ f e) wher
   term_below (x ∷ xs) zero d h = omega (arith, ints, sum_from_zero xs)
   term_below (x ∷ xs) (suc i) d h = omega (arith, ints, from_zero x, term_below xs i d (omega arith))
 
-pub size_from_zero : (z : ℤ) → pos 0 ≤ℤ size z
+pub size_from_zero : (z : ℤ) → pos 0 ≤ℤ abs_of z
 size_from_zero z = omega (arith, ints)

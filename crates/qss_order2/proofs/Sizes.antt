@@ -15,15 +15,15 @@ use Rattle.mu_num.proofs.Tests.{int_lt-true, int_lt-false}
 use Rattle.qss_machine.specs.declared.parts.SlopeRow.{SlopeRow}
 use Rattle.qss_machine.specs.declared.parts.StateInfo.{StateInfo}
 use Rattle.qss_machine.specs.declared.system.Machine.{Machine}
-use Rattle.qss_machine.specs.Numbers.{int_at, size, sum_below}
-use Rattle.qss_machine.specs.Limits.{level_below}
+use Rattle.qss_machine.specs.IndexedSums.{int_at, abs_of, sum_below}
+use Rattle.qss_machine.specs.MachineLimits.{level_below}
 use Rattle.qss_machine.specs.Machines.{state_count, level_unit, quanta, start_states, start_discretes, row_at}
-use Rattle.qss_machine.specs.Slopes.{slope_of, weight_of, drive_of, mode_coefficient, coefficient_of}
-use Rattle.qss_machine.specs.Legitimate.{start_coefficient, start_drive}
+use Rattle.qss_machine.specs.Slopes.{slope_of, weight_of, constant_part, mode_coefficient, coefficient_of}
+use Rattle.qss_machine.specs.Legitimate.{start_coefficient, start_constant_part}
 use Rattle.qss_machine.proofs.Near.{unit_low, unit_high, unit_positive, quanta_positive}
 use Rattle.qss_machine.proofs.SumLaws.{sum_below-same, sum_below-zero}
 use Rattle.qss_machine.proofs.WeightLaws.{slope-within_weight}
-use Rattle.qss_order2.specs.Worlds.{rise_at, reach_of, fine_states, fine_levels}
+use Rattle.qss_order2.specs.SecondSteps.{rise_at, reach_of, fine_states, fine_levels}
 use Rattle.qss_order2.proofs.FixedRows.{mode_small}
 
 pub unit_fits : (m : Machine) → IsPositiveWithin 44 (level_unit m)
@@ -82,29 +82,29 @@ pub sum_from_zero : (n : ℕ) (f : ℕ → ℤ) → ((i : ℕ) → pos 0 ≤ℤ 
 sum_from_zero zero f each = omega (arith, ints)
 sum_from_zero (suc n) f each = omega (arith, ints, sum_from_zero n f each, each n)
 
-product_from_zero : (a b : ℤ) → pos 0 ≤ℤ (size a *ℤ size b)
-product_from_zero a b = mul-nonneg (unsigned_abs a) (size b) (omega (arith, ints))
+product_from_zero : (a b : ℤ) → pos 0 ≤ℤ (abs_of a *ℤ abs_of b)
+product_from_zero a b = mul-nonneg (unsigned_abs a) (abs_of b) (omega (arith, ints))
 
 module _ (m : Machine) (j : ℕ) where
   -- what no level adds to a weight
   abbrev rest : ℕ → ℤ
-  rest n = sum_below (length (start_discretes m)) (λ g. size (coefficient_of (row_at m j).entries (n + g)) *ℤ size (int_at (start_discretes m) g)) +ℤ size (row_at m j).beta
+  rest n = sum_below (length (start_discretes m)) (λ g. abs_of (coefficient_of (row_at m j).entries (n + g)) *ℤ abs_of (int_at (start_discretes m) g)) +ℤ abs_of (row_at m j).beta
 
   abbrev weight_with : ℕ → List ℤ → ℤ
   weight_with n levels =
-      sum_below n (λ i. size (mode_coefficient m.f n (row_at m j) (start_discretes m) i) *ℤ size (int_at levels i)) +ℤ rest n
+      sum_below n (λ i. abs_of (mode_coefficient m.f n (row_at m j) (start_discretes m) i) *ℤ abs_of (int_at levels i)) +ℤ rest n
 
   abbrev slope_with : ℕ → List ℤ → ℤ
   slope_with n levels =
-      sum_below n (λ i. mode_coefficient m.f n (row_at m j) (start_discretes m) i *ℤ int_at levels i) +ℤ drive_of n (row_at m j) (start_discretes m)
+      sum_below n (λ i. mode_coefficient m.f n (row_at m j) (start_discretes m) i *ℤ int_at levels i) +ℤ constant_part n (row_at m j) (start_discretes m)
 
-  pub slope_of_zeros : slope_of m.f (row_at m j) (replicate (state_count m) (pos 0)) (start_discretes m) ≡ start_drive m j
+  pub slope_of_zeros : slope_of m.f (row_at m j) (replicate (state_count m) (pos 0)) (start_discretes m) ≡ start_constant_part m j
   slope_of_zeros =
       let n = state_count m in
       let zeros = replicate n (pos 0) in
       let none : sum_below n (λ i. mode_coefficient m.f n (row_at m j) (start_discretes m) i *ℤ int_at zeros i) ≡ pos 0 =
       sum_zero n _ (λ i. ap (λ z. mode_coefficient m.f n (row_at m j) (start_discretes m) i *ℤ z) (zero_at n i) ∙ times_zero (mode_coefficient m.f n (row_at m j) (start_discretes m) i)) in
-      ap (λ k. slope_with k zeros) (length-replicate n (pos 0)) ∙ ap (λ z. z +ℤ start_drive m j) none ∙ plus (start_drive m j)
+      ap (λ k. slope_with k zeros) (length-replicate n (pos 0)) ∙ ap (λ z. z +ℤ start_constant_part m j) none ∙ plus (start_constant_part m j)
     where
       plus : (z : ℤ) → pos 0 +ℤ z ≡ z
       plus z = omega (arith, ints)
@@ -113,18 +113,18 @@ module _ (m : Machine) (j : ℕ) where
   weight_of_zeros =
       let n = state_count m in
       let zeros = replicate n (pos 0) in
-      let none : sum_below n (λ i. size (mode_coefficient m.f n (row_at m j) (start_discretes m) i) *ℤ size (int_at zeros i)) ≡ pos 0 =
-      sum_zero n _ (λ i. ap (λ z. size (mode_coefficient m.f n (row_at m j) (start_discretes m) i) *ℤ size z) (zero_at n i) ∙ times_zero (size (mode_coefficient m.f n (row_at m j) (start_discretes m) i))) in
+      let none : sum_below n (λ i. abs_of (mode_coefficient m.f n (row_at m j) (start_discretes m) i) *ℤ abs_of (int_at zeros i)) ≡ pos 0 =
+      sum_zero n _ (λ i. ap (λ z. abs_of (mode_coefficient m.f n (row_at m j) (start_discretes m) i) *ℤ abs_of z) (zero_at n i) ∙ times_zero (abs_of (mode_coefficient m.f n (row_at m j) (start_discretes m) i))) in
       ap (λ k. weight_with k zeros) (length-replicate n (pos 0)) ∙ ap (λ z. z +ℤ rest n) none ∙ plus (rest n)
     where
       plus : (z : ℤ) → pos 0 +ℤ z ≡ z
       plus z = omega (arith, ints)
 
-  drive_within_rest : size (start_drive m j) ≤ℤ rest (state_count m)
+  drive_within_rest : abs_of (start_constant_part m j) ≤ℤ rest (state_count m)
   drive_within_rest =
       let below = slope-within_weight m.f (row_at m j) (replicate (state_count m) (pos 0)) (start_discretes m) in
-      subst (λ z. size (start_drive m j) ≤ℤ z) weight_of_zeros
-      (subst (λ z. size z ≤ℤ weight_of m.f (row_at m j) (replicate (state_count m) (pos 0)) (start_discretes m)) slope_of_zeros below)
+      subst (λ z. abs_of (start_constant_part m j) ≤ℤ z) weight_of_zeros
+      (subst (λ z. abs_of z ≤ℤ weight_of m.f (row_at m j) (replicate (state_count m) (pos 0)) (start_discretes m)) slope_of_zeros below)
 
   -- the levels that a machine has at the start, in its own units
   abbrev coarse : List ℤ
@@ -136,10 +136,10 @@ module _ (m : Machine) (j : ℕ) where
       let own : IsWithin 88 (weight_of m.f (row_at m j) coarse (start_discretes m)) = m.has_rows.weights j none (omega (arith, h, m.has_rows.one_each)) in
       subst (λ n. unsigned_abs (weight_with n coarse) ≤ 2 ^ 88) (length-map m.states (λ (state : StateInfo). level_below (level_unit m) state.x0)) own
 
-  coarse_from_zero : pos 0 ≤ℤ sum_below (state_count m) (λ i. size (mode_coefficient m.f (state_count m) (row_at m j) (start_discretes m) i) *ℤ size (int_at coarse i))
+  coarse_from_zero : pos 0 ≤ℤ sum_below (state_count m) (λ i. abs_of (mode_coefficient m.f (state_count m) (row_at m j) (start_discretes m) i) *ℤ abs_of (int_at coarse i))
   coarse_from_zero = sum_from_zero (state_count m) _ (λ i. product_from_zero (mode_coefficient m.f (state_count m) (row_at m j) (start_discretes m) i) (int_at coarse i))
 
-  pub drive_small : j < state_count m → IsWithin 88 (start_drive m j)
+  pub drive_small : j < state_count m → IsWithin 88 (start_constant_part m j)
   drive_small h = omega (arith, ints, drive_within_rest, coarse_from_zero, weight_at_start h)
 
 -- ---- rises at the start
@@ -173,12 +173,12 @@ fine_level x unit some =
             equal_or_more false f = let same : a ≡ b = omega (arith, ints, int_lt-false a b e, int_lt-false b a f) in omega (arith, ints, less, ap (λ z. u *ℤ z) same)
 
 -- a sum whose terms are at most 64 times some numbers, and a rest
-start_sum : (n : ℕ) (f s : ℕ → ℤ) → ((i : ℕ) → i < n → size (f i) ≤ℤ (pos 64 *ℤ s i +ℤ pos (63 * 2 ^ 44))) → size (sum_below n f) ≤ℤ (pos 64 *ℤ sum_below n s +ℤ pos n *ℤ pos (63 * 2 ^ 44))
+start_sum : (n : ℕ) (f s : ℕ → ℤ) → ((i : ℕ) → i < n → abs_of (f i) ≤ℤ (pos 64 *ℤ s i +ℤ pos (63 * 2 ^ 44))) → abs_of (sum_below n f) ≤ℤ (pos 64 *ℤ sum_below n s +ℤ pos n *ℤ pos (63 * 2 ^ 44))
 start_sum zero f s each = omega (arith, ints)
 start_sum (suc n) f s each = omega (arith, ints, start_sum n f s (λ i h. each i (omega arith)), each n (omega arith))
 
 -- one term of it
-start_term : (a x y : ℤ) → IsWithin 44 a → unsigned_abs y ≤ 64 * unsigned_abs x + 63 → size (a *ℤ y) ≤ℤ (pos 64 *ℤ (size a *ℤ size x) +ℤ pos (63 * 2 ^ 44))
+start_term : (a x y : ℤ) → IsWithin 44 a → unsigned_abs y ≤ 64 * unsigned_abs x + 63 → abs_of (a *ℤ y) ≤ℤ (pos 64 *ℤ (abs_of a *ℤ abs_of x) +ℤ pos (63 * 2 ^ 44))
 start_term a x y small below =
     let n = unsigned_abs a in
     let product : n * unsigned_abs y ≤ n * (64 * unsigned_abs x + 63) = mul-le-mul_left n below in
@@ -215,6 +215,6 @@ start_rise_small m j h =
     let n = state_count m in
     let levels = map (λ (state : StateInfo). level_below (level_unit m) state.x0) m.states in
     let a = start_coefficient m j in
-    let own = start_sum n (λ i. a i *ℤ int_at (fine_levels m) i) (λ i. size (a i) *ℤ size (int_at levels i))
+    let own = start_sum n (λ i. a i *ℤ int_at (fine_levels m) i) (λ i. abs_of (a i) *ℤ abs_of (int_at levels i))
     (λ i k. start_term (a i) (int_at levels i) (int_at (fine_levels m) i) (mode_small m j i h k) (level_at_start m j i k)) in
     omega (arith, ints, own, drive_within_rest m j, weight_at_start m j h, coarse_from_zero m j, m.has_variables.few)

@@ -9,19 +9,19 @@ use Rattle.mu_num.proofs.Tests.{if-true}
 use Rattle.qss_machine.specs.declared.parts.StateInfo.{StateInfo}
 use Rattle.qss_machine.specs.declared.system.Machine.{Machine}
 use Rattle.qss_machine.specs.Firing.{flag_at}
-use Rattle.qss_machine.specs.Numbers.{int_at}
+use Rattle.qss_machine.specs.IndexedSums.{int_at}
 use Rattle.qss_machine.specs.Machines.{state_count, level_unit, start_states}
 use Rattle.qss_order2.specs.declared.rows.Kind2.TheVariants as kind
-use Rattle.qss_order2.specs.Runs.{level_row, slope_row}
+use Rattle.qss_order2.specs.SecondRuns.{level_row, slope_row}
 use Rattle.qss_order2.specs.Stores.{IsNear2, rows_of_left}
-use Rattle.qss_order2.specs.Worlds.{World2, rise_at, reach_of, fine_states, fine_levels, AreChanges}
+use Rattle.qss_order2.specs.SecondSteps.{SecondSnapshot, rise_at, reach_of, fine_states, fine_levels, AreChanges}
 use Rattle.qss_order2.proofs.RowLists.{left_rows}
 use Rattle.qss_order2.proofs.Visits.{floor_inside, flat_same}
 
 pub fine_count : (m : Machine) → length (fine_states m) ≡ state_count m
 fine_count m = length-map (start_states m) (λ (x : ℤ). pos 64 *ℤ x) ∙ length-map m.states (λ (state : StateInfo). state.x0)
 
-pub start_near : (m : Machine) (w : World2) → w.states ≡ fine_states m → w.levels ≡ fine_levels m → IsNear2 m w
+pub start_near : (m : Machine) (w : SecondSnapshot) → w.states ≡ fine_states m → w.levels ≡ fine_levels m → IsNear2 m w
 start_near m w states levels j h =
     let many = fine_count m in
     let level : int_at w.levels j ≡ floor_of (int_at w.states j) (level_unit m) =
@@ -45,7 +45,7 @@ asked_all Rule m left levels old new all are = record {
 }
 
 -- the rows of all states
-pub rows_of_all : (m : Machine) (w : World2) (left : List Bool) → left ≡ replicate (state_count m) true →
+pub rows_of_all : (m : Machine) (w : SecondSnapshot) (left : List Bool) → left ≡ replicate (state_count m) true →
     rows_of_left kind.Start 0 w left (state_count m) ≡ flat_map (λ j. level_row kind.Start 0 w j ∷ slope_row 0 w j ∷ []) (range_with_len 0 (state_count m))
 rows_of_all m w left all =
     flat_same (left_rows kind.Start 0 w left) (λ j. level_row kind.Start 0 w j ∷ slope_row 0 w j ∷ []) 0 (state_count m)

@@ -7,7 +7,7 @@ use Rattle.std.proofs.lemmas.Iterator.Adapters.{position_from-zero}
 use Rattle.std.specs.List.{position, position_from}
 use Rattle.std.specs.Prelude.{All, Some, None}
 use Rattle.std.specs.Vec.{with_items}
-use Rattle.qss_machine.specs.Numbers.{int_at, tabulate}
+use Rattle.qss_machine.specs.IndexedSums.{int_at, tabulate}
 
 -- a table's values, and tables of the same values
 pub at_table : (n : ℕ) (f : ℕ → ℤ) (j : ℕ) → j < n → int_at (tabulate n f) j ≡ f j

@@ -4,14 +4,14 @@ use Rattle.qss_machine.specs.declared.system.Machine.{Machine}
 use Rattle.qss_order2.specs.declared.outcome2.Outcome2.{Outcome2}
 use Rattle.qss_order2.specs.declared.outcome2.Outcome2.TheVariants.{Events, Done, Over}
 use Rattle.qss_order2.specs.declared.store.Store.{Store}
-use Rattle.qss_order2.specs.Worlds.{World2, world2_unless}
-use Rattle.qss_order2.specs.Runs.{last_world2, tick_rows2}
-use Rattle.qss_order2.specs.Events.{Standing2, LeadsSilently2, IsVisit2}
-use Rattle.qss_order2.specs.Stores.{world_of}
+use Rattle.qss_order2.specs.SecondSteps.{SecondSnapshot, second_snapshot_unless}
+use Rattle.qss_order2.specs.SecondRuns.{last_second_snapshot, tick_rows2}
+use Rattle.qss_order2.specs.Events.{SecondRunView, LeadsSilently2, IsVisit2}
+use Rattle.qss_order2.specs.Stores.{snapshot_of}
 
 -- a store at a tick, as it is seen
-abbrev pub standing_of : Machine → ℕ → Store → Option Outcome2 → Standing2
-standing_of m tick s end = record { machine = m; tick = tick; world = world_of s.motion; rows = s.rows.items; end = end }
+abbrev pub view_of : Machine → ℕ → Store → Option Outcome2 → SecondRunView
+view_of m tick s end = record { machine = m; tick = tick; snapshot = snapshot_of s.motion; rows = s.rows.items; end = end }
 
 -- the tick at which a call leaves it
 abbrev pub tick_of : ℕ → Outcome2 → ℕ
@@ -26,13 +26,13 @@ end_of Done = Some Done
 end_of (Over tick var) = Some (Over tick var)
 
 -- ticks without rows lead from a world at a tick to one at another tick
-pub record AreSilent2 (Rule : ℤ → ℤ → ℤ → Type 0) (m : Machine) (from : ℕ) (w0 : World2) (silent : List World2) (tick : ℕ) (w : World2) : Type 0 where
+pub record AreSilent2 (Rule : ℤ → ℤ → ℤ → Type 0) (m : Machine) (from : ℕ) (w0 : SecondSnapshot) (silent : List SecondSnapshot) (tick : ℕ) (w : SecondSnapshot) : Type 0 where
   pub leads : LeadsSilently2 Rule m from w0 silent
   pub as_many : from + length silent ≡ tick
-  pub reached : last_world2 w0 silent ≡ w
+  pub reached : last_second_snapshot w0 silent ≡ w
 
 -- a store went on to a tick by ticks without rows, and by one more, of which it has the rows
 abbrev pub HasLooked : (ℤ → ℤ → ℤ → Type 0) → Machine → ℕ → Store → ℕ → Store → Type 0
 HasLooked Rule m tick old next new =
-    (silent : List World2) × IsVisit2 Rule m tick (world_of old.motion) silent next (world2_unless new.over (world_of new.motion))
-    × (new.over ≡ None → new.rows.items ≡ tick_rows2 m next (last_world2 (world_of old.motion) silent) (world_of new.motion))
+    (silent : List SecondSnapshot) × IsVisit2 Rule m tick (snapshot_of old.motion) silent next (second_snapshot_unless new.over (snapshot_of new.motion))
+    × (new.over ≡ None → new.rows.items ≡ tick_rows2 m next (last_second_snapshot (snapshot_of old.motion) silent) (snapshot_of new.motion))

@@ -6,7 +6,7 @@ use Rattle.mu_num.specs.Rounding.{floor_of}
 use Rattle.mu_num.specs.Sizes.{IsWithin}
 use Rattle.qss_machine.specs.declared.system.Machine.{Machine}
 use Rattle.qss_machine.specs.Firing.{flag_at}
-use Rattle.qss_machine.specs.Numbers.{int_at, tabulate}
+use Rattle.qss_machine.specs.IndexedSums.{int_at, tabulate}
 use Rattle.qss_machine.specs.Machines.{state_count, discrete_count, level_unit}
 use Rattle.qss_machine.specs.Legitimate.{start_coefficient}
 use Rattle.qss_order2.specs.declared.motion.Motion.{Motion}
@@ -14,15 +14,15 @@ use Rattle.qss_order2.specs.declared.store.Store.{Store}
 use Rattle.qss_order2.specs.declared.outcome2.Outcome2.{Outcome2}
 use Rattle.qss_order2.specs.declared.rows.Row2.{Row2}
 use Rattle.qss_order2.specs.declared.rows.Kind2.{Kind2}
-use Rattle.qss_order2.specs.Rules.{IsAnswer}
-use Rattle.qss_order2.specs.Runs.{level_row, slope_row}
-use Rattle.qss_order2.specs.Worlds.{World2, rise_at, reach_of, past_limit, AreChanges, fine_states, fine_levels, look_span, is_look, leaves, requantizes, next_states, next_levels}
-use Rattle.qss_order2.specs.Limits.{IsCalmBy}
-use Rattle.qss_order2.specs.Laws.{bend_at, world2_after, gap_after, IsCalm2}
+use Rattle.qss_order2.specs.SlopeRules.{IsAnswer}
+use Rattle.qss_order2.specs.SecondRuns.{level_row, slope_row}
+use Rattle.qss_order2.specs.SecondSteps.{SecondSnapshot, rise_at, reach_of, first_exceeding_limit, AreChanges, fine_states, fine_levels, limit_check_period, is_limit_check, leaves_quantum, is_requantization, next_states, next_levels}
+use Rattle.qss_order2.specs.SecondRunLimits.{IsCalmBy}
+use Rattle.qss_order2.specs.SecondRunLaws.{bend_at, second_snapshot_after, gap_after, IsCalm2}
 
 -- the world of a motion
-abbrev pub world_of : Motion → World2
-world_of q = record { states = q.states.items; levels = q.levels.items; changes = q.changes.items }
+abbrev pub snapshot_of : Motion → SecondSnapshot
+snapshot_of q = record { states = q.states.items; levels = q.levels.items; changes = q.changes.items }
 
 -- lists with a number for each state
 pub record IsSized (m : Machine) (q : Motion) : Type 0 where
@@ -47,32 +47,32 @@ AreAnswers nearest unit rises left old new =
 pub record IsSettled (Rule : ℤ → ℤ → ℤ → Type 0) (m : Machine) (asked : ℕ → Bool) (old new : Motion) (over : Option ℕ) : Type 0 where
   pub changes : List ℤ
   pub are_changes : AreChanges Rule m asked old.levels.items old.changes.items changes
-  pub is_over : over ≡ past_limit m old.levels.items changes
+  pub is_over : over ≡ first_exceeding_limit m old.levels.items changes
   pub taken : over ≡ None → new.changes.items ≡ changes
   pub has_rises : over ≡ None → HasRises m new
 
 -- each state is near its level
-abbrev pub IsNear2 : Machine → World2 → Type 0
+abbrev pub IsNear2 : Machine → SecondSnapshot → Type 0
 IsNear2 m w = (j : ℕ) → j < state_count m → pos (unsigned_abs (int_at w.states j -ℤ level_unit m *ℤ int_at w.levels j)) <ℤ reach_of m j
 
 -- a motion from a world that passed its look
 pub record Moves (m : Machine) (q : Motion) : Type 0 where
   pub sized : IsSized m q
-  pub near : IsNear2 m (world_of q)
-  pub within : past_limit m q.levels.items q.changes.items ≡ None
+  pub near : IsNear2 m (snapshot_of q)
+  pub within : first_exceeding_limit m q.levels.items q.changes.items ≡ None
   pub has_rises : HasRises m q
 
 -- the levels after some ticks, where these states leave
-abbrev pub levels_after : Machine → World2 → List Bool → ℕ → List ℤ
+abbrev pub levels_after : Machine → SecondSnapshot → List Bool → ℕ → List ℤ
 levels_after m w left ticks =
-    tabulate (state_count m) (λ j. if flag_at left j then floor_of (int_at (world2_after m w ticks).states j) (level_unit m) else int_at (world2_after m w ticks).levels j)
+    tabulate (state_count m) (λ j. if flag_at left j then floor_of (int_at (second_snapshot_after m w ticks).states j) (level_unit m) else int_at (second_snapshot_after m w ticks).levels j)
 
 -- after how many ticks a state leaves
 abbrev pub due_at : List (Option ℕ) → ℕ → Option ℕ
 due_at dues j = slice_index_or dues j None
 
 -- the first of the ticks after a world, up to so many, at which a state is its quantum away from its level
-abbrev pub IsDue2 : Machine → World2 → ℕ → ℕ → Option ℕ → Type 0
+abbrev pub IsDue2 : Machine → SecondSnapshot → ℕ → ℕ → Option ℕ → Type 0
 IsDue2 m w reach j found = FirstUpTo (λ k. reach_of m j ≤ℤ pos (unsigned_abs (gap_after m w j k))) reach found
 
 -- whether a state leaves after so many ticks
@@ -83,10 +83,10 @@ is_due None ticks = false
 -- how many ticks it is from a tick to the next one at which the limits are looked at in any case
 pub record IsWindow (tick last reach : ℕ) : Type 0 where
   pub some : 1 ≤ reach
-  pub few : reach ≤ look_span
+  pub few : reach ≤ limit_check_period
   pub in_time : tick + reach ≤ last
-  pub no_look : tick % look_span + reach ≤ look_span
-  pub ends : (tick + reach ≡ last) ⊎ ((tick + reach) % look_span ≡ 0)
+  pub no_look : tick % limit_check_period + reach ≤ limit_check_period
+  pub ends : (tick + reach ≡ last) ⊎ ((tick + reach) % limit_check_period ≡ 0)
 
 -- how many ticks it is from a tick to a due one, if there is one
 abbrev pub until : ℕ → Option ℕ → Option ℕ
@@ -94,17 +94,17 @@ until tick None = None
 until tick (Some due) = Some (due - tick)
 
 -- the ticks up to the end of a window at which states leave are known
-pub record HasDues (m : Machine) (tick window : ℕ) (w : World2) (dues : List (Option ℕ)) : Type 0 where
+pub record HasDues (m : Machine) (tick window : ℕ) (w : SecondSnapshot) (dues : List (Option ℕ)) : Type 0 where
   pub is_window : IsWindow tick m.last (window - tick)
   pub each : (j : ℕ) → j < state_count m → IsDue2 m w (window - tick) j (until tick (due_at dues j))
 
 -- so are those of the states that are not marked
-pub record KeepsDues (m : Machine) (tick window : ℕ) (w : World2) (touched : List Bool) (dues : List (Option ℕ)) : Type 0 where
+pub record KeepsDues (m : Machine) (tick window : ℕ) (w : SecondSnapshot) (touched : List Bool) (dues : List (Option ℕ)) : Type 0 where
   pub is_window : IsWindow tick m.last (window - tick)
   pub quiet : (j : ℕ) → j < state_count m → flag_at touched j ≡ false → IsDue2 m w (window - tick) j (until tick (due_at dues j))
 
 -- the next look after a world at a tick comes after so many ticks, and these states leave there
-pub record IsNextLook (m : Machine) (tick : ℕ) (w : World2) (due : ℕ → Option ℕ) (left : List Bool) (ticks : ℕ) : Type 0 where
+pub record IsNextLook (m : Machine) (tick : ℕ) (w : SecondSnapshot) (due : ℕ → Option ℕ) (left : List Bool) (ticks : ℕ) : Type 0 where
   pub reach : ℕ
   pub is_window : IsWindow tick m.last reach
   pub within : ticks ≤ reach
@@ -123,25 +123,25 @@ abbrev pub AreQuiet : Machine → List Bool → List Bool → Type 0
 AreQuiet m left touched = (j : ℕ) → j < state_count m → flag_at touched j ≡ false → IsQuiet m left j
 
 -- states and levels of a motion are those so many ticks after a world within its limits, at which these states left; all else is as it was there
-pub record IsArrived (m : Machine) (w : World2) (left : List Bool) (ticks : ℕ) (q : Motion) : Type 0 where
-  pub within : past_limit m w.levels w.changes ≡ None
-  pub few : ticks ≤ look_span
+pub record IsArrived (m : Machine) (w : SecondSnapshot) (left : List Bool) (ticks : ℕ) (q : Motion) : Type 0 where
+  pub within : first_exceeding_limit m w.levels w.changes ≡ None
+  pub few : ticks ≤ limit_check_period
   pub changes : q.changes.items ≡ w.changes
   pub levels : q.levels.items ≡ levels_after m w left ticks
   pub rises : q.rises.items ≡ tabulate (state_count m) (λ j. rise_at m j w.levels)
   pub bends : q.bends.items ≡ tabulate (state_count m) (λ j. bend_at m j w.changes)
 
 -- from a world at a tick to the next look: so many calm ticks, and one more, at which these states leave
-pub record IsMovedOn (m : Machine) (tick : ℕ) (w : World2) (calm : ℕ) (left : List Bool) (states levels : List ℤ) : Type 0 where
+pub record IsMovedOn (m : Machine) (tick : ℕ) (w : SecondSnapshot) (calm : ℕ) (left : List Bool) (states levels : List ℤ) : Type 0 where
   pub is_calm : IsCalm2 m tick w calm
   pub in_time : tick + calm < m.last
-  pub flags : (j : ℕ) → j < state_count m → flag_at left j ≡ leaves m (world2_after m w calm) j
-  pub states_there : states ≡ next_states m (world2_after m w calm)
-  pub levels_there : levels ≡ next_levels m (world2_after m w calm)
-  pub looks : is_look m (tick + calm + 1) (requantizes m (world2_after m w calm)) ≡ true
+  pub flags : (j : ℕ) → j < state_count m → flag_at left j ≡ leaves_quantum m (second_snapshot_after m w calm) j
+  pub states_there : states ≡ next_states m (second_snapshot_after m w calm)
+  pub levels_there : levels ≡ next_levels m (second_snapshot_after m w calm)
+  pub looks : is_limit_check m (tick + calm + 1) (is_requantization m (second_snapshot_after m w calm)) ≡ true
 
 -- the rows of the states that left: of a level, and of how much that changes
-abbrev pub rows_of_left : Kind2 → ℕ → World2 → List Bool → ℕ → List Row2
+abbrev pub rows_of_left : Kind2 → ℕ → SecondSnapshot → List Bool → ℕ → List Row2
 rows_of_left kind tick w left count = flat_map (λ j. if flag_at left j then level_row kind tick w j ∷ slope_row tick w j ∷ [] else []) (range_with_len 0 count)
 
 -- lists of the machine's lengths, and memory for all rows of a tick
@@ -156,10 +156,10 @@ pub record FitsMachine (m : Machine) (s : Store) : Type 0 where
 -- a store stands for its world at a tick; where a state is past a limit there, it is tick 0
 pub record Stands (m : Machine) (tick : ℕ) (s : Store) : Type 0 where
   pub fits : FitsMachine m s
-  pub over : past_limit m s.motion.levels.items s.motion.changes.items ≡ s.over
+  pub over : first_exceeding_limit m s.motion.levels.items s.motion.changes.items ≡ s.over
   pub at_start : (var : ℕ) → s.over ≡ Some var → tick ≡ 0
   pub moves : s.over ≡ None → Moves m s.motion
-  pub dues : s.over ≡ None → tick < s.window → KeepsDues m tick s.window (world_of s.motion) s.touched.items s.dues.items
+  pub dues : s.over ≡ None → tick < s.window → KeepsDues m tick s.window (snapshot_of s.motion) s.touched.items s.dues.items
 
 -- a store with memory, and the states and levels of the start, at which the rule is to be asked for each state
 pub record IsBlank (m : Machine) (s : Store) : Type 0 where

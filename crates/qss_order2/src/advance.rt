@@ -1,9 +1,9 @@
 //! The next event.
 
 ghost use Rattle.std.specs.Prelude.{◌≡◌, ◌≤◌, None};
-ghost use Rattle.qss_order2.specs.Calls.{standing_of, tick_of, end_of};
+ghost use Rattle.qss_order2.specs.Calls.{view_of, tick_of, end_of};
 ghost use Rattle.qss_order2.specs.Events.{IsNext2};
-ghost use Rattle.qss_order2.specs.Rules.{IsRuled2};
+ghost use Rattle.qss_order2.specs.SlopeRules.{IsRuled2};
 ghost use Rattle.qss_order2.specs.Stores.{Stands};
 
 use crate::fixed_machine::FixedMachine;
@@ -16,9 +16,9 @@ use crate::store::Store;
 /// Goes on to the next tick with rows, to an overflow, or to the last tick.
 pub(crate) fn advance(f: &FixedMachine, rule: &SlopeRule, from: u64, s: &mut Store) -> Outcome2
     requires stands { Stands f.now.machine from s.old }
-    requires in_time { from ≤ f.now.machine.last }
-    ensures next { IsNext2 (IsRuled2 rule.now.nearest) (standing_of f.now.machine from s.old None)
-        (standing_of f.now.machine (tick_of f.now.machine.last result) s.new (end_of result))
+    requires tick_limit { from ≤ f.now.machine.last }
+    ensures next { IsNext2 (IsRuled2 rule.now.nearest) (view_of f.now.machine from s.old None)
+        (view_of f.now.machine (tick_of f.now.machine.last result) s.new (end_of result))
         result }
     ensures stands { end_of result ≡ None
         → Stands f.now.machine (tick_of f.now.machine.last result) s.new }

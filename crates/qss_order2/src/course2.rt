@@ -15,41 +15,41 @@ use std::marker::Model;
 
 /// A machine without clauses at a tick of its second-order run.
 #[derive(Drop)]
-pub struct Course2 {
+pub struct SecondRunState {
     fixed: FixedMachine,
     tick: u64,
     end: Option<Outcome2>,
     store: Store,
 }
 
-impl Model for Course2 {
-    ghost use Rattle.qss_order2.specs.Events.{Standing2};
+impl Model for SecondRunState {
+    ghost use Rattle.qss_order2.specs.Events.{SecondRunView};
 
-    ghost Value = { Standing2 };
+    ghost Value = { SecondRunView };
 
     ghost use Rattle.qss_order2.specs.Stores.{IsSim};
-    ghost use Rattle.qss_order2.specs.Calls.{standing_of};
+    ghost use Rattle.qss_order2.specs.Calls.{view_of};
 
-    ghost view = { λ s. standing_of s.fixed.machine s.tick s.store s.end };
+    ghost view = { λ s. view_of s.fixed.machine s.tick s.store s.end };
 
     ghost invariant = { λ s. IsSim s.fixed.machine s.tick s.end s.store };
 }
 
-impl Course2 {
+impl SecondRunState {
     ghost use Rattle.std.specs.Prelude.{◌≡◌, ◌++◌, true, None, Some, [], IfOk};
     ghost use Rattle.qss_order2.specs.declared.outcome2.Outcome2.{Outcome2};
     ghost use Rattle.qss_order2.specs.Events.{IsStarted, IsNext2, rows2_left};
-    ghost use Rattle.qss_order2.specs.Rules.{IsRuled2};
-    ghost use Rattle.qss_order2.specs.Worlds.{near_change};
+    ghost use Rattle.qss_order2.specs.SlopeRules.{IsRuled2};
+    ghost use Rattle.qss_order2.specs.SecondSteps.{nearest_change};
 
     /// A machine at tick 0, with the start rows. It takes all the memory that it ever needs.
-    pub fn new(alloc: Global, m: Machine, rule: &SlopeRule) -> Result<Course2, AllocError>
+    pub fn new(alloc: Global, m: Machine, rule: &SlopeRule) -> Result<SecondRunState, AllocError>
         requires { m.clauses ≡ [] }
         ensures { IfOk result (λ course. IsStarted (IsRuled2 rule.now.nearest) m course) }
     {
         let fixed = FixedMachine::new(alloc, m)?;
         let store = start_store(alloc, &fixed, rule)?;
-        Ok(Course2 {
+        Ok(SecondRunState {
             fixed,
             tick: 0,
             end: None,
@@ -67,7 +67,7 @@ impl Course2 {
             → IsNext2 (IsRuled2 rule.now.nearest) self.old self.new result }
         ensures rows { rule.now.nearest ≡ true
             → self.old.end ≡ None
-            → rows2_left near_change self.old ≡ self.new.rows ++ rows2_left near_change self.new }
+            → rows2_left nearest_change self.old ≡ self.new.rows ++ rows2_left nearest_change self.new }
     {
         if let Some(end) = self.end {
             return end;

@@ -2,10 +2,10 @@
 
 ghost use Rattle.std.specs.Prelude.{◌≡◌, ◌<◌, ◌+◌, IfOk, pos, ◌*ℤ◌, replicate};
 ghost use Rattle.mu_num.specs.Sizes.{IsWithin, IsPositiveWithin};
-ghost use Rattle.qss_machine.specs.Legitimate.{start_drive};
+ghost use Rattle.qss_machine.specs.Legitimate.{start_constant_part};
 ghost use Rattle.qss_machine.specs.Machines.{state_count, level_unit, start_discretes};
-ghost use Rattle.qss_machine.specs.Numbers.{tabulate};
-ghost use Rattle.qss_order2.specs.Worlds.{reach_of};
+ghost use Rattle.qss_machine.specs.IndexedSums.{tabulate};
+ghost use Rattle.qss_order2.specs.SecondSteps.{reach_of};
 ghost use Rattle.qss_order2.specs.Fixed.{AreRowsBelow, IsFixed};
 
 use crate::fixed::modes_of;
@@ -84,7 +84,7 @@ fn drive_of(m: &Machine, row: u32, zeros: &[i64], discretes: &[i64]) -> i128
     requires row { row < state_count m.now }
     requires zeros { zeros.now ≡ replicate (state_count m.now) (pos 0) }
     requires start { discretes.now ≡ start_discretes m.now }
-    ensures { result ≡ start_drive m.now row }
+    ensures { result ≡ start_constant_part m.now row }
 {
     m.slope(row, zeros, discretes)
 }
@@ -93,7 +93,7 @@ fn drive_of(m: &Machine, row: u32, zeros: &[i64], discretes: &[i64]) -> i128
 fn drives_of(alloc: Global, m: &Machine, discretes: &[i64]) -> Result<Vec<i128>, AllocError>
     requires { discretes.now ≡ start_discretes m.now }
     ensures { IfOk result
-        (λ drives. drives.items ≡ tabulate (state_count m.now) (start_drive m.now)) }
+        (λ drives. drives.items ≡ tabulate (state_count m.now) (start_constant_part m.now)) }
 {
     let count = m.states.as_slice().len();
     let zeros = copies(alloc, 0, count)?;

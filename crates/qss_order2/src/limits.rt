@@ -1,16 +1,16 @@
 //! States that are past a limit.
 
 ghost use Rattle.std.specs.Prelude.{◌≡◌, ℕ, ◌<◌, ◌≤◌, ◌^◌, All, None, true, false, length, pos, ◌≤ℤ◌, IfOk};
-ghost use Rattle.mu_num.specs.Sizes.{IsWithin, passes};
+ghost use Rattle.mu_num.specs.Sizes.{IsWithin, exceeds};
 ghost use Rattle.qss_machine.specs.Machines.{state_count};
 ghost use Rattle.qss_machine.specs.Firing.{flag_at};
-ghost use Rattle.qss_machine.specs.Numbers.{int_at, first_past, tabulate, size};
-ghost use Rattle.qss_order2.specs.Limits.{past_levels, IsCalmLevel, IsCalmBy};
-ghost use Rattle.qss_order2.specs.Worlds.{rise_weight, bend_weight};
+ghost use Rattle.qss_machine.specs.IndexedSums.{int_at, first_exceeding, tabulate, abs_of};
+ghost use Rattle.qss_order2.specs.SecondRunLimits.{past_levels, IsCalmLevel, IsCalmBy};
+ghost use Rattle.qss_order2.specs.SecondSteps.{rise_weight, rise_change_weight};
 
 use crate::fixed_machine::{FixedMachine, copies};
 use crate::sums::{is_steep, weight_of};
-use mu_num::{passes, unit};
+use mu_num::{exceeds, unit};
 use std::alloc::{AllocError, Global};
 
 /// The most bits of a level.
@@ -22,10 +22,10 @@ const WEIGHT_BITS: u8 = 94;
 // The least state whose level is past its limit.
 fn first_high(levels: &[i128]) -> Option<u32>
     requires { length levels.now ≤ 4096 }
-    ensures { result ≡ first_past 49 levels.now }
+    ensures { result ≡ first_exceeding 49 levels.now }
 {
     for j in 0..levels.len() {
-        if passes(levels[j], LEVEL_BITS) {
+        if exceeds(levels[j], LEVEL_BITS) {
             return Some(j as u32);
         }
     }
@@ -36,10 +36,10 @@ fn first_high(levels: &[i128]) -> Option<u32>
 fn is_heavy(f: &FixedMachine, row: usize, levels: &[i128]) -> bool
     requires row { row < state_count f.now.machine }
     requires levels { length levels.now ≡ state_count f.now.machine }
-    requires small { All (IsWithin 50) levels.now }
-    ensures { result ≡ passes 94 (rise_weight f.now.machine levels.now row) }
+    requires size_limit { All (IsWithin 50) levels.now }
+    ensures { result ≡ exceeds 94 (rise_weight f.now.machine levels.now row) }
 {
-    passes(
+    exceeds(
         weight_of(f.rows[row].as_slice(), f.drives[row], levels),
         WEIGHT_BITS,
     )
@@ -48,9 +48,9 @@ fn is_heavy(f: &FixedMachine, row: usize, levels: &[i128]) -> bool
 // The least row whose weight is past its limit.
 fn first_heavy(f: &FixedMachine, levels: &[i128]) -> Option<u32>
     requires levels { length levels.now ≡ state_count f.now.machine }
-    requires small { All (IsWithin 50) levels.now }
+    requires size_limit { All (IsWithin 50) levels.now }
     ensures { result
-        ≡ first_past 94
+        ≡ first_exceeding 94
         (tabulate (state_count f.now.machine) (rise_weight f.now.machine levels.now)) }
 {
     for row in 0..levels.len() {
@@ -65,7 +65,7 @@ fn first_heavy(f: &FixedMachine, levels: &[i128]) -> Option<u32>
 fn bends_past(f: &FixedMachine, row: usize, changes: &[i128]) -> bool
     requires row { row < state_count f.now.machine }
     requires changes { length changes.now ≡ state_count f.now.machine }
-    ensures { result ≡ passes 94 (bend_weight f.now.machine changes.now row) }
+    ensures { result ≡ exceeds 94 (rise_change_weight f.now.machine changes.now row) }
 {
     is_steep(f.rows[row].as_slice(), changes)
 }
@@ -76,10 +76,10 @@ pub(crate) fn first_steep(f: &FixedMachine, changes: &[i128], touched: &[bool]) 
     requires touched { length touched.now ≡ state_count f.now.machine }
     requires others { (j : ℕ) → j < state_count f.now.machine
         → flag_at touched.now j ≡ false
-        → passes 94 (bend_weight f.now.machine changes.now j) ≡ false }
+        → exceeds 94 (rise_change_weight f.now.machine changes.now j) ≡ false }
     ensures { result
-        ≡ first_past 94
-        (tabulate (state_count f.now.machine) (bend_weight f.now.machine changes.now)) }
+        ≡ first_exceeding 94
+        (tabulate (state_count f.now.machine) (rise_change_weight f.now.machine changes.now)) }
 {
     for row in 0..changes.len() {
         if touched[row] && bends_past(f, row, changes) {
@@ -102,7 +102,7 @@ pub(crate) fn past_levels(f: &FixedMachine, levels: &[i128]) -> Option<u32>
 
 // Whether a number is more than this in size.
 fn is_above(z: i128, bound: i128) -> bool
-    ensures { result ≡ false → size z ≤ℤ bound }
+    ensures { result ≡ false → abs_of z ≤ℤ bound }
 {
     bound < 0 || z.unsigned_abs() > bound as u128
 }
@@ -111,7 +111,7 @@ fn is_above(z: i128, bound: i128) -> bool
 fn are_within(levels: &[i128], bound: i128) -> bool
     ensures { result ≡ true
         → (j : ℕ) → j < length levels.now
-        → size (int_at levels.now j) ≤ℤ bound }
+        → abs_of (int_at levels.now j) ≤ℤ bound }
 {
     for j in 0..levels.len() {
         if is_above(levels[j], bound) {

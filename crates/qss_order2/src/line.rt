@@ -1,8 +1,8 @@
 //! The line of a row.
 
 ghost use Rattle.std.specs.Prelude.{◌≡◌, ◌++◌, [], OnOk, OnErr, IfOk};
-ghost use Rattle.qss_rows.specs.Held.{lines_in};
-ghost use Rattle.qss_order2.specs.Lines as Spec;
+ghost use Rattle.qss_rows.specs.HeldLines.{lines_in};
+ghost use Rattle.qss_order2.specs.SecondRowLines as Spec;
 
 use crate::rows::{Kind2, Row2};
 use itoa::Buffer;

@@ -2,9 +2,9 @@
 
 ghost use Rattle.std.specs.Prelude.{◌≡◌, ◌<◌, ◌≤◌, None};
 ghost use Rattle.qss_order2.specs.Calls.{HasLooked};
-ghost use Rattle.qss_order2.specs.Laws.{world2_after};
-ghost use Rattle.qss_order2.specs.Rules.{IsRuled2};
-ghost use Rattle.qss_order2.specs.Stores.{world_of, FitsMachine, Moves, Stands, due_at, until, HasDues, IsNextLook, IsArrived, AreQuiet};
+ghost use Rattle.qss_order2.specs.SecondRunLaws.{second_snapshot_after};
+ghost use Rattle.qss_order2.specs.SlopeRules.{IsRuled2};
+ghost use Rattle.qss_order2.specs.Stores.{snapshot_of, FitsMachine, Moves, Stands, due_at, until, HasDues, IsNextLook, IsArrived, AreQuiet};
 
 use crate::fixed_machine::FixedMachine;
 use crate::leaving::{next_look, open_window, renew_dues};
@@ -20,8 +20,8 @@ use crate::touching::touch;
 fn prepare(f: &FixedMachine, tick: u64, s: &mut Store)
     requires stands { Stands f.now.machine tick s.old }
     requires within { s.old.over ≡ None }
-    requires in_time { tick < f.now.machine.last }
-    ensures dues { HasDues f.now.machine tick s.new.window (world_of s.new.motion)
+    requires tick_limit { tick < f.now.machine.last }
+    ensures dues { HasDues f.now.machine tick s.new.window (snapshot_of s.new.motion)
         s.new.dues.items }
     ensures motion { s.new.motion ≡ s.old.motion }
     ensures fits { FitsMachine f.now.machine s.new }
@@ -41,14 +41,14 @@ fn prepare(f: &FixedMachine, tick: u64, s: &mut Store)
 fn go_on(f: &FixedMachine, tick: u64, s: &mut Store) -> u64
     requires fits { FitsMachine f.now.machine s.old }
     requires moves { Moves f.now.machine s.old.motion }
-    requires dues { HasDues f.now.machine tick s.old.window (world_of s.old.motion)
+    requires dues { HasDues f.now.machine tick s.old.window (snapshot_of s.old.motion)
         s.old.dues.items }
-    ensures next { IsNextLook f.now.machine tick (world_of s.old.motion)
+    ensures next { IsNextLook f.now.machine tick (snapshot_of s.old.motion)
         (λ j. until tick (due_at s.old.dues.items j)) s.new.left.items result }
-    ensures arrived { IsArrived f.now.machine (world_of s.old.motion) s.new.left.items result
+    ensures arrived { IsArrived f.now.machine (snapshot_of s.old.motion) s.new.left.items result
         s.new.motion }
     ensures states { s.new.motion.states.items
-        ≡ (world2_after f.now.machine (world_of s.old.motion) result).states }
+        ≡ (second_snapshot_after f.now.machine (snapshot_of s.old.motion) result).states }
     ensures quiet { AreQuiet f.now.machine s.new.left.items s.new.touched.items }
     ensures kept { (s.new.window ≡ s.old.window) × (s.new.dues ≡ s.old.dues) }
     ensures fits { FitsMachine f.now.machine s.new }
@@ -63,10 +63,10 @@ fn go_on(f: &FixedMachine, tick: u64, s: &mut Store) -> u64
 pub(crate) fn look(f: &FixedMachine, rule: &SlopeRule, tick: u64, s: &mut Store) -> u64
     requires stands { Stands f.now.machine tick s.old }
     requires within { s.old.over ≡ None }
-    requires in_time { tick < f.now.machine.last }
+    requires tick_limit { tick < f.now.machine.last }
     ensures visited { HasLooked (IsRuled2 rule.now.nearest) f.now.machine tick s.old result s.new }
     ensures later { tick < result }
-    ensures in_time { result ≤ f.now.machine.last }
+    ensures tick_limit { result ≤ f.now.machine.last }
     ensures stands { s.new.over ≡ None → Stands f.now.machine result s.new }
     ensures fits { FitsMachine f.now.machine s.new }
 {

@@ -5,10 +5,10 @@ ghost use Rattle.mu_num.specs.Curves.{sum_to, curve_at};
 ghost use Rattle.mu_num.specs.Rounding.{floor_of};
 ghost use Rattle.mu_num.specs.Sizes.{IsWithin};
 ghost use Rattle.qss_machine.specs.Firing.{flag_at};
-ghost use Rattle.qss_machine.specs.Numbers.{int_at, tabulate};
+ghost use Rattle.qss_machine.specs.IndexedSums.{int_at, tabulate};
 ghost use Rattle.qss_machine.specs.Machines.{state_count, level_unit};
-ghost use Rattle.qss_order2.specs.Laws.{world2_after};
-ghost use Rattle.qss_order2.specs.Stores.{world_of, IsSized, Moves, levels_after};
+ghost use Rattle.qss_order2.specs.SecondRunLaws.{second_snapshot_after};
+ghost use Rattle.qss_order2.specs.Stores.{snapshot_of, IsSized, Moves, levels_after};
 
 use crate::fixed_machine::FixedMachine;
 use mu_num::floor_div;
@@ -148,9 +148,9 @@ pub(crate) fn move_on(f: &FixedMachine, ticks: u64, left: &[bool], q: &mut Motio
     requires left { length left.now ≡ state_count f.now.machine }
     requires ticks { ticks ≤ 65536 }
     ensures states { q.new.states.items
-        ≡ (world2_after f.now.machine (world_of q.old) ticks).states }
+        ≡ (second_snapshot_after f.now.machine (snapshot_of q.old) ticks).states }
     ensures levels { q.new.levels.items
-        ≡ levels_after f.now.machine (world_of q.old) left.now ticks }
+        ≡ levels_after f.now.machine (snapshot_of q.old) left.now ticks }
     ensures changes { q.new.changes ≡ q.old.changes }
     ensures kept { (q.new.rises ≡ q.old.rises) × (q.new.bends ≡ q.old.bends) }
     ensures sized { IsSized f.now.machine q.new }

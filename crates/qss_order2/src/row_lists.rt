@@ -2,10 +2,10 @@
 
 ghost use Rattle.std.specs.Prelude.{◌≡◌, ◌+◌, ◌<◌, ◌≤◌, ◌++◌, ◌∷◌, [], length, pos, vec_len, vec_capacity};
 ghost use Rattle.qss_machine.specs.Machines.{state_count, discrete_count};
-ghost use Rattle.qss_machine.specs.Numbers.{int_at, tabulate};
+ghost use Rattle.qss_machine.specs.IndexedSums.{int_at, tabulate};
 ghost use Rattle.qss_order2.specs.declared.rows.Kind2.TheVariants.{Slope, End};
-ghost use Rattle.qss_order2.specs.Runs.{discrete_rows2, end_rows, overflow_row};
-ghost use Rattle.qss_order2.specs.Stores.{world_of, IsSized, rows_of_left};
+ghost use Rattle.qss_order2.specs.SecondRuns.{discrete_rows2, end_rows, overflow_row};
+ghost use Rattle.qss_order2.specs.Stores.{snapshot_of, IsSized, rows_of_left};
 
 use crate::fixed_machine::FixedMachine;
 use crate::motion::Motion;
@@ -21,7 +21,7 @@ fn push_state(
     x: i128,
     rows: &mut Vec<Row2>,
 )
-    requires few { state < 4096 }
+    requires count_limit { state < 4096 }
     requires room { vec_len rows.old + 2 ≤ vec_capacity rows.old }
     ensures rows { rows.new.items
         ≡ rows.old.items
@@ -57,7 +57,7 @@ pub(crate) fn set_left_rows(
     left: &[bool],
     rows: &mut Vec<Row2>,
 )
-    requires few { length left.now ≤ 4096 }
+    requires count_limit { length left.now ≤ 4096 }
     requires states { length states.now ≡ length left.now }
     requires levels { length levels.now ≡ length left.now }
     requires changes { length changes.now ≡ length left.now }
@@ -80,7 +80,7 @@ pub(crate) fn set_left_rows(
 
 // A row of the level of each state, at the end.
 fn add_levels(tick: u64, states: &[i128], levels: &[i128], rows: &mut Vec<Row2>)
-    requires few { length states.now ≤ 4096 }
+    requires count_limit { length states.now ≤ 4096 }
     requires levels { length levels.now ≡ length states.now }
     requires room { vec_len rows.old + length states.now ≤ vec_capacity rows.old }
     ensures rows { rows.new.items
@@ -132,7 +132,7 @@ pub(crate) fn set_end_rows(f: &FixedMachine, tick: u64, q: &Motion, rows: &mut V
     requires sized { IsSized f.now.machine q.now }
     requires room { state_count f.now.machine + discrete_count f.now.machine
         ≤ vec_capacity rows.old }
-    ensures { rows.new.items ≡ end_rows f.now.machine tick (world_of q.now) }
+    ensures { rows.new.items ≡ end_rows f.now.machine tick (snapshot_of q.now) }
 {
     rows.clear();
     add_levels(tick, q.states.as_slice(), q.levels.as_slice(), rows);

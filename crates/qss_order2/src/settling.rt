@@ -1,15 +1,15 @@
 //! What follows from new levels: how states rise, and how their levels are to change.
 
 ghost use Rattle.std.specs.Prelude.{◌≡◌, ℕ, ◌<◌, ◌≤◌, All, None, true, false, length, pos, ◌+ℤ◌, ◌*ℤ◌, MatchBool, if◌then◌else◌};
-ghost use Rattle.mu_num.specs.Sizes.{IsWithin, passes};
+ghost use Rattle.mu_num.specs.Sizes.{IsWithin, exceeds};
 ghost use Rattle.qss_machine.specs.Firing.{flag_at};
 ghost use Rattle.qss_machine.specs.Machines.{state_count, level_unit};
-ghost use Rattle.qss_machine.specs.Numbers.{int_at, first_past, tabulate};
-ghost use Rattle.qss_order2.specs.Laws.{bend_at};
-ghost use Rattle.qss_order2.specs.Rules.{IsAnswer, IsRuled2};
-ghost use Rattle.qss_order2.specs.Limits.{IsCalmBy};
+ghost use Rattle.qss_machine.specs.IndexedSums.{int_at, first_exceeding, tabulate};
+ghost use Rattle.qss_order2.specs.SecondRunLaws.{bend_at};
+ghost use Rattle.qss_order2.specs.SlopeRules.{IsAnswer, IsRuled2};
+ghost use Rattle.qss_order2.specs.SecondRunLimits.{IsCalmBy};
 ghost use Rattle.qss_order2.specs.Stores.{IsSized, HasRises, AreAnswers, AreQuiet, IsArrived, IsSettled};
-ghost use Rattle.qss_order2.specs.Worlds.{World2, rise_at, bend_weight, past_limit, fine_levels, AreChanges};
+ghost use Rattle.qss_order2.specs.SecondSteps.{SecondSnapshot, rise_at, rise_change_weight, first_exceeding_limit, fine_levels, AreChanges};
 
 use crate::fixed_machine::FixedMachine;
 use crate::limits::{first_steep, past_calm, past_levels};
@@ -21,7 +21,7 @@ use crate::sums::{change_sum, rise_of};
 fn rise_at(f: &FixedMachine, row: usize, levels: &[i128]) -> i128
     requires row { row < state_count f.now.machine }
     requires levels { length levels.now ≡ state_count f.now.machine }
-    requires small { All (IsWithin 50) levels.now }
+    requires size_limit { All (IsWithin 50) levels.now }
     ensures { result ≡ rise_at f.now.machine row levels.now }
 {
     rise_of(f.rows[row].as_slice(), f.drives[row], levels)
@@ -31,7 +31,7 @@ fn rise_at(f: &FixedMachine, row: usize, levels: &[i128]) -> i128
 fn set_rises(f: &FixedMachine, levels: &[i128], rises: &mut [i128])
     requires levels { length levels.now ≡ state_count f.now.machine }
     requires rises { length rises.old ≡ state_count f.now.machine }
-    requires small { All (IsWithin 50) levels.now }
+    requires size_limit { All (IsWithin 50) levels.now }
     ensures { rises.new
         ≡ tabulate (state_count f.now.machine) (λ j. rise_at f.now.machine j levels.now) }
 {
@@ -52,7 +52,7 @@ fn rise_after(
 ) -> i128
     requires row { row < state_count f.now.machine }
     requires levels { length levels.now ≡ state_count f.now.machine }
-    requires small { All (IsWithin 50) levels.now }
+    requires size_limit { All (IsWithin 50) levels.now }
     requires rise { IsWithin 94 rise }
     requires bend { IsWithin 94 bend }
     requires ticks { ticks ≤ 65536 }
@@ -79,7 +79,7 @@ fn renew_rises(
     requires levels { length levels.now ≡ state_count f.now.machine }
     requires bends { length bends.now ≡ state_count f.now.machine }
     requires rises { length rises.old ≡ state_count f.now.machine }
-    requires small { All (IsWithin 50) levels.now }
+    requires size_limit { All (IsWithin 50) levels.now }
     requires small_rises { All (IsWithin 94) rises.old }
     requires small_bends { All (IsWithin 94) bends.now }
     requires ticks { ticks ≤ 65536 }
@@ -117,7 +117,7 @@ fn set_changes(
 )
     requires rises { length rises.now ≡ length changes.old }
     requires left { length left.now ≡ length changes.old }
-    requires small { All (IsWithin 95) rises.now }
+    requires size_limit { All (IsWithin 95) rises.now }
     ensures { AreAnswers rule.now.nearest (level_unit f.now.machine) rises.now left.now changes.old
         changes.new }
 {
@@ -130,7 +130,7 @@ fn set_changes(
 fn bend_at(f: &FixedMachine, row: usize, changes: &[i128]) -> i128
     requires row { row < state_count f.now.machine }
     requires changes { length changes.now ≡ state_count f.now.machine }
-    requires within { passes 94 (bend_weight f.now.machine changes.now row) ≡ false }
+    requires within { exceeds 94 (rise_change_weight f.now.machine changes.now row) ≡ false }
     ensures { result ≡ bend_at f.now.machine row changes.now }
 {
     change_sum(f.rows[row].as_slice(), changes)
@@ -144,8 +144,8 @@ fn set_bends(f: &FixedMachine, changes: &[i128], touched: &[bool], bends: &mut [
     requires others { (j : ℕ) → j < state_count f.now.machine
         → flag_at touched.now j ≡ false
         → int_at bends.old j ≡ bend_at f.now.machine j changes.now }
-    requires within { first_past 94
-        (tabulate (state_count f.now.machine) (bend_weight f.now.machine changes.now))
+    requires within { first_exceeding 94
+        (tabulate (state_count f.now.machine) (rise_change_weight f.now.machine changes.now))
         ≡ None }
     ensures { bends.new
         ≡ tabulate (state_count f.now.machine) (λ j. bend_at f.now.machine j changes.now) }
@@ -164,13 +164,13 @@ fn bend(f: &FixedMachine, changes: &[i128], touched: &[bool], bends: &mut [i128]
     requires bends { length bends.old ≡ state_count f.now.machine }
     requires flat { (j : ℕ) → j < state_count f.now.machine
         → flag_at touched.now j ≡ false
-        → passes 94 (bend_weight f.now.machine changes.now j) ≡ false }
+        → exceeds 94 (rise_change_weight f.now.machine changes.now j) ≡ false }
     requires others { (j : ℕ) → j < state_count f.now.machine
         → flag_at touched.now j ≡ false
         → int_at bends.old j ≡ bend_at f.now.machine j changes.now }
-    ensures over { result
-        ≡ first_past 94
-        (tabulate (state_count f.now.machine) (bend_weight f.now.machine changes.now)) }
+    ensures overflow { result
+        ≡ first_exceeding 94
+        (tabulate (state_count f.now.machine) (rise_change_weight f.now.machine changes.now)) }
     ensures bends { result ≡ None
         → bends.new
         ≡ tabulate (state_count f.now.machine) (λ j. bend_at f.now.machine j changes.now) }
@@ -194,7 +194,7 @@ pub(crate) fn settle(
 ) -> Option<u32>
     requires sized { IsSized f.now.machine q.old }
     requires calm { IsCalmBy f.now.machine calm }
-    requires arrived { (w : World2) × IsArrived f.now.machine w left.now ticks q.old }
+    requires arrived { (w : SecondSnapshot) × IsArrived f.now.machine w left.now ticks q.old }
     requires quiet { AreQuiet f.now.machine left.now touched.now }
     requires left { length left.now ≡ state_count f.now.machine }
     requires touched { length touched.now ≡ state_count f.now.machine }
@@ -237,7 +237,7 @@ pub(crate) fn begin(
     ensures sized { IsSized f.now.machine q.new }
     ensures changes { AreChanges (IsRuled2 rule.now.nearest) f.now.machine (flag_at left.now)
         q.old.levels.items q.old.changes.items q.new.changes.items }
-    ensures over { result ≡ past_limit f.now.machine q.old.levels.items q.new.changes.items }
+    ensures overflow { result ≡ first_exceeding_limit f.now.machine q.old.levels.items q.new.changes.items }
     ensures rises { result ≡ None → HasRises f.now.machine q.new }
 {
     set_rises(f, q.levels.as_slice(), q.rises.as_mut_slice());

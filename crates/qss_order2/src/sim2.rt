@@ -2,7 +2,7 @@
 
 ghost use Rattle.std.specs.Prelude.{◌≡◌};
 
-use crate::course2::Course2;
+use crate::course2::SecondRunState;
 use crate::outcome2::Outcome2;
 use crate::rows::Row2;
 use crate::slope_rule::SlopeRule;
@@ -13,7 +13,7 @@ use std::alloc::{AllocError, Global};
 /// requantized, at multiples of 65,536, and at the last one.
 #[derive(Drop)]
 pub struct Sim2 {
-    pub course: Course2,
+    pub course: SecondRunState,
     pub rule: SlopeRule,
 }
 
@@ -21,8 +21,8 @@ impl Sim2 {
     ghost use Rattle.std.specs.Prelude.{◌≡◌, ◌++◌, true, None, Some, [], IfOk};
     ghost use Rattle.qss_order2.specs.declared.outcome2.Outcome2.{Outcome2};
     ghost use Rattle.qss_order2.specs.Events.{IsStarted, IsNext2, rows2_left};
-    ghost use Rattle.qss_order2.specs.Rules.{IsRuled2};
-    ghost use Rattle.qss_order2.specs.Worlds.{near_change};
+    ghost use Rattle.qss_order2.specs.SlopeRules.{IsRuled2};
+    ghost use Rattle.qss_order2.specs.SecondSteps.{nearest_change};
 
     /// A simulator at tick 0, with the start rows. It takes all the memory that it ever needs.
     pub fn new(alloc: Global, m: Machine, rule: SlopeRule) -> Result<Sim2, AllocError>
@@ -30,7 +30,7 @@ impl Sim2 {
         ensures start { IfOk result (λ sim. IsStarted (IsRuled2 rule.nearest) m sim.course) }
         ensures rule { IfOk result (λ sim. sim.rule ≡ rule) }
     {
-        let course = Course2::new(alloc, m, &rule)?;
+        let course = SecondRunState::new(alloc, m, &rule)?;
         Ok(Sim2 { course, rule })
     }
 
@@ -45,8 +45,8 @@ impl Sim2 {
             → IsNext2 (IsRuled2 self.old.rule.nearest) self.old.course self.new.course result }
         ensures rows { self.old.rule.nearest ≡ true
             → self.old.course.end ≡ None
-            → rows2_left near_change self.old.course
-            ≡ self.new.course.rows ++ rows2_left near_change self.new.course }
+            → rows2_left nearest_change self.old.course
+            ≡ self.new.course.rows ++ rows2_left nearest_change self.new.course }
     {
         self.course.next_event(&self.rule)
     }

@@ -4,10 +4,10 @@ ghost use Rattle.std.specs.Prelude.{◌≡◌, ◌+◌, ◌≤◌, IfOk, true, p
 ghost use Rattle.mu_num.specs.Rounding.{floor_of};
 ghost use Rattle.mu_num.specs.Sizes.{IsWithin};
 ghost use Rattle.qss_machine.specs.Machines.{state_count, discrete_count};
-ghost use Rattle.qss_order2.specs.Rules.{IsRuled2};
-ghost use Rattle.qss_order2.specs.Runs.{start_rows};
-ghost use Rattle.qss_order2.specs.Stores.{world_of, IsSized, FitsMachine, IsBlank, Stands};
-ghost use Rattle.qss_order2.specs.Worlds.{fine_states, fine_levels, IsStart2};
+ghost use Rattle.qss_order2.specs.SlopeRules.{IsRuled2};
+ghost use Rattle.qss_order2.specs.SecondRuns.{start_rows};
+ghost use Rattle.qss_order2.specs.Stores.{snapshot_of, IsSized, FitsMachine, IsBlank, Stands};
+ghost use Rattle.qss_order2.specs.SecondSteps.{fine_states, fine_levels, IsStart2};
 
 use crate::fixed_machine::{FixedMachine, copies};
 use crate::limits::calm_level;
@@ -96,8 +96,8 @@ fn blank_store(alloc: Global, f: &FixedMachine) -> Result<Store, AllocError>
 fn begin_store(f: &FixedMachine, rule: &SlopeRule, s: &mut Store)
     requires { IsBlank f.now.machine s.old }
     ensures stands { Stands f.now.machine 0 s.new }
-    ensures start { IsStart2 (IsRuled2 rule.now.nearest) f.now.machine (world_of s.new.motion) }
-    ensures rows { s.new.rows.items ≡ start_rows f.now.machine (world_of s.new.motion) }
+    ensures start { IsStart2 (IsRuled2 rule.now.nearest) f.now.machine (snapshot_of s.new.motion) }
+    ensures rows { s.new.rows.items ≡ start_rows f.now.machine (snapshot_of s.new.motion) }
 {
     s.over = begin(f, rule, s.left.as_slice(), &mut s.motion);
     set_left_rows(
@@ -120,8 +120,8 @@ pub(crate) fn start_store(
 ) -> Result<Store, AllocError>
     ensures stands { IfOk result (λ s. Stands f.now.machine 0 s) }
     ensures start { IfOk result
-        (λ s. IsStart2 (IsRuled2 rule.now.nearest) f.now.machine (world_of s.motion)) }
-    ensures rows { IfOk result (λ s. s.rows.items ≡ start_rows f.now.machine (world_of s.motion)) }
+        (λ s. IsStart2 (IsRuled2 rule.now.nearest) f.now.machine (snapshot_of s.motion)) }
+    ensures rows { IfOk result (λ s. s.rows.items ≡ start_rows f.now.machine (snapshot_of s.motion)) }
 {
     let mut store = blank_store(alloc, f)?;
     begin_store(f, rule, &mut store);

@@ -1,2 +1,2 @@
-pub mod Lines
-pub mod Rules
+pub mod IntegratorLines
+pub mod LevelRules

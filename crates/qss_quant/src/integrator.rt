@@ -1,11 +1,11 @@
 ghost use Rattle.std.specs.Prelude.{pos, ◌+ℤ◌, ◌-ℤ◌, ◌*ℤ◌, ◌≤ℤ◌, unsigned_abs};
 ghost use Rattle.mu_num.specs.Ticks.{FirstAfter};
 ghost use Rattle.mu_num.specs.Sizes.{IsWithin, IsPositiveWithin};
-ghost use Rattle.qss_quant.specs.Lines.{IsNear};
+ghost use Rattle.qss_quant.specs.IntegratorLines.{IsLineWithinQuantum};
 
 use crate::gaps::{room_above, room_below};
 use crate::steps::Steps;
-use mu_num::{first_tick, tick_later};
+use mu_num::{first_tick, ticks_after};
 use std::marker::Model;
 use std::sync::ledger::Ledger;
 
@@ -19,7 +19,7 @@ pub struct Integrator {
 }
 
 impl Model for Integrator {
-    ghost use Rattle.qss_quant.specs.Lines.{Line, IsLine};
+    ghost use Rattle.qss_quant.specs.IntegratorLines.{Line, IsLine};
 
     ghost Value = { Line };
 
@@ -39,7 +39,7 @@ fn first_leaving(x: i128, level: i64, speed: i128, quantum: i64, unit: i128) -> 
     requires speed { IsWithin 88 speed }
     requires quantum { IsWithin 43 quantum }
     requires unit { IsPositiveWithin 44 unit }
-    requires near { IsNear unit x level quantum }
+    requires near { IsLineWithinQuantum unit x level quantum }
     ensures { FirstAfter
         (λ n. (unit *ℤ quantum) ≤ℤ pos (unsigned_abs ((x -ℤ unit *ℤ level) +ℤ pos n *ℤ speed)))
         0 result }
@@ -55,25 +55,25 @@ impl Integrator {
     ghost use Rattle.std.specs.Prelude.{◌≡◌, ℕ, ◌+◌, ◌^◌, ◌≤◌};
     ghost use Rattle.mu_num.specs.Ticks.{FirstAfter, tick_limit};
     ghost use Rattle.mu_num.specs.Sizes.{IsWithin, IsPositiveWithin};
-    ghost use Rattle.qss_quant.specs.Lines.{state_at, IsNear, IsAway};
+    ghost use Rattle.qss_quant.specs.IntegratorLines.{state_at, IsLineWithinQuantum, IsAway};
 
     /// The first tick at which the state is no longer within the quantum of its level.
     #[inline(always)]
     pub fn due(&self, quantum: i64, unit: i128) -> Option<u64>
         requires quantum { IsPositiveWithin 43 quantum }
         requires unit { IsPositiveWithin 44 unit }
-        requires near { IsNear unit self.now.x self.now.level quantum }
+        requires near { IsLineWithinQuantum unit self.now.x self.now.level quantum }
         ensures { FirstAfter (λ tick. IsAway unit (state_at self.now tick) self.now.level quantum)
             self.now.tick result }
     {
         let ticks = first_leaving(self.x, self.level, self.slope, quantum, unit);
-        tick_later(self.tick, ticks)
+        ticks_after(self.tick, ticks)
     }
 
     /// The state at a tick.
     pub fn value_at(&self, tick: u64) -> i128
         requires later { self.now.tick ≤ tick }
-        requires in_time { tick ≤ tick_limit }
+        requires tick_limit { tick ≤ tick_limit }
         ensures { result ≡ state_at self.now tick }
     {
         self.x + i128::from(tick - self.tick) * self.slope
@@ -82,8 +82,8 @@ impl Integrator {
     /// Moves the state along its line to a tick, which counts one.
     pub fn move_to<L: Ledger>(&mut self, tick: u64, steps: &mut Steps<L>)
         requires later { self.old.tick ≤ tick }
-        requires in_time { tick ≤ tick_limit }
-        requires small { IsWithin 89 (state_at self.old tick) }
+        requires tick_limit { tick ≤ tick_limit }
+        requires size_limit { IsWithin 89 (state_at self.old tick) }
         ensures moved { self.new ≡ record self.old { tick = tick; x = state_at self.old tick } }
         ensures counted { steps.new ≡ steps.old + 1 }
     {

@@ -1,5 +1,5 @@
 ghost use Rattle.std.specs.Prelude.{◌≡◌, ℤ};
-ghost use Rattle.qss_quant.specs.Rules.{IsAsked, IsAnswer};
+ghost use Rattle.qss_quant.specs.LevelRules.{IsAsked, IsAnswer};
 
 use crate::gaps::{gap_of, is_inside, limit_of};
 use crate::rule::Rule;
@@ -18,7 +18,7 @@ pub struct Quantizer {
 
 impl Quantizer {
     ghost use Rattle.mu_num.specs.Sizes.{IsPositiveWithin};
-    ghost use Rattle.qss_quant.specs.Lines.{IsNear, IsAway};
+    ghost use Rattle.qss_quant.specs.IntegratorLines.{IsLineWithinQuantum, IsAway};
 
     /// A quantizer with this rule.
     pub fn new(rule: LevelRule, name: Option<Rule>) -> Quantizer
@@ -37,7 +37,7 @@ impl Quantizer {
     pub fn level(&self, x: i128, old: i64, quantum: i64, unit: i128) -> i128
         requires asked { IsAsked x old unit }
         requires quantum { IsPositiveWithin 43 quantum }
-        ensures kept { IsNear unit x old quantum → result ≡ old }
+        ensures kept { IsLineWithinQuantum unit x old quantum → result ≡ old }
         ensures taken { IsAway unit x old quantum → IsAnswer self.now.name x old unit result }
         ensures ruled { IsAway unit x old quantum → LevelRule.post self.now.rule x old unit result }
     {

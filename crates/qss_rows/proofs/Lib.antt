@@ -1,2 +1,6 @@
-pub mod Plain
-pub mod Names
+mod Plain
+mod Names
+pub mod RowLines
+pub mod KnownParts
+pub mod WrittenLines
+mod Simulated

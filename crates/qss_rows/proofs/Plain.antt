@@ -12,7 +12,7 @@ use Rattle.qss_machine.specs.Machines.{state_count}
 use Rattle.qss_machine.specs.declared.rows.RowKind.{RowKind}
 use Rattle.qss_machine.specs.declared.rows.RowKind.TheVariants as kind
 use Rattle.qss_machine.specs.declared.system.Machine.{Machine}
-use Rattle.qss_rows.specs.Lines.{word_of, prints_name, name_of, name_field, level_field, state_field, plain_line, IsTypedKind, LinesArePlain}
+use Rattle.qss_rows.specs.RowTexts.{word_of, prints_name, name_of, name_field, level_field, state_field, plain_line, IsTypedKind, LinesArePlain}
 
 same_or_not : (c k : ℕ) (b : Bool) → (c == k) ≡ b → (c ≡ k → ⊥) → b ≡ false
 same_or_not c k true e differ = absurd (differ (grind arith))

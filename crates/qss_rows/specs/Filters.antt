@@ -5,7 +5,7 @@ use Rattle.qss_machine.specs.declared.rows.Row.{Row}
 use Rattle.qss_machine.specs.declared.rows.RowKind.{RowKind}
 use Rattle.qss_machine.specs.declared.rows.RowKind.TheVariants as kind
 use Rattle.qss_machine.specs.declared.system.Machine.{Machine}
-use Rattle.qss_rows.specs.Lines.{name_of, lines_of}
+use Rattle.qss_rows.specs.RowTexts.{name_of, lines_of}
 
 -- the name, or that of an element of the array of this name
 abbrev pub is_named : List ℕ → List ℕ → Bool

@@ -1,4 +1,6 @@
-pub mod Lines
+pub mod RowTexts
 pub mod Writers
-pub mod Held
+pub mod HeldLines
 pub mod Filters
+pub mod Simulations
+pub mod Writes

@@ -3,7 +3,7 @@
 ghost use Rattle.std.specs.Prelude.{◌≡◌, ◌+◌, ◌<◌};
 ghost use Rattle.qss_machine.specs.Machines.{state_count, discrete_count};
 ghost use Rattle.qss_rows.specs.Filters as Spec;
-ghost use Rattle.qss_rows.specs.Lines.{HasVariable, name_of};
+ghost use Rattle.qss_rows.specs.RowTexts.{HasVariable, name_of};
 
 use crate::record::variable_name;
 use mu_io::Name;

@@ -1,7 +1,7 @@
 //! The line of a row.
 
 ghost use Rattle.std.specs.Prelude.{◌≡◌, IfOk};
-ghost use Rattle.qss_rows.specs.Lines as Spec;
+ghost use Rattle.qss_rows.specs.RowTexts as Spec;
 
 use crate::writer::LineWriter;
 use qss_machine::{Machine, Row};

@@ -3,7 +3,7 @@
 ghost use Rattle.std.specs.Prelude.{◌≡◌, ◌+◌, ◌<◌, [], ◌∷◌, OnOk};
 ghost use Rattle.csv.specs.Writing.{default_writer, row_text, writer_pending};
 ghost use Rattle.qss_machine.specs.Machines.{state_count, discrete_count};
-ghost use Rattle.qss_rows.specs.Lines as Spec;
+ghost use Rattle.qss_rows.specs.RowTexts as Spec;
 ghost use Rattle.qss_rows.specs.Writers.{IsBetween, Gains, given_to};
 
 use csv::{Error, Writer, WriterBuilder};

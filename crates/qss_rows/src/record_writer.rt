@@ -25,7 +25,7 @@ pub(crate) struct RecordWriter {
 impl RecordWriter {
     ghost use Rattle.std.specs.Prelude.{◌≡◌, ◌<◌, ◌++◌, [], ◌∷◌, true, length, OnOk, OnErr};
     ghost use Rattle.csv.specs.Writing.{default_writer, row_text};
-    ghost use Rattle.qss_rows.specs.Held.{records_in};
+    ghost use Rattle.qss_rows.specs.HeldLines.{records_in};
 
     /// Holds no record yet.
     pub(crate) fn new(alloc: Global) -> RecordWriter
@@ -94,7 +94,7 @@ impl RecordWriter {
         ensures ok { OnOk result (records_in self.new ≡ records_in self.old) }
         ensures finished { OnOk result (self.new.is_finished ≡ true) }
         ensures err { OnErr result (records_in self.new ≡ []) }
-        ensures wanted { OnErr result (0 < length (records_in self.old)) }
+        ensures memory_was_needed { OnErr result (0 < length (records_in self.old)) }
     {
         if self.is_finished {
             return Ok(());

@@ -22,9 +22,9 @@ pub struct LineWriter {
 impl LineWriter {
     ghost use Rattle.std.specs.Prelude.{◌≡◌, ◌<◌, ◌++◌, [], ◌∷◌, true, length, OnOk, OnErr};
     ghost use Rattle.csv.specs.Writing.{default_writer, row_text};
-    ghost use Rattle.qss_rows.specs.Held.{lines_in, is_finished};
+    ghost use Rattle.qss_rows.specs.HeldLines.{lines_in, is_finished};
     ghost use Rattle.qss_machine.specs.declared.rows.RowKind.TheVariants as kind;
-    ghost use Rattle.qss_rows.specs.Lines as Spec;
+    ghost use Rattle.qss_rows.specs.RowTexts as Spec;
 
     /// Holds no line yet.
     pub fn new(alloc: Global) -> LineWriter
@@ -119,7 +119,7 @@ impl LineWriter {
         ensures ok { OnOk result (lines_in self.new ≡ lines_in self.old) }
         ensures finished { OnOk result (is_finished self.new ≡ true) }
         ensures err { OnErr result (lines_in self.new ≡ []) }
-        ensures wanted { OnErr result (0 < length (lines_in self.old)) }
+        ensures memory_was_needed { OnErr result (0 < length (lines_in self.old)) }
     {
         self.records.finish()
     }

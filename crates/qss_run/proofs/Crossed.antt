@@ -7,54 +7,54 @@ use Rattle.mu_num.proofs.Tests.{if-true}
 use Rattle.mu_num.specs.Sizes.{IsWithin}
 use Rattle.mu_num.specs.Ticks.{tick_limit}
 use Rattle.qss_machine.specs.declared.system.Machine.{Machine}
-use Rattle.qss_machine.specs.Numbers.{int_at, first_past}
+use Rattle.qss_machine.specs.IndexedSums.{int_at, first_exceeding}
 use Rattle.qss_machine.specs.Machines.{state_count, level_unit, quantum_of, value_of, speed_of, compares, truth}
-use Rattle.qss_machine.specs.Handlers.{Handling, conditions}
+use Rattle.qss_machine.specs.Handlers.{HandlerState, conditions}
 use Rattle.qss_machine.specs.Firing.{flag_at}
-use Rattle.qss_machine.specs.Ticks.{is_near, AreNextLevels}
+use Rattle.qss_machine.specs.Ticks.{is_within_quantum, AreNextLevels}
 use Rattle.qss_quant.specs.declared.rule.Rule.{Rule}
-use Rattle.qss_quant.specs.Lines.{state_at, IsNear}
+use Rattle.qss_quant.specs.IntegratorLines.{state_at, IsLineWithinQuantum}
 use Rattle.qss_cross.specs.Crossing.{IsSmall, value_at, holds_at}
 use Rattle.qss_hand.specs.Values.{Values}
 use Rattle.qss_sched.specs.Ranks.{due_at}
 use Rattle.qss_run.specs.declared.store.Store.{Store}
-use Rattle.qss_lines.specs.StateLines.{states_with, line_at, states_at}
-use Rattle.qss_watch.specs.Handlings.{is_reinitialized, IsHandled, handling_from}
-use Rattle.qss_lines.specs.Visitings.{AreMovedTo}
-use Rattle.qss_quiet.specs.Among.{is_among}
-use Rattle.qss_watch.specs.Moves.{IsWithout}
-use Rattle.qss_watch.specs.Places.{watch_at, IsWatched}
-use Rattle.qss_quiet.specs.Rules.{IsRuled}
-use Rattle.qss_quiet.specs.Sims.{condition_at, IsDue, IsChange, StandsFor, HasNothingBefore, became_true}
-use Rattle.qss_run.specs.Stores.{world_of, IsTaken}
+use Rattle.qss_states.specs.StateLines.{states_with, line_at, states_at}
+use Rattle.qss_run.specs.HandlerResults.{is_reinitialized, IsHandled, handling_from}
+use Rattle.qss_states.specs.EventContexts.{AreMovedTo}
+use Rattle.qss_events.specs.ListedPlaces.{is_listed}
+use Rattle.qss_run.specs.DueLists.{IsWithout}
+use Rattle.qss_run.specs.ConditionPlaces.{watch_at, IsWatched}
+use Rattle.qss_events.specs.AllowedLevels.{IsAllowedLevel}
+use Rattle.qss_events.specs.Schedules.{condition_at, IsDue, IsChange, IsScheduleOf, HasNoEventBefore, became_true}
+use Rattle.qss_run.specs.Stores.{snapshot_of, IsTaken}
 use Rattle.qss_run.proofs.AfterHandlers.{length-states_with, int_at-states_with, other_state}
-use Rattle.qss_watch.proofs.Handled.{over_early}
+use Rattle.qss_run.proofs.Handled.{over_early}
 use Rattle.qss_run.proofs.Jumps.{dues_later}
-use Rattle.qss_quiet.proofs.Quiet.{moved_is}
+use Rattle.qss_events.proofs.Quiet.{moved_is}
 use Rattle.qss_run.proofs.QuietTick.{value_small, condition_bounded}
-use Rattle.qss_run.proofs.QuietVisits.{rest_near, arrived}
+use Rattle.qss_run.proofs.QuietVisits.{rest_near, at_arrival}
 use Rattle.qss_run.proofs.Takes.{not_among}
-use Rattle.qss_quiet.proofs.Silence.{from_later, watch_value_at, flag_still}
+use Rattle.qss_events.proofs.Silence.{from_later, watch_value_at, flag_still}
 use Rattle.qss_run.proofs.Visits.{due_stays}
-use Rattle.qss_quiet.proofs.Writes.{index_of}
-use Rattle.qss_quiet.proofs.NextLevels.{next_is_near}
+use Rattle.qss_events.proofs.Writes.{index_of}
+use Rattle.qss_events.proofs.NextLevels.{next_is_near}
 
 -- where handlers overflow nowhere, no state passed its limit on arrival
-pub none_early : (m : Machine) (tick : ℕ) (x d : List ℤ) (arrived settled : List Bool) → (handling_from m tick x d arrived settled).overflow ≡ None → first_past 88 x ≡ None
-none_early m tick x d arrived settled calm = by (first_past 88 x) refl
+pub none_early : (m : Machine) (tick : ℕ) (x d : List ℤ) (at_arrival after_handlers : List Bool) → (handling_from m tick x d at_arrival after_handlers).overflow ≡ None → first_exceeding 88 x ≡ None
+none_early m tick x d at_arrival after_handlers calm = by (first_exceeding 88 x) refl
   where
-    by : (o : Option ℕ) → first_past 88 x ≡ o → first_past 88 x ≡ None
+    by : (o : Option ℕ) → first_exceeding 88 x ≡ o → first_exceeding 88 x ≡ None
     by None e = e
-    by (Some var) e = let over : Some var ≡ None = over_early m tick x d arrived settled (Some var) refl (sym e) ∙ calm in absurd (cc)
+    by (Some var) e = let over : Some var ≡ None = over_early m tick x d at_arrival after_handlers (Some var) refl (sym e) ∙ calm in absurd (cc)
 
 module _ (m : Machine) (tick : ℕ) (agenda : List (Option ℕ)) (s : Store) (taken : IsTaken m tick agenda s) (in_time : tick < m.last) where
   abbrev before : Store
   before = record s { agenda = agenda }
 
-  for : StandsFor m tick (world_of tick s) (line_at s.lines.items) (watch_at s.conditions.watches.items) (due_at agenda)
+  for : IsScheduleOf m tick (snapshot_of tick s) (line_at s.lines.items) (watch_at s.conditions.watches.items) (due_at agenda)
   for = taken.stands.stands_for
 
-  nothing : HasNothingBefore (tick + 1) (due_at agenda)
+  nothing : HasNoEventBefore (tick + 1) (due_at agenda)
   nothing place t e = omega (arith, dues_later m tick before taken.stands place t e)
 
   in_limit : tick + 1 ≤ tick_limit
@@ -65,10 +65,10 @@ module _ (m : Machine) (tick : ℕ) (agenda : List (Option ℕ)) (s : Store) (ta
 
   -- ---- the agenda
 
-  later_state : (j : ℕ) → j < state_count m → is_among s.moved.items j ≡ false → (u : ℕ) → due_at agenda j ≡ Some u → tick + 1 < u
+  later_state : (j : ℕ) → j < state_count m → is_listed s.moved.items j ≡ false → (u : ℕ) → due_at agenda j ≡ Some u → tick + 1 < u
   later_state j h none u e = later_than j u e (λ q. let some = taken.due.all j h (e ∙ ap (λ n. Some n) q) in absurd (cc))
 
-  later_change : (place : ℕ) → place < length (conditions m) → is_among s.changed.items place ≡ false → (u : ℕ) → due_at agenda (state_count m + place) ≡ Some u → tick + 1 < u
+  later_change : (place : ℕ) → place < length (conditions m) → is_listed s.changed.items place ≡ false → (u : ℕ) → due_at agenda (state_count m + place) ≡ Some u → tick + 1 < u
   later_change place h none u e =
       later_than (state_count m + place) u e (λ q. let some = taken.changing.changing place h (e ∙ ap (λ n. Some n) q) in absurd (cc))
 
@@ -78,14 +78,14 @@ module _ (m : Machine) (tick : ℕ) (agenda : List (Option ℕ)) (s : Store) (ta
     where
       of_state : place < state_count m → tick + 1 < due
       of_state h =
-          elim (cases_Bool (is_among s.moved.items place)) [
+          elim (cases_Bool (is_listed s.moved.items place)) [
             | inl among ↦ let nowhere = taken.without.states place among in absurd (cc)
             | inr none ↦ later_state place h none due (sym (taken.without.other_states place h none) ∙ e)
           ]
 
       of_condition : (k : ℕ) → k < length (conditions m) → due_at s.agenda (state_count m + k) ≡ Some due → tick + 1 < due
       of_condition k h there =
-          elim (cases_Bool (is_among s.changed.items k)) [
+          elim (cases_Bool (is_listed s.changed.items k)) [
             | inl among ↦ let nowhere = taken.without.conditions k among in absurd (cc)
             | inr none ↦ later_change k h none due (sym (taken.without.other_conditions k h none) ∙ there)
           ]
@@ -110,22 +110,22 @@ module _ (m : Machine) (tick : ℕ) (agenda : List (Option ℕ)) (s : Store) (ta
   held_then : (place : ℕ) → place < length (conditions m) →
       value_at (watch_at s.conditions.watches.items place) (tick + 1) ≡ value_of m (condition_at m place).form (states_at s.lines.items (tick + 1)) s.work.d s.work.d (tick + 1)
   held_then place h =
-      watch_value_at m tick (world_of tick s) (line_at s.lines.items) (watch_at s.conditions.watches.items) (due_at agenda) for place 1 h
-      ∙ ap (λ x. value_of m (condition_at m place).form x s.work.d s.work.d (tick + 1)) (sym (arrived m tick agenda s taken in_time ∙ moved_is m (world_of tick s)))
+      watch_value_at m tick (snapshot_of tick s) (line_at s.lines.items) (watch_at s.conditions.watches.items) (due_at agenda) for place 1 h
+      ∙ ap (λ x. value_of m (condition_at m place).form x s.work.d s.work.d (tick + 1)) (sym (at_arrival m tick agenda s taken in_time ∙ moved_is m (snapshot_of tick s)))
 
   -- one that does not change is as after the last handlers
-  pub flag_same : (place : ℕ) → place < length (conditions m) → is_among s.changed.items place ≡ false →
-      truth m (condition_at m place) (states_at s.lines.items (tick + 1)) s.work.d (tick + 1) ≡ flag_at s.conditions.settled.items place
+  pub flag_same : (place : ℕ) → place < length (conditions m) → is_listed s.changed.items place ≡ false →
+      truth m (condition_at m place) (states_at s.lines.items (tick + 1)) s.work.d (tick + 1) ≡ flag_at s.conditions.after_handlers.items place
   flag_same place h none =
-      ap (λ x. truth m (condition_at m place) x s.work.d (tick + 1)) (arrived m tick agenda s taken in_time ∙ moved_is m (world_of tick s))
-      ∙ flag_still m tick (world_of tick s) (line_at s.lines.items) (watch_at s.conditions.watches.items) (due_at agenda) (tick + 1) 1 place for (omega arith) (omega arith) in_limit h (later_change place h none)
+      ap (λ x. truth m (condition_at m place) x s.work.d (tick + 1)) (at_arrival m tick agenda s taken in_time ∙ moved_is m (snapshot_of tick s))
+      ∙ flag_still m tick (snapshot_of tick s) (line_at s.lines.items) (watch_at s.conditions.watches.items) (due_at agenda) (tick + 1) 1 place for (omega arith) (omega arith) in_limit h (later_change place h none)
 
   -- and one that is not looked at did not become true through them
-  pub rest_as_before : (place : ℕ) → place < length (conditions m) → is_among s.changed.items place ≡ false →
-      (truth m (condition_at m place) (states_at s.lines.items (tick + 1)) s.work.d (tick + 1) ≡ flag_at s.conditions.settled.items place) × (became_true s.conditions.arrived.items s.conditions.settled.items place ≡ false)
+  pub rest_as_before : (place : ℕ) → place < length (conditions m) → is_listed s.changed.items place ≡ false →
+      (truth m (condition_at m place) (states_at s.lines.items (tick + 1)) s.work.d (tick + 1) ≡ flag_at s.conditions.after_handlers.items place) × (became_true s.conditions.at_arrival.items s.conditions.after_handlers.items place ≡ false)
   rest_as_before place h none = (
     flag_same place h none,
-    elim (cases_Bool (became_true s.conditions.arrived.items s.conditions.settled.items place)) [
+    elim (cases_Bool (became_true s.conditions.at_arrival.items s.conditions.after_handlers.items place)) [
       | inl risen ↦ (let some = taken.changing.risen place h risen in absurd (cc))
       | inr not ↦ not
     ],
@@ -146,12 +146,12 @@ module _ (m : Machine) (tick : ℕ) (agenda : List (Option ℕ)) (s : Store) (ta
   )
 
   -- one that does not change is watched as before, at the states on arrival
-  pub watched_still : (place : ℕ) → place < length (conditions m) → is_among s.changed.items place ≡ false →
+  pub watched_still : (place : ℕ) → place < length (conditions m) → is_listed s.changed.items place ≡ false →
       IsWatched m (tick + 1) (states_at s.lines.items (tick + 1)) s.work.d s.slopes.items place (watch_at s.conditions.watches.items place) (due_at s.agenda (state_count m + place))
   watched_still place h none =
       let v = for.watches place h in
-      let change : IsChange (tick + 1) (flag_at s.conditions.settled.items place) (watch_at s.conditions.watches.items place) (due_at agenda (state_count m + place)) =
-      from_later (λ t. holds_at (watch_at s.conditions.watches.items place) t ≢ flag_at s.conditions.settled.items place) tick (tick + 1) (due_at agenda (state_count m + place)) (omega arith)
+      let change : IsChange (tick + 1) (flag_at s.conditions.after_handlers.items place) (watch_at s.conditions.watches.items place) (due_at agenda (state_count m + place)) =
+      from_later (λ t. holds_at (watch_at s.conditions.watches.items place) t ≢ flag_at s.conditions.after_handlers.items place) tick (tick + 1) (due_at agenda (state_count m + place)) (omega arith)
       (later_change place h none) (for.changes place h) in
       record {
         not_later = omega (arith, v.not_later);
@@ -159,21 +159,21 @@ module _ (m : Machine) (tick : ℕ) (agenda : List (Option ℕ)) (s : Store) (ta
         own_speed = subst (λ xs. (watch_at s.conditions.watches.items place).speed ≡ speed_of m (condition_at m place).form xs) (sym taken.stands.own_slopes) v.own_speed;
         own_rel = v.own_rel;
         is_change = subst (λ b. IsChange (tick + 1) b (watch_at s.conditions.watches.items place) (due_at s.agenda (state_count m + place))) (sym (flag_same place h none))
-            (subst (IsChange (tick + 1) (flag_at s.conditions.settled.items place) (watch_at s.conditions.watches.items place)) (sym (taken.without.other_conditions place h none)) change);
+            (subst (IsChange (tick + 1) (flag_at s.conditions.after_handlers.items place) (watch_at s.conditions.watches.items place)) (sym (taken.without.other_conditions place h none)) change);
       }
 
   -- ---- after the handlers
 
-  module _ (moved assigned : List ℕ) (new : Values) (h : Handling) (is : IsHandled m (tick + 1) s.lines.items s.moved.items moved assigned s.work new h) where
+  module _ (moved assigned : List ℕ) (new : Values) (h : HandlerState) (is : IsHandled m (tick + 1) s.lines.items s.moved.items moved assigned s.work new h) where
     -- a state that did not move was not due
-    rest : (j : ℕ) → is_among moved j ≡ false → is_among s.moved.items j ≡ false
+    rest : (j : ℕ) → is_listed moved j ≡ false → is_listed s.moved.items j ≡ false
     rest j none =
-        (or_parts (is_among s.moved.items j) (is_reinitialized h.rows j) (sym (is.moves j) ∙ none)).0
+        (or_parts (is_listed s.moved.items j) (is_reinitialized h.rows j) (sym (is.moves j) ∙ none)).0
 
     -- only states are reinitialized
     pub reinits_known : (j : ℕ) → is_reinitialized h.rows j ≡ true → j < state_count m
     reinits_known j e =
-        let found = index_of moved j (is.moves j ∙ or_right (is_among s.moved.items j) (is_reinitialized h.rows j) e) in
+        let found = index_of moved j (is.moves j ∙ or_right (is_listed s.moved.items j) (is_reinitialized h.rows j) e) in
         omega (arith, is.numbers.below found.0 0 found.1, found.2)
 
     line_known : (j : ℕ) → j < state_count m → j < length s.lines.items
@@ -186,26 +186,26 @@ module _ (m : Machine) (tick : ℕ) (agenda : List (Option ℕ)) (s : Store) (ta
           let found = index_of moved j among in
           let inside : j < state_count m = omega (arith, is.numbers.below found.0 0 found.1, found.2) in
           ap (λ xs. int_at xs j) is.own_states ∙ int_at-states_with s.lines.items (tick + 1) moved new.x j (line_known j inside)
-          ∙ if-true (is_among moved j) (int_at new.x j) (state_at (line_at s.lines.items j) (tick + 1)) among;
+          ∙ if-true (is_listed moved j) (int_at new.x j) (state_at (line_at s.lines.items j) (tick + 1)) among;
       near = λ j inside none.
-          subst (λ x. is_near m j x (int_at s.levels.items j) ≡ true)
+          subst (λ x. is_within_quantum m j x (int_at s.levels.items j) ≡ true)
           (sym (ap (λ xs. int_at xs j) is.own_states ∙ other_state s.lines.items (tick + 1) moved new.x j (line_known j inside) none))
           (rest_near m tick agenda s taken in_time j inside (rest j none));
     }
 
-    module _ (name : Option Rule) (levels : List ℤ) (allowed : AreNextLevels (IsRuled name) m h.states s.levels.items levels) where
-      pub near_after : (j : ℕ) → j < state_count m → IsNear (level_unit m) (int_at (states_with s.lines.items (tick + 1) moved new.x) j) (int_at levels j) (quantum_of m j (int_at levels j))
+    module _ (name : Option Rule) (levels : List ℤ) (allowed : AreNextLevels (IsAllowedLevel name) m h.states s.levels.items levels) where
+      pub near_after : (j : ℕ) → j < state_count m → IsLineWithinQuantum (level_unit m) (int_at (states_with s.lines.items (tick + 1) moved new.x) j) (int_at levels j) (quantum_of m j (int_at levels j))
       near_after j inside =
-          subst (λ xs. IsNear (level_unit m) (int_at xs j) (int_at levels j) (quantum_of m j (int_at levels j))) is.own_states
+          subst (λ xs. IsLineWithinQuantum (level_unit m) (int_at xs j) (int_at levels j) (quantum_of m j (int_at levels j))) is.own_states
           (next_is_near name m j (int_at h.states j) (int_at s.levels.items j) (int_at levels j) inside (allowed.each j inside))
 
       -- a line of another state that is at its level keeps its due tick
-      pub due_after : (after : List (Option ℕ)) → IsWithout moved s.agenda after → (j : ℕ) → j < state_count m → is_among moved j ≡ false →
+      pub due_after : (after : List (Option ℕ)) → IsWithout moved s.agenda after → (j : ℕ) → j < state_count m → is_listed moved j ≡ false →
           (line_at s.lines.items j).level ≡ int_at levels j → IsDue m (tick + 1) j (line_at s.lines.items j) (due_at after j)
       due_after after without j inside none own =
           subst (IsDue m (tick + 1) j (line_at s.lines.items j)) (sym (without.others j none ∙ taken.without.other_states j inside (rest j none)))
           (due_stays m tick before taken.stands j (state_at (line_at s.lines.items j) (tick + 1)) (int_at levels j) inside
-          (subst (λ x. IsNear (level_unit m) x (int_at levels j) (quantum_of m j (int_at levels j))) (other_state s.lines.items (tick + 1) moved new.x j (line_known j inside) none)
+          (subst (λ x. IsLineWithinQuantum (level_unit m) x (int_at levels j) (quantum_of m j (int_at levels j))) (other_state s.lines.items (tick + 1) moved new.x j (line_known j inside) none)
           (near_after j inside))
           refl own)
 

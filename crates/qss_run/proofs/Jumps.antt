@@ -7,27 +7,27 @@ use Rattle.std.specs.List.{list_any}
 use Rattle.std.specs.Prelude.{Option, Some, None, if◌then◌else◌}
 use Rattle.mu_num.specs.Ticks.{FirstAfter}
 use Rattle.qss_machine.specs.declared.system.Machine.{Machine}
-use Rattle.qss_machine.specs.Numbers.{int_at, tabulate}
+use Rattle.qss_machine.specs.IndexedSums.{int_at, tabulate}
 use Rattle.qss_machine.specs.Machines.{state_count, slope_at}
-use Rattle.qss_machine.specs.Handlers.{conditions, due_flags}
-use Rattle.qss_machine.specs.Ticks.{World}
+use Rattle.qss_machine.specs.Handlers.{conditions, firing_flags}
+use Rattle.qss_machine.specs.Ticks.{Snapshot}
 use Rattle.qss_quant.specs.declared.rule.Rule.{Rule}
-use Rattle.qss_quant.specs.Lines.{state_at}
+use Rattle.qss_quant.specs.IntegratorLines.{state_at}
 use Rattle.qss_sched.specs.Ranks.{due_at}
 use Rattle.qss_run.specs.declared.store.Store.{Store}
-use Rattle.qss_watch.specs.Moves.{AreAlikeBut}
-use Rattle.qss_lines.specs.StateLines.{line_at, states_at}
-use Rattle.qss_watch.specs.Places.{watch_at}
-use Rattle.qss_watch.specs.PlaceSets.{PlaceList}
-use Rattle.qss_quiet.specs.Sims.{StandsFor, rises}
-use Rattle.qss_quiet.specs.Skips.{states_after, world_after}
-use Rattle.qss_run.specs.Stores.{world_of, FitsMachine, Stands}
-use Rattle.qss_quiet.specs.Silent.{AreSilent}
-use Rattle.qss_watch.proofs.OwnConditions.{arrived_anew}
-use Rattle.qss_quiet.proofs.Quiet.{int_at-tabulate, tabulate-same}
-use Rattle.qss_quiet.proofs.Silence.{line_state_at, none_rises, silence, stands_still}
-use Rattle.qss_quiet.proofs.Silences.{quiet_worlds, quiet_leads, arrived_then}
-use Rattle.qss_quiet.proofs.Skipped.{settled_twice}
+use Rattle.qss_run.specs.DueLists.{AreAlikeBut}
+use Rattle.qss_states.specs.StateLines.{line_at, states_at}
+use Rattle.qss_run.specs.ConditionPlaces.{watch_at}
+use Rattle.qss_run.specs.PlaceSets.{PlaceList}
+use Rattle.qss_events.specs.Schedules.{IsScheduleOf, rises}
+use Rattle.qss_events.specs.EventFreeTicks.{states_after, snapshot_after}
+use Rattle.qss_run.specs.Stores.{snapshot_of, FitsMachine, IsStoreAt}
+use Rattle.qss_events.specs.EventFreeRuns.{AreEventFree}
+use Rattle.qss_run.proofs.OwnConditions.{arrived_anew}
+use Rattle.qss_events.proofs.Quiet.{int_at-tabulate, tabulate-same}
+use Rattle.qss_events.proofs.Silence.{line_state_at, none_rises, silence, stands_still}
+use Rattle.qss_events.proofs.Silences.{quiet_worlds, quiet_leads, arrived_then}
+use Rattle.qss_events.proofs.Skipped.{settled_twice}
 
 later_of : (P : ℕ → Type 0) (from t : ℕ) (found : Option ℕ) → FirstAfter P from found → found ≡ Some t → from < t
 later_of P from t None first e = absurd (cc)
@@ -38,13 +38,13 @@ later_if tick t true e = let same : tick + 1 ≡ t = cc in omega (arith, same)
 later_if tick t false e = absurd (cc)
 
 -- each due tick is later
-pub dues_later : (m : Machine) (tick : ℕ) (s : Store) → Stands m tick s → (place t : ℕ) → due_at s.agenda place ≡ Some t → tick < t
+pub dues_later : (m : Machine) (tick : ℕ) (s : Store) → IsStoreAt m tick s → (place t : ℕ) → due_at s.agenda place ≡ Some t → tick < t
 dues_later m tick s stands place t e = elim (cases_lt place n) [ inl below ↦ later_of _ tick t _ (for.dues place below) e | inr past ↦ beyond past ]
   where
     n : ℕ
     n = state_count m
 
-    for : StandsFor m tick (world_of tick s) (line_at s.lines.items) (watch_at s.conditions.watches.items) (due_at s.agenda)
+    for : IsScheduleOf m tick (snapshot_of tick s) (line_at s.lines.items) (watch_at s.conditions.watches.items) (due_at s.agenda)
     for = stands.stands_for
 
     count : ℕ
@@ -54,7 +54,7 @@ dues_later m tick s stands place t e = elim (cases_lt place n) [ inl below ↦ l
     out_of out = let none : due_at s.agenda place ≡ None = get_or_past s.agenda place None (omega (arith, out, stands.fits.places)) in absurd (cc)
 
     risen : place ≡ n + count → tick < t
-    risen same = later_if tick t (rises (world_of tick s)) (sym for.rising ∙ ap (due_at s.agenda) (sym same) ∙ e)
+    risen same = later_if tick t (rises (snapshot_of tick s)) (sym for.rising ∙ ap (due_at s.agenda) (sym same) ∙ e)
 
     last_place : n ≤ place → count ≤ (place - n) → tick < t
     last_place past over = elim (cases_lt (n + count) place) [ inl out ↦ out_of out | inr within ↦ risen (omega (arith, past, over, within)) ]
@@ -68,38 +68,38 @@ dues_later m tick s stands place t e = elim (cases_lt place n) [ inl below ↦ l
     beyond past = elim (cases_lt (place - n) count) [ inl inside ↦ inner past inside | inr over ↦ last_place past over ]
 
 -- the next visit is later
-pub next_later : (m : Machine) (tick : ℕ) (s : Store) (next last : ℕ) → Stands m tick s → tick < last → next ≤ last →
+pub next_later : (m : Machine) (tick : ℕ) (s : Store) (next last : ℕ) → IsStoreAt m tick s → tick < last → next ≤ last →
     (next < last → (place : ℕ) × (due_at s.agenda place ≡ Some next)) → tick < next
 next_later m tick s next last stands before at_most reached =
     elim (cases_lt next last) [ inl below ↦ dues_later m tick s stands (reached below).0 next (reached below).1 | inr past ↦ omega (arith, before, past) ]
 
 -- the states by then
-states_later : (m : Machine) (tick : ℕ) (s : Store) → Stands m tick s → (k : ℕ) → states_at s.lines.items (tick + k) ≡ states_after m (world_of tick s) k
+states_later : (m : Machine) (tick : ℕ) (s : Store) → IsStoreAt m tick s → (k : ℕ) → states_at s.lines.items (tick + k) ≡ states_after m (snapshot_of tick s) k
 states_later m tick s stands k =
     ap (λ n. tabulate n (λ j. state_at (line_at s.lines.items j) (tick + k))) stands.fits.lines
     ∙ tabulate-same (pos 0) (state_count m) _ _
     (λ j h.
-    line_state_at m tick (world_of tick s) (line_at s.lines.items) (watch_at s.conditions.watches.items) (due_at s.agenda) stands.stands_for j k h
-    ∙ int_at-tabulate (state_count m) (λ i. int_at (world_of tick s).states i +ℤ pos k *ℤ slope_at m i s.levels.items s.work.d) j h)
+    line_state_at m tick (snapshot_of tick s) (line_at s.lines.items) (watch_at s.conditions.watches.items) (due_at s.agenda) stands.stands_for j k h
+    ∙ int_at-tabulate (state_count m) (λ i. int_at (snapshot_of tick s).states i +ℤ pos k *ℤ slope_at m i s.levels.items s.work.d) j h)
 
 -- a store with other truths on arrival
 abbrev pub with_arrived : Store → Vec Bool Global → PlaceList → Store
-with_arrived s arrived apart = record s { conditions = record s.conditions { arrived = arrived; apart = apart } }
+with_arrived s at_arrival apart = record s { conditions = record s.conditions { at_arrival = at_arrival; apart = apart } }
 
-pub world_then : (m : Machine) (tick ticks : ℕ) (s : Store) (arrived : Vec Bool Global) (apart : PlaceList) → Stands m tick s → arrived.items ≡ arrived_then ticks s.conditions.arrived.items s.conditions.settled.items →
-    world_of (tick + ticks) (with_arrived s arrived apart) ≡ world_after m (world_of tick s) ticks
-world_then m tick zero s arrived apart stands is =
+pub world_then : (m : Machine) (tick ticks : ℕ) (s : Store) (at_arrival : Vec Bool Global) (apart : PlaceList) → IsStoreAt m tick s → at_arrival.items ≡ arrived_then ticks s.conditions.at_arrival.items s.conditions.after_handlers.items →
+    snapshot_of (tick + ticks) (with_arrived s at_arrival apart) ≡ snapshot_after m (snapshot_of tick s) ticks
+world_then m tick zero s at_arrival apart stands is =
     let e : tick + 0 ≡ tick = omega arith in
-    ap (λ t. world_of t (with_arrived s arrived apart)) e
-    ∙ ap (λ (a : List Bool). record { states = states_at s.lines.items tick; levels = s.levels.items; discretes = s.work.d; arrived = a; settled = s.conditions.settled.items }) is
-world_then m tick (suc ticks) s arrived apart stands is =
-    ap (λ (x : List ℤ). record { states = x; levels = s.levels.items; discretes = s.work.d; arrived = arrived.items; settled = s.conditions.settled.items }) (states_later m tick s stands (suc ticks))
-    ∙ ap (λ (a : List Bool). record { states = states_after m (world_of tick s) (suc ticks); levels = s.levels.items; discretes = s.work.d; arrived = a; settled = s.conditions.settled.items }) is
+    ap (λ t. snapshot_of t (with_arrived s at_arrival apart)) e
+    ∙ ap (λ (a : List Bool). record { states = states_at s.lines.items tick; levels = s.levels.items; discretes = s.work.d; at_arrival = a; after_handlers = s.conditions.after_handlers.items }) is
+world_then m tick (suc ticks) s at_arrival apart stands is =
+    ap (λ (x : List ℤ). record { states = x; levels = s.levels.items; discretes = s.work.d; at_arrival = at_arrival.items; after_handlers = s.conditions.after_handlers.items }) (states_later m tick s stands (suc ticks))
+    ∙ ap (λ (a : List Bool). record { states = states_after m (snapshot_of tick s) (suc ticks); levels = s.levels.items; discretes = s.work.d; at_arrival = a; after_handlers = s.conditions.after_handlers.items }) is
 
-pub fits_then : (m : Machine) (s : Store) (arrived : Vec Bool Global) (apart : PlaceList) → FitsMachine m s → length arrived.items ≡ length (conditions m) →
-    apart.count ≡ s.conditions.apart.count → FitsMachine m (with_arrived s arrived apart)
-fits_then m s arrived apart fits many count = record {
-  own_conditions = arrived_anew m s.conditions arrived apart fits.own_conditions many count;
+pub fits_then : (m : Machine) (s : Store) (at_arrival : Vec Bool Global) (apart : PlaceList) → FitsMachine m s → length at_arrival.items ≡ length (conditions m) →
+    apart.count ≡ s.conditions.apart.count → FitsMachine m (with_arrived s at_arrival apart)
+fits_then m s at_arrival apart fits many count = record {
+  own_conditions = arrived_anew m s.conditions at_arrival apart fits.own_conditions many count;
   uses = fits.uses;
   lines = fits.lines;
   levels = fits.levels;
@@ -119,52 +119,52 @@ fits_then m s arrived apart fits many count = record {
   };
 }
 
-pub stands_then : (m : Machine) (tick ticks : ℕ) (s : Store) (arrived : Vec Bool Global) (apart : PlaceList) → Stands m tick s → tick + ticks < m.last →
-    ((place t : ℕ) → due_at s.agenda place ≡ Some t → tick + ticks + 1 ≤ t) → arrived.items ≡ arrived_then ticks s.conditions.arrived.items s.conditions.settled.items →
-    apart.count ≡ s.conditions.apart.count → AreAlikeBut apart.places arrived.items s.conditions.settled.items → Stands m (tick + ticks) (with_arrived s arrived apart)
-stands_then m tick ticks s arrived apart stands before nothing is count alike = record {
-  fits = fits_then m s arrived apart stands.fits (ap length is ∙ many ticks) count;
-  stands_for = subst (λ v. StandsFor m (tick + ticks) v (line_at s.lines.items) (watch_at s.conditions.watches.items) (due_at s.agenda)) (sym (world_then m tick ticks s arrived apart stands is)) (still ticks before nothing);
+pub stands_then : (m : Machine) (tick ticks : ℕ) (s : Store) (at_arrival : Vec Bool Global) (apart : PlaceList) → IsStoreAt m tick s → tick + ticks < m.last →
+    ((place t : ℕ) → due_at s.agenda place ≡ Some t → tick + ticks + 1 ≤ t) → at_arrival.items ≡ arrived_then ticks s.conditions.at_arrival.items s.conditions.after_handlers.items →
+    apart.count ≡ s.conditions.apart.count → AreAlikeBut apart.places at_arrival.items s.conditions.after_handlers.items → IsStoreAt m (tick + ticks) (with_arrived s at_arrival apart)
+stands_then m tick ticks s at_arrival apart stands before nothing is count alike = record {
+  fits = fits_then m s at_arrival apart stands.fits (ap length is ∙ many ticks) count;
+  stands_for = subst (λ v. IsScheduleOf m (tick + ticks) v (line_at s.lines.items) (watch_at s.conditions.watches.items) (due_at s.agenda)) (sym (world_then m tick ticks s at_arrival apart stands is)) (still ticks before nothing);
   own_slopes = stands.own_slopes;
   own_weights = stands.own_weights;
   rising = risen ticks before nothing is;
   alike = alike;
 }
   where
-    many : (k : ℕ) → length (arrived_then k s.conditions.arrived.items s.conditions.settled.items) ≡ length (conditions m)
-    many zero = stands.fits.own_conditions.arrived
-    many (suc k) = stands.fits.own_conditions.settled
+    many : (k : ℕ) → length (arrived_then k s.conditions.at_arrival.items s.conditions.after_handlers.items) ≡ length (conditions m)
+    many zero = stands.fits.own_conditions.at_arrival
+    many (suc k) = stands.fits.own_conditions.after_handlers
 
-    w : ℕ → World
-    w t = world_of t (with_arrived s arrived apart)
+    w : ℕ → Snapshot
+    w t = snapshot_of t (with_arrived s at_arrival apart)
 
     -- after a quiet tick no condition has become true through the handlers
     none_risen : (k : ℕ) → tick + suc k < m.last → ((place t : ℕ) → due_at s.agenda place ≡ Some t → tick + suc k + 1 ≤ t) → s.rising ≡ false
     none_risen k before nothing =
         stands.rising
-        ∙ none_rises m tick (world_of tick s) (line_at s.lines.items) (watch_at s.conditions.watches.items) (due_at s.agenda) (tick + suc k) stands.stands_for (omega arith)
+        ∙ none_rises m tick (snapshot_of tick s) (line_at s.lines.items) (watch_at s.conditions.watches.items) (due_at s.agenda) (tick + suc k) stands.stands_for (omega arith)
         (λ t e. omega (arith, nothing _ t e))
 
-    risen : (k : ℕ) → tick + k < m.last → ((place t : ℕ) → due_at s.agenda place ≡ Some t → tick + k + 1 ≤ t) → arrived.items ≡ arrived_then k s.conditions.arrived.items s.conditions.settled.items →
+    risen : (k : ℕ) → tick + k < m.last → ((place t : ℕ) → due_at s.agenda place ≡ Some t → tick + k + 1 ≤ t) → at_arrival.items ≡ arrived_then k s.conditions.at_arrival.items s.conditions.after_handlers.items →
         s.rising ≡ rises (w (tick + k))
-    risen zero before nothing is = stands.rising ∙ ap (λ a. list_any (λ flag. flag) (due_flags s.conditions.settled.items a s.conditions.settled.items)) (sym is)
+    risen zero before nothing is = stands.rising ∙ ap (λ a. list_any (λ flag. flag) (firing_flags s.conditions.after_handlers.items a s.conditions.after_handlers.items)) (sym is)
     risen (suc k) before nothing is =
-        none_risen k before nothing ∙ sym (ap (λ a. list_any (λ flag. flag) (due_flags s.conditions.settled.items a s.conditions.settled.items)) is ∙ settled_twice s.conditions.settled.items)
+        none_risen k before nothing ∙ sym (ap (λ a. list_any (λ flag. flag) (firing_flags s.conditions.after_handlers.items a s.conditions.after_handlers.items)) is ∙ settled_twice s.conditions.after_handlers.items)
 
     still : (k : ℕ) → tick + k < m.last → ((place t : ℕ) → due_at s.agenda place ≡ Some t → tick + k + 1 ≤ t) →
-        StandsFor m (tick + k) (world_after m (world_of tick s) k) (line_at s.lines.items) (watch_at s.conditions.watches.items) (due_at s.agenda)
+        IsScheduleOf m (tick + k) (snapshot_after m (snapshot_of tick s) k) (line_at s.lines.items) (watch_at s.conditions.watches.items) (due_at s.agenda)
     still zero before nothing =
         let e : tick ≡ tick + 0 = omega arith in
-        subst (λ t. StandsFor m t (world_of tick s) (line_at s.lines.items) (watch_at s.conditions.watches.items) (due_at s.agenda)) e stands.stands_for
+        subst (λ t. IsScheduleOf m t (snapshot_of tick s) (line_at s.lines.items) (watch_at s.conditions.watches.items) (due_at s.agenda)) e stands.stands_for
     still (suc k) before nothing =
-        stands_still m tick (world_of tick s) (line_at s.lines.items) (watch_at s.conditions.watches.items) (due_at s.agenda) (tick + suc k) (suc k) stands.stands_for (omega arith)
+        stands_still m tick (snapshot_of tick s) (line_at s.lines.items) (watch_at s.conditions.watches.items) (due_at s.agenda) (tick + suc k) (suc k) stands.stands_for (omega arith)
         (omega (arith, before, m.has_units.last_tick)) (λ place t e. omega (arith, nothing place t e)) (omega arith)
 
-pub silent_then : (Rule : ℤ → ℤ → ℤ → ℤ → Type 0) (m : Machine) (tick ticks : ℕ) (s : Store) → Stands m tick s → tick + ticks < m.last →
+pub silent_then : (Rule : ℤ → ℤ → ℤ → ℤ → Type 0) (m : Machine) (tick ticks : ℕ) (s : Store) → IsStoreAt m tick s → tick + ticks < m.last →
     ((place t : ℕ) → due_at s.agenda place ≡ Some t → tick + ticks + 1 ≤ t) →
-    AreSilent Rule m tick (world_of tick s) (quiet_worlds m (world_of tick s) ticks) (tick + ticks) (world_after m (world_of tick s) ticks)
+    AreEventFree Rule m tick (snapshot_of tick s) (quiet_worlds m (snapshot_of tick s) ticks) (tick + ticks) (snapshot_after m (snapshot_of tick s) ticks)
 silent_then Rule m tick zero s stands before nothing = record { leads = tt; as_many = refl; reached = refl }
 silent_then Rule m tick (suc k) s stands before nothing =
-    let quiet = silence m tick (world_of tick s) (line_at s.lines.items) (watch_at s.conditions.watches.items) (due_at s.agenda) (tick + suc k) stands.stands_for (omega arith)
+    let quiet = silence m tick (snapshot_of tick s) (line_at s.lines.items) (watch_at s.conditions.watches.items) (due_at s.agenda) (tick + suc k) stands.stands_for (omega arith)
     (omega (arith, before, m.has_units.last_tick)) (λ place t e. omega (arith, nothing place t e)) in
-    quiet_leads Rule m tick (world_of tick s) (suc k) stands.stands_for.left quiet.0 (λ t positive below. quiet.1 t positive (omega (arith, below)))
+    quiet_leads Rule m tick (snapshot_of tick s) (suc k) stands.stands_for.left quiet.0 (λ t positive below. quiet.1 t positive (omega (arith, below)))

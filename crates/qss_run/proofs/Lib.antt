@@ -1,12 +1,30 @@
-pub mod Visits
-pub mod Jumps
-pub mod Takes
-pub mod QuietTick
-pub mod QuietVisits
-pub mod Touched
-pub mod Spans
-pub mod NamedTouches
-pub mod Untouched
-pub mod AfterHandlers
-pub mod Crossed
-pub mod Reinits
+mod Visits
+mod Jumps
+mod Takes
+mod QuietTick
+mod QuietVisits
+mod Touched
+mod Spans
+mod NamedTouches
+mod Untouched
+mod AfterHandlers
+mod Crossed
+mod Reinits
+mod Watched
+mod Handled
+mod Branches
+mod Called
+mod PlaceSets
+mod Apart
+mod Speeds
+mod Firings
+mod Reported
+mod Agreeing
+mod Arrived
+mod Rewatching
+mod Settling
+mod Reinitialized
+mod Arrivals
+mod OwnConditions
+mod Sums
+mod Counting

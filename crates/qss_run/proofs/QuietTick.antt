@@ -16,40 +16,40 @@ use Rattle.qss_machine.specs.declared.parts.Entry.{Entry}
 use Rattle.qss_machine.specs.declared.parts.Form.{Form}
 use Rattle.qss_machine.specs.declared.parts.Rel.TheVariants.{Less}
 use Rattle.qss_machine.specs.declared.system.Machine.{Machine}
-use Rattle.qss_machine.specs.Limits.{IsBounded}
-use Rattle.qss_machine.specs.Numbers.{int_at, sum_over, first_past}
+use Rattle.qss_machine.specs.MachineLimits.{IsBounded}
+use Rattle.qss_machine.specs.IndexedSums.{int_at, sum_over, first_exceeding}
 use Rattle.qss_machine.specs.Machines.{state_count, level_unit, value_of, truth, inputs}
-use Rattle.qss_machine.specs.Handlers.{conditions, truths, due_flags}
+use Rattle.qss_machine.specs.Handlers.{conditions, truths, firing_flags}
 use Rattle.qss_machine.specs.Firing.{flag_at}
-use Rattle.qss_machine.specs.Ticks.{World, handling_at, moved_states}
+use Rattle.qss_machine.specs.Ticks.{Snapshot, handlers_at, moved_states}
 use Rattle.qss_machine.proofs.Loops.{product_bound}
 use Rattle.qss_machine.proofs.SumLaws.{weighted_sum-entries}
-use Rattle.qss_quant.specs.Lines.{Line}
+use Rattle.qss_quant.specs.IntegratorLines.{Line}
 use Rattle.qss_cross.specs.Crossing.{Watch, IsSmall, value_at, holds_at}
 use Rattle.qss_sched.specs.Ranks.{due_at}
-use Rattle.qss_watch.specs.declared.conditions.BranchPlace.{BranchPlace}
-use Rattle.qss_watch.specs.Places.{AreBranches, IsWatched}
-use Rattle.qss_quiet.specs.Skips.{NoneRises}
-use Rattle.qss_quiet.specs.Sims.{slopes_of, condition_at, rises, IsChange, StandsFor}
-use Rattle.qss_watch.proofs.Branches.{place_at}
-use Rattle.qss_quiet.proofs.Quiet.{clauses-idle, moved_is}
-use Rattle.qss_quiet.proofs.Flags.{truths_are}
-use Rattle.qss_quiet.proofs.Silence.{from_later, watch_value_at, flag_still}
-use Rattle.qss_quiet.proofs.Skipped.{settled_twice}
+use Rattle.qss_run.specs.declared.conditions.BranchPlace.{BranchPlace}
+use Rattle.qss_run.specs.ConditionPlaces.{AreBranches, IsWatched}
+use Rattle.qss_events.specs.EventFreeTicks.{NoneRises}
+use Rattle.qss_events.specs.Schedules.{slopes_of, condition_at, rises, IsChange, IsScheduleOf}
+use Rattle.qss_run.proofs.Branches.{place_at}
+use Rattle.qss_events.proofs.Quiet.{clauses-idle, moved_is}
+use Rattle.qss_events.proofs.Flags.{truths_are}
+use Rattle.qss_events.proofs.Silence.{from_later, watch_value_at, flag_still}
+use Rattle.qss_events.proofs.Skipped.{settled_twice}
 
 -- no condition changes at the next tick
 abbrev pub NoneChanges : Machine → ℕ → List (Option ℕ) → Type 0
 NoneChanges m tick due = (place later : ℕ) → place < length (conditions m) → due_at due (state_count m + place) ≡ Some later → tick + 1 < later
 
 -- none becomes true through the handlers of a tick that they do nothing at
-pub none_rises_then : (w next : World) → next.arrived ≡ w.settled → next.settled ≡ w.settled → rises next ≡ false
-none_rises_then w next arrived settled =
-    ap (λ a. list_any (λ flag. flag) (due_flags next.settled a next.settled)) arrived
-    ∙ ap (λ a. list_any (λ flag. flag) (due_flags a w.settled a)) settled
-    ∙ settled_twice w.settled
+pub none_rises_then : (w next : Snapshot) → next.at_arrival ≡ w.after_handlers → next.after_handlers ≡ w.after_handlers → rises next ≡ false
+none_rises_then w next at_arrival after_handlers =
+    ap (λ a. list_any (λ flag. flag) (firing_flags next.after_handlers a next.after_handlers)) at_arrival
+    ∙ ap (λ a. list_any (λ flag. flag) (firing_flags a w.after_handlers a)) after_handlers
+    ∙ settled_twice w.after_handlers
 
-module _ (m : Machine) (tick : ℕ) (w : World) (line : ℕ → Line) (watch : ℕ → Watch) (due : List (Option ℕ))
-    (s : StandsFor m tick w line watch (due_at due)) (calm : NoneRises w) (none : NoneChanges m tick due) (in_time : tick + 1 ≤ tick_limit) where
+module _ (m : Machine) (tick : ℕ) (w : Snapshot) (line : ℕ → Line) (watch : ℕ → Watch) (due : List (Option ℕ))
+    (s : IsScheduleOf m tick w line watch (due_at due)) (calm : NoneRises w) (none : NoneChanges m tick due) (in_time : tick + 1 ≤ tick_limit) where
   pub none_risen : due_at due (state_count m + length (conditions m)) ≡ None
   none_risen = s.rising ∙ ap (λ b. if b then Some (tick + 1) else None) calm
 
@@ -57,23 +57,23 @@ module _ (m : Machine) (tick : ℕ) (w : World) (line : ℕ → Line) (watch : �
   value_then place h =
       watch_value_at m tick w line watch (due_at due) s place 1 h ∙ ap (λ x. value_of m (condition_at m place).form x w.discretes w.discretes (tick + 1)) (sym (moved_is m w))
 
-  flag_then : (place : ℕ) → place < length (conditions m) → truth m (condition_at m place) (moved_states m w) w.discretes (tick + 1) ≡ flag_at w.settled place
+  flag_then : (place : ℕ) → place < length (conditions m) → truth m (condition_at m place) (moved_states m w) w.discretes (tick + 1) ≡ flag_at w.after_handlers place
   flag_then place h =
       ap (λ x. truth m (condition_at m place) x w.discretes (tick + 1)) (moved_is m w)
       ∙ flag_still m tick w line watch (due_at due) (tick + 1) 1 place s (omega arith) (omega arith) in_time h (λ later e. none place later h e)
 
   -- the conditions are as after the last handlers
-  pub quiet_truths : truths m (moved_states m w) w.discretes (tick + 1) ≡ w.settled
+  pub quiet_truths : truths m (moved_states m w) w.discretes (tick + 1) ≡ w.after_handlers
   quiet_truths =
-      sym (truths_are m (moved_states m w) w.discretes (tick + 1) w.settled (ap length s.settled ∙ length-map (conditions m) (λ c. truth m c w.states w.discretes tick))
+      sym (truths_are m (moved_states m w) w.discretes (tick + 1) w.after_handlers (ap length s.after_handlers ∙ length-map (conditions m) (λ c. truth m c w.states w.discretes tick))
       (λ place h. sym (flag_then place h)))
 
   -- the handlers do nothing
-  pub only_moves : handling_at m (tick + 1) w ≡ record { states = moved_states m w; discretes = w.discretes; rows = []; overflow = first_past 88 (moved_states m w) }
+  pub only_moves : handlers_at m (tick + 1) w ≡ record { states = moved_states m w; discretes = w.discretes; rows = []; overflow = first_exceeding 88 (moved_states m w) }
   only_moves =
-      let idle : list_any (λ flag. flag) (due_flags (truths m (moved_states m w) w.discretes (tick + 1)) w.arrived w.settled) ≡ false =
-      subst (λ now. list_any (λ flag. flag) (due_flags now w.arrived w.settled) ≡ false) (sym quiet_truths) calm in
-      clauses-idle m (tick + 1) w.discretes 0 (record { states = moved_states m w; discretes = w.discretes; rows = []; overflow = first_past 88 (moved_states m w) }) m.clauses _ idle
+      let idle : list_any (λ flag. flag) (firing_flags (truths m (moved_states m w) w.discretes (tick + 1)) w.at_arrival w.after_handlers) ≡ false =
+      subst (λ now. list_any (λ flag. flag) (firing_flags now w.at_arrival w.after_handlers) ≡ false) (sym quiet_truths) calm in
+      clauses-idle m (tick + 1) w.discretes 0 (record { states = moved_states m w; discretes = w.discretes; rows = []; overflow = first_exceeding 88 (moved_states m w) }) m.clauses _ idle
 
   -- each condition is still watched
   pub watched_then : (place : ℕ) → place < length (conditions m) → IsWatched m (tick + 1) (moved_states m w) w.discretes (slopes_of m w) place (watch place) (due_at due (state_count m + place))
@@ -85,7 +85,7 @@ module _ (m : Machine) (tick : ℕ) (w : World) (line : ℕ → Line) (watch : �
         own_speed = v.own_speed;
         own_rel = v.own_rel;
         is_change = subst (λ b. IsChange (tick + 1) b (watch place) (due_at due (state_count m + place))) (sym (flag_then place h))
-            (from_later (λ t. holds_at (watch place) t ≢ flag_at w.settled place) tick (tick + 1) (due_at due (state_count m + place)) (omega arith)
+            (from_later (λ t. holds_at (watch place) t ≢ flag_at w.after_handlers place) tick (tick + 1) (due_at due (state_count m + place)) (omega arith)
             (λ later e. none place later h e) (s.changes place h));
       }
 

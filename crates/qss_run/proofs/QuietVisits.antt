@@ -8,68 +8,68 @@ use Rattle.std.specs.Prelude.{Option, Some, None, position, if◌then◌else◌}
 use Rattle.mu_num.specs.Sizes.{IsWithin}
 use Rattle.mu_num.specs.Ticks.{tick_limit}
 use Rattle.qss_machine.specs.declared.system.Machine.{Machine}
-use Rattle.qss_machine.specs.Numbers.{int_at, tabulate, first_past}
+use Rattle.qss_machine.specs.IndexedSums.{int_at, tabulate, first_exceeding}
 use Rattle.qss_machine.specs.Machines.{state_count, level_unit, slope_at, quantum_of, row_at}
-use Rattle.qss_machine.specs.Handlers.{Handling, conditions, truths}
-use Rattle.qss_machine.specs.Ticks.{World, moved_states, handling_at, is_near, is_overweight, AreNextLevels, world_unless, settle, Step}
+use Rattle.qss_machine.specs.Handlers.{HandlerState, conditions, truths}
+use Rattle.qss_machine.specs.Ticks.{Snapshot, moved_states, handlers_at, is_within_quantum, exceeds_row_limits, AreNextLevels, snapshot_unless, finish_tick, IsStep}
 use Rattle.qss_machine.specs.Runs.{level_rows, tick_rows}
 use Rattle.qss_quant.specs.declared.rule.Rule.{Rule}
-use Rattle.qss_quant.specs.Lines.{state_at, IsNear}
+use Rattle.qss_quant.specs.IntegratorLines.{state_at, IsLineWithinQuantum}
 use Rattle.qss_sched.specs.Ranks.{due_at}
-use Rattle.qss_lines.specs.RowSums.{AreSumsBefore}
-use Rattle.qss_lines.specs.declared.shifts.RowSum.TheVariants.{Slope}
+use Rattle.qss_states.specs.RowSums.{AreSumsBefore}
+use Rattle.qss_states.specs.declared.sum_changes.RowSum.TheVariants.{Slope}
 use Rattle.qss_run.specs.declared.store.Store.{Store}
-use Rattle.qss_quiet.specs.Among.{is_among, IsOff}
-use Rattle.qss_quiet.specs.Skips.{NoneRises}
-use Rattle.qss_lines.specs.StateLines.{line_at, states_at, AreLinesAt}
-use Rattle.qss_watch.specs.Places.{watch_at, IsWatched}
-use Rattle.qss_quiet.specs.Rules.{IsRuled}
-use Rattle.qss_quiet.specs.Sims.{IsDue, StandsFor, HasNothingBefore, became_true}
-use Rattle.qss_lines.specs.Variables.{reads_moved}
-use Rattle.qss_run.specs.Stores.{world_of, IsTaken}
-use Rattle.qss_lines.specs.Visitings.{HasLeft}
-use Rattle.qss_quiet.proofs.Quiet.{int_at-tabulate}
-use Rattle.qss_quiet.proofs.Overs.{all_within}
-use Rattle.qss_quiet.proofs.Silence.{line_state_at, still_near}
-use Rattle.qss_quiet.proofs.NextVisit.{only_due_states_pass}
+use Rattle.qss_events.specs.ListedPlaces.{is_listed, DiffersOnlyAt}
+use Rattle.qss_events.specs.EventFreeTicks.{NoneRises}
+use Rattle.qss_states.specs.StateLines.{line_at, states_at, AreLinesAt}
+use Rattle.qss_run.specs.ConditionPlaces.{watch_at, IsWatched}
+use Rattle.qss_events.specs.AllowedLevels.{IsAllowedLevel}
+use Rattle.qss_events.specs.Schedules.{IsDue, IsScheduleOf, HasNoEventBefore, became_true}
+use Rattle.qss_states.specs.Variables.{reads_moved}
+use Rattle.qss_run.specs.Stores.{snapshot_of, IsTaken}
+use Rattle.qss_states.specs.EventContexts.{HasLeft}
+use Rattle.qss_events.proofs.Quiet.{int_at-tabulate}
+use Rattle.qss_events.proofs.Overs.{all_within}
+use Rattle.qss_events.proofs.Silence.{line_state_at, still_near}
+use Rattle.qss_events.proofs.NextVisit.{only_due_states_pass}
 use Rattle.qss_run.proofs.Jumps.{dues_later}
 use Rattle.qss_run.proofs.QuietTick.{NoneChanges, only_moves, quiet_truths, watched_then}
-use Rattle.qss_quiet.proofs.Writes.{index_of}
-use Rattle.qss_quiet.proofs.Unread.{unread_at, unread_slope}
-use Rattle.qss_quiet.proofs.NextLevels.{next_is_near}
-use Rattle.qss_quiet.proofs.Risen.{none_due}
+use Rattle.qss_events.proofs.Writes.{index_of}
+use Rattle.qss_events.proofs.Unread.{unread_at, unread_slope}
+use Rattle.qss_events.proofs.NextLevels.{next_is_near}
+use Rattle.qss_events.proofs.Risen.{none_due}
 use Rattle.qss_run.proofs.Visits.{arrives, due_stays, end_of}
 
 -- a step, where its overflow is known, and without one the world
-pub steps_or : (Rule : ℤ → ℤ → ℤ → ℤ → Type 0) (m : Machine) (tick : ℕ) (w next : World) (h : Handling) (levels : List ℤ) (o : Option ℕ) →
-    h ≡ handling_at m tick w → (h.overflow ≡ None → AreNextLevels Rule m h.states w.levels levels) →
-    o ≡ option_or h.overflow (option_or (first_past 43 levels) (position (is_overweight m levels h.discretes) m.rows)) →
-    (o ≡ None → next ≡ end_of m tick w h levels) → Step Rule m tick w (world_unless o next)
+pub steps_or : (Rule : ℤ → ℤ → ℤ → ℤ → Type 0) (m : Machine) (tick : ℕ) (w next : Snapshot) (h : HandlerState) (levels : List ℤ) (o : Option ℕ) →
+    h ≡ handlers_at m tick w → (h.overflow ≡ None → AreNextLevels Rule m h.states w.levels levels) →
+    o ≡ option_or h.overflow (option_or (first_exceeding 43 levels) (position (exceeds_row_limits m levels h.discretes) m.rows)) →
+    (o ≡ None → next ≡ end_of m tick w h levels) → IsStep Rule m tick w (snapshot_unless o next)
 steps_or Rule m tick w next h levels o is allowed over end =
-    subst (λ (g : Handling). (levels : List ℤ) × (g.overflow ≡ None → AreNextLevels Rule m g.states w.levels levels) × (world_unless o next ≡ settle m tick w g levels)) is (
+    subst (λ (g : HandlerState). (levels : List ℤ) × (g.overflow ≡ None → AreNextLevels Rule m g.states w.levels levels) × (snapshot_unless o next ≡ finish_tick m tick w g levels)) is (
       levels,
       allowed,
-      reached o refl ∙ ap (λ p. world_unless p (end_of m tick w h levels)) over,
+      reached o refl ∙ ap (λ p. snapshot_unless p (end_of m tick w h levels)) over,
     )
   where
-    reached : (p : Option ℕ) → o ≡ p → world_unless o next ≡ world_unless o (end_of m tick w h levels)
-    reached None e = ap (world_unless o) (end e)
-    reached (Some var) e = ap (λ p. world_unless p next) e ∙ sym (ap (λ p. world_unless p (end_of m tick w h levels)) e)
+    reached : (p : Option ℕ) → o ≡ p → snapshot_unless o next ≡ snapshot_unless o (end_of m tick w h levels)
+    reached None e = ap (snapshot_unless o) (end e)
+    reached (Some var) e = ap (λ p. snapshot_unless p next) e ∙ sym (ap (λ p. snapshot_unless p (end_of m tick w h levels)) e)
 
 module _ (m : Machine) (tick : ℕ) (agenda : List (Option ℕ)) (s : Store) (taken : IsTaken m tick agenda s) (in_time : tick < m.last) where
   abbrev before : Store
   before = record s { agenda = agenda }
 
-  for : StandsFor m tick (world_of tick s) (line_at s.lines.items) (watch_at s.conditions.watches.items) (due_at agenda)
+  for : IsScheduleOf m tick (snapshot_of tick s) (line_at s.lines.items) (watch_at s.conditions.watches.items) (due_at agenda)
   for = taken.stands.stands_for
 
-  nothing : HasNothingBefore (tick + 1) (due_at agenda)
+  nothing : HasNoEventBefore (tick + 1) (due_at agenda)
   nothing place t e = omega (arith, dues_later m tick before taken.stands place t e)
 
-  not_due : (j : ℕ) → j < state_count m → is_among s.moved.items j ≡ false → due_at agenda j ≢ Some (tick + 1)
+  not_due : (j : ℕ) → j < state_count m → is_listed s.moved.items j ≡ false → due_at agenda j ≢ Some (tick + 1)
   not_due j h none e = let some = taken.due.all j h e in absurd (cc)
 
-  later_due : (j : ℕ) → j < state_count m → is_among s.moved.items j ≡ false → (u : ℕ) → due_at agenda j ≡ Some u → tick + 1 < u
+  later_due : (j : ℕ) → j < state_count m → is_listed s.moved.items j ≡ false → (u : ℕ) → due_at agenda j ≡ Some u → tick + 1 < u
   later_due j h none u e =
       let ne : u ≢ tick + 1 = λ q. not_due j h none (e ∙ ap (λ n. Some n) q) in
       omega (arith, nothing j u e, ne)
@@ -82,19 +82,19 @@ module _ (m : Machine) (tick : ℕ) (agenda : List (Option ℕ)) (s : Store) (ta
   leads j h = int_at-tabulate (length s.lines.items) (λ i. state_at (line_at s.lines.items i) (tick + 1)) j (omega (arith, h, taken.stands.fits.lines))
 
   -- states that were not due are within the limit on arrival, and near their levels
-  pub rest_small : (j : ℕ) → j < state_count m → is_among s.moved.items j ≡ false → IsWithin 88 (state_at (line_at s.lines.items j) (tick + 1))
+  pub rest_small : (j : ℕ) → j < state_count m → is_listed s.moved.items j ≡ false → IsWithin 88 (state_at (line_at s.lines.items j) (tick + 1))
   rest_small j h none =
-      subst (IsWithin 88) (sym (line_state_at m tick (world_of tick s) (line_at s.lines.items) (watch_at s.conditions.watches.items) (due_at agenda) for j 1 h))
-      (only_due_states_pass m tick (world_of tick s) (line_at s.lines.items) (watch_at s.conditions.watches.items) (due_at agenda) (tick + 1) 1 j for (omega arith) (omega arith) (omega (arith, in_time)) nothing h
+      subst (IsWithin 88) (sym (line_state_at m tick (snapshot_of tick s) (line_at s.lines.items) (watch_at s.conditions.watches.items) (due_at agenda) for j 1 h))
+      (only_due_states_pass m tick (snapshot_of tick s) (line_at s.lines.items) (watch_at s.conditions.watches.items) (due_at agenda) (tick + 1) 1 j for (omega arith) (omega arith) (omega (arith, in_time)) nothing h
       (not_due j h none))
 
-  pub rest_near : (j : ℕ) → j < state_count m → is_among s.moved.items j ≡ false → is_near m j (state_at (line_at s.lines.items j) (tick + 1)) (int_at s.levels.items j) ≡ true
+  pub rest_near : (j : ℕ) → j < state_count m → is_listed s.moved.items j ≡ false → is_within_quantum m j (state_at (line_at s.lines.items j) (tick + 1)) (int_at s.levels.items j) ≡ true
   rest_near j h none =
-      subst (λ x. is_near m j x (int_at s.levels.items j) ≡ true) (sym (line_state_at m tick (world_of tick s) (line_at s.lines.items) (watch_at s.conditions.watches.items) (due_at agenda) for j 1 h))
-      (still_near m tick (world_of tick s) (line_at s.lines.items) (watch_at s.conditions.watches.items) (due_at agenda) (tick + 1) 1 j for (omega arith) (omega arith) in_limit h (later_due j h none))
+      subst (λ x. is_within_quantum m j x (int_at s.levels.items j) ≡ true) (sym (line_state_at m tick (snapshot_of tick s) (line_at s.lines.items) (watch_at s.conditions.watches.items) (due_at agenda) for j 1 h))
+      (still_near m tick (snapshot_of tick s) (line_at s.lines.items) (watch_at s.conditions.watches.items) (due_at agenda) (tick + 1) 1 j for (omega arith) (omega arith) in_limit h (later_due j h none))
 
   -- a due state left the quantum of its level
-  pub due_left : (j : ℕ) → is_among s.moved.items j ≡ true → HasLeft m j (state_at (line_at s.lines.items j) (tick + 1)) (int_at s.levels.items j)
+  pub due_left : (j : ℕ) → is_listed s.moved.items j ≡ true → HasLeft m j (state_at (line_at s.lines.items j) (tick + 1)) (int_at s.levels.items j)
   due_left j among =
       let found = index_of s.moved.items j among in
       let inside : j < state_count m = omega (arith, found.2, taken.due.numbers.below found.0 0 found.1) in
@@ -111,7 +111,7 @@ module _ (m : Machine) (tick : ℕ) (agenda : List (Option ℕ)) (s : Store) (ta
       ∙ sym (ap (λ xs. int_at xs j) taken.stands.own_slopes ∙ int_at-tabulate (state_count m) (λ i. slope_at m i s.levels.items s.work.d) j h)
 
   -- where no state passes its limit on arrival, the lines are at the next tick
-  pub lines_then : first_past 88 (states_at s.lines.items (tick + 1)) ≡ None → AreLinesAt m (tick + 1) s.lines.items
+  pub lines_then : first_exceeding 88 (states_at s.lines.items (tick + 1)) ≡ None → AreLinesAt m (tick + 1) s.lines.items
   lines_then none = record {
     up_to = record {
       as_many = taken.stands.fits.lines;
@@ -121,37 +121,37 @@ module _ (m : Machine) (tick : ℕ) (agenda : List (Option ℕ)) (s : Store) (ta
     small = all_within 88 (states_at s.lines.items (tick + 1)) none;
   }
 
-  pub arrived : states_at s.lines.items (tick + 1) ≡ moved_states m (world_of tick s)
-  arrived = arrives m tick before taken.stands
+  pub at_arrival : states_at s.lines.items (tick + 1) ≡ moved_states m (snapshot_of tick s)
+  at_arrival = arrives m tick before taken.stands
 
   -- ---- with new levels
 
-  module _ (name : Option Rule) (levels : List ℤ) (allowed : AreNextLevels (IsRuled name) m (states_at s.lines.items (tick + 1)) s.levels.items levels) where
-    pub near_on_arrival : (j : ℕ) → j < state_count m → IsNear (level_unit m) (int_at (states_at s.lines.items (tick + 1)) j) (int_at levels j) (quantum_of m j (int_at levels j))
+  module _ (name : Option Rule) (levels : List ℤ) (allowed : AreNextLevels (IsAllowedLevel name) m (states_at s.lines.items (tick + 1)) s.levels.items levels) where
+    pub near_on_arrival : (j : ℕ) → j < state_count m → IsLineWithinQuantum (level_unit m) (int_at (states_at s.lines.items (tick + 1)) j) (int_at levels j) (quantum_of m j (int_at levels j))
     near_on_arrival j h = next_is_near name m j (int_at (states_at s.lines.items (tick + 1)) j) (int_at s.levels.items j) (int_at levels j) h (allowed.each j h)
 
-    near : (j : ℕ) → j < state_count m → IsNear (level_unit m) (state_at (line_at s.lines.items j) (tick + 1)) (int_at levels j) (quantum_of m j (int_at levels j))
-    near j h = subst (λ x. IsNear (level_unit m) x (int_at levels j) (quantum_of m j (int_at levels j))) (leads j h) (near_on_arrival j h)
+    near : (j : ℕ) → j < state_count m → IsLineWithinQuantum (level_unit m) (state_at (line_at s.lines.items j) (tick + 1)) (int_at levels j) (quantum_of m j (int_at levels j))
+    near j h = subst (λ x. IsLineWithinQuantum (level_unit m) x (int_at levels j) (quantum_of m j (int_at levels j))) (leads j h) (near_on_arrival j h)
 
     -- a moved state takes another level, since it left the quantum of the old one
-    pub moved_changes : (j : ℕ) → is_among s.moved.items j ≡ true → int_at levels j ≢ int_at s.levels.items j
+    pub moved_changes : (j : ℕ) → is_listed s.moved.items j ≡ true → int_at levels j ≢ int_at s.levels.items j
     moved_changes j among same =
         let found = index_of s.moved.items j among in
         let inside : j < state_count m = omega (arith, found.2, taken.due.numbers.below found.0 0 found.1) in
         let left = due_left j among in
-        let still : IsNear (level_unit m) (state_at (line_at s.lines.items j) (tick + 1)) (int_at s.levels.items j) (quantum_of m j (int_at s.levels.items j)) =
-        subst (λ l. IsNear (level_unit m) (state_at (line_at s.lines.items j) (tick + 1)) l (quantum_of m j l)) same (near j inside) in
+        let still : IsLineWithinQuantum (level_unit m) (state_at (line_at s.lines.items j) (tick + 1)) (int_at s.levels.items j) (quantum_of m j (int_at s.levels.items j)) =
+        subst (λ l. IsLineWithinQuantum (level_unit m) (state_at (line_at s.lines.items j) (tick + 1)) l (quantum_of m j l)) same (near j inside) in
         omega (arith, ints, left, still)
 
     -- a line of a state that was not due keeps its due tick where its level stays
-    pub kept_due : (j : ℕ) → j < state_count m → is_among s.moved.items j ≡ false → (line_at s.lines.items j).level ≡ int_at levels j →
+    pub kept_due : (j : ℕ) → j < state_count m → is_listed s.moved.items j ≡ false → (line_at s.lines.items j).level ≡ int_at levels j →
         IsDue m (tick + 1) j (line_at s.lines.items j) (due_at s.agenda j)
     kept_due j h none own =
         subst (IsDue m (tick + 1) j (line_at s.lines.items j)) (sym (taken.without.other_states j h none))
         (due_stays m tick before taken.stands j (state_at (line_at s.lines.items j) (tick + 1)) (int_at levels j) h (near j h) refl own)
 
   -- the slopes and the lines are those at the levels before the moved states took theirs
-  pub levels_before : (moved : List ℕ) (levels : List ℤ) → IsOff moved s.levels.items levels → AreSumsBefore Slope m moved levels s.work.d s.slopes.items s.lines.items s.levels.items
+  pub levels_before : (moved : List ℕ) (levels : List ℤ) → DiffersOnlyAt moved s.levels.items levels → AreSumsBefore Slope m moved levels s.work.d s.slopes.items s.lines.items s.levels.items
   levels_before moved levels off = record {
     levels = record {
       off = off;
@@ -169,8 +169,8 @@ module _ (m : Machine) (tick : ℕ) (agenda : List (Option ℕ)) (s : Store) (ta
   -- ---- where no condition changes
 
   module _ (none : s.changed.items ≡ []) where
-    unchanged : (place : ℕ) → is_among s.changed.items place ≡ false
-    unchanged place = ap (λ l. is_among l place) none
+    unchanged : (place : ℕ) → is_listed s.changed.items place ≡ false
+    unchanged place = ap (λ l. is_listed l place) none
 
     none_changes : NoneChanges m tick agenda
     none_changes place t h e =
@@ -179,11 +179,11 @@ module _ (m : Machine) (tick : ℕ) (agenda : List (Option ℕ)) (s : Store) (ta
         absurd (cc) in
         omega (arith, nothing (state_count m + place) t e, ne)
 
-    none_rises : NoneRises (world_of tick s)
-    none_rises = none_due s.conditions.arrived.items s.conditions.settled.items (taken.stands.fits.own_conditions.arrived ∙ sym taken.stands.fits.own_conditions.settled) (λ place h.
-        elim (cases_Bool (became_true s.conditions.arrived.items s.conditions.settled.items place)) [
+    none_rises : NoneRises (snapshot_of tick s)
+    none_rises = none_due s.conditions.at_arrival.items s.conditions.after_handlers.items (taken.stands.fits.own_conditions.at_arrival ∙ sym taken.stands.fits.own_conditions.after_handlers) (λ place h.
+        elim (cases_Bool (became_true s.conditions.at_arrival.items s.conditions.after_handlers.items place)) [
           | inl risen ↦
-              let among : true ≡ false = sym (taken.changing.risen place (omega (arith, h, taken.stands.fits.own_conditions.settled)) risen) ∙ unchanged place in
+              let among : true ≡ false = sym (taken.changing.risen place (omega (arith, h, taken.stands.fits.own_conditions.after_handlers)) risen) ∙ unchanged place in
               absurd (cc)
           | inr not ↦ not
         ])
@@ -192,26 +192,26 @@ module _ (m : Machine) (tick : ℕ) (agenda : List (Option ℕ)) (s : Store) (ta
     beyond place h = taken.without.other_conditions place h (unchanged place)
 
     -- the handlers only see the states on arrival
-    pub handled : handling_at m (tick + 1) (world_of tick s)
-        ≡ record { states = states_at s.lines.items (tick + 1); discretes = s.work.d; rows = []; overflow = first_past 88 (states_at s.lines.items (tick + 1)) }
+    pub handled : handlers_at m (tick + 1) (snapshot_of tick s)
+        ≡ record { states = states_at s.lines.items (tick + 1); discretes = s.work.d; rows = []; overflow = first_exceeding 88 (states_at s.lines.items (tick + 1)) }
     handled =
-        only_moves m tick (world_of tick s) (line_at s.lines.items) (watch_at s.conditions.watches.items) agenda for none_rises none_changes in_limit
-        ∙ ap (λ (x : List ℤ). record { states = x; discretes = s.work.d; rows = []; overflow = first_past 88 x }) (sym arrived)
+        only_moves m tick (snapshot_of tick s) (line_at s.lines.items) (watch_at s.conditions.watches.items) agenda for none_rises none_changes in_limit
+        ∙ ap (λ (x : List ℤ). record { states = x; discretes = s.work.d; rows = []; overflow = first_exceeding 88 x }) (sym at_arrival)
 
     -- the conditions are as after the last handlers
-    pub same_truths : s.conditions.settled.items ≡ truths m (states_at s.lines.items (tick + 1)) s.work.d (tick + 1)
+    pub same_truths : s.conditions.after_handlers.items ≡ truths m (states_at s.lines.items (tick + 1)) s.work.d (tick + 1)
     same_truths =
-        sym (quiet_truths m tick (world_of tick s) (line_at s.lines.items) (watch_at s.conditions.watches.items) agenda for none_rises none_changes in_limit)
-        ∙ ap (λ x. truths m x s.work.d (tick + 1)) (sym arrived)
+        sym (quiet_truths m tick (snapshot_of tick s) (line_at s.lines.items) (watch_at s.conditions.watches.items) agenda for none_rises none_changes in_limit)
+        ∙ ap (λ x. truths m x s.work.d (tick + 1)) (sym at_arrival)
 
     -- they are watched as before, at the states on arrival
     pub watched : (place : ℕ) → place < length (conditions m) →
         IsWatched m (tick + 1) (states_at s.lines.items (tick + 1)) s.work.d s.slopes.items place (watch_at s.conditions.watches.items place) (due_at s.agenda (state_count m + place))
     watched place h =
         subst (IsWatched m (tick + 1) (states_at s.lines.items (tick + 1)) s.work.d s.slopes.items place (watch_at s.conditions.watches.items place)) (sym (beyond place h))
-        (subst (λ x. IsWatched m (tick + 1) x s.work.d s.slopes.items place (watch_at s.conditions.watches.items place) (due_at agenda (state_count m + place))) (sym arrived)
-        (subst (λ v. IsWatched m (tick + 1) (moved_states m (world_of tick s)) s.work.d v place (watch_at s.conditions.watches.items place) (due_at agenda (state_count m + place))) (sym taken.stands.own_slopes)
-        (watched_then m tick (world_of tick s) (line_at s.lines.items) (watch_at s.conditions.watches.items) agenda for none_rises none_changes in_limit place h)))
+        (subst (λ x. IsWatched m (tick + 1) x s.work.d s.slopes.items place (watch_at s.conditions.watches.items place) (due_at agenda (state_count m + place))) (sym at_arrival)
+        (subst (λ v. IsWatched m (tick + 1) (moved_states m (snapshot_of tick s)) s.work.d v place (watch_at s.conditions.watches.items place) (due_at agenda (state_count m + place))) (sym taken.stands.own_slopes)
+        (watched_then m tick (snapshot_of tick s) (line_at s.lines.items) (watch_at s.conditions.watches.items) agenda for none_rises none_changes in_limit place h)))
 
     -- and none became true through the handlers
     pub not_rising : s.rising ≡ false
@@ -225,11 +225,11 @@ module _ (m : Machine) (tick : ℕ) (agenda : List (Option ℕ)) (s : Store) (ta
         ∙ sym (ap (λ b. if b then Some ((tick + 1) + 1) else None) not_rising)
 
     -- the rows of the tick
-    pub rows_then : (next : World) → tick_rows m (tick + 1) (world_of tick s) next ≡ level_rows (tick + 1) s.levels.items next.levels next.states
-    rows_then next = ap (λ (h : Handling). h.rows ++ level_rows (tick + 1) s.levels.items next.levels next.states) handled
+    pub rows_then : (next : Snapshot) → tick_rows m (tick + 1) (snapshot_of tick s) next ≡ level_rows (tick + 1) s.levels.items next.levels next.states
+    rows_then next = ap (λ (h : HandlerState). h.rows ++ level_rows (tick + 1) s.levels.items next.levels next.states) handled
 
 -- where a row reads no moved state its slope stays
-pub slopes_stay : (m : Machine) (moved : List ℕ) (old levels d before slopes : List ℤ) → IsOff moved old levels → before ≡ tabulate (state_count m) (λ j. slope_at m j old d) →
+pub slopes_stay : (m : Machine) (moved : List ℕ) (old levels d before slopes : List ℤ) → DiffersOnlyAt moved old levels → before ≡ tabulate (state_count m) (λ j. slope_at m j old d) →
     slopes ≡ tabulate (state_count m) (λ j. slope_at m j levels d) → (j : ℕ) → j < state_count m → reads_moved m moved j ≡ false → int_at slopes j ≡ int_at before j
 slopes_stay m moved old levels d before slopes off was is j h unread =
     ap (λ xs. int_at xs j) is

@@ -7,21 +7,21 @@ use Rattle.std.specs.Prelude.{Option, Some, None, vec_capacity, if◌then◌else
 use Rattle.qss_machine.specs.declared.system.Machine.{Machine}
 use Rattle.qss_machine.specs.Machines.{state_count}
 use Rattle.qss_machine.specs.Handlers.{conditions}
-use Rattle.qss_machine.specs.Ticks.{World}
+use Rattle.qss_machine.specs.Ticks.{Snapshot}
 use Rattle.qss_sched.specs.Ranks.{due_at}
-use Rattle.qss_quiet.specs.Among.{is_among, AreNumbers}
-use Rattle.qss_quiet.specs.Sims.{became_true}
-use Rattle.qss_watch.specs.Moves.{AreDue, AreChanging, AreLookedAt, IsCalled, IsWithout, IsTakenAfter, IsTakenOut}
+use Rattle.qss_events.specs.ListedPlaces.{is_listed, AreRisingBelow}
+use Rattle.qss_events.specs.Schedules.{became_true}
+use Rattle.qss_run.specs.DueLists.{AreDue, AreChanging, AreLookedAt, AreRisenDue, IsWithout, IsTakenAfter, IsTakenOut}
 use Rattle.qss_run.specs.declared.store.Store.{Store}
-use Rattle.qss_run.specs.Stores.{world_of, Stands, IsTaken}
+use Rattle.qss_run.specs.Stores.{snapshot_of, IsStoreAt, IsTaken}
 use Rattle.qss_run.proofs.Visits.{stands_with}
-use Rattle.qss_quiet.proofs.Writes.{index_of}
-use Rattle.qss_quiet.proofs.Risen.{none_became}
+use Rattle.qss_events.proofs.Writes.{index_of}
+use Rattle.qss_events.proofs.Risen.{none_became}
 
 -- a place past all numbers is not among them
-pub not_among : (n : ℕ) (moved : List ℕ) (place : ℕ) → AreNumbers n moved → n ≤ place → is_among moved place ≡ false
+pub not_among : (n : ℕ) (moved : List ℕ) (place : ℕ) → AreRisingBelow n moved → n ≤ place → is_listed moved place ≡ false
 not_among n moved place numbers past =
-    elim (cases_Bool (is_among moved place)) [
+    elim (cases_Bool (is_listed moved place)) [
       | inl among ↦ let found = index_of moved place among in absurd (omega (arith, numbers.below found.0 0 found.1, found.2, past))
       | inr not ↦ not
     ]
@@ -29,17 +29,17 @@ not_among n moved place numbers past =
 module _ (n tick : ℕ) (moved : List ℕ) (old left : List (Option ℕ)) (due : AreDue n tick old moved) (without : IsWithout moved old left) where
   -- no state that is left is due
   pub none_left : (j : ℕ) → j < n → due_at left j ≢ Some tick
-  none_left j h e = by_among (cases_Bool (is_among moved j))
+  none_left j h e = by_among (cases_Bool (is_listed moved j))
     where
-      by_among : (is_among moved j ≡ true) ⊎ (is_among moved j ≡ false) → ⊥
+      by_among : (is_listed moved j ≡ true) ⊎ (is_listed moved j ≡ false) → ⊥
       by_among (inl among) = let none = without.none j among in absurd (cc)
       by_among (inr not) = let some = due.all j h (sym (without.others j not) ∙ e) in absurd (cc)
 
   -- and nothing is due before
   pub none_left_before : ((place t : ℕ) → due_at old place ≡ Some t → tick ≤ t) → (place t : ℕ) → due_at left place ≡ Some t → tick ≤ t
-  none_left_before before place t e = by_among (cases_Bool (is_among moved place))
+  none_left_before before place t e = by_among (cases_Bool (is_listed moved place))
     where
-      by_among : (is_among moved place ≡ true) ⊎ (is_among moved place ≡ false) → tick ≤ t
+      by_among : (is_listed moved place ≡ true) ⊎ (is_listed moved place ≡ false) → tick ≤ t
       by_among (inl among) = let none = without.none place among in absurd (cc)
       by_among (inr not) = before place t (sym (without.others place not) ∙ e)
 
@@ -47,14 +47,14 @@ module _ (n tick : ℕ) (moved : List ℕ) (old left : List (Option ℕ)) (due :
   as_before : (place : ℕ) → due_at left (n + place) ≡ due_at old (n + place)
   as_before place = without.others (n + place) (not_among n moved (n + place) due.numbers (omega arith))
 
-module _ (n tick : ℕ) (arrived settled : List Bool) (old called : List (Option ℕ)) (is : IsCalled n tick arrived settled old called) where
+module _ (n tick : ℕ) (at_arrival after_handlers : List Bool) (old called : List (Option ℕ)) (is : AreRisenDue n tick at_arrival after_handlers old called) where
   -- where nothing is due before a tick, nothing is after conditions were called for it
-  pub none_called_before : length old ≡ n + length settled + 1 → ((place t : ℕ) → due_at old place ≡ Some t → tick ≤ t) → (place t : ℕ) → due_at called place ≡ Some t → tick ≤ t
+  pub none_called_before : length old ≡ n + length after_handlers + 1 → ((place t : ℕ) → due_at old place ≡ Some t → tick ≤ t) → (place t : ℕ) → due_at called place ≡ Some t → tick ≤ t
   none_called_before places before place t e = elim (cases_lt place n) [ inl below ↦ before place t (sym (is.states place below) ∙ e) | inr past ↦ of_rest past ]
     where
-      of_condition : (k : ℕ) → k < length settled → due_at called (n + k) ≡ Some t → tick ≤ t
+      of_condition : (k : ℕ) → k < length after_handlers → due_at called (n + k) ≡ Some t → tick ≤ t
       of_condition k h there =
-          elim (cases_Bool (became_true arrived settled k)) [
+          elim (cases_Bool (became_true at_arrival after_handlers k)) [
             | inl risen ↦ (let same : tick ≡ t = let here = is.risen k h risen in cc in omega (arith, same))
             | inr not ↦ before (n + k) t (sym (is.others k h not) ∙ there)
           ]
@@ -62,12 +62,12 @@ module _ (n tick : ℕ) (arrived settled : List Bool) (old called : List (Option
       of_rest : n ≤ place → tick ≤ t
       of_rest past =
           let there : due_at called (n + (place - n)) ≡ Some t = ap (due_at called) (omega (arith, past)) ∙ e in
-          elim (cases_lt (place - n) (length settled)) [
+          elim (cases_lt (place - n) (length after_handlers)) [
             | inl inside ↦ of_condition (place - n) inside there
-            | inr out ↦ elim (cases_lt (length settled) (place - n)) [
+            | inr out ↦ elim (cases_lt (length after_handlers) (place - n)) [
               | inl more ↦ (let nowhere : due_at called place ≡ None = get_or_past called place None (omega (arith, more, is.as_many, places)) in absurd (cc))
               | inr last ↦
-                  let same : place - n ≡ length settled = omega (arith, out, last) in
+                  let same : place - n ≡ length after_handlers = omega (arith, out, last) in
                   let nowhere : due_at called (n + (place - n)) ≡ None = ap (λ k. due_at called (n + k)) same ∙ is.behind in
                   absurd (cc)
             ]
@@ -84,34 +84,34 @@ module _ (n tick : ℕ) (arrived settled : List Bool) (old called : List (Option
   }
 
   module _ (moved : List ℕ) (left : List (Option ℕ)) (due : AreDue n tick called moved) (without : IsWithout moved called left) (changed : List ℕ) (new : List (Option ℕ))
-      (changing : AreChanging n (length settled) tick left changed) (out : IsTakenAfter n changed left new) where
+      (changing : AreChanging n (length after_handlers) tick left changed) (out : IsTakenAfter n changed left new) where
     unchanged : (place : ℕ) → due_at left (n + place) ≡ due_at called (n + place)
     unchanged place = as_before n tick moved called left due without place
 
     -- a condition that became true is taken
-    risen_taken : (place : ℕ) → place < length settled → became_true arrived settled place ≡ true → is_among changed place ≡ true
+    risen_taken : (place : ℕ) → place < length after_handlers → became_true at_arrival after_handlers place ≡ true → is_listed changed place ≡ true
     risen_taken place h risen = changing.all place h (unchanged place ∙ is.risen place h risen)
 
-    pub looked_at : (w : World) → w.arrived ≡ arrived → w.settled ≡ settled → AreLookedAt n (length settled) tick old w changed
+    pub looked_at : (w : Snapshot) → w.at_arrival ≡ at_arrival → w.after_handlers ≡ after_handlers → AreLookedAt n (length after_handlers) tick old w changed
     looked_at w of_arrived of_settled = record {
       numbers = changing.numbers;
-      own = λ place among. own place among (cases_Bool (became_true arrived settled place));
-      changing = λ place h e. elim (cases_Bool (became_true arrived settled place)) [
+      own = λ place among. own place among (cases_Bool (became_true at_arrival after_handlers place));
+      changing = λ place h e. elim (cases_Bool (became_true at_arrival after_handlers place)) [
         | inl risen ↦ risen_taken place h risen
         | inr not ↦ changing.all place h (unchanged place ∙ is.others place h not ∙ e)
       ];
-      risen = λ place h risen. risen_taken place h (ap (λ a. became_true a settled place) (sym of_arrived) ∙ ap (λ b. became_true w.arrived b place) (sym of_settled) ∙ risen);
+      risen = λ place h risen. risen_taken place h (ap (λ a. became_true a after_handlers place) (sym of_arrived) ∙ ap (λ b. became_true w.at_arrival b place) (sym of_settled) ∙ risen);
     }
       where
-        own : (place : ℕ) → is_among changed place ≡ true → (became_true arrived settled place ≡ true) ⊎ (became_true arrived settled place ≡ false) →
-            (due_at old (n + place) ≡ Some tick) ⊎ (became_true w.arrived w.settled place ≡ true)
-        own place among (inl risen) = inr (ap (λ a. became_true a w.settled place) of_arrived ∙ ap (λ b. became_true arrived b place) of_settled ∙ risen)
+        own : (place : ℕ) → is_listed changed place ≡ true → (became_true at_arrival after_handlers place ≡ true) ⊎ (became_true at_arrival after_handlers place ≡ false) →
+            (due_at old (n + place) ≡ Some tick) ⊎ (became_true w.at_arrival w.after_handlers place ≡ true)
+        own place among (inl risen) = inr (ap (λ a. became_true a w.after_handlers place) of_arrived ∙ ap (λ b. became_true at_arrival b place) of_settled ∙ risen)
         own place among (inr not) =
             let found = index_of changed place among in
-            let inside : place < length settled = omega (arith, changing.numbers.below found.0 0 found.1, found.2) in
+            let inside : place < length after_handlers = omega (arith, changing.numbers.below found.0 0 found.1, found.2) in
             inl (sym (is.others place inside not) ∙ sym (unchanged place) ∙ changing.own place among)
 
-    pub taken_all : IsTakenOut n (length settled) moved changed old new
+    pub taken_all : IsTakenOut n (length after_handlers) moved changed old new
     taken_all = record {
       as_many = out.as_many ∙ without.as_many ∙ is.as_many;
       states = λ j among.
@@ -120,40 +120,40 @@ module _ (n tick : ℕ) (arrived settled : List Bool) (old called : List (Option
           out.before j below ∙ without.none j among;
       conditions = out.none;
       other_states = λ j h not. out.before j h ∙ without.others j not ∙ is.states j h;
-      other_conditions = λ place h not. elim (cases_Bool (became_true arrived settled place)) [
+      other_conditions = λ place h not. elim (cases_Bool (became_true at_arrival after_handlers place)) [
         | inl risen ↦ (let some = risen_taken place h risen in absurd (cc))
         | inr none ↦ out.others place not ∙ unchanged place ∙ is.others place h none
       ];
-      behind = out.others (length settled) (not_among (length settled) changed (length settled) changing.numbers (omega arith)) ∙ unchanged (length settled) ∙ is.behind;
+      behind = out.others (length after_handlers) (not_among (length after_handlers) changed (length after_handlers) changing.numbers (omega arith)) ∙ unchanged (length after_handlers) ∙ is.behind;
     }
 
 -- what is to be looked at at the next tick was taken out of the agenda of a store
-pub is_taken : (m : Machine) (tick : ℕ) (s : Store) (states count : ℕ) (arrived settled : List Bool) (moved changed : Vec ℕ Global) (called left new : List (Option ℕ)) → Stands m tick s →
-    states ≡ state_count m → count ≡ length (conditions m) → arrived ≡ s.conditions.arrived.items → settled ≡ s.conditions.settled.items →
-    IsCalled states (tick + 1) arrived settled s.agenda called → AreDue states (tick + 1) called moved.items → IsWithout moved.items called left →
+pub is_taken : (m : Machine) (tick : ℕ) (s : Store) (states count : ℕ) (at_arrival after_handlers : List Bool) (moved changed : Vec ℕ Global) (called left new : List (Option ℕ)) → IsStoreAt m tick s →
+    states ≡ state_count m → count ≡ length (conditions m) → at_arrival ≡ s.conditions.at_arrival.items → after_handlers ≡ s.conditions.after_handlers.items →
+    AreRisenDue states (tick + 1) at_arrival after_handlers s.agenda called → AreDue states (tick + 1) called moved.items → IsWithout moved.items called left →
     AreChanging states count (tick + 1) left changed.items → IsTakenAfter states changed.items left new →
     vec_capacity moved ≡ vec_capacity s.moved → vec_capacity changed ≡ vec_capacity s.changed →
     IsTaken m tick s.agenda (record s { moved = moved; changed = changed; agenda = new })
-is_taken m tick s states count arrived settled moved changed called left new stands of_states of_count of_arrived of_settled is due without changing out moved_room changed_room =
+is_taken m tick s states count at_arrival after_handlers moved changed called left new stands of_states of_count of_arrived of_settled is due without changing out moved_room changed_room =
     let n = state_count m in
     let t = tick + 1 in
-    let all : length settled ≡ length (conditions m) = ap length of_settled ∙ stands.fits.own_conditions.settled in
-    let own = subst (λ k. IsCalled k t arrived settled s.agenda called) of_states is in
+    let all : length after_handlers ≡ length (conditions m) = ap length of_settled ∙ stands.fits.own_conditions.after_handlers in
+    let own = subst (λ k. AreRisenDue k t at_arrival after_handlers s.agenda called) of_states is in
     let own_due = subst (λ k. AreDue k t called moved.items) of_states due in
     let own_changing = subst (λ k. AreChanging n k t left changed.items) (of_count ∙ sym all) (subst (λ k. AreChanging k count t left changed.items) of_states changing) in
     let own_out = subst (λ k. IsTakenAfter k changed.items left new) of_states out in
     record {
       stands = stands_with m tick s moved changed stands moved_room changed_room;
-      due = due_before n t arrived settled s.agenda called own moved.items own_due;
-      changing = subst (λ k. AreLookedAt n k t s.agenda (world_of tick s) changed.items) all
-          (looked_at n t arrived settled s.agenda called own moved.items left own_due without changed.items new own_changing own_out (world_of tick s) (sym of_arrived) (sym of_settled));
+      due = due_before n t at_arrival after_handlers s.agenda called own moved.items own_due;
+      changing = subst (λ k. AreLookedAt n k t s.agenda (snapshot_of tick s) changed.items) all
+          (looked_at n t at_arrival after_handlers s.agenda called own moved.items left own_due without changed.items new own_changing own_out (snapshot_of tick s) (sym of_arrived) (sym of_settled));
       without = subst (λ k. IsTakenOut n k moved.items changed.items s.agenda new) all
-          (taken_all n t arrived settled s.agenda called own moved.items left own_due without changed.items new own_changing own_out);
+          (taken_all n t at_arrival after_handlers s.agenda called own moved.items left own_due without changed.items new own_changing own_out);
     }
 
 -- where a store does not say that a condition became true through the handlers, none did, and the place behind the conditions has none
-pub none_to_call : (m : Machine) (tick : ℕ) (s : Store) → Stands m tick s → s.rising ≡ false → (place : ℕ) → became_true s.conditions.arrived.items s.conditions.settled.items place ≡ false
-none_to_call m tick s stands calm = none_became s.conditions.arrived.items s.conditions.settled.items (stands.fits.own_conditions.arrived ∙ sym stands.fits.own_conditions.settled) (sym stands.rising ∙ calm)
+pub none_to_call : (m : Machine) (tick : ℕ) (s : Store) → IsStoreAt m tick s → s.rising ≡ false → (place : ℕ) → became_true s.conditions.at_arrival.items s.conditions.after_handlers.items place ≡ false
+none_to_call m tick s stands calm = none_became s.conditions.at_arrival.items s.conditions.after_handlers.items (stands.fits.own_conditions.at_arrival ∙ sym stands.fits.own_conditions.after_handlers) (sym stands.rising ∙ calm)
 
-pub none_behind : (m : Machine) (tick : ℕ) (s : Store) → Stands m tick s → s.rising ≡ false → due_at s.agenda (state_count m + length (conditions m)) ≡ None
+pub none_behind : (m : Machine) (tick : ℕ) (s : Store) → IsStoreAt m tick s → s.rising ≡ false → due_at s.agenda (state_count m + length (conditions m)) ≡ None
 none_behind m tick s stands calm = stands.stands_for.rising ∙ ap (λ b. if b then Some (tick + 1) else None) (sym stands.rising ∙ calm)

@@ -9,41 +9,41 @@ use Rattle.std.specs.List.{list_any, range_with_len}
 use Rattle.std.specs.Ordering.{int_eq}
 use Rattle.std.specs.Prelude.{Ok, ◌||◌, nat_lt}
 use Rattle.mu_num.proofs.Tests.{if-true}
-use Rattle.qss_machine.specs.Counts.{has_changed, reads_change, is_touched}
+use Rattle.qss_machine.specs.EventCounts.{has_changed, reads_change, is_touched}
 use Rattle.qss_machine.specs.declared.system.Machine.{Machine}
 use Rattle.qss_machine.specs.Machines.{state_count, discrete_count, row_at, slope_at}
-use Rattle.qss_machine.specs.Numbers.{int_at, tabulate}
-use Rattle.qss_machine.specs.Ticks.{World, handling_at}
-use Rattle.qss_machine.specs.Uses.{row_reads, reading_rows}
-use Rattle.qss_quant.specs.Lines.{Line, state_at}
-use Rattle.qss_quiet.specs.Among.{is_among, AreNumbers}
-use Rattle.qss_lines.specs.Gatherings.{reached}
-use Rattle.qss_watch.specs.Handlings.{is_reinitialized}
-use Rattle.qss_lines.specs.StateLines.{line_at}
-use Rattle.qss_lines.specs.Renewals.{goes_at, goes_from, renewals_from}
-use Rattle.qss_run.specs.Touches.{touches_at}
-use Rattle.qss_lines.proofs.Counting.{count_less}
-use Rattle.qss_lines.proofs.Gathering.{among_reached}
-use Rattle.qss_quiet.proofs.Among.{among_readers}
-use Rattle.qss_quiet.proofs.Quiet.{int_at-tabulate}
-use Rattle.qss_lines.proofs.Renewed.{goes_so}
-use Rattle.qss_quiet.proofs.SameSlopes.{level_stays, same_slope}
-use Rattle.qss_quiet.proofs.Writes.{among_at}
+use Rattle.qss_machine.specs.IndexedSums.{int_at, tabulate}
+use Rattle.qss_machine.specs.Ticks.{Snapshot, handlers_at}
+use Rattle.qss_machine.specs.Readers.{row_reads, reading_rows}
+use Rattle.qss_quant.specs.IntegratorLines.{Line, state_at}
+use Rattle.qss_events.specs.ListedPlaces.{is_listed, AreRisingBelow}
+use Rattle.qss_states.specs.Advancing.{reached}
+use Rattle.qss_run.specs.HandlerResults.{is_reinitialized}
+use Rattle.qss_states.specs.StateLines.{line_at}
+use Rattle.qss_states.specs.LineReplacements.{goes_at, goes_from, replaced_lines_from}
+use Rattle.qss_run.specs.TouchCounts.{touches_at}
+use Rattle.qss_states.proofs.Counting.{count_less}
+use Rattle.qss_states.proofs.Gathering.{among_reached}
+use Rattle.qss_events.proofs.Among.{among_readers}
+use Rattle.qss_events.proofs.Quiet.{int_at-tabulate}
+use Rattle.qss_states.proofs.Renewed.{goes_so}
+use Rattle.qss_events.proofs.SameSlopes.{level_stays, same_slope}
+use Rattle.qss_events.proofs.Writes.{among_at}
 
 -- a state that a tick does not touch
-record IsUntouched (m : Machine) (t : ℕ) (w next : World) (j : ℕ) : Type 0 where
+record IsUntouched (m : Machine) (t : ℕ) (w next : Snapshot) (j : ℕ) : Type 0 where
   pub level : has_changed m w next j ≡ false
-  pub own : is_reinitialized (handling_at m t w).rows j ≡ false
+  pub own : is_reinitialized (handlers_at m t w).rows j ≡ false
   pub reads : reads_change m w next (row_at m j) ≡ false
 
-untouched : (m : Machine) (t : ℕ) (w next : World) (j : ℕ) → is_touched m t w next j ≡ false → IsUntouched m t w next j
+untouched : (m : Machine) (t : ℕ) (w next : Snapshot) (j : ℕ) → is_touched m t w next j ≡ false → IsUntouched m t w next j
 untouched m t w next j none =
-    let all = or_parts (has_changed m w next j || is_reinitialized (handling_at m t w).rows j || reads_change m w next (row_at m j)) (t == m.last) none in
-    let reads = or_parts (has_changed m w next j || is_reinitialized (handling_at m t w).rows j) (reads_change m w next (row_at m j)) all.0 in
-    let own = or_parts (has_changed m w next j) (is_reinitialized (handling_at m t w).rows j) reads.0 in
+    let all = or_parts (has_changed m w next j || is_reinitialized (handlers_at m t w).rows j || reads_change m w next (row_at m j)) (t == m.last) none in
+    let reads = or_parts (has_changed m w next j || is_reinitialized (handlers_at m t w).rows j) (reads_change m w next (row_at m j)) all.0 in
+    let own = or_parts (has_changed m w next j) (is_reinitialized (handlers_at m t w).rows j) reads.0 in
     record { level = own.0; own = own.1; reads = reads.1 }
 
-module _ (m : Machine) (t : ℕ) (w next : World) (old_levels : length w.levels ≡ state_count m) (new_levels : length next.levels ≡ state_count m)
+module _ (m : Machine) (t : ℕ) (w next : Snapshot) (old_levels : length w.levels ≡ state_count m) (new_levels : length next.levels ≡ state_count m)
     (old_discretes : length w.discretes ≡ discrete_count m) (new_discretes : length next.discretes ≡ discrete_count m) (lines : List Line) (slopes : List ℤ)
     (own_levels : (j : ℕ) → j < state_count m → (line_at lines j).level ≡ int_at w.levels j)
     (own_slopes : (j : ℕ) → j < state_count m → (line_at lines j).slope ≡ slope_at m j w.levels w.discretes)
@@ -57,8 +57,8 @@ module _ (m : Machine) (t : ℕ) (w next : World) (old_levels : length w.levels 
       goes_so (int_at next.levels j) (int_at slopes j) (line_at lines j) (own_levels j h ∙ level_stays m w next j h still.level) (own_slopes j h ∙ sym slope)
 
   -- and one that is not reinitialized is at its state on arrival
-  pub renewals_from_touched : (x : List ℤ) → ((j : ℕ) → j < state_count m → is_reinitialized (handling_at m t w).rows j ≡ false → state_at (line_at lines j) t ≡ int_at x j) →
-      renewals_from (state_count m) t x next.levels slopes lines ≤ touches_at m t w (Ok next)
+  pub renewals_from_touched : (x : List ℤ) → ((j : ℕ) → j < state_count m → is_reinitialized (handlers_at m t w).rows j ≡ false → state_at (line_at lines j) t ≡ int_at x j) →
+      replaced_lines_from (state_count m) t x next.levels slopes lines ≤ touches_at m t w (Ok next)
   renewals_from_touched x here =
       count_less (state_count m) (λ j. not (goes_from t (int_at x j) (int_at next.levels j) (int_at slopes j) (line_at lines j))) (is_touched m t w next)
       (λ j h none.
@@ -66,16 +66,16 @@ module _ (m : Machine) (t : ℕ) (w next : World) (old_levels : length w.levels 
       not_from_true _ (and_from _ _ ((Decides-int_eq (state_at (line_at lines j) t) (int_at x j)).1 (here j h still.own)) (goes_on j h still)))
 
 -- a state whose level is another one has changed
-pub changes : (m : Machine) (w next : World) (j : ℕ) → j < state_count m → int_at w.levels j ≢ int_at next.levels j → has_changed m w next j ≡ true
+pub changes : (m : Machine) (w next : Snapshot) (j : ℕ) → j < state_count m → int_at w.levels j ≢ int_at next.levels j → has_changed m w next j ≡ true
 changes m w next j h ne =
     let a : ℤ = int_at w.levels j in
     let b : ℤ = int_at next.levels j in
     if-true (nat_lt j (state_count m)) (not (int_eq a b)) (not (int_eq (int_at w.discretes (j - state_count m)) (int_at next.discretes (j - state_count m)))) (lt-ltb j (state_count m) h)
     ∙ ap not (false_from_ne_true (int_eq a b) (λ e. ne ((Decides-int_eq a b).0 e)))
 
-module _ (m : Machine) (t : ℕ) (w next : World) (moved : List ℕ) (numbers : AreNumbers (state_count m) moved) (changed : (i : ℕ) → is_among moved i ≡ true → has_changed m w next i ≡ true) where
+module _ (m : Machine) (t : ℕ) (w next : Snapshot) (moved : List ℕ) (numbers : AreRisingBelow (state_count m) moved) (changed : (i : ℕ) → is_listed moved i ≡ true → has_changed m w next i ≡ true) where
   -- a row that reads a state which has changed reads a change
-  reads_moved_change : (j i : ℕ) → i < state_count m → is_among moved i ≡ true → row_reads i (row_at m j) ≡ true → reads_change m w next (row_at m j) ≡ true
+  reads_moved_change : (j i : ℕ) → i < state_count m → is_listed moved i ≡ true → row_reads i (row_at m j) ≡ true → reads_change m w next (row_at m j) ≡ true
   reads_moved_change j i h among reads =
       let test : ℕ → Bool = λ var. has_changed m w next var && row_reads var (row_at m j) in
       let range : List ℕ = range_with_len 0 (state_count m + discrete_count m) in
@@ -85,10 +85,10 @@ module _ (m : Machine) (t : ℕ) (w next : World) (moved : List ℕ) (numbers : 
       list_any_at test range i 0 inside (ap test at ∙ and_from _ _ (changed i among) reads)
 
   -- a state that is not touched is not reached
-  pub unreached : (j : ℕ) → j < state_count m → is_touched m t w next j ≡ false → is_among (reached m moved) j ≡ false
+  pub unreached : (j : ℕ) → j < state_count m → is_touched m t w next j ≡ false → is_listed (reached m moved) j ≡ false
   unreached j h none =
       let still = untouched m t w next j none in
-      let own : is_among moved j ≡ false = elim (cases_Bool (is_among moved j)) [
+      let own : is_listed moved j ≡ false = elim (cases_Bool (is_listed moved j)) [
         | inl among ↦ (let other : has_changed m w next j ≡ true = changed j among in let same = still.level in absurd (cc))
         | inr not_moved ↦ not_moved
       ] in
@@ -96,15 +96,15 @@ module _ (m : Machine) (t : ℕ) (w next : World) (moved : List ℕ) (numbers : 
         | inl some ↦
             let mover = Any-from_list_any (λ i. row_reads i (row_at m j)) moved some in
             let known : mover.1 < state_count m = subst (λ i. i < state_count m) mover.3 (numbers.below mover.0 mover.1 mover.2) in
-            let among : is_among moved mover.1 ≡ true =
-            subst (λ i. is_among moved i ≡ true) (get_or_default moved mover.0 0 mover.1 mover.2 ∙ mover.3) (among_at moved mover.0 mover.2) in
+            let among : is_listed moved mover.1 ≡ true =
+            subst (λ i. is_listed moved i ≡ true) (get_or_default moved mover.0 0 mover.1 mover.2 ∙ mover.3) (among_at moved mover.0 mover.2) in
             let change : reads_change m w next (row_at m j) ≡ true = reads_moved_change j mover.1 known among mover.4 in
             let same = still.reads in
             absurd (cc)
         | inr other ↦ other
       ] in
-      among_reached m moved j ∙ or_from (is_among moved j) (is_among (flat_map (reading_rows m) moved) j) own (among_readers m j h moved ∙ reads)
+      among_reached m moved j ∙ or_from (is_listed moved j) (is_listed (flat_map (reading_rows m) moved) j) own (among_readers m j h moved ∙ reads)
 
   -- so no more states are reached than are touched
-  pub reached_touched : count_by (is_among (reached m moved)) (range_with_len 0 (state_count m)) ≤ touches_at m t w (Ok next)
-  reached_touched = count_less (state_count m) (is_among (reached m moved)) (is_touched m t w next) unreached
+  pub reached_touched : count_by (is_listed (reached m moved)) (range_with_len 0 (state_count m)) ≤ touches_at m t w (Ok next)
+  reached_touched = count_less (state_count m) (is_listed (reached m moved)) (is_touched m t w next) unreached

@@ -9,44 +9,44 @@ use Rattle.mu_num.proofs.Tests.{eqb-yes, eqb-true}
 use Rattle.qss_machine.specs.declared.parts.Entry.{Entry}
 use Rattle.qss_machine.specs.declared.system.Machine.{Machine}
 use Rattle.qss_machine.specs.Machines.{state_count, discrete_count, row_at, level_unit, inputs, value_of, compares, truth}
-use Rattle.qss_machine.specs.Numbers.{int_at}
+use Rattle.qss_machine.specs.IndexedSums.{int_at}
 use Rattle.qss_machine.specs.Handlers.{conditions}
 use Rattle.qss_machine.specs.Firing.{flag_at}
-use Rattle.qss_machine.specs.Uses.{row_reads, condition_reads, reading_rows, reading_conditions}
+use Rattle.qss_machine.specs.Readers.{row_reads, condition_reads, reading_rows, reading_conditions}
 use Rattle.qss_cross.specs.Crossing.{Watch}
 use Rattle.qss_sched.specs.Ranks.{due_at}
-use Rattle.qss_watch.specs.Handlings.{AreWatchedUpTo}
-use Rattle.qss_quiet.specs.Among.{is_among}
-use Rattle.qss_watch.specs.Places.{watch_at, IsWatched}
-use Rattle.qss_quiet.specs.Sims.{condition_at}
-use Rattle.qss_lines.specs.Variables.{reads_moved}
-use Rattle.qss_watch.specs.Speeds.{AreSlopesBefore}
-use Rattle.qss_watch.specs.Rewatchings.{Watchings, AreSettled, readers_of, touched_of, touched_by, readers_before, touched_after}
-use Rattle.qss_quiet.proofs.Among.{among_rows}
-use Rattle.qss_quiet.proofs.Readers.{among_conditions}
-use Rattle.qss_watch.proofs.Rewatching.{watched_as}
-use Rattle.qss_watch.proofs.Speeds.{speeds_same}
+use Rattle.qss_run.specs.HandlerResults.{AreWatchedUpTo}
+use Rattle.qss_events.specs.ListedPlaces.{is_listed}
+use Rattle.qss_run.specs.ConditionPlaces.{watch_at, IsWatched}
+use Rattle.qss_events.specs.Schedules.{condition_at}
+use Rattle.qss_states.specs.Variables.{reads_moved}
+use Rattle.qss_run.specs.SpeedUpdates.{AreSlopesBefore}
+use Rattle.qss_run.specs.DetectorUpdates.{DetectorStates, AreSettled, readers_of, touched_of, touched_by, readers_before, touched_after}
+use Rattle.qss_events.proofs.Among.{among_rows}
+use Rattle.qss_events.proofs.Readers.{among_conditions}
+use Rattle.qss_run.proofs.Rewatching.{watched_as}
+use Rattle.qss_run.proofs.Speeds.{speeds_same}
 
 -- a condition is watched at its value, at the speed of slopes before, and has its truth
-pub record IsWatchedThere (m : Machine) (tick : ℕ) (moved : List ℕ) (states d slopes : List ℤ) (place : ℕ) (now : Watchings) : Type 0 where
+pub record IsWatchedThere (m : Machine) (tick : ℕ) (moved : List ℕ) (states d slopes : List ℤ) (place : ℕ) (now : DetectorStates) : Type 0 where
   pub before : List ℤ
   pub slopes_before : AreSlopesBefore m moved before slopes place
   pub watched : IsWatched m tick states d before place (watch_at now.watches place) (due_at now.dues (state_count m + place))
-  pub own_truth : flag_at now.settled place ≡ truth m (condition_at m place) states d tick
+  pub own_truth : flag_at now.after_handlers place ≡ truth m (condition_at m place) states d tick
 
 -- a number in none of the lists is not in one of them
-none_among : (f : ℕ → List ℕ) (xs : List ℕ) (place : ℕ) → is_among (flat_map f xs) place ≡ false → (i : ℕ) → is_among xs i ≡ true → is_among (f i) place ≡ false
+none_among : (f : ℕ → List ℕ) (xs : List ℕ) (place : ℕ) → is_listed (flat_map f xs) place ≡ false → (i : ℕ) → is_listed xs i ≡ true → is_listed (f i) place ≡ false
 none_among f [] place none i among = absurd (cc)
 none_among f (x ∷ xs) place none i among =
-    let parts = or_parts (is_among (f x) place) (is_among (flat_map f xs) place) (sym (list_any-append (λ (k : ℕ). k == place) (f x) (flat_map f xs)) ∙ none) in
-    elim (or_cases (x == i) (is_among xs i) among) [
-      | inl same ↦ subst (λ (k : ℕ). is_among (f k) place ≡ false) (eqb-true x i same) parts.0
+    let parts = or_parts (is_listed (f x) place) (is_listed (flat_map f xs) place) (sym (list_any-append (λ (k : ℕ). k == place) (f x) (flat_map f xs)) ∙ none) in
+    elim (or_cases (x == i) (is_listed xs i) among) [
+      | inl same ↦ subst (λ (k : ℕ). is_listed (f k) place ≡ false) (eqb-true x i same) parts.0
       | inr rest ↦ none_among f xs place parts.1 i rest
     ]
 
 -- a number that is in neither of two lists
-in_neither : (xs ys : List ℕ) (place : ℕ) → is_among (xs ++ ys) place ≡ false → (is_among xs place ≡ false) × (is_among ys place ≡ false)
-in_neither xs ys place none = or_parts (is_among xs place) (is_among ys place) (sym (list_any-append (λ (k : ℕ). k == place) xs ys) ∙ none)
+in_neither : (xs ys : List ℕ) (place : ℕ) → is_listed (xs ++ ys) place ≡ false → (is_listed xs place ≡ false) × (is_listed ys place ≡ false)
+in_neither xs ys place none = or_parts (is_listed xs place) (is_listed ys place) (sym (list_any-append (λ (k : ℕ). k == place) xs ys) ∙ none)
 
 clash : {P : Type 0} (b : Bool) → b ≡ true → b ≡ false → P
 clash b is is_not = absurd (cc)
@@ -55,34 +55,34 @@ clash b is is_not = absurd (cc)
 
 module _ (m : Machine) (place : ℕ) (h : place < length (conditions m)) where
   -- a condition stands among those that read a variable where it reads it
-  among_readers : (var : ℕ) → condition_reads var (condition_at m place) ≡ true → is_among (reading_conditions m var) place ≡ true
+  among_readers : (var : ℕ) → condition_reads var (condition_at m place) ≡ true → is_listed (reading_conditions m var) place ≡ true
   among_readers var reads = among_conditions m var place h ∙ reads
 
   -- a variable that an untouched condition reads is not one of these, and its row reads none of them
-  not_one : (vars : List ℕ) → is_among (touched_by m vars) place ≡ false → (j : ℕ) → condition_reads j (condition_at m place) ≡ true → is_among vars j ≡ false
+  not_one : (vars : List ℕ) → is_listed (touched_by m vars) place ≡ false → (j : ℕ) → condition_reads j (condition_at m place) ≡ true → is_listed vars j ≡ false
   not_one vars none j reads =
-      false_from_ne_true (is_among vars j)
+      false_from_ne_true (is_listed vars j)
       (λ among.
       let own = in_neither (readers_of m (reading_rows m j)) (reading_conditions m j) place (none_among (touched_of m) vars place none j among) in
-      clash (is_among (reading_conditions m j) place) (among_readers j reads) own.1)
+      clash (is_listed (reading_conditions m j) place) (among_readers j reads) own.1)
 
-  row_reads_none : (vars : List ℕ) → is_among (touched_by m vars) place ≡ false → (j : ℕ) → j < state_count m → condition_reads j (condition_at m place) ≡ true → reads_moved m vars j ≡ false
+  row_reads_none : (vars : List ℕ) → is_listed (touched_by m vars) place ≡ false → (j : ℕ) → j < state_count m → condition_reads j (condition_at m place) ≡ true → reads_moved m vars j ≡ false
   row_reads_none vars none j inside reads =
       false_from_ne_true (reads_moved m vars j)
       (λ some.
       let found = Any-from_list_any (λ i. row_reads i (row_at m j)) vars some in
       let i : ℕ = found.1 in
-      let among : is_among vars i ≡ true = list_any_at (λ (k : ℕ). k == i) vars found.0 i found.2 (eqb-yes _ i found.3) in
+      let among : is_listed vars i ≡ true = list_any_at (λ (k : ℕ). k == i) vars found.0 i found.2 (eqb-yes _ i found.3) in
       let own = in_neither (readers_of m (reading_rows m i)) (reading_conditions m i) place (none_among (touched_of m) vars place none i among) in
-      let row : is_among (reading_rows m i) j ≡ true = among_rows m i j inside ∙ found.4 in
-      clash (is_among (reading_conditions m j) place) (among_readers j reads) (none_among (reading_conditions m) (reading_rows m i) place own.0 j row))
+      let row : is_listed (reading_rows m i) j ≡ true = among_rows m i j inside ∙ found.4 in
+      clash (is_listed (reading_conditions m j) place) (among_readers j reads) (none_among (reading_conditions m) (reading_rows m i) place own.0 j row))
 
   -- nor is it the value before the tick of one of these
-  not_before : (assigned : List ℕ) → is_among (readers_before m assigned) place ≡ false → (j : ℕ) → condition_reads (j + discrete_count m) (condition_at m place) ≡ true → is_among assigned j ≡ false
+  not_before : (assigned : List ℕ) → is_listed (readers_before m assigned) place ≡ false → (j : ℕ) → condition_reads (j + discrete_count m) (condition_at m place) ≡ true → is_listed assigned j ≡ false
   not_before assigned none j reads =
-      false_from_ne_true (is_among assigned j)
+      false_from_ne_true (is_listed assigned j)
       (λ among.
-      clash (is_among (reading_conditions m (j + discrete_count m)) place) (among_readers (j + discrete_count m) reads)
+      clash (is_listed (reading_conditions m (j + discrete_count m)) place) (among_readers (j + discrete_count m) reads)
       (none_among (λ v. reading_conditions m (v + discrete_count m)) assigned place none j among))
 
 -- ---- numbers in lists one after another
@@ -106,26 +106,26 @@ in_units unit a b g many same = elim (cases_lt g (length a)) [
 
 -- ---- all conditions
 
-module _ (m : Machine) (tick : ℕ) (moved reinitialized assigned changed : List ℕ) (x states pre d before slopes : List ℤ) (old new : Watchings)
+module _ (m : Machine) (tick : ℕ) (moved reinitialized assigned changed : List ℕ) (x states pre d before slopes : List ℤ) (old new : DetectorStates)
     (upto : AreWatchedUpTo m tick moved reinitialized assigned changed x states pre d before slopes old)
     (are : AreSettled m tick states d slopes (touched_after m reinitialized assigned changed) old new) where
-  module _ (place : ℕ) (h : place < length (conditions m)) (none : is_among (touched_after m reinitialized assigned changed) place ≡ false) where
-    not_before_tick : is_among (readers_before m assigned) place ≡ false
+  module _ (place : ℕ) (h : place < length (conditions m)) (none : is_listed (touched_after m reinitialized assigned changed) place ≡ false) where
+    not_before_tick : is_listed (readers_before m assigned) place ≡ false
     not_before_tick = (in_neither ((changed ++ touched_by m reinitialized) ++ touched_by m assigned) (readers_before m assigned) place none).1
 
-    first_three : is_among ((changed ++ touched_by m reinitialized) ++ touched_by m assigned) place ≡ false
+    first_three : is_listed ((changed ++ touched_by m reinitialized) ++ touched_by m assigned) place ≡ false
     first_three = (in_neither ((changed ++ touched_by m reinitialized) ++ touched_by m assigned) (readers_before m assigned) place none).0
 
-    not_assigned : is_among (touched_by m assigned) place ≡ false
+    not_assigned : is_listed (touched_by m assigned) place ≡ false
     not_assigned = (in_neither (changed ++ touched_by m reinitialized) (touched_by m assigned) place first_three).1
 
-    first_two : is_among (changed ++ touched_by m reinitialized) place ≡ false
+    first_two : is_listed (changed ++ touched_by m reinitialized) place ≡ false
     first_two = (in_neither (changed ++ touched_by m reinitialized) (touched_by m assigned) place first_three).0
 
-    not_reinitialized : is_among (touched_by m reinitialized) place ≡ false
+    not_reinitialized : is_listed (touched_by m reinitialized) place ≡ false
     not_reinitialized = (in_neither changed (touched_by m reinitialized) place first_two).1
 
-    not_changed : is_among changed place ≡ false
+    not_changed : is_listed changed place ≡ false
     not_changed = (in_neither changed (touched_by m reinitialized) place first_two).0
 
     reads_entry : (k : ℕ) (entry : Entry) → k < length (condition_at m place).form.entries →
@@ -134,7 +134,7 @@ module _ (m : Machine) (tick : ℕ) (moved reinitialized assigned changed : List
         let var : ℕ = (get_or (condition_at m place).form.entries k entry).var in
         list_any_at (λ (e : Entry). e.var == var) (condition_at m place).form.entries k entry inside (eqb-yes var var refl)
 
-    discrete_same : (g : ℕ) → is_among assigned (state_count m + g) ≡ false → int_at pre g ≡ int_at d g
+    discrete_same : (g : ℕ) → is_listed assigned (state_count m + g) ≡ false → int_at pre g ≡ int_at d g
     discrete_same g kept = elim (cases_lt g (discrete_count m)) [
       | inl below ↦ sym (upto.other_discretes g below kept)
       | inr past ↦ get_or_past pre g (pos 0) (omega (arith, past, upto.many_discretes.0)) ∙ sym (get_or_past d g (pos 0) (omega (arith, past, upto.many_discretes.1)))
@@ -180,12 +180,12 @@ module _ (m : Machine) (tick : ℕ) (moved reinitialized assigned changed : List
         (subst (IsWatched m tick states d before place (watch_at old.watches place)) (sym kept.due)
         (watched_as m tick x pre before states d before place (watch_at old.watches place) (due_at old.dues (state_count m + place)) same_value refl (upto.unchanged place h not_changed).watched))
 
-    kept_truth : flag_at new.settled place ≡ truth m (condition_at m place) states d tick
+    kept_truth : flag_at new.after_handlers place ≡ truth m (condition_at m place) states d tick
     kept_truth = (are.kept place none).truth ∙ (upto.unchanged place h not_changed).own_truth ∙ ap (compares (condition_at m place).rel) same_value
 
   -- each condition is watched at its value, and has its truth; it is at its speed where it settled
   pub each_watched : (place : ℕ) → place < length (conditions m) → IsWatchedThere m tick moved states d slopes place new
-  each_watched place h = elim (cases_Bool (is_among (touched_after m reinitialized assigned changed) place)) [
+  each_watched place h = elim (cases_Bool (is_listed (touched_after m reinitialized assigned changed) place)) [
     | inl touched ↦
         let own = are.own place touched in
         record { before = slopes; slopes_before = record { as_many = upto.many_slopes.1; others = λ j below reads still. refl }; watched = own.watched; own_truth = own.own_truth }

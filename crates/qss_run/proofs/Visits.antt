@@ -3,73 +3,73 @@ use Rattle.std.proofs.Common.{◌≡◌, ◌≢◌, ℕ, ◌+◌, ◌<◌, Bool,
 use Rattle.std.proofs.lemmas.Int.{ints}
 use Rattle.std.proofs.lemmas.List.{get_or-map, get_or_default}
 use Rattle.std.proofs.lemmas.List.FromFn.{length-map-range_with_len}
-use Rattle.qss_watch.specs.Moves.{AreAlikeBut}
+use Rattle.qss_run.specs.DueLists.{AreAlikeBut}
 use Rattle.std.specs.Option.{option_or}
 use Rattle.std.specs.Prelude.{Option, Some, None, Ok, All, is_some, position, vec_capacity, if◌then◌else◌}
 use Rattle.mu_num.specs.Sizes.{IsWithin}
 use Rattle.qss_machine.specs.declared.parts.Condition.{Condition}
 use Rattle.qss_machine.specs.declared.parts.Rel.TheVariants.{Less}
 use Rattle.qss_machine.specs.declared.system.Machine.{Machine}
-use Rattle.qss_machine.specs.Numbers.{int_at, tabulate, first_past}
+use Rattle.qss_machine.specs.IndexedSums.{int_at, tabulate, first_exceeding}
 use Rattle.qss_machine.specs.Machines.{state_count, level_unit, slope_at, quantum_of, value_of, speed_of, truth}
-use Rattle.qss_machine.specs.Handlers.{Handling, conditions, truths}
+use Rattle.qss_machine.specs.Handlers.{HandlerState, conditions, truths}
 use Rattle.qss_machine.specs.Firing.{flag_at}
-use Rattle.qss_machine.specs.Ticks.{World, moved_states, handling_at, is_overweight, AreNextLevels, world_unless, settle, Step}
+use Rattle.qss_machine.specs.Ticks.{Snapshot, moved_states, handlers_at, exceeds_row_limits, AreNextLevels, snapshot_unless, finish_tick, IsStep}
 use Rattle.qss_quant.specs.declared.rule.Rule.{Rule}
-use Rattle.qss_quant.specs.Lines.{Line, state_at, IsNear, IsAway}
+use Rattle.qss_quant.specs.IntegratorLines.{Line, state_at, IsLineWithinQuantum, IsAway}
 use Rattle.qss_sched.specs.Ranks.{due_at}
 use Rattle.qss_run.specs.declared.store.Store.{Store}
-use Rattle.qss_lines.specs.Kept.{AreWeights}
-use Rattle.qss_lines.specs.StateLines.{line_at, GoesOnFrom, states_at}
-use Rattle.qss_watch.specs.Places.{watch_at, IsWatched}
-use Rattle.qss_quiet.specs.Sims.{slopes_of, condition_at, IsDue, IsChange, rises, StandsFor}
-use Rattle.qss_watch.specs.Handlings.{handling_from}
-use Rattle.qss_run.specs.Stores.{world_of, FitsMachine, Stands}
-use Rattle.qss_quiet.proofs.Quiet.{int_at-tabulate, tabulate-same, tabulate-int_at, moved_is}
-use Rattle.qss_quiet.proofs.Silence.{from_later, line_state_at}
+use Rattle.qss_states.specs.KeptWeights.{AreWeights}
+use Rattle.qss_states.specs.StateLines.{line_at, IsRestartedFrom, states_at}
+use Rattle.qss_run.specs.ConditionPlaces.{watch_at, IsWatched}
+use Rattle.qss_events.specs.Schedules.{slopes_of, condition_at, IsDue, IsChange, rises, IsScheduleOf}
+use Rattle.qss_run.specs.HandlerResults.{handling_from}
+use Rattle.qss_run.specs.Stores.{snapshot_of, FitsMachine, IsStoreAt}
+use Rattle.qss_events.proofs.Quiet.{int_at-tabulate, tabulate-same, tabulate-int_at, moved_is}
+use Rattle.qss_events.proofs.Silence.{from_later, line_state_at}
 
 -- ---- on arrival
 
-module _ (m : Machine) (tick : ℕ) (s : Store) (stands : Stands m tick s) where
+module _ (m : Machine) (tick : ℕ) (s : Store) (stands : IsStoreAt m tick s) where
   -- lines lead to the states of the next tick
-  pub arrives : states_at s.lines.items (tick + 1) ≡ moved_states m (world_of tick s)
+  pub arrives : states_at s.lines.items (tick + 1) ≡ moved_states m (snapshot_of tick s)
   arrives =
       ap (λ n. tabulate n (λ j. state_at (line_at s.lines.items j) (tick + 1))) stands.fits.lines
       ∙ tabulate-same (pos 0) (state_count m) _ _
       (λ j h.
-      line_state_at m tick (world_of tick s) (line_at s.lines.items) (watch_at s.conditions.watches.items) (due_at s.agenda) stands.stands_for j 1 h
-      ∙ int_at-tabulate (state_count m) (λ i. int_at (world_of tick s).states i +ℤ pos 1 *ℤ slope_at m i s.levels.items s.work.d) j h
-      ∙ sym (int_at-tabulate (state_count m) (λ i. int_at (world_of tick s).states i +ℤ pos 1 *ℤ slope_at m i s.levels.items s.work.d) j h)
-      ∙ ap (λ xs. int_at xs j) (sym (moved_is m (world_of tick s)))
-      ∙ int_at-tabulate (state_count m) (λ i. int_at (world_of tick s).states i +ℤ slope_at m i s.levels.items s.work.d) j h)
+      line_state_at m tick (snapshot_of tick s) (line_at s.lines.items) (watch_at s.conditions.watches.items) (due_at s.agenda) stands.stands_for j 1 h
+      ∙ int_at-tabulate (state_count m) (λ i. int_at (snapshot_of tick s).states i +ℤ pos 1 *ℤ slope_at m i s.levels.items s.work.d) j h
+      ∙ sym (int_at-tabulate (state_count m) (λ i. int_at (snapshot_of tick s).states i +ℤ pos 1 *ℤ slope_at m i s.levels.items s.work.d) j h)
+      ∙ ap (λ xs. int_at xs j) (sym (moved_is m (snapshot_of tick s)))
+      ∙ int_at-tabulate (state_count m) (λ i. int_at (snapshot_of tick s).states i +ℤ slope_at m i s.levels.items s.work.d) j h)
 
   -- and the handlers then do what they do at that tick
-  pub handles : handling_from m (tick + 1) (states_at s.lines.items (tick + 1)) s.work.d s.conditions.arrived.items s.conditions.settled.items ≡ handling_at m (tick + 1) (world_of tick s)
-  handles = ap (λ x. handling_from m (tick + 1) x s.work.d s.conditions.arrived.items s.conditions.settled.items) arrives
+  pub handles : handling_from m (tick + 1) (states_at s.lines.items (tick + 1)) s.work.d s.conditions.at_arrival.items s.conditions.after_handlers.items ≡ handlers_at m (tick + 1) (snapshot_of tick s)
+  handles = ap (λ x. handling_from m (tick + 1) x s.work.d s.conditions.at_arrival.items s.conditions.after_handlers.items) arrives
 
   -- from slices of what the store keeps too
-  pub handles_from : (lines : List Line) (arrived settled : List Bool) → lines ≡ s.lines.items → arrived ≡ s.conditions.arrived.items → settled ≡ s.conditions.settled.items →
-      handling_from m (tick + 1) (states_at lines (tick + 1)) s.work.d arrived settled ≡ handling_at m (tick + 1) (world_of tick s)
-  handles_from lines arrived settled of_lines of_arrived of_settled =
-      ap (λ l. handling_from m (tick + 1) (states_at l (tick + 1)) s.work.d arrived settled) of_lines
-      ∙ ap (λ a. handling_from m (tick + 1) (states_at s.lines.items (tick + 1)) s.work.d a settled) of_arrived
-      ∙ ap (λ b. handling_from m (tick + 1) (states_at s.lines.items (tick + 1)) s.work.d s.conditions.arrived.items b) of_settled
+  pub handles_from : (lines : List Line) (at_arrival after_handlers : List Bool) → lines ≡ s.lines.items → at_arrival ≡ s.conditions.at_arrival.items → after_handlers ≡ s.conditions.after_handlers.items →
+      handling_from m (tick + 1) (states_at lines (tick + 1)) s.work.d at_arrival after_handlers ≡ handlers_at m (tick + 1) (snapshot_of tick s)
+  handles_from lines at_arrival after_handlers of_lines of_arrived of_settled =
+      ap (λ l. handling_from m (tick + 1) (states_at l (tick + 1)) s.work.d at_arrival after_handlers) of_lines
+      ∙ ap (λ a. handling_from m (tick + 1) (states_at s.lines.items (tick + 1)) s.work.d a after_handlers) of_arrived
+      ∙ ap (λ b. handling_from m (tick + 1) (states_at s.lines.items (tick + 1)) s.work.d s.conditions.at_arrival.items b) of_settled
       ∙ handles
 
   -- a line that goes on as before keeps its due tick, since its state is near its level
-  pub due_stays : (j : ℕ) (state level : ℤ) → j < state_count m → IsNear (level_unit m) state level (quantum_of m j level) →
+  pub due_stays : (j : ℕ) (state level : ℤ) → j < state_count m → IsLineWithinQuantum (level_unit m) state level (quantum_of m j level) →
       state_at (line_at s.lines.items j) (tick + 1) ≡ state → (line_at s.lines.items j).level ≡ level → IsDue m (tick + 1) j (line_at s.lines.items j) (due_at s.agenda j)
   due_stays j state level h near here own =
       let line : Line = line_at s.lines.items j in
       let first : IsDue m tick j line (due_at s.agenda j) = stands.stands_for.dues j h in
-      let still : IsNear (level_unit m) (state_at line (tick + 1)) line.level (quantum_of m j line.level) =
-      subst (λ x. IsNear (level_unit m) x line.level (quantum_of m j line.level)) (sym here)
-      (subst (λ l. IsNear (level_unit m) state l (quantum_of m j l)) (sym own) near) in
+      let still : IsLineWithinQuantum (level_unit m) (state_at line (tick + 1)) line.level (quantum_of m j line.level) =
+      subst (λ x. IsLineWithinQuantum (level_unit m) x line.level (quantum_of m j line.level)) (sym here)
+      (subst (λ l. IsLineWithinQuantum (level_unit m) state l (quantum_of m j l)) (sym own) near) in
       from_later (λ t. IsAway (level_unit m) (state_at line t) line.level (quantum_of m j line.level)) tick (tick + 1) (due_at s.agenda j) (omega arith)
       (λ u e. later u (due_at s.agenda j) e first still) first
     where
       later : (u : ℕ) (found : Option ℕ) → found ≡ Some u → IsDue m tick j (line_at s.lines.items j) found →
-          IsNear (level_unit m) (state_at (line_at s.lines.items j) (tick + 1)) (line_at s.lines.items j).level (quantum_of m j (line_at s.lines.items j).level) → tick + 1 < u
+          IsLineWithinQuantum (level_unit m) (state_at (line_at s.lines.items j) (tick + 1)) (line_at s.lines.items j).level (quantum_of m j (line_at s.lines.items j).level) → tick + 1 < u
       later u None e first still = absurd (cc)
       later u (Some v) e first still =
           let same : v ≡ u = cc in
@@ -81,16 +81,16 @@ module _ (m : Machine) (tick : ℕ) (s : Store) (stands : Stands m tick s) where
 -- ---- the store stands again
 
 pub stands_again : (m : Machine) (t : ℕ) (s : Store) (x : List ℤ) → length x ≡ state_count m → FitsMachine m s → ((j : ℕ) → j < state_count m → IsWithin 43 (int_at s.levels.items j)) →
-    position (is_overweight m s.levels.items s.work.d) m.rows ≡ None →
-    s.slopes.items ≡ slopes_of m (world_of t s) →
+    position (exceeds_row_limits m s.levels.items s.work.d) m.rows ≡ None →
+    s.slopes.items ≡ slopes_of m (snapshot_of t s) →
     AreWeights m s.levels.items s.work.d s.weights →
-    ((j : ℕ) → j < state_count m → GoesOnFrom m t (int_at x j) (int_at s.levels.items j) (slope_at m j s.levels.items s.work.d) j (line_at s.lines.items j) (due_at s.agenda j)) →
-    s.conditions.settled.items ≡ truths m x s.work.d t →
+    ((j : ℕ) → j < state_count m → IsRestartedFrom m t (int_at x j) (int_at s.levels.items j) (slope_at m j s.levels.items s.work.d) j (line_at s.lines.items j) (due_at s.agenda j)) →
+    s.conditions.after_handlers.items ≡ truths m x s.work.d t →
     ((place : ℕ) → place < length (conditions m) → IsWatched m t x s.work.d s.slopes.items place (watch_at s.conditions.watches.items place) (due_at s.agenda (state_count m + place))) →
-    s.rising ≡ rises (world_of t s) →
+    s.rising ≡ rises (snapshot_of t s) →
     due_at s.agenda (state_count m + length (conditions m)) ≡ (if s.rising then Some (t + 1) else None) →
-    AreAlikeBut s.conditions.apart.places s.conditions.arrived.items s.conditions.settled.items → (states_at s.lines.items t ≡ x) × Stands m t s
-stands_again m t s x many fits small light slopes weights goes_on settled watched risen rising alike = (
+    AreAlikeBut s.conditions.apart.places s.conditions.at_arrival.items s.conditions.after_handlers.items → (states_at s.lines.items t ≡ x) × IsStoreAt m t s
+stands_again m t s x many fits small light slopes weights goes_on after_handlers watched risen rising alike = (
   states,
   record {
     fits = fits;
@@ -108,20 +108,20 @@ stands_again m t s x many fits small light slopes weights goes_on settled watche
         ∙ tabulate-same (pos 0) (state_count m) _ (int_at x) (λ j h. (goes_on j h).here)
         ∙ sym (tabulate-int_at x (state_count m) many)
 
-    state : (j : ℕ) → int_at x j ≡ int_at (world_of t s).states j
+    state : (j : ℕ) → int_at x j ≡ int_at (snapshot_of t s).states j
     state j = ap (λ xs. int_at xs j) (sym states)
 
-    flag : (place : ℕ) → place < length (conditions m) → truth m (condition_at m place) x s.work.d t ≡ flag_at s.conditions.settled.items place
+    flag : (place : ℕ) → place < length (conditions m) → truth m (condition_at m place) x s.work.d t ≡ flag_at s.conditions.after_handlers.items place
     flag place h =
         let none : Condition = record { form = record { entries = []; time = pos 0; gamma = pos 0 }; rel = Less } in
         let test = λ (c : Condition). truth m c x s.work.d t in
-        sym (ap (λ flags. flag_at flags place) settled ∙ get_or-map test (conditions m) place none false h)
+        sym (ap (λ flags. flag_at flags place) after_handlers ∙ get_or-map test (conditions m) place none false h)
 
-    for : StandsFor m t (world_of t s) (line_at s.lines.items) (watch_at s.conditions.watches.items) (due_at s.agenda)
+    for : IsScheduleOf m t (snapshot_of t s) (line_at s.lines.items) (watch_at s.conditions.watches.items) (due_at s.agenda)
     for = record {
       left = record { one_each = fits.levels; small_levels = small; light = light };
       states = length-map-range_with_len (λ j. state_at (line_at s.lines.items j) t) 0 (length s.lines.items) ∙ fits.lines;
-      settled = settled ∙ ap (λ y. truths m y s.work.d t) (sym states);
+      after_handlers = after_handlers ∙ ap (λ y. truths m y s.work.d t) (sym states);
       lines = λ j h. record {
         not_later = (goes_on j h).not_later;
         here = (goes_on j h).here ∙ state j;
@@ -140,8 +140,8 @@ stands_again m t s x many fits small light slopes weights goes_on settled watche
     }
 
 -- a store stands with other moved states and changed conditions in the same memory
-pub stands_with : (m : Machine) (tick : ℕ) (s : Store) (moved changed : Vec ℕ Global) → Stands m tick s → vec_capacity moved ≡ vec_capacity s.moved → vec_capacity changed ≡ vec_capacity s.changed →
-    Stands m tick (record s { moved = moved; changed = changed })
+pub stands_with : (m : Machine) (tick : ℕ) (s : Store) (moved changed : Vec ℕ Global) → IsStoreAt m tick s → vec_capacity moved ≡ vec_capacity s.moved → vec_capacity changed ≡ vec_capacity s.changed →
+    IsStoreAt m tick (record s { moved = moved; changed = changed })
 stands_with m tick s moved changed stands moved_room changed_room =
     let fits = stands.fits in
     record {
@@ -175,49 +175,49 @@ stands_with m tick s moved changed stands moved_room changed_room =
 -- ---- the step
 
 -- the world that a tick leads to, if nothing overflows
-abbrev pub end_of : Machine → ℕ → World → Handling → List ℤ → World
+abbrev pub end_of : Machine → ℕ → Snapshot → HandlerState → List ℤ → Snapshot
 end_of m tick w h levels = record {
   states = h.states;
   levels = levels;
   discretes = h.discretes;
-  arrived = truths m (moved_states m w) w.discretes tick;
-  settled = truths m h.states h.discretes tick;
+  at_arrival = truths m (moved_states m w) w.discretes tick;
+  after_handlers = truths m h.states h.discretes tick;
 }
 
 -- a step that overflows in its handlers
-pub overflows_early : (Rule : ℤ → ℤ → ℤ → ℤ → Type 0) (m : Machine) (tick : ℕ) (w next : World) (var : ℕ) → (handling_at m tick w).overflow ≡ Some var →
-    Step Rule m tick w (world_unless (Some var) next)
+pub overflows_early : (Rule : ℤ → ℤ → ℤ → ℤ → Type 0) (m : Machine) (tick : ℕ) (w next : Snapshot) (var : ℕ) → (handlers_at m tick w).overflow ≡ Some var →
+    IsStep Rule m tick w (snapshot_unless (Some var) next)
 overflows_early Rule m tick w next var e = (
   [],
   (λ none. let both : Some var ≡ None = sym e ∙ none in absurd (cc)),
-  ap (λ o. world_unless (option_or o (option_or (first_past 43 []) (position (is_overweight m [] (handling_at m tick w).discretes) m.rows))) (end_of m tick w (handling_at m tick w) [])) (sym e),
+  ap (λ o. snapshot_unless (option_or o (option_or (first_exceeding 43 []) (position (exceeds_row_limits m [] (handlers_at m tick w).discretes) m.rows))) (end_of m tick w (handlers_at m tick w) [])) (sym e),
 )
 
 -- a step that overflows at its levels or its rows
-pub overflows_late : (Rule : ℤ → ℤ → ℤ → ℤ → Type 0) (m : Machine) (tick : ℕ) (w next : World) (h : Handling) (levels : List ℤ) (var : ℕ) →
-    h ≡ handling_at m tick w → h.overflow ≡ None → AreNextLevels Rule m h.states w.levels levels →
-    Some var ≡ option_or (first_past 43 levels) (position (is_overweight m levels h.discretes) m.rows) →
-    Step Rule m tick w (world_unless (Some var) next)
+pub overflows_late : (Rule : ℤ → ℤ → ℤ → ℤ → Type 0) (m : Machine) (tick : ℕ) (w next : Snapshot) (h : HandlerState) (levels : List ℤ) (var : ℕ) →
+    h ≡ handlers_at m tick w → h.overflow ≡ None → AreNextLevels Rule m h.states w.levels levels →
+    Some var ≡ option_or (first_exceeding 43 levels) (position (exceeds_row_limits m levels h.discretes) m.rows) →
+    IsStep Rule m tick w (snapshot_unless (Some var) next)
 overflows_late Rule m tick w next h levels var is calm allowed over =
-    subst (λ (g : Handling). (levels : List ℤ) × (g.overflow ≡ None → AreNextLevels Rule m g.states w.levels levels) × (world_unless (Some var) next ≡ settle m tick w g levels)) is (
+    subst (λ (g : HandlerState). (levels : List ℤ) × (g.overflow ≡ None → AreNextLevels Rule m g.states w.levels levels) × (snapshot_unless (Some var) next ≡ finish_tick m tick w g levels)) is (
       levels,
       (λ none. allowed),
-      ap (λ o. world_unless o (end_of m tick w h levels)) over
-          ∙ ap (λ o. world_unless (option_or o (option_or (first_past 43 levels) (position (is_overweight m levels h.discretes) m.rows))) (end_of m tick w h levels)) (sym calm),
+      ap (λ o. snapshot_unless o (end_of m tick w h levels)) over
+          ∙ ap (λ o. snapshot_unless (option_or o (option_or (first_exceeding 43 levels) (position (exceeds_row_limits m levels h.discretes) m.rows))) (end_of m tick w h levels)) (sym calm),
     )
 
 -- a step to a world
-pub steps_to : (Rule : ℤ → ℤ → ℤ → ℤ → Type 0) (m : Machine) (tick : ℕ) (w next : World) (h : Handling) (levels : List ℤ) →
-    h ≡ handling_at m tick w → h.overflow ≡ None → AreNextLevels Rule m h.states w.levels levels →
-    None ≡ option_or (first_past 43 levels) (position (is_overweight m levels h.discretes) m.rows) →
-    next ≡ end_of m tick w h levels → Step Rule m tick w (Ok next)
+pub steps_to : (Rule : ℤ → ℤ → ℤ → ℤ → Type 0) (m : Machine) (tick : ℕ) (w next : Snapshot) (h : HandlerState) (levels : List ℤ) →
+    h ≡ handlers_at m tick w → h.overflow ≡ None → AreNextLevels Rule m h.states w.levels levels →
+    None ≡ option_or (first_exceeding 43 levels) (position (exceeds_row_limits m levels h.discretes) m.rows) →
+    next ≡ end_of m tick w h levels → IsStep Rule m tick w (Ok next)
 steps_to Rule m tick w next h levels is calm allowed over end =
-    subst (λ (g : Handling). (levels : List ℤ) × (g.overflow ≡ None → AreNextLevels Rule m g.states w.levels levels) × (Ok next ≡ settle m tick w g levels)) is (
+    subst (λ (g : HandlerState). (levels : List ℤ) × (g.overflow ≡ None → AreNextLevels Rule m g.states w.levels levels) × (Ok next ≡ finish_tick m tick w g levels)) is (
       levels,
       (λ none. allowed),
       ap (λ v. Ok v) end
-          ∙ ap (λ o. world_unless o (end_of m tick w h levels)) over
-          ∙ ap (λ o. world_unless (option_or o (option_or (first_past 43 levels) (position (is_overweight m levels h.discretes) m.rows))) (end_of m tick w h levels)) (sym calm),
+          ∙ ap (λ o. snapshot_unless o (end_of m tick w h levels)) over
+          ∙ ap (λ o. snapshot_unless (option_or o (option_or (first_exceeding 43 levels) (position (exceeds_row_limits m levels h.discretes) m.rows))) (end_of m tick w h levels)) (sym calm),
     )
 
 -- what did not overflow passes no limit
@@ -226,18 +226,18 @@ both_none None b e = (refl, sym e)
 both_none (Some v) b e = absurd (cc)
 
 -- the same for an overflow that is not known by its variable
-pub early : (Rule : ℤ → ℤ → ℤ → ℤ → Type 0) (m : Machine) (tick : ℕ) (w next : World) (o : Option ℕ) → is_some o ≡ true → o ≡ (handling_at m tick w).overflow →
-    Step Rule m tick w (world_unless o next)
+pub early : (Rule : ℤ → ℤ → ℤ → ℤ → Type 0) (m : Machine) (tick : ℕ) (w next : Snapshot) (o : Option ℕ) → is_some o ≡ true → o ≡ (handlers_at m tick w).overflow →
+    IsStep Rule m tick w (snapshot_unless o next)
 early Rule m tick w next None some e = absurd (cc)
 early Rule m tick w next (Some var) some e = overflows_early Rule m tick w next var (sym e)
 
-pub late : (Rule : ℤ → ℤ → ℤ → ℤ → Type 0) (m : Machine) (tick : ℕ) (w next : World) (h : Handling) (levels : List ℤ) (o : Option ℕ) → is_some o ≡ true →
-    h ≡ handling_at m tick w → h.overflow ≡ None → AreNextLevels Rule m h.states w.levels levels →
-    o ≡ option_or (first_past 43 levels) (position (is_overweight m levels h.discretes) m.rows) → Step Rule m tick w (world_unless o next)
+pub late : (Rule : ℤ → ℤ → ℤ → ℤ → Type 0) (m : Machine) (tick : ℕ) (w next : Snapshot) (h : HandlerState) (levels : List ℤ) (o : Option ℕ) → is_some o ≡ true →
+    h ≡ handlers_at m tick w → h.overflow ≡ None → AreNextLevels Rule m h.states w.levels levels →
+    o ≡ option_or (first_exceeding 43 levels) (position (exceeds_row_limits m levels h.discretes) m.rows) → IsStep Rule m tick w (snapshot_unless o next)
 late Rule m tick w next h levels None some is calm allowed e = absurd (cc)
 late Rule m tick w next h levels (Some var) some is calm allowed e = overflows_late Rule m tick w next h levels var is calm allowed e
 
 -- the levels are small
-pub levels_small : (m : Machine) (tick : ℕ) (s : Store) → Stands m tick s → All (IsWithin 43) s.levels.items
+pub levels_small : (m : Machine) (tick : ℕ) (s : Store) → IsStoreAt m tick s → All (IsWithin 43) s.levels.items
 levels_small m tick s stands k z h =
     subst (IsWithin 43) (get_or_default s.levels.items k (pos 0) z h) (stands.stands_for.left.small_levels k (omega (arith, h, stands.fits.levels)))

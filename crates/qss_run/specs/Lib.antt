@@ -1,4 +1,13 @@
-pub mod Visits
+pub mod EventSteps
 pub mod Stores
-pub mod Calls
-pub mod Touches
+pub mod SimViews
+pub mod TouchCounts
+pub mod ConditionPlaces
+pub mod ConditionContexts
+pub mod DueLists
+pub mod SpeedUpdates
+pub mod HandlerResults
+pub mod DetectorUpdates
+pub mod HandlerReads
+pub mod PlaceSets
+pub mod RunSummaries

@@ -3,13 +3,13 @@
 ghost use Rattle.std.specs.Prelude.{◌≡◌, ◌+◌, ◌<◌, ◌≤◌, ◌++◌, length, vec_len, vec_capacity};
 ghost use Rattle.qss_machine.specs.Runs.{state_rows, discrete_rows};
 
+use qss_events::add_discretes;
 use qss_machine::{Row, RowKind};
-use qss_quiet::add_discretes;
 
 // A row of each state.
 fn add_states(kind: RowKind, tick: u64, x: &[i128], levels: &[i64], rows: &mut Vec<Row>)
-    requires few { length x.now ≤ 4096 }
-    requires as_many { length levels.now ≡ length x.now }
+    requires count_limit { length x.now ≤ 4096 }
+    requires same_length { length levels.now ≡ length x.now }
     requires room { vec_len rows.old + length x.now ≤ vec_capacity rows.old }
     ensures rows { rows.new.items ≡ rows.old.items ++ state_rows kind tick levels.now x.now }
     ensures count { vec_len rows.new ≡ vec_len rows.old + length x.now }
@@ -27,7 +27,7 @@ fn add_states(kind: RowKind, tick: u64, x: &[i128], levels: &[i64], rows: &mut V
 }
 
 /// The rows of all states and discrete variables, at the start or at the end.
-pub(crate) fn set_world_rows(
+pub(crate) fn set_snapshot_rows(
     kind: RowKind,
     tick: u64,
     x: &[i128],
@@ -35,8 +35,8 @@ pub(crate) fn set_world_rows(
     d: &[i64],
     rows: &mut Vec<Row>,
 )
-    requires few { length x.now + length d.now ≤ 4096 }
-    requires as_many { length levels.now ≡ length x.now }
+    requires count_limit { length x.now + length d.now ≤ 4096 }
+    requires same_length { length levels.now ≡ length x.now }
     requires room { length x.now + length d.now ≤ vec_capacity rows.old }
     ensures rows { rows.new.items
         ≡ state_rows kind tick levels.now x.now ++ discrete_rows kind tick (length x.now) d.now }

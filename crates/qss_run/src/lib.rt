@@ -1,20 +1,40 @@
-//! The simulator of machines by events: what it keeps, the visit of a tick, jumps between visits, and the run.
+//! The event-driven simulator of first order: conditions and handlers at an event, steps between events, and runs that are written.
 #![tactic(auto)]
 
-mod advance;
-mod course;
-mod crossings;
+mod after_handlers;
+mod condition_events;
+mod conditions;
+mod context;
+mod detector_settings;
+mod detector_updates;
+mod due_lists;
 mod ends;
-mod held;
-mod jump;
-mod rewatched;
+mod equal_lists;
+mod firing;
+mod first_conditions;
+mod go_to_next_event;
+mod handling;
+mod logged;
+mod next_tick;
+mod place_set;
+mod reading;
+mod rising;
+mod rule_writing;
+mod ruled_run;
+mod run_event;
+mod run_state;
+mod settled_copy;
 mod sim;
-mod sparse;
+mod skip_to_event;
+mod speed_updates;
 mod start;
+mod state_events;
 mod states;
 mod store;
-mod visit;
+mod summary;
 
-pub use course::Course;
-pub use qss_quiet::Outcome;
-pub use sim::Sim;
+pub use conditions::BranchPlace;
+pub use place_set::PlaceSet;
+pub use rule_writing::write_run_by_rule;
+pub use run_state::RunState;
+pub use summary::{RunSummary, summarize};

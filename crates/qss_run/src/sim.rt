@@ -2,31 +2,31 @@
 
 ghost use Rattle.std.specs.Prelude.{◌≡◌};
 
-use crate::course::Course;
+use crate::run_state::RunState;
+use qss_events::Outcome;
 use qss_machine::{Machine, Row};
 use qss_quant::{Quantizer, Steps};
-use qss_quiet::Outcome;
 use std::alloc::{AllocError, Global};
 use std::sync::ledger::Ledger;
 
 /// A machine at a tick of its run, with its quantizer. It visits only ticks at which something happens.
 #[derive(Drop)]
 pub struct Sim {
-    pub course: Course,
+    pub course: RunState,
     pub quantizer: Quantizer,
 }
 
 impl Sim {
     ghost use Rattle.std.specs.Prelude.{◌≡◌, ◌+◌, ◌-◌, ◌≤◌, ◌++◌, None, Some, IfOk};
     ghost use Rattle.qss_machine.specs.declared.rows.RowKind.TheVariants as kind;
-    ghost use Rattle.qss_machine.specs.Ticks.{start_world};
-    ghost use Rattle.qss_machine.specs.Runs.{world_rows};
+    ghost use Rattle.qss_machine.specs.Ticks.{start_snapshot};
+    ghost use Rattle.qss_machine.specs.Runs.{snapshot_rows};
     ghost use Rattle.qss_quant.specs.declared.rule.Rule.{Rule};
-    ghost use Rattle.qss_quant.specs.Rules.{level_by};
-    ghost use Rattle.qss_quiet.specs.declared.outcome.Outcome.{Outcome};
-    ghost use Rattle.qss_quiet.specs.Rules.{IsRuled};
-    ghost use Rattle.qss_quiet.specs.Events.{IsNext, rows_left};
-    ghost use Rattle.qss_run.specs.Touches.{MovesTouched, touches_left};
+    ghost use Rattle.qss_quant.specs.LevelRules.{level_by};
+    ghost use Rattle.qss_events.specs.declared.outcome.Outcome.{Outcome};
+    ghost use Rattle.qss_events.specs.AllowedLevels.{IsAllowedLevel};
+    ghost use Rattle.qss_events.specs.Events.{IsNext, rows_left};
+    ghost use Rattle.qss_run.specs.TouchCounts.{MovesTouched, touches_left};
 
     /// A simulator at tick 0, with the start rows. It takes all the memory that it ever needs.
     pub fn new(alloc: Global, m: Machine, q: Quantizer) -> Result<Sim, AllocError>
@@ -35,13 +35,13 @@ impl Sim {
             ≡ record {
               machine = m;
               tick = 0;
-              world = start_world m;
-              rows = world_rows kind.Start 0 (start_world m);
+              snapshot = start_snapshot m;
+              rows = snapshot_rows kind.Start 0 (start_snapshot m);
               end = None;
             }) }
         ensures rule { IfOk result (λ sim. sim.quantizer ≡ q) }
     {
-        let course = Course::new(alloc, m)?;
+        let course = RunState::new(alloc, m)?;
         Ok(Sim {
             course,
             quantizer: q,
@@ -56,13 +56,13 @@ impl Sim {
         ensures again { (end : Outcome) → self.old.course.end ≡ Some end
             → (result ≡ end) × (self.new.course ≡ self.old.course) × (steps.new ≡ steps.old) }
         ensures next { self.old.course.end ≡ None
-            → IsNext (IsRuled self.old.quantizer.name) self.old.course self.new.course result }
+            → IsNext (IsAllowedLevel self.old.quantizer.name) self.old.course self.new.course result }
         ensures rows { (rule : Rule) → self.old.quantizer.name ≡ Some rule
             → self.old.course.end ≡ None
             → rows_left (level_by rule) self.old.course
             ≡ self.new.course.rows ++ rows_left (level_by rule) self.new.course }
         ensures counted { self.old.course.end ≡ None
-            → MovesTouched (IsRuled self.old.quantizer.name) self.old.course self.new.course result
+            → MovesTouched (IsAllowedLevel self.old.quantizer.name) self.old.course self.new.course result
             (steps.new - steps.old) }
         ensures touched { (rule : Rule) → self.old.quantizer.name ≡ Some rule
             → self.old.course.end ≡ None

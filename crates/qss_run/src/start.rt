@@ -3,29 +3,32 @@
 ghost use Rattle.std.specs.Prelude.{◌≡◌, ℕ, ◌+◌, ◌<◌, ◌≤◌, ◌++◌, All, IfOk, None, false, pos, length, map, position, vec_capacity};
 ghost use Rattle.mu_num.specs.Sizes.{IsWithin};
 ghost use Rattle.qss_machine.specs.declared.rows.RowKind.TheVariants as kind;
-ghost use Rattle.qss_machine.specs.Limits.{level_below};
-ghost use Rattle.qss_machine.specs.Numbers.{int_at};
+ghost use Rattle.qss_machine.specs.MachineLimits.{level_below};
+ghost use Rattle.qss_machine.specs.IndexedSums.{int_at};
 ghost use Rattle.qss_machine.specs.Machines.{state_count, level_unit, quantum_of, start_states, start_discretes};
-ghost use Rattle.qss_machine.specs.Ticks.{start_world, is_overweight};
+ghost use Rattle.qss_machine.specs.Ticks.{start_snapshot, exceeds_row_limits};
 ghost use Rattle.qss_machine.specs.Handlers.{conditions, truths};
-ghost use Rattle.qss_machine.specs.Runs.{state_rows, discrete_rows, world_rows};
-ghost use Rattle.qss_quant.specs.Lines.{IsNear};
+ghost use Rattle.qss_machine.specs.Runs.{state_rows, discrete_rows, snapshot_rows};
+ghost use Rattle.qss_quant.specs.IntegratorLines.{IsLineWithinQuantum};
 ghost use Rattle.qss_sched.specs.Ranks.{due_at, HasNone};
-ghost use Rattle.qss_lines.specs.Variables.{AreWithin};
-ghost use Rattle.qss_watch.specs.Places.{AreConditionsOf, AreWatched};
-ghost use Rattle.qss_lines.specs.Visitings.{HasOneEach};
-ghost use Rattle.qss_quiet.specs.Sims.{IsDue};
-ghost use Rattle.qss_run.specs.Stores.{world_of, HaveSetOut, Stands, IsBlank};
+ghost use Rattle.qss_states.specs.Variables.{AreWithin};
+ghost use Rattle.qss_run.specs.ConditionPlaces.{AreConditionsOf, AreWatched};
+ghost use Rattle.qss_states.specs.EventContexts.{HasOneEach};
+ghost use Rattle.qss_events.specs.Schedules.{IsDue};
+ghost use Rattle.qss_run.specs.Stores.{snapshot_of, AreAllScheduled, IsStoreAt, IsBlank};
 
-use crate::ends::set_world_rows;
+use crate::conditions::Conditions;
+use crate::context::ConditionValues;
+use crate::ends::set_snapshot_rows;
+use crate::equal_lists::list_of;
+use crate::first_conditions::blank_conditions;
 use crate::store::Store;
+use qss_events::{first_tick_leaving, start_levels};
 use qss_hand::Work;
-use qss_lines::Weights;
 use qss_machine::{Machine, Row, RowKind, Uses};
 use qss_quant::Integrator;
-use qss_quiet::{leaving, start_levels};
 use qss_sched::Agenda;
-use qss_watch::{Conditions, Point, blank_conditions, copies};
+use qss_states::Weights;
 use std::alloc::{AllocError, Global};
 
 // A line that rests at 0.
@@ -70,13 +73,13 @@ fn blank_store(alloc: Global, m: &Machine) -> Result<Store, AllocError>
     Ok(Store {
         conditions: watched,
         uses: Uses::new(alloc, m)?,
-        lines: copies(alloc, resting_line(), states)?,
+        lines: list_of(alloc, resting_line(), states)?,
         levels,
-        slopes: copies(alloc, 0, states)?,
+        slopes: list_of(alloc, 0, states)?,
         weights: Weights {
             bound: 0,
             kept: false,
-            of_rows: copies(alloc, 0, states)?,
+            of_rows: list_of(alloc, 0, states)?,
         },
         moved,
         changed,
@@ -105,9 +108,9 @@ fn start_line(
     requires small_state { IsWithin 88 x }
     requires slope { IsWithin 88 slope }
     requires level { IsWithin 43 level }
-    requires near { IsNear (level_unit m.now) x level (quantum_of m.now j level) }
+    requires near { IsLineWithinQuantum (level_unit m.now) x level (quantum_of m.now j level) }
     ensures line { line.new ≡ record { tick = 0; x = x; slope = slope; level = level } }
-    ensures as_many { length agenda.new ≡ length agenda.old }
+    ensures same_length { length agenda.new ≡ length agenda.old }
     ensures others { (place : ℕ) → (place ≡ j → ⊥)
         → due_at agenda.new place ≡ due_at agenda.old place }
     ensures due { IsDue m.now 0 j line.new (due_at agenda.new j) }
@@ -118,7 +121,7 @@ fn start_line(
         slope,
         level,
     };
-    agenda.set(j, leaving(m, j, line));
+    agenda.set(j, first_tick_leaving(m, j, line));
 }
 
 // All states go on from tick 0 at the slopes of these levels and discrete values.
@@ -135,11 +138,11 @@ fn start_lines(
     requires levels { length levels.now ≡ state_count m.now }
     requires one_each { HasOneEach m.now slopes.old lines.old agenda.old }
     requires small_levels { All (IsWithin 43) levels.now }
-    requires light { position (is_overweight m.now levels.now d.now) m.now.rows ≡ None }
+    requires light { position (exceeds_row_limits m.now levels.now d.now) m.now.rows ≡ None }
     requires near { (j : ℕ) → j < state_count m.now
-        → IsNear (level_unit m.now) (int_at x.now j) (int_at levels.now j)
+        → IsLineWithinQuantum (level_unit m.now) (int_at x.now j) (int_at levels.now j)
         (quantum_of m.now j (int_at levels.now j)) }
-    ensures set_out { HaveSetOut m.now x.now levels.now d.now slopes.new lines.new agenda.new }
+    ensures set_out { AreAllScheduled m.now x.now levels.now d.now slopes.new lines.new agenda.new }
     ensures places { length agenda.new ≡ length agenda.old }
     ensures others { (place : ℕ) → state_count m.now ≤ place
         → due_at agenda.new place ≡ due_at agenda.old place }
@@ -152,7 +155,7 @@ fn start_lines(
 }
 
 // All states and conditions go on from tick 0.
-fn set_out(
+fn schedule_all(
     m: &Machine,
     work: &Work,
     levels: &[i64],
@@ -168,10 +171,10 @@ fn set_out(
     requires one_each { HasOneEach m.now slopes.old lines.old agenda.old }
     requires places { length agenda.old ≡ state_count m.now + length (conditions m.now) + 1 }
     requires no_dues { HasNone agenda.old }
-    ensures set_out { HaveSetOut m.now work.now.x levels.now work.now.d slopes.new lines.new
+    ensures set_out { AreAllScheduled m.now work.now.x levels.now work.now.d slopes.new lines.new
         agenda.new }
-    ensures arrived { watched.new.arrived.items ≡ watched.new.settled.items }
-    ensures settled { watched.new.settled.items ≡ truths m.now work.now.x work.now.d 0 }
+    ensures at_arrival { watched.new.at_arrival.items ≡ watched.new.after_handlers.items }
+    ensures after_handlers { watched.new.after_handlers.items ≡ truths m.now work.now.x work.now.d 0 }
     ensures watches { AreWatched m.now 0 work.now.x work.now.d slopes.new watched.new.watches.items
         agenda.new }
     ensures rising { due_at agenda.new (state_count m.now + length (conditions m.now)) ≡ None }
@@ -181,28 +184,31 @@ fn set_out(
     let x = work.x.as_slice();
     let d = work.d.as_slice();
     start_lines(m, x, levels, d, slopes, lines, agenda);
-    let start = Point {
+    let start = ConditionValues {
         tick: 0,
         states: x,
         discretes: d,
         slopes,
     };
-    watched.rewatch_all(m, &start, agenda);
-    let settled = watched.settled.as_slice();
-    watched.arrived.as_mut_slice().copy_from_slice(settled);
+    watched.set_all_detectors(m, &start, agenda);
+    let after_handlers = watched.after_handlers.as_slice();
+    watched
+        .at_arrival
+        .as_mut_slice()
+        .copy_from_slice(after_handlers);
 }
 
 // The start rows.
 fn start_rows(work: &Work, levels: &[i64], rows: &mut Vec<Row>)
-    requires few { length work.now.x + length work.now.d ≤ 4096 }
-    requires as_many { length levels.now ≡ length work.now.x }
+    requires count_limit { length work.now.x + length work.now.d ≤ 4096 }
+    requires same_length { length levels.now ≡ length work.now.x }
     requires room { length work.now.x + length work.now.d ≤ vec_capacity rows.old }
     ensures rows { rows.new.items
         ≡ state_rows kind.Start 0 levels.now work.now.x
         ++ discrete_rows kind.Start 0 (length work.now.x) work.now.d }
     ensures room { vec_capacity rows.new ≡ vec_capacity rows.old }
 {
-    set_world_rows(
+    set_snapshot_rows(
         RowKind::Start,
         0,
         work.x.as_slice(),
@@ -215,11 +221,11 @@ fn start_rows(work: &Work, levels: &[i64], rows: &mut Vec<Row>)
 // A store with the values of the start stands at tick 0.
 fn begin(m: &Machine, s: &mut Store)
     requires { IsBlank m.now s.old }
-    ensures stands { Stands m.now 0 s.new }
-    ensures world { world_of 0 s.new ≡ start_world m.now }
-    ensures rows { s.new.rows.items ≡ world_rows kind.Start 0 (start_world m.now) }
+    ensures stands { IsStoreAt m.now 0 s.new }
+    ensures snapshot { snapshot_of 0 s.new ≡ start_snapshot m.now }
+    ensures rows { s.new.rows.items ≡ snapshot_rows kind.Start 0 (start_snapshot m.now) }
 {
-    set_out(
+    schedule_all(
         m,
         &s.work,
         s.levels.as_slice(),
@@ -236,9 +242,9 @@ fn begin(m: &Machine, s: &mut Store)
 
 /// A store that stands at tick 0, with the start rows.
 pub(crate) fn start_store(alloc: Global, m: &Machine) -> Result<Store, AllocError>
-    ensures stands { IfOk result (λ s. Stands m.now 0 s) }
-    ensures world { IfOk result (λ s. world_of 0 s ≡ start_world m.now) }
-    ensures rows { IfOk result (λ s. s.rows.items ≡ world_rows kind.Start 0 (start_world m.now)) }
+    ensures stands { IfOk result (λ s. IsStoreAt m.now 0 s) }
+    ensures snapshot { IfOk result (λ s. snapshot_of 0 s ≡ start_snapshot m.now) }
+    ensures rows { IfOk result (λ s. s.rows.items ≡ snapshot_rows kind.Start 0 (start_snapshot m.now)) }
 {
     let mut store = blank_store(alloc, m)?;
     begin(m, &mut store);

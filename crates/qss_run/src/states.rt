@@ -1,15 +1,15 @@
 //! States on arrival at a tick.
 
 ghost use Rattle.std.specs.Prelude.{◌≡◌, ℕ, ◌<◌, ◌≤◌, ◌^◌, length};
-ghost use Rattle.qss_machine.specs.Numbers.{tabulate};
-ghost use Rattle.qss_quant.specs.Lines.{state_at};
-ghost use Rattle.qss_lines.specs.StateLines.{line_at, states_at, MayArrive};
+ghost use Rattle.qss_machine.specs.IndexedSums.{tabulate};
+ghost use Rattle.qss_quant.specs.IntegratorLines.{state_at};
+ghost use Rattle.qss_states.specs.StateLines.{line_at, states_at, MayArrive};
 
 use qss_hand::Work;
 use qss_quant::Integrator;
 
 // The states at a tick, along their lines.
-fn arrive(lines: &[Integrator], tick: u64, x: &mut [i128])
+fn states_on_lines(lines: &[Integrator], tick: u64, x: &mut [i128])
     requires { MayArrive tick lines.now x.old }
     ensures { x.new ≡ tabulate (length lines.now) (λ j. state_at (line_at lines.now j) tick) }
 {
@@ -19,11 +19,11 @@ fn arrive(lines: &[Integrator], tick: u64, x: &mut [i128])
 }
 
 /// The states at a tick, along their lines.
-pub(crate) fn arrive_in(lines: &[Integrator], tick: u64, work: &mut Work)
-    requires as_many { length work.old.x ≡ length lines.now }
+pub(crate) fn move_work_states(lines: &[Integrator], tick: u64, work: &mut Work)
+    requires same_length { length work.old.x ≡ length lines.now }
     requires not_later { (j : ℕ) → j < length lines.now → (line_at lines.now j).tick ≤ tick }
-    requires in_time { tick < 2 ^ 32 }
+    requires tick_limit { tick < 2 ^ 32 }
     ensures { work.new ≡ record work.old { x = states_at lines.now tick } }
 {
-    arrive(lines, tick, work.x.as_mut_slice());
+    states_on_lines(lines, tick, work.x.as_mut_slice());
 }

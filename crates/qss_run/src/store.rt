@@ -1,11 +1,11 @@
 //! What a simulator keeps.
 
+use crate::conditions::Conditions;
 use qss_hand::Work;
-use qss_lines::Weights;
 use qss_machine::{Row, Uses};
 use qss_quant::Integrator;
 use qss_sched::Agenda;
-use qss_watch::Conditions;
+use qss_states::Weights;
 
 /// By state: its line, its level and its slope. `weights` are those of rows, or a bound up to which none passes its
 /// limits. `uses` says which rows and conditions read a variable. The agenda has a place for each state, then one for

@@ -100,9 +100,9 @@ pub(crate) fn tick_of(due: &[Option<u64>], place: u32) -> Option<u64>
 #[inline(always)]
 pub(crate) fn put_tick(due: &mut [Option<u64>], place: u32, tick: Option<u64>)
     requires place { place < length due.old }
-    requires small { AreTicks due.old }
+    requires size_limit { AreTicks due.old }
     ensures put { due.new ≡ slice_set due.old place tick }
-    ensures small { AreTicks due.new }
+    ensures size_limit { AreTicks due.new }
 {
     due[place as usize] = tick;
 }

@@ -128,7 +128,7 @@ fn take_group(
     requires wheel { IsWheel due.old marks.now base }
     requires group { IsFirstGroup marks.now (base % 64) group }
     requires room { count ≤ vec_capacity taken.old }
-    requires few { first + count < 2 ^ 32 }
+    requires count_limit { first + count < 2 ^ 32 }
     requires part { (old : List (Option ℕ))
         × ArePartTaken first count (vec_len taken.old) base old due.old taken.old.items }
     ensures wheel { IsWheel due.new (slice_set marks.now (64 * group + base % 64) result) base }
@@ -167,7 +167,7 @@ fn take_each(
 )
     requires wheel { IsWheel due.old marks.old base }
     requires room { count ≤ vec_capacity taken.old }
-    requires few { first + count < 2 ^ 32 }
+    requires count_limit { first + count < 2 ^ 32 }
     requires none_first { (place : ℕ) → place < first → due_at due.old place ≢ Some base }
     ensures wheel { IsWheel due.new marks.new base }
     ensures taken { AreTaken first count base due.old due.new taken.new.items }
@@ -237,7 +237,7 @@ impl Wheel {
     #[inline(always)]
     pub(crate) fn take_all(&mut self, tick: u64, first: u32, count: u32, taken: &mut Vec<u32>)
         requires room { count ≤ vec_capacity taken.old }
-        requires few { first + count < 2 ^ 32 }
+        requires count_limit { first + count < 2 ^ 32 }
         requires none_before { (place due : ℕ) → due_at self.old place ≡ Some due → tick ≤ due }
         requires none_first { (place : ℕ) → place < first → due_at self.old place ≢ Some tick }
         ensures taken { AreTaken first count tick self.old self.new taken.new.items }

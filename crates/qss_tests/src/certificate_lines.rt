@@ -1,8 +1,7 @@
 // Lines of causes and verdicts that no call of the program shows.
 
-use cert_check::Verdict;
-use cert_lines::{cause_line, verdict_line};
-use cert_text::CertErr;
+use cert_check::{CertErr, Verdict};
+use qss_answers::{cause_line, verdict_line};
 use std::test::Fail;
 
 #[test]

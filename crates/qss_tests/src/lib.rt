@@ -4,9 +4,17 @@
 #[cfg(test)]
 mod agendas;
 #[cfg(test)]
+mod answers;
+#[cfg(test)]
+mod candidates;
+#[cfg(test)]
 mod certificate_lines;
 #[cfg(test)]
+mod chance;
+#[cfg(test)]
 mod crossings;
+#[cfg(test)]
+mod grammar;
 #[cfg(test)]
 mod lists;
 #[cfg(test)]
@@ -19,5 +27,7 @@ mod quanta;
 mod rows;
 #[cfg(test)]
 mod run_traces;
+#[cfg(test)]
+mod sources;
 #[cfg(test)]
 mod traces;

@@ -3,7 +3,7 @@
 ghost use Rattle.std.specs.Prelude.{◌≡◌, [], ◌∷◌, pos, negsuc, IfOk, IsTrue};
 ghost use Rattle.qss_machine.specs.Machines.{state_count, row_at};
 ghost use Rattle.qss_machine.specs.Slopes.{mode_fits};
-ghost use Rattle.qss_machine.specs.Limits.{IsBounded};
+ghost use Rattle.qss_machine.specs.MachineLimits.{IsBounded};
 
 use crate::lists::{none, one};
 use mu_io::{Items, Name};

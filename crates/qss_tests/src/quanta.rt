@@ -1,6 +1,6 @@
 ghost use Rattle.std.specs.Prelude.{Some};
 ghost use Rattle.qss_quant.specs.declared.rule.Rule.TheVariants.{Floor};
-ghost use Rattle.qss_quant.specs.Rules.{IsAsked, IsAnswer};
+ghost use Rattle.qss_quant.specs.LevelRules.{IsAsked, IsAnswer};
 
 use mu_num::floor_div;
 use qss_quant::{Integrator, Quantizer, Rule};

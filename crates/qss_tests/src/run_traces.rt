@@ -6,8 +6,8 @@ use crate::lists::{none, one};
 use cert_check::scope;
 use mu_io::{Items, Name};
 use qss_machine::{Entry, Machine, SlopeRow, StateInfo};
+use qss_own_traces::{TraceOver, first_trace, second_trace};
 use qss_trace::Trace;
-use run_trace::{TraceOver, first_trace, second_trace};
 use std::alloc::{AllocError, Global};
 use std::test::Fail;
 

@@ -5,17 +5,17 @@ use Rattle.std.specs.Io.KnownBytes.{Appends}
 use Rattle.mu_io.specs.Files.{Files}
 use Rattle.cert_check.specs.Scope.{IsInScope, IsOutsideBy}
 use Rattle.cert_check.specs.declared.outside.Outside.{Outside}
-use Rattle.cert_answer.proofs.Sameness.{one_each}
-use Rattle.cert_answer.specs.declared.ending.CertificateRefusal.TheVariants as certs
+use Rattle.qss_answers.proofs.OneCertificateAnswer.{one_each}
+use Rattle.qss_answers.specs.declared.certificate_ending.CertificateRefusal.TheVariants as certs
 use Rattle.qss_machine.specs.declared.system.Machine.{Machine}
-use Rattle.qss_top.specs.Answers.{Answer, Told, InScope, refusal, too_long, certificate_answer, IsMachineAnswer, IsCertifyAnswer, IsSourceMachine}
+use Rattle.qss_top.specs.ExpectedResults.{Answer, ExpectedResult, InScope, refusal, too_long, certificate_answer, IsMachineAnswer, IsCertifyAnswer, IsSourceMachine}
 use Rattle.qss_top.specs.CertifiedRuns.{AreCertifiedBy}
-use Rattle.qss_top.specs.Outcomes.{IsOutcome, Meets, Serves}
+use Rattle.qss_top.specs.CommandOutcomes.{IsOutcome, SatisfiesExpected, ImplementsExpected}
 use Rattle.qss_top.specs.Tasks.{IsTaskAnswer}
 use Rattle.qss_top.specs.declared.outcome.Outcome.{Outcome}
 use Rattle.qss_top.specs.declared.outcome.Outcome.TheVariants as outcome
 use Rattle.qss_top.specs.declared.status.Status.TheVariants as ends
-use Rattle.qss_words.specs.declared.request.Task.{Task}
+use Rattle.qss_cli.specs.declared.request.Task.{Task}
 use Rattle.qss_top.proofs.Certified.{certified_by}
 use Rattle.qss_top.proofs.Sources.{one_source_refusal, long_refusal}
 use Rattle.qss_top.proofs.Tellings.{too_long_answer, refusal_outcome}
@@ -43,18 +43,18 @@ certified_bytes share source text m means old new before now h =
     let such = one_each.some_certification m text in
     let answer = certificate_answer such.0 in
     let is : IsCertifyAnswer m text answer = (such.0, such.1, refl) in
-    let told = (h answer is).defined refl in
-    (answer.out, (told.2, certified_by share source text m means answer (sym told.0) is))
+    let expected = (h answer is).defined refl in
+    (answer.out, (expected.2, certified_by share source text m means answer (sym expected.0) is))
 
 -- what serves all that a machine in scope leads to is the outcome of each answer
-served_outcome : (answer : Answer) (what : Outcome) (old new : Option (List ℕ)) (out_before out_now : ℕ) (before now : List ℕ → ℕ) → Meets (said answer) what old new out_before out_now before now
+served_outcome : (answer : Answer) (what : Outcome) (old new : Option (List ℕ)) (out_before out_now : ℕ) (before now : List ℕ → ℕ) → SatisfiesExpected (said answer) what old new out_before out_now before now
     → IsOutcome answer what old new out_before out_now
 served_outcome answer what old new out_before out_now before now h =
     record { defined = λ d. let replied = h.replied d in (replied.0, h.line d, replied.1); prefix = h.prefix; short = h.short; quiet = λ e. h.quiet (ap Some e) }
 
-module _ (m : Machine) (Leads : Told → Type 0) where
+module _ (m : Machine) (Leads : ExpectedResult → Type 0) where
   pub given_outcome : IsInScope m → (what : Outcome) (old new : Option (List ℕ)) (out_before out_now : ℕ)
-      → ((files : Option Files) (before : List ℕ → ℕ) → Serves files [] (λ fs. Leads) what old new out_before out_now before before)
+      → ((files : Option Files) (before : List ℕ → ℕ) → ImplementsExpected files [] (λ fs. Leads) what old new out_before out_now before before)
       → (answer : Answer) → InScope m Leads (said answer) → IsOutcome answer what old new out_before out_now
   given_outcome scope what old new out_before out_now h answer leads =
       let none : List ℕ → ℕ = λ name. 0 in
@@ -62,8 +62,8 @@ module _ (m : Machine) (Leads : Told → Type 0) where
       ((scope_served (Some []) [] m (λ fs. Leads) what old new out_before out_now none none scope (h (Some []) none)).known [] refl (said answer) leads)
 
   pub outside_outcome : (why : Outside) (old : Option (List ℕ)) (out_before : ℕ) → IsOutsideBy m why
-      → (answer : Answer) → InScope m Leads (said answer) → IsOutcome answer (outcome.Uncertified (certs.Outside why)) old old out_before out_before
+      → (answer : Answer) → InScope m Leads (said answer) → IsOutcome answer (outcome.CertificateRefused (certs.Outside why)) old old out_before out_before
   outside_outcome why old out_before is answer leads =
       let none : List ℕ → ℕ = λ name. 0 in
-      served_outcome answer (outcome.Uncertified (certs.Outside why)) old old out_before out_before none none
+      served_outcome answer (outcome.CertificateRefused (certs.Outside why)) old old out_before out_before none none
       ((outside_served (Some []) [] m (λ fs. Leads) why old out_before none is).known [] refl (said answer) leads)

@@ -3,15 +3,15 @@ use Rattle.std.proofs.Common.{◌≡◌, ◌^◌, Bool, true, false, ℕ, List, 
 use Rattle.std.specs.declared.option.Option.{Option}
 use Rattle.std.specs.Prelude.{MatchBool}
 use Rattle.mu_io.specs.Files.{Files}
-use Rattle.cert_answer.specs.Answers as Certificates
-use Rattle.cert_answer.specs.declared.ending.CertificateRefusal.{CertificateRefusal}
-use Rattle.cert_answer.specs.declared.ending.CertificateRefusal.TheVariants as certs
-use Rattle.cert_answer.proofs.Bounds.{bounds}
+use Rattle.qss_answers.specs.CertificateAnswers as Certificates
+use Rattle.qss_answers.specs.declared.certificate_ending.CertificateRefusal.{CertificateRefusal}
+use Rattle.qss_answers.specs.declared.certificate_ending.CertificateRefusal.TheVariants as certs
+use Rattle.qss_answers.proofs.BoundsHold.{bounds}
 use Rattle.qss_compile.specs.Meanings.{IsRefused}
 use Rattle.qss_compile.specs.declared.fault.Refused.{Refused}
 use Rattle.qss_machine.specs.declared.system.Machine.{Machine}
-use Rattle.qss_top.specs.Answers.{Answer, Told, answered, refusal, refused, too_long, certificate_answer, status_of_refusal, IsCertificateAnswer, IsCertifyAnswer, IsSourceRefusal, IsSourceMachine, Says, ReadsThen, Finds, ByMachine, ReadsText, SaysOn}
-use Rattle.qss_top.specs.CertifiedRuns.{AreCertified, AreCertifiedBy, CertifiedRunsStayNear}
+use Rattle.qss_top.specs.ExpectedResults.{Answer, ExpectedResult, answered, refusal, refused, too_long, certificate_answer, status_of_refusal, IsCertificateAnswer, IsCertifyAnswer, IsSourceRefusal, IsSourceMachine, AnswersWith, ContinuesFromFile, IsFileContent, ContinuesFromMachine, ContinuesFromText, AnswersWithText}
+use Rattle.qss_top.specs.CertifiedRuns.{AreCertified, AreCertifiedBy, CertifiedRunsStayWithinBounds}
 use Rattle.qss_top.specs.declared.status.Status.TheVariants as ends
 
 -- a source that is refused is told so
@@ -29,9 +29,9 @@ refusal_status (certs.Unread why) e = cc
 refusal_status (certs.Rejected verdict) e = cc
 
 -- what is said is replied
-pub said : (a : Answer) (told : Told) (answer : Answer) → told ≡ record { arrivals = []; reply = answered a } → told.reply ≡ answered answer → answer ≡ a
-said a told answer is replied =
-    let same : answered answer ≡ answered a = sym replied ∙ ap (λ (t : Told). t.reply) is in
+pub said : (a : Answer) (expected : ExpectedResult) (answer : Answer) → expected ≡ record { files_read = []; reply = answered a } → expected.reply ≡ answered answer → answer ≡ a
+said a expected answer is replied =
+    let same : answered answer ≡ answered a = sym replied ∙ ap (λ (t : ExpectedResult). t.reply) is in
     cc
 
 -- an answer that certifies what the bytes say, and ends well
@@ -50,47 +50,47 @@ certified_by share source text m means answer ok (Certificates.written out, is, 
     }
 
 -- behind a file that is read
-pub replied_behind : (name : List ℕ) (told later : Told) (answer : Answer) → told ≡ record { arrivals = name ∷ later.arrivals; reply = later.reply } → told.reply ≡ answered answer → later.reply ≡ answered answer
-replied_behind name told later answer is replied = sym (ap (λ (t : Told). t.reply) is) ∙ replied
+pub replied_behind : (name : List ℕ) (expected later : ExpectedResult) (answer : Answer) → expected ≡ record { files_read = name ∷ later.files_read; reply = later.reply } → expected.reply ≡ answered answer → later.reply ≡ answered answer
+replied_behind name expected later answer is replied = sym (ap (λ (t : ExpectedResult). t.reply) is) ∙ replied
 
 module _ (model certificate : List ℕ) (share : ℕ) (files : Option Files) (answer : Answer) (ok : answer.status ≡ ends.Ok) where
   -- a certificate that is answered with a text
-  module _ (source : List ℕ) (found : Finds files model (Some source)) (m : Machine) (means : IsSourceMachine share source m) where
-    on_answer : (text : List ℕ) → Finds files certificate (Some text) → (such : Certificates.Answer) → Certificates.IsCertification m text such → answer ≡ certificate_answer such
+  module _ (source : List ℕ) (found : IsFileContent files model (Some source)) (m : Machine) (means : IsSourceMachine share source m) where
+    on_answer : (text : List ℕ) → IsFileContent files certificate (Some text) → (such : Certificates.Answer) → Certificates.IsCertification m text such → answer ≡ certificate_answer such
         → AreCertified model certificate share files answer.out
     on_answer text read such is e =
         record { source = source; found = found; text = text; read = read; certified = certified_by share source text m means answer ok (such, is, e) }
 
-    on_text : (told : Told) → told.reply ≡ answered answer → (text : Option (List ℕ)) → Finds files certificate text
-        → ReadsThen certificate (λ bytes. Says (IsCertificateAnswer (Certificates.IsCertification m bytes))) text told → AreCertified model certificate share files answer.out
-    on_text told replied None read leads =
-        let none = sym (ap (λ (t : Told). t.reply) leads) ∙ replied in
+    on_text : (expected : ExpectedResult) → expected.reply ≡ answered answer → (text : Option (List ℕ)) → IsFileContent files certificate text
+        → ContinuesFromFile certificate (λ bytes. AnswersWith (IsCertificateAnswer (Certificates.IsCertification m bytes))) text expected → AreCertified model certificate share files answer.out
+    on_text expected replied None read leads =
+        let none = sym (ap (λ (t : ExpectedResult). t.reply) leads) ∙ replied in
         absurd (cc)
-    on_text told replied (Some text) read (later, says, is) =
-        let same = said says.0 later answer says.2 (replied_behind certificate told later answer is replied) in
+    on_text expected replied (Some text) read (later, says, is) =
+        let same = said says.0 later answer says.2 (replied_behind certificate expected later answer is replied) in
         on_answer text read says.1.0 says.1.1 (same ∙ says.1.2)
 
-    on_scope : (told : Told) → told.reply ≡ answered answer → ReadsText certificate (SaysOn IsCertifyAnswer) m files told → AreCertified model certificate share files answer.out
-    on_scope told replied (inl (why, is, says)) =
-        let same = said says.0 told answer says.2 replied ∙ says.1 in
+    on_scope : (expected : ExpectedResult) → expected.reply ≡ answered answer → ContinuesFromText certificate (AnswersWithText IsCertifyAnswer) m files expected → AreCertified model certificate share files answer.out
+    on_scope expected replied (inl (why, is, says)) =
+        let same = said says.0 expected answer says.2 replied ∙ says.1 in
         absurd (refusal_status (certs.Outside why) (sym (ap (λ (x : Answer). x.status) same) ∙ ok))
-    on_scope told replied (inr (scope, reads)) = on_text told replied reads.0 reads.1 reads.2
+    on_scope expected replied (inr (scope, reads)) = on_text expected replied reads.0 reads.1 reads.2
 
-  on_source : (source : List ℕ) → Finds files model (Some source) → (told : Told) → told.reply ≡ answered answer
-      → ByMachine share source (λ m. ReadsText certificate (SaysOn IsCertifyAnswer) m files) told → AreCertified model certificate share files answer.out
-  on_source source found told replied (inl says) =
-      let same = said says.0 told answer says.2 replied in
+  on_source : (source : List ℕ) → IsFileContent files model (Some source) → (expected : ExpectedResult) → expected.reply ≡ answered answer
+      → ContinuesFromMachine share source (λ m. ContinuesFromText certificate (AnswersWithText IsCertifyAnswer) m files) expected → AreCertified model certificate share files answer.out
+  on_source source found expected replied (inl says) =
+      let same = said says.0 expected answer says.2 replied in
       let status = source_status source says.0 says.1 in
       let wrong : ends.Ok ≡ ends.ModelRefused = sym ok ∙ ap (λ (x : Answer). x.status) same ∙ status in
       absurd (cc)
-  on_source source found told replied (inr (m, means, leads)) = on_scope source found m means told replied leads
+  on_source source found expected replied (inr (m, means, leads)) = on_scope source found m means expected replied leads
 
-  on_model : (told : Told) → told.reply ≡ answered answer → (source : Option (List ℕ)) → Finds files model source
-      → ReadsThen model (λ bytes. ByMachine share bytes (λ m. ReadsText certificate (SaysOn IsCertifyAnswer) m files)) source told → AreCertified model certificate share files answer.out
-  on_model told replied None found leads =
-      let none = sym (ap (λ (t : Told). t.reply) leads) ∙ replied in
+  on_model : (expected : ExpectedResult) → expected.reply ≡ answered answer → (source : Option (List ℕ)) → IsFileContent files model source
+      → ContinuesFromFile model (λ bytes. ContinuesFromMachine share bytes (λ m. ContinuesFromText certificate (AnswersWithText IsCertifyAnswer) m files)) source expected → AreCertified model certificate share files answer.out
+  on_model expected replied None found leads =
+      let none = sym (ap (λ (t : ExpectedResult). t.reply) leads) ∙ replied in
       absurd (cc)
-  on_model told replied (Some source) found (later, leads, is) = on_source source found later (replied_behind model told later answer is replied) leads
+  on_model expected replied (Some source) found (later, leads, is) = on_source source found later (replied_behind model expected later answer is replied) leads
 
-pub certified : CertifiedRunsStayNear
-certified model certificate share files told answer leads replied ok = on_model model certificate share files answer ok told replied leads.0 leads.1 leads.2
+pub certified : CertifiedRunsStayWithinBounds
+certified model certificate share files expected answer leads replied ok = on_model model certificate share files answer ok expected replied leads.0 leads.1 leads.2

@@ -4,22 +4,22 @@ use Rattle.std.specs.declared.option.Option.{Option}
 use Rattle.std.specs.Prelude.{Result, Ok, Err, IfOk, IfErr}
 use Rattle.mu_io.specs.Files.{Files}
 use Rattle.qss_machine.specs.declared.system.Machine.{Machine}
-use Rattle.qss_rows.specs.Lines.{name_of}
+use Rattle.qss_rows.specs.RowTexts.{name_of}
 use Rattle.cert_check.specs.Scope.{IsInScope}
 use Rattle.cert_check.specs.declared.certificate.Certificate.{Certificate}
 use Rattle.qss_trace.specs.declared.trace.Trace.{Trace}
-use Rattle.trace_answer.specs.Answers.{limit}
-use Rattle.trace_answer.specs.Comparisons.{Given, first_order, second_order, traced as given_trace, IsSide, IsSideless, MayStop}
-use Rattle.trace_answer.specs.Laws.{IsJudged}
-use Rattle.trace_answer.specs.declared.ending.TraceRefusal.TheVariants.{TooLong}
-use Rattle.trace_answer.specs.declared.stop.ComparisonRefusal.TheVariants as comparisons
-use Rattle.trace_answer.specs.declared.stop.Stop.{Stop}
-use Rattle.trace_answer.specs.declared.stop.Stop.TheVariants as stops
-use Rattle.trace_answer.proofs.Sides.{judged-side}
-use Rattle.qss_words.specs.Commands.{Side, first_run, second_run, traced, files_of_side}
-use Rattle.qss_top.specs.Answers.{Told, incomparable, over, status_of_comparison, stop_answer, Stage, OnRun, OnSide}
-use Rattle.qss_top.specs.Comparing.{IsStopOutcome, IsGivenAs, IsHad, IsStopped, IsUnread, IsNotHad}
-use Rattle.qss_top.specs.Outcomes.{IsOutcome, Serves}
+use Rattle.qss_answers.specs.TraceAnswers.{limit}
+use Rattle.qss_answers.specs.Comparisons.{RunSource, first_order, second_order, traced as given_trace, IsRunTrace, HasNoRunTrace, MayStop}
+use Rattle.qss_answers.specs.TraceLaws.{IsJudged}
+use Rattle.qss_answers.specs.declared.trace_ending.TraceRefusal.TheVariants.{TooLong}
+use Rattle.qss_answers.specs.declared.stop.ComparisonRefusal.TheVariants as comparisons
+use Rattle.qss_answers.specs.declared.stop.ComparisonStop.{ComparisonStop}
+use Rattle.qss_answers.specs.declared.stop.ComparisonStop.TheVariants as stops
+use Rattle.qss_answers.proofs.Sides.{judged-side}
+use Rattle.qss_cli.specs.Commands.{Side, first_run, second_run, traced, files_of_side}
+use Rattle.qss_top.specs.ExpectedResults.{ExpectedResult, comparison_refused, overflowed, status_of_comparison, comparison_stop_answer, ComparisonStep, ContinuesFromRun, ContinuesFromSide}
+use Rattle.qss_top.specs.ComparisonOutcomes.{IsStopOutcome, IsGivenAs, IsHad, IsStopped, IsUnread, IsNotHad}
+use Rattle.qss_top.specs.CommandOutcomes.{IsOutcome, ImplementsExpected}
 use Rattle.qss_top.specs.declared.outcome.Outcome.{Outcome}
 use Rattle.qss_top.specs.declared.outcome.Outcome.TheVariants as outcome
 use Rattle.qss_top.specs.declared.status.Status.TheVariants as ends
@@ -29,13 +29,13 @@ use Rattle.qss_top.proofs.TwoFiles.{said, one_served, memory_wanted, refused_now
 
 -- ---- a step
 
-module _ {X : Type 0} (files : Option Files) (names : List (List ℕ)) (m : Machine) (Gives : X → Type 0) (Stops : Stop → Type 0) (judged : IsJudged Gives Stops) (Leads : X → Option Files → Told → Type 0) where
-  abbrev Staged : Option Files → Told → Type 0
-  Staged fs = Stage m Gives Stops (λ x. Leads x fs)
+module _ {X : Type 0} (files : Option Files) (names : List (List ℕ)) (m : Machine) (Gives : X → Type 0) (Stops : ComparisonStop → Type 0) (judged : IsJudged Gives Stops) (Leads : X → Option Files → ExpectedResult → Type 0) where
+  abbrev Staged : Option Files → ExpectedResult → Type 0
+  Staged fs = ComparisonStep m Gives Stops (λ x. Leads x fs)
 
   -- the thing that is given leads on
-  pub stage_served : (x : X) (what : Outcome) (old new : Option (List ℕ)) (out_before out_now : ℕ) (before now : List ℕ → ℕ) → Gives x → Serves files names (Leads x) what old new out_before out_now before now
-      → Serves files names Staged what old new out_before out_now before now
+  pub stage_served : (x : X) (what : Outcome) (old new : Option (List ℕ)) (out_before out_now : ℕ) (before now : List ℕ → ℕ) → Gives x → ImplementsExpected files names (Leads x) what old new out_before out_now before now
+      → ImplementsExpected files names Staged what old new out_before out_now before now
   stage_served x what old new out_before out_now before now gives h = record {
     known = λ fs e t leads. h.known fs e t (to fs t leads);
     some = let p = h.some in (p.0, p.1, inr (x, gives, p.2), p.3, p.4);
@@ -43,123 +43,123 @@ module _ {X : Type 0} (files : Option Files) (names : List (List ℕ)) (m : Mach
     others = h.others;
   }
     where
-      to : (fs : Files) (t : Told) → Staged (Some fs) t → Leads x (Some fs) t
+      to : (fs : Files) (t : ExpectedResult) → Staged (Some fs) t → Leads x (Some fs) t
       to fs t (inl (stop, is, says)) = absurd (judged.apart x stop gives is)
       to fs t (inr (y, is, leads)) = subst (λ (z : X). Leads z (Some fs) t) (judged.one y x is gives) leads
 
-  stop_served : (stop : Stop) (what : Outcome) (old : Option (List ℕ)) (out_before : ℕ) (before : List ℕ → ℕ) → Stops stop → IsOutcome (stop_answer m stop) what old old out_before out_before → what ≢ outcome.ReadFault
-      → Serves files names Staged what old old out_before out_before before before
+  stop_served : (stop : ComparisonStop) (what : Outcome) (old : Option (List ℕ)) (out_before : ℕ) (before : List ℕ → ℕ) → Stops stop → IsOutcome (comparison_stop_answer m stop) what old old out_before out_before → what ≢ outcome.ReadFault
+      → ImplementsExpected files names Staged what old old out_before out_before before before
   stop_served stop what old out_before before is outcome_is not_read =
-      one_served files names Staged (stop_answer m stop) what old out_before before only (inl (stop, is, (stop_answer m stop, refl, refl))) outcome_is not_read
+      one_served files names Staged (comparison_stop_answer m stop) what old out_before before only (inl (stop, is, (comparison_stop_answer m stop, refl, refl))) outcome_is not_read
     where
-      only : (fs : Files) (t : Told) → Staged (Some fs) t → t ≡ said (stop_answer m stop)
-      only fs t (inl (other, so, says)) = says.2 ∙ ap said (says.1 ∙ ap (stop_answer m) (judged.one_stop other stop so is))
+      only : (fs : Files) (t : ExpectedResult) → Staged (Some fs) t → t ≡ said (comparison_stop_answer m stop)
+      only fs t (inl (other, so, says)) = says.2 ∙ ap said (says.1 ∙ ap (comparison_stop_answer m) (judged.one_stop other stop so is))
       only fs t (inr (x, so, leads)) = absurd (judged.apart x stop so is)
 
   -- it is stopped
-  pub stage_ended : (stop : Stop) (what : Outcome) (old : Option (List ℕ)) (out_before : ℕ) (before : List ℕ → ℕ) → MayStop Stops stop → IsStopOutcome m stop what → MayReply (Staged None)
-      → Serves files names Staged what old old out_before out_before before before
-  stage_ended stop what old out_before before may told reply = by stop may told
+  pub stage_ended : (stop : ComparisonStop) (what : Outcome) (old : Option (List ℕ)) (out_before : ℕ) (before : List ℕ → ℕ) → MayStop Stops stop → IsStopOutcome m stop what → MayReply (Staged None)
+      → ImplementsExpected files names Staged what old old out_before out_before before before
+  stage_ended stop what old out_before before may expected reply = by stop may expected
     where
-      memory : what ≡ outcome.Memory → Serves files names Staged what old old out_before out_before before before
-      memory e = subst (λ (w : Outcome). Serves files names Staged w old old out_before out_before before before) (sym e) (memory_wanted files names Staged old out_before before reply)
+      memory : what ≡ outcome.Memory → ImplementsExpected files names Staged what old old out_before out_before before before
+      memory e = subst (λ (w : Outcome). ImplementsExpected files names Staged w old old out_before out_before before before) (sym e) (memory_wanted files names Staged old out_before before reply)
 
-      by : (s : Stop) → MayStop Stops s → IsStopOutcome m s what → Serves files names Staged what old old out_before out_before before before
+      by : (s : ComparisonStop) → MayStop Stops s → IsStopOutcome m s what → ImplementsExpected files names Staged what old old out_before out_before before before
       by stops.Memory is e = memory e
       by (stops.Refused why) (inl wrong) e = absurd (cc wrong)
       by (stops.Refused why) (inr is) e =
-          subst (λ (w : Outcome). Serves files names Staged w old old out_before out_before before before) (sym e)
-          (stop_served (stops.Refused why) (outcome.Incomparable why) old out_before before is
-          (refused_now (status_of_comparison why) (incomparable why) (outcome.Incomparable why) old out_before refl refl) (λ d. cc d))
+          subst (λ (w : Outcome). ImplementsExpected files names Staged w old old out_before out_before before before) (sym e)
+          (stop_served (stops.Refused why) (outcome.ComparisonRefused why) old out_before before is
+          (refused_now (status_of_comparison why) (comparison_refused why) (outcome.ComparisonRefused why) old out_before refl refl) (λ d. cc d))
       by (stops.Over tick var) (inl wrong) e = absurd (cc wrong)
       by (stops.Over tick var) (inr is) (inl e) = memory e
       by (stops.Over tick var) (inr is) (inr e) =
-          subst (λ (w : Outcome). Serves files names Staged w old old out_before out_before before before) (sym e)
+          subst (λ (w : Outcome). ImplementsExpected files names Staged w old old out_before out_before before before) (sym e)
           (stop_served (stops.Over tick var) (outcome.Overflow (name_of m var) tick) old out_before before is
-          (refused_now ends.Overflow (over (name_of m var) tick) (outcome.Overflow (name_of m var) tick) old out_before refl refl) (λ d. cc d))
+          (refused_now ends.Overflow (overflowed (name_of m var) tick) (outcome.Overflow (name_of m var) tick) old out_before refl refl) (λ d. cc d))
 
 -- ---- a run
 
 -- a trace's bytes are too many
-abbrev long_text : Stop
+abbrev long_text : ComparisonStop
 long_text = stops.Refused (comparisons.Trace TooLong)
 
-module _ (m : Machine) (c : Certificate) (run : ℕ) (scope : IsInScope m) (files : Option Files) (names : List (List ℕ)) (Leads : Trace → Option Files → Told → Type 0) where
-  abbrev Given_run : Given → Option Files → Told → Type 0
-  Given_run given fs = OnRun m c run given (λ t. Leads t fs)
+module _ (m : Machine) (c : Certificate) (run : ℕ) (scope : IsInScope m) (files : Option Files) (names : List (List ℕ)) (Leads : Trace → Option Files → ExpectedResult → Type 0) where
+  abbrev Given_run : RunSource → Option Files → ExpectedResult → Type 0
+  Given_run given fs = ContinuesFromRun m c run given (λ t. Leads t fs)
 
-  abbrev Side_run : Side → Option Files → Told → Type 0
-  Side_run side fs = OnSide fs m c run side (λ t. Leads t fs)
+  abbrev Side_run : Side → Option Files → ExpectedResult → Type 0
+  Side_run side fs = ContinuesFromSide fs m c run side (λ t. Leads t fs)
 
-  pub run_served : (given : Given) (t : Trace) (what : Outcome) (old new : Option (List ℕ)) (out_before out_now : ℕ) (before now : List ℕ → ℕ) → IsSide m c given t
-      → Serves files names (Leads t) what old new out_before out_now before now → Serves files names (Given_run given) what old new out_before out_now before now
+  pub run_served : (given : RunSource) (t : Trace) (what : Outcome) (old new : Option (List ℕ)) (out_before out_now : ℕ) (before now : List ℕ → ℕ) → IsRunTrace m c given t
+      → ImplementsExpected files names (Leads t) what old new out_before out_now before now → ImplementsExpected files names (Given_run given) what old new out_before out_now before now
   run_served given t what old new out_before out_now before now is h =
-      stage_served files names m (IsSide m c given) (IsSideless m c run given) (judged-side m c run given scope) Leads t what old new out_before out_now before now is h
+      stage_served files names m (IsRunTrace m c given) (HasNoRunTrace m c run given) (judged-side m c run given scope) Leads t what old new out_before out_now before now is h
 
   module _ (reply : (t : Trace) → MayReply (Leads t None)) where
-    replied : (given : Given) → MayReply (Given_run given None)
+    replied : (given : RunSource) → MayReply (Given_run given None)
     replied given = run_reply m c run given (λ t. Leads t None) scope reply
 
-    pub run_ended : (given : Given) (stop : Stop) (what : Outcome) (old : Option (List ℕ)) (out_before : ℕ) (before : List ℕ → ℕ) → MayStop (IsSideless m c run given) stop → IsStopOutcome m stop what
-        → Serves files names (Given_run given) what old old out_before out_before before before
-    run_ended given stop what old out_before before may told =
-        stage_ended files names m (IsSide m c given) (IsSideless m c run given) (judged-side m c run given scope) Leads stop what old out_before before may told (replied given)
+    pub run_ended : (given : RunSource) (stop : ComparisonStop) (what : Outcome) (old : Option (List ℕ)) (out_before : ℕ) (before : List ℕ → ℕ) → MayStop (HasNoRunTrace m c run given) stop → IsStopOutcome m stop what
+        → ImplementsExpected files names (Given_run given) what old old out_before out_before before before
+    run_ended given stop what old out_before before may expected =
+        stage_ended files names m (IsRunTrace m c given) (HasNoRunTrace m c run given) (judged-side m c run given scope) Leads stop what old out_before before may expected (replied given)
 
     -- the trace is had, and the rest of the comparison serves it
     pub side_served : (side : Side) (t : Trace) (what : Outcome) (old new : Option (List ℕ)) (out_before out_now : ℕ) (before mid now : List ℕ → ℕ) → IsHad m c side files before mid t
-        → Serves files names (Leads t) what old new out_before out_now mid now → Serves files (files_of_side side ++ names) (Side_run side) what old new out_before out_now before now
+        → ImplementsExpected files names (Leads t) what old new out_before out_now mid now → ImplementsExpected files (files_of_side side ++ names) (Side_run side) what old new out_before out_now before now
     side_served first_run t what old new out_before out_now before mid now had h =
-        subst (λ (b : List ℕ → ℕ). Serves files names (Given_run first_order) what old new out_before out_now b now) had.read.1
-        (run_served first_order t what old new out_before out_now mid now (subst (λ (g : Given). IsSide m c g t) had.read.0 had.is) h)
+        subst (λ (b : List ℕ → ℕ). ImplementsExpected files names (Given_run first_order) what old new out_before out_now b now) had.read.1
+        (run_served first_order t what old new out_before out_now mid now (subst (λ (g : RunSource). IsRunTrace m c g t) had.read.0 had.is) h)
     side_served second_run t what old new out_before out_now before mid now had h =
-        subst (λ (b : List ℕ → ℕ). Serves files names (Given_run second_order) what old new out_before out_now b now) had.read.1
-        (run_served second_order t what old new out_before out_now mid now (subst (λ (g : Given). IsSide m c g t) had.read.0 had.is) h)
+        subst (λ (b : List ℕ → ℕ). ImplementsExpected files names (Given_run second_order) what old new out_before out_now b now) had.read.1
+        (run_served second_order t what old new out_before out_now mid now (subst (λ (g : RunSource). IsRunTrace m c g t) had.read.0 had.is) h)
     side_served (traced name) t what old new out_before out_now before mid now had h =
         let read = had.read in
         read_served name names (λ bytes fs. Given_run (given_trace bytes) fs) files read.0 what old new out_before out_now before mid now read.2 read.3 read.4
-        (run_served (given_trace read.0) t what old new out_before out_now mid now (subst (λ (g : Given). IsSide m c g t) read.1 had.is) h)
+        (run_served (given_trace read.0) t what old new out_before out_now mid now (subst (λ (g : RunSource). IsRunTrace m c g t) read.1 had.is) h)
 
     -- it is not had
     stopped_served : (side : Side) (what : Outcome) (old : Option (List ℕ)) (out_before : ℕ) (before now : List ℕ → ℕ) → IsStopped m c run side files before now what
-        → Serves files (files_of_side side ++ names) (Side_run side) what old old out_before out_before before now
+        → ImplementsExpected files (files_of_side side ++ names) (Side_run side) what old old out_before out_before before now
     stopped_served first_run what old out_before before now is =
-        subst (λ (b : List ℕ → ℕ). Serves files names (Given_run first_order) what old old out_before out_before b now) is.read.1
-        (run_ended first_order is.stop what old out_before now (subst (λ (g : Given). MayStop (IsSideless m c run g) is.stop) is.read.0 is.stops) is.told)
+        subst (λ (b : List ℕ → ℕ). ImplementsExpected files names (Given_run first_order) what old old out_before out_before b now) is.read.1
+        (run_ended first_order is.stop what old out_before now (subst (λ (g : RunSource). MayStop (HasNoRunTrace m c run g) is.stop) is.read.0 is.stops) is.told)
     stopped_served second_run what old out_before before now is =
-        subst (λ (b : List ℕ → ℕ). Serves files names (Given_run second_order) what old old out_before out_before b now) is.read.1
-        (run_ended second_order is.stop what old out_before now (subst (λ (g : Given). MayStop (IsSideless m c run g) is.stop) is.read.0 is.stops) is.told)
+        subst (λ (b : List ℕ → ℕ). ImplementsExpected files names (Given_run second_order) what old old out_before out_before b now) is.read.1
+        (run_ended second_order is.stop what old out_before now (subst (λ (g : RunSource). MayStop (HasNoRunTrace m c run g) is.stop) is.read.0 is.stops) is.told)
     stopped_served (traced name) what old out_before before now is =
         let read = is.read in
         read_served name names (λ bytes fs. Given_run (given_trace bytes) fs) files read.0 what old old out_before out_before before now now read.2 read.3 read.4
-        (run_ended (given_trace read.0) is.stop what old out_before now (subst (λ (g : Given). MayStop (IsSideless m c run g) is.stop) read.1 is.stops) is.told)
+        (run_ended (given_trace read.0) is.stop what old out_before now (subst (λ (g : RunSource). MayStop (HasNoRunTrace m c run g) is.stop) read.1 is.stops) is.told)
 
     unread_served : (name : List ℕ) (what : Outcome) (old : Option (List ℕ)) (out_before : ℕ) (before now : List ℕ → ℕ) → IsUnread name files before now what
-        → Serves files (name ∷ names) (Side_run (traced name)) what old old out_before out_before before now
+        → ImplementsExpected files (name ∷ names) (Side_run (traced name)) what old old out_before out_before before now
     unread_served name what old out_before before now (inl (e, counts, rose)) =
-        subst (λ (w : Outcome). Serves files (name ∷ names) (Side_run (traced name)) w old old out_before out_before before now) (sym e)
+        subst (λ (w : Outcome). ImplementsExpected files (name ∷ names) (Side_run (traced name)) w old old out_before out_before before now) (sym e)
         (fault_served name names (λ bytes fs. Given_run (given_trace bytes) fs) files old out_before before now counts rose (λ bytes. replied (given_trace bytes)))
     unread_served name what old out_before before now (inr (inl (e, counts, calm))) =
-        subst (λ (w : Outcome). Serves files (name ∷ names) (Side_run (traced name)) w old old out_before out_before before now) (sym e)
+        subst (λ (w : Outcome). ImplementsExpected files (name ∷ names) (Side_run (traced name)) w old old out_before out_before before now) (sym e)
         (memory_served name names (λ bytes fs. Given_run (given_trace bytes) fs) files old out_before before now counts (λ bytes. replied (given_trace bytes)))
-    unread_served name what old out_before before now (inr (inr (e, counts, calm, told))) =
-        subst (λ (w : Outcome). Serves files (name ∷ names) (Side_run (traced name)) w old old out_before out_before before now) (sym e)
-        (long_served name names (λ bytes fs. Given_run (given_trace bytes) fs) files limit (stop_answer m long_text) (outcome.Incomparable (comparisons.Trace TooLong)) old out_before before now counts calm told only all
+    unread_served name what old out_before before now (inr (inr (e, counts, calm, expected))) =
+        subst (λ (w : Outcome). ImplementsExpected files (name ∷ names) (Side_run (traced name)) w old old out_before out_before before now) (sym e)
+        (long_served name names (λ bytes fs. Given_run (given_trace bytes) fs) files limit (comparison_stop_answer m long_text) (outcome.ComparisonRefused (comparisons.Trace TooLong)) old out_before before now counts calm expected only all
         (some.0, longer limit some.0 some.1)
-        (refused_now (status_of_comparison (comparisons.Trace TooLong)) (incomparable (comparisons.Trace TooLong)) (outcome.Incomparable (comparisons.Trace TooLong)) old out_before refl refl) (λ d. cc d))
+        (refused_now (status_of_comparison (comparisons.Trace TooLong)) (comparison_refused (comparisons.Trace TooLong)) (outcome.ComparisonRefused (comparisons.Trace TooLong)) old out_before refl refl) (λ d. cc d))
       where
         some : (bytes : List ℕ) × (length bytes ≡ limit + 1)
         some = bytes_of (limit + 1)
 
-        only : (bytes : List ℕ) → limit < length bytes → (fs : Option Files) (t : Told) → Given_run (given_trace bytes) fs t → t ≡ said (stop_answer m long_text)
+        only : (bytes : List ℕ) → limit < length bytes → (fs : Option Files) (t : ExpectedResult) → Given_run (given_trace bytes) fs t → t ≡ said (comparison_stop_answer m long_text)
         only bytes h fs t (inl (stop, is, says)) =
-            says.2 ∙ ap said (says.1 ∙ ap (stop_answer m) ((judged-side m c run (given_trace bytes) scope).one_stop stop long_text is (scope, h)))
+            says.2 ∙ ap said (says.1 ∙ ap (comparison_stop_answer m) ((judged-side m c run (given_trace bytes) scope).one_stop stop long_text is (scope, h)))
         only bytes h fs t (inr (x, is, leads)) = absurd ((judged-side m c run (given_trace bytes) scope).apart x long_text is (scope, h))
 
-        all : (bytes : List ℕ) → limit < length bytes → Given_run (given_trace bytes) None (said (stop_answer m long_text))
-        all bytes h = inl (long_text, (scope, h), (stop_answer m long_text, refl, refl))
+        all : (bytes : List ℕ) → limit < length bytes → Given_run (given_trace bytes) None (said (comparison_stop_answer m long_text))
+        all bytes h = inl (long_text, (scope, h), (comparison_stop_answer m long_text, refl, refl))
 
     pub unhad_served : (side : Side) (what : Outcome) (old : Option (List ℕ)) (out_before : ℕ) (before now : List ℕ → ℕ) → IsNotHad m c run side files before now what
-        → Serves files (files_of_side side ++ names) (Side_run side) what old old out_before out_before before now
+        → ImplementsExpected files (files_of_side side ++ names) (Side_run side) what old old out_before out_before before now
     unhad_served first_run what old out_before before now is = stopped_served first_run what old out_before before now is
     unhad_served second_run what old out_before before now is = stopped_served second_run what old out_before before now is
     unhad_served (traced name) what old out_before before now (inl is) = unread_served name what old out_before before now is
@@ -170,7 +170,7 @@ module _ (m : Machine) (c : Certificate) (run : ℕ) (scope : IsInScope m) (file
 calm_later : (before now : List ℕ → ℕ) → ((name : List ℕ) → now name ≡ before name) → (name : List ℕ) → before name ≤ now name
 calm_later before now calm name = omega (arith, calm name)
 
-given_calm : (side : Side) (files : Option Files) (before now : List ℕ → ℕ) (given : Given) → IsGivenAs side files before now given → (name : List ℕ) → now name ≡ before name
+given_calm : (side : Side) (files : Option Files) (before now : List ℕ → ℕ) (given : RunSource) → IsGivenAs side files before now given → (name : List ℕ) → now name ≡ before name
 given_calm first_run files before now given read name = ap (λ (f : List ℕ → ℕ). f name) read.1
 given_calm second_run files before now given read name = ap (λ (f : List ℕ → ℕ). f name) read.1
 given_calm (traced file) files before now given read name = unchanged file before now read.2 read.3 name
@@ -185,12 +185,12 @@ module _ (m : Machine) (c : Certificate) (files : Option Files) (before now : Li
   unread_later : (file : List ℕ) (what : Outcome) → IsUnread file files before now what → (name : List ℕ) → before name ≤ now name
   unread_later file what (inl (e, counts, rose)) name = counted_later file before now counts name
   unread_later file what (inr (inl (e, counts, calm))) name = counted_later file before now counts name
-  unread_later file what (inr (inr (e, counts, calm, told))) name = counted_later file before now counts name
+  unread_later file what (inr (inr (e, counts, calm, expected))) name = counted_later file before now counts name
 
   unread_calm : (file : List ℕ) (what : Outcome) → IsUnread file files before now what → what ≢ outcome.ReadFault → (name : List ℕ) → now name ≡ before name
   unread_calm file what (inl (e, counts, rose)) other name = absurd (other e)
   unread_calm file what (inr (inl (e, counts, calm))) other name = unchanged file before now counts calm name
-  unread_calm file what (inr (inr (e, counts, calm, told))) other name = unchanged file before now counts calm name
+  unread_calm file what (inr (inr (e, counts, calm, expected))) other name = unchanged file before now counts calm name
 
   module _ (run : ℕ) where
     stopped_calm : (side : Side) (what : Outcome) → IsStopped m c run side files before now what → (name : List ℕ) → now name ≡ before name
@@ -209,7 +209,7 @@ module _ (m : Machine) (c : Certificate) (files : Option Files) (before now : Li
     unhad_calm (traced file) what (inr is) other name = stopped_calm (traced file) what is name
 
     -- neither a usage fault nor a write fault is told
-    told_others : (stop : Stop) (what : Outcome) → IsStopOutcome m stop what → (what ≢ outcome.Usage) × (what ≢ outcome.WriteFault)
+    told_others : (stop : ComparisonStop) (what : Outcome) → IsStopOutcome m stop what → (what ≢ outcome.Usage) × (what ≢ outcome.WriteFault)
     told_others (stops.Refused why) what e = (λ d. cc (e, d), λ d. cc (e, d))
     told_others (stops.Over tick var) what (inl e) = (λ d. cc (e, d), λ d. cc (e, d))
     told_others (stops.Over tick var) what (inr e) = (λ d. cc (e, d), λ d. cc (e, d))
@@ -218,7 +218,7 @@ module _ (m : Machine) (c : Certificate) (files : Option Files) (before now : Li
     unread_others : (file : List ℕ) (what : Outcome) → IsUnread file files before now what → (what ≢ outcome.Usage) × (what ≢ outcome.WriteFault)
     unread_others file what (inl (e, counts, rose)) = (λ d. cc (e, d), λ d. cc (e, d))
     unread_others file what (inr (inl (e, counts, calm))) = (λ d. cc (e, d), λ d. cc (e, d))
-    unread_others file what (inr (inr (e, counts, calm, told))) = (λ d. cc (e, d), λ d. cc (e, d))
+    unread_others file what (inr (inr (e, counts, calm, expected))) = (λ d. cc (e, d), λ d. cc (e, d))
 
     pub unhad_others : (side : Side) (what : Outcome) → IsNotHad m c run side files before now what → (what ≢ outcome.Usage) × (what ≢ outcome.WriteFault)
     unhad_others first_run what is = told_others is.stop what is.told
@@ -228,20 +228,20 @@ module _ (m : Machine) (c : Certificate) (files : Option Files) (before now : Li
 
 -- ---- what a run gave
 
-module _ (m : Machine) (c : Certificate) (side : Side) (files : Option Files) (before now : List ℕ → ℕ) (given : Given) (read : IsGivenAs side files before now given) where
-  pub had_by : (result : Result Trace Outcome) (gave : Result Trace Stop) → ((t : Trace) → result ≡ Ok t → gave ≡ Ok t) → IfOk gave (IsSide m c given) → IfOk result (IsHad m c side files before now)
-  had_by (Ok t) gave same is = record { given = given; read = read; is = subst (λ (r : Result Trace Stop). IfOk r (IsSide m c given)) (same t refl) is }
+module _ (m : Machine) (c : Certificate) (side : Side) (files : Option Files) (before now : List ℕ → ℕ) (given : RunSource) (read : IsGivenAs side files before now given) where
+  pub had_by : (result : Result Trace Outcome) (gave : Result Trace ComparisonStop) → ((t : Trace) → result ≡ Ok t → gave ≡ Ok t) → IfOk gave (IsRunTrace m c given) → IfOk result (IsHad m c side files before now)
+  had_by (Ok t) gave same is = record { given = given; read = read; is = subst (λ (r : Result Trace ComparisonStop). IfOk r (IsRunTrace m c given)) (same t refl) is }
   had_by (Err what) gave same is = tt
 
-  pub stopped_by : (run : ℕ) (result : Result Trace Outcome) (gave : Result Trace Stop) → IfErr result (λ what. (stop : Stop) × (gave ≡ Err stop) × IsStopOutcome m stop what) → IfErr gave (MayStop (IsSideless m c run given))
+  pub stopped_by : (run : ℕ) (result : Result Trace Outcome) (gave : Result Trace ComparisonStop) → IfErr result (λ what. (stop : ComparisonStop) × (gave ≡ Err stop) × IsStopOutcome m stop what) → IfErr gave (MayStop (HasNoRunTrace m c run given))
       → IfErr result (IsStopped m c run side files before now)
-  stopped_by run (Ok t) gave told is = tt
-  stopped_by run (Err what) gave (stop, same, told) is = record {
+  stopped_by run (Ok t) gave expected is = tt
+  stopped_by run (Err what) gave (stop, same, expected) is = record {
     given = given;
     read = read;
     stop = stop;
-    stops = subst (λ (r : Result Trace Stop). IfErr r (MayStop (IsSideless m c run given))) same is;
-    told = told;
+    stops = subst (λ (r : Result Trace ComparisonStop). IfErr r (MayStop (HasNoRunTrace m c run given))) same is;
+    told = expected;
   }
 
 -- a file's run that was read and stopped is not had

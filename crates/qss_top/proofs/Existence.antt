@@ -12,26 +12,26 @@ use Rattle.cert_check.specs.Scope.{IsInScope, IsOutsideBy}
 use Rattle.cert_check.specs.declared.certificate.Certificate.{Certificate}
 use Rattle.cert_check.specs.declared.outside.Outside.{Outside}
 use Rattle.qss_trace.specs.declared.trace.Trace.{Trace}
-use Rattle.cert_answer.specs.Answers as Certificates
-use Rattle.cert_answer.specs.Answers.{IsCertification, IsUpgrade}
-use Rattle.cert_answer.specs.declared.ending.CertificateRefusal.TheVariants as certs
-use Rattle.cert_answer.proofs.Sameness.{one_each}
-use Rattle.cert_answer.proofs.Scopes.{scope_of}
-use Rattle.trace_answer.proofs.Bases.{judged-basis}
-use Rattle.trace_answer.proofs.Compared.{judged-text}
-use Rattle.trace_answer.proofs.Sameness.{one_each as one_trace}
-use Rattle.trace_answer.proofs.Sides.{judged-side}
-use Rattle.trace_answer.specs.Comparisons.{Given, first_order, second_order, traced as given_trace, IsBasis, IsBaseless, IsSide, IsSideless, IsCompared, IsUncompared}
-use Rattle.trace_answer.specs.Laws.{IsJudged}
-use Rattle.trace_answer.specs.declared.stop.Stop.{Stop}
-use Rattle.propose_answer.proofs.Sameness.{one_proposed}
+use Rattle.qss_answers.specs.CertificateAnswers as Certificates
+use Rattle.qss_answers.specs.CertificateAnswers.{IsCertification, IsUpgrade}
+use Rattle.qss_answers.specs.declared.certificate_ending.CertificateRefusal.TheVariants as certs
+use Rattle.qss_answers.proofs.OneCertificateAnswer.{one_each}
+use Rattle.qss_answers.proofs.Scopes.{scope_of}
+use Rattle.qss_answers.proofs.Bases.{judged-basis}
+use Rattle.qss_answers.proofs.Compared.{judged-text}
+use Rattle.qss_answers.proofs.OneTraceAnswer.{one_each as one_trace}
+use Rattle.qss_answers.proofs.Sides.{judged-side}
+use Rattle.qss_answers.specs.Comparisons.{RunSource, first_order, second_order, traced as given_trace, IsUsableCertificate, IsUnusableCertificate, IsRunTrace, HasNoRunTrace, IsCompared, IsComparisonRefused}
+use Rattle.qss_answers.specs.TraceLaws.{IsJudged}
+use Rattle.qss_answers.specs.declared.stop.ComparisonStop.{ComparisonStop}
+use Rattle.qss_answers.proofs.OneProposalAnswer.{one_proposed}
 use Rattle.qss_generate.specs.Source.{source}
-use Rattle.qss_words.specs.Commands.{RunOptions, plain_options, Command, run_model, print_model, certify_model, upgrade_model, generate_model, check_model, propose_model, second_model, compare_runs, coupled_model, Side, first_run, second_run, traced, command_of, files_of}
-use Rattle.qss_top.specs.Answers.{Answer, Told, Reply, refusal, printed, printed_text, summed, usage, quiet, too_long, answered, absent, untold, IsSourceRefusal, IsTreeRefusal, IsSourceMachine, IsSourceTree, IsMachineAnswer, IsRunAnswer, IsPrintAnswer, IsGenerationAnswer, uncertifying, certificate_answer, IsCertificateAnswer, IsCertifyAnswer, IsUpgradeAnswer, IsCheckAnswer, trace_answer, IsProposeAnswer, proposal_answer, second_for, IsSecondAnswer, Says, ReadsThen, Finds, Reads, InScope, ByMachine, ReadsText, ReadsBoth, SaysOn, stop_answer, text_answer, Stage, OnRun, OnSide, OnBoth, OnSides, Compares, OnGiven, ComparesGiven, CommandLeadsTo, Defines}
-use Rattle.qss_top.specs.Laws.{AnswersExist}
-use Rattle.qss_top.specs.TopCall.{Replies}
+use Rattle.qss_cli.specs.Commands.{RunOptions, plain_options, Command, run_model, print_model, certify_model, upgrade_model, generate_model, check_model, propose_model, second_model, compare_runs, coupled_model, Side, first_run, second_run, traced, command_of, files_of}
+use Rattle.qss_top.specs.ExpectedResults.{Answer, ExpectedResult, ExpectedReply, refusal, printed_run_answer, model_answer, summary_answer, usage, quiet, too_long, answered, file_missing, unspecified, IsSourceRefusal, IsTreeRefusal, IsSourceMachine, IsSourceTree, IsMachineAnswer, IsRunAnswer, IsPrintAnswer, IsGenerationAnswer, certificate_rejection, certificate_answer, IsCertificateAnswer, IsCertifyAnswer, IsUpgradeAnswer, IsCheckAnswer, trace_answer, IsProposeAnswer, proposal_answer, run2_answer, IsSecondAnswer, AnswersWith, ContinuesFromFile, IsFileContent, ReadsFile, InScope, ContinuesFromMachine, ContinuesFromText, ReadsModelAndText, AnswersWithText, comparison_stop_answer, text_answer, ComparisonStep, ContinuesFromRun, ContinuesFromSide, ComparesTraces, ContinuesFromSides, Compares, ContinuesFromSources, ComparesGiven, CommandExpects, CommandLineExpects}
+use Rattle.qss_top.specs.AnswerLaws.{AnswersExist}
+use Rattle.qss_top.specs.Replies.{HasReply}
 use Rattle.qss_top.specs.declared.status.Status.TheVariants as ends
-use Rattle.qss_words.proofs.CommandShares.{HasShare, command_share}
+use Rattle.qss_cli.proofs.CommandShares.{HasShare, command_share}
 use Rattle.qss_top.proofs.Sources.{source_judged, tree_judged, long_for, long_refusal}
 
 -- each source has an answer, where each machine has one
@@ -43,17 +43,17 @@ machine_answer share few Is some bytes = by (source_judged share few bytes)
     by (inr found) = let answer = some found.0 in (answer.0, inr (found.0, found.1, answer.1))
 
 pub run_answer : (options : RunOptions) → options.share ≤ 2048 → (bytes : List ℕ) → (answer : Answer) × IsRunAnswer options bytes answer
-run_answer options few bytes = machine_answer options.share few (λ m such. such ≡ printed options m) (λ m. (printed options m, refl)) bytes
+run_answer options few bytes = machine_answer options.share few (λ m such. such ≡ printed_run_answer options m) (λ m. (printed_run_answer options m, refl)) bytes
 
 pub print_answer : (bytes : List ℕ) → (answer : Answer) × IsPrintAnswer bytes answer
 print_answer bytes = by (tree_judged bytes)
   where
     by : ((a : Answer) × IsTreeRefusal bytes a) ⊎ ((tree : ModelTree) × IsSourceTree bytes tree) → (answer : Answer) × IsPrintAnswer bytes answer
     by (inl refuses) = (refuses.0, inl refuses.1)
-    by (inr found) = (printed_text found.0, inr (found.0, found.1, refl))
+    by (inr found) = (model_answer found.0, inr (found.0, found.1, refl))
 
 pub generation_answer : (seed cells : ℕ) → (answer : Answer) × IsGenerationAnswer seed cells answer
-generation_answer seed cells = machine_answer 0 (omega arith) (λ m such. such ≡ summed cells m) (λ m. (summed cells m, refl)) (source seed cells)
+generation_answer seed cells = machine_answer 0 (omega arith) (λ m such. such ≡ summary_answer cells m) (λ m. (summary_answer cells m, refl)) (source seed cells)
 
 -- each certificate has an answer
 certificate_some : (Is : Certificates.Answer → Type 0) → (such : Certificates.Answer) × Is such → (answer : Answer) × IsCertificateAnswer Is answer
@@ -78,105 +78,105 @@ propose_answer bytes = machine_answer 0 (omega arith) IsProposeAnswer some_propo
 
 -- each machine has a second-order run, or clauses
 pub second_answer : (bytes : List ℕ) → (answer : Answer) × IsMachineAnswer 0 IsSecondAnswer bytes answer
-second_answer bytes = machine_answer 0 (omega arith) IsSecondAnswer (λ m. (second_for m (length m.clauses), refl)) bytes
+second_answer bytes = machine_answer 0 (omega arith) IsSecondAnswer (λ m. (run2_answer m (length m.clauses), refl)) bytes
 
 -- each machine has a run without options
 pub plain_answer : (bytes : List ℕ) → (answer : Answer) × IsRunAnswer plain_options bytes answer
-plain_answer bytes = machine_answer 0 (omega arith) (λ m such. such ≡ printed plain_options m) (λ m. (printed plain_options m, refl)) bytes
+plain_answer bytes = machine_answer 0 (omega arith) (λ m such. such ≡ printed_run_answer plain_options m) (λ m. (printed_run_answer plain_options m, refl)) bytes
 
-read_told : (name : List ℕ) (Is : List ℕ → Answer → Type 0) → ((bytes : List ℕ) → (answer : Answer) × Is bytes answer) → (found : Option (List ℕ)) → (told : Told) × ReadsThen name (λ bytes. Says (Is bytes)) found told
-read_told name Is some None = (record { arrivals = name ∷ []; reply = absent }, refl)
+read_told : (name : List ℕ) (Is : List ℕ → Answer → Type 0) → ((bytes : List ℕ) → (answer : Answer) × Is bytes answer) → (found : Option (List ℕ)) → (expected : ExpectedResult) × ContinuesFromFile name (λ bytes. AnswersWith (Is bytes)) found expected
+read_told name Is some None = (record { files_read = name ∷ []; reply = file_missing }, refl)
 read_told name Is some (Some bytes) =
     let answer = some bytes in
-    (record { arrivals = name ∷ []; reply = answered answer.0 }, (record { arrivals = []; reply = answered answer.0 }, (answer.0, answer.1, refl), refl))
+    (record { files_read = name ∷ []; reply = answered answer.0 }, (record { files_read = []; reply = answered answer.0 }, (answer.0, answer.1, refl), refl))
 
-file_told : (name : List ℕ) (Is : List ℕ → Answer → Type 0) → ((bytes : List ℕ) → (answer : Answer) × Is bytes answer) → (files : Files) → (told : Told) × Reads (Some files) name (λ bytes. Says (Is bytes)) told
-file_told name Is some files = let told = read_told name Is some (file_of files name) in (told.0, (file_of files name, refl, told.1))
+file_told : (name : List ℕ) (Is : List ℕ → Answer → Type 0) → ((bytes : List ℕ) → (answer : Answer) × Is bytes answer) → (files : Files) → (expected : ExpectedResult) × ReadsFile (Some files) name (λ bytes. AnswersWith (Is bytes)) expected
+file_told name Is some files = let expected = read_told name Is some (file_of files name) in (expected.0, (file_of files name, refl, expected.1))
 
 -- ---- two files
 
 -- something is told that is so
-abbrev SomeTold : (Told → Type 0) → Type 0
-SomeTold Leads = (told : Told) × Leads told
+abbrev SomeTold : (ExpectedResult → Type 0) → Type 0
+SomeTold Leads = (expected : ExpectedResult) × Leads expected
 
-says_told : (answer : Answer) → SomeTold (Says (λ a. a ≡ answer))
-says_told answer = (record { arrivals = []; reply = answered answer }, (answer, refl, refl))
+says_told : (answer : Answer) → SomeTold (AnswersWith (λ a. a ≡ answer))
+says_told answer = (record { files_read = []; reply = answered answer }, (answer, refl, refl))
 
-finds : (files : Option Files) (name : List ℕ) → (found : Option (List ℕ)) × Finds files name found
+finds : (files : Option Files) (name : List ℕ) → (found : Option (List ℕ)) × IsFileContent files name found
 finds None name = (Some [], refl)
 finds (Some fs) name = (file_of fs name, refl)
 
-reads_told : (files : Option Files) (name : List ℕ) (Leads : List ℕ → Told → Type 0) → ((bytes : List ℕ) → SomeTold (Leads bytes)) → SomeTold (Reads files name Leads)
+reads_told : (files : Option Files) (name : List ℕ) (Leads : List ℕ → ExpectedResult → Type 0) → ((bytes : List ℕ) → SomeTold (Leads bytes)) → SomeTold (ReadsFile files name Leads)
 reads_told files name Leads some = by (finds files name)
   where
-    by : (found : Option (List ℕ)) × Finds files name found → SomeTold (Reads files name Leads)
-    by (None, is) = (record { arrivals = name ∷ []; reply = absent }, (None, is, refl))
-    by (Some bytes, is) = let later = some bytes in (record { arrivals = name ∷ later.0.arrivals; reply = later.0.reply }, (Some bytes, is, (later.0, later.1, refl)))
+    by : (found : Option (List ℕ)) × IsFileContent files name found → SomeTold (ReadsFile files name Leads)
+    by (None, is) = (record { files_read = name ∷ []; reply = file_missing }, (None, is, refl))
+    by (Some bytes, is) = let later = some bytes in (record { files_read = name ∷ later.0.files_read; reply = later.0.reply }, (Some bytes, is, (later.0, later.1, refl)))
 
-machine_told : (share : ℕ) → share ≤ 2048 → (bytes : List ℕ) (Leads : Machine → Told → Type 0) → ((m : Machine) → SomeTold (Leads m)) → SomeTold (ByMachine share bytes Leads)
+machine_told : (share : ℕ) → share ≤ 2048 → (bytes : List ℕ) (Leads : Machine → ExpectedResult → Type 0) → ((m : Machine) → SomeTold (Leads m)) → SomeTold (ContinuesFromMachine share bytes Leads)
 machine_told share few bytes Leads some = by (source_judged share few bytes)
   where
-    by : ((a : Answer) × IsSourceRefusal bytes a) ⊎ ((m : Machine) × IsSourceMachine share bytes m) → SomeTold (ByMachine share bytes Leads)
-    by (inl fails) = (record { arrivals = []; reply = answered fails.0 }, inl (fails.0, fails.1, refl))
-    by (inr found) = let told = some found.0 in (told.0, inr (found.0, found.1, told.1))
+    by : ((a : Answer) × IsSourceRefusal bytes a) ⊎ ((m : Machine) × IsSourceMachine share bytes m) → SomeTold (ContinuesFromMachine share bytes Leads)
+    by (inl fails) = (record { files_read = []; reply = answered fails.0 }, inl (fails.0, fails.1, refl))
+    by (inr found) = let expected = some found.0 in (expected.0, inr (found.0, found.1, expected.1))
 
-scope_told : (m : Machine) (Leads : Told → Type 0) → (IsInScope m → SomeTold Leads) → SomeTold (InScope m Leads)
+scope_told : (m : Machine) (Leads : ExpectedResult → Type 0) → (IsInScope m → SomeTold Leads) → SomeTold (InScope m Leads)
 scope_told m Leads some = by (scope_of m)
   where
     by : ((why : Outside) × IsOutsideBy m why) ⊎ IsInScope m → SomeTold (InScope m Leads)
-    by (inl out) = let told = says_told (uncertifying (certs.Outside out.0)) in (told.0, inl (out.0, out.1, told.1))
-    by (inr inside) = let told = some inside in (told.0, inr (inside, told.1))
+    by (inl out) = let expected = says_told (certificate_rejection (certs.Outside out.0)) in (expected.0, inl (out.0, out.1, expected.1))
+    by (inr inside) = let expected = some inside in (expected.0, inr (inside, expected.1))
 
-both_told : (share : ℕ) → share ≤ 2048 → (model certificate : List ℕ) (Leads : Machine → List ℕ → Option Files → Told → Type 0) (files : Option Files)
-    → ((m : Machine) → IsInScope m → (text : List ℕ) → SomeTold (Leads m text files)) → SomeTold (ReadsBoth share model certificate Leads files)
+both_told : (share : ℕ) → share ≤ 2048 → (model certificate : List ℕ) (Leads : Machine → List ℕ → Option Files → ExpectedResult → Type 0) (files : Option Files)
+    → ((m : Machine) → IsInScope m → (text : List ℕ) → SomeTold (Leads m text files)) → SomeTold (ReadsModelAndText share model certificate Leads files)
 both_told share few model certificate Leads files some =
     reads_told files model _ (λ bytes. machine_told share few bytes _ (λ m. scope_told m _ (λ scope. reads_told files certificate _ (λ text. some m scope text))))
 
 answer_told : (Is : Machine → List ℕ → Answer → Type 0) → ((m : Machine) (text : List ℕ) → (such : Answer) × Is m text such) → (files : Option Files) (m : Machine) → IsInScope m → (text : List ℕ)
-    → SomeTold (SaysOn Is m text files)
-answer_told Is some files m scope text = let such = some m text in (record { arrivals = []; reply = answered such.0 }, (such.0, such.1, refl))
+    → SomeTold (AnswersWithText Is m text files)
+answer_told Is some files m scope text = let such = some m text in (record { files_read = []; reply = answered such.0 }, (such.0, such.1, refl))
 
 -- ---- a comparison
 
-stage_told : {X : Type 0} (m : Machine) (Gives : X → Type 0) (Stops : Stop → Type 0) (Leads : X → Told → Type 0) → IsJudged Gives Stops → ((x : X) → SomeTold (Leads x)) → SomeTold (Stage m Gives Stops Leads)
+stage_told : {X : Type 0} (m : Machine) (Gives : X → Type 0) (Stops : ComparisonStop → Type 0) (Leads : X → ExpectedResult → Type 0) → IsJudged Gives Stops → ((x : X) → SomeTold (Leads x)) → SomeTold (ComparisonStep m Gives Stops Leads)
 stage_told {X} m Gives Stops Leads judged some = by judged.some
   where
-    by : ((x : X) × Gives x) ⊎ ((stop : Stop) × Stops stop) → SomeTold (Stage m Gives Stops Leads)
-    by (inl (x, is)) = let told = some x in (told.0, inr (x, is, told.1))
-    by (inr (stop, is)) = let told = says_told (stop_answer m stop) in (told.0, inl (stop, is, told.1))
+    by : ((x : X) × Gives x) ⊎ ((stop : ComparisonStop) × Stops stop) → SomeTold (ComparisonStep m Gives Stops Leads)
+    by (inl (x, is)) = let expected = some x in (expected.0, inr (x, is, expected.1))
+    by (inr (stop, is)) = let expected = says_told (comparison_stop_answer m stop) in (expected.0, inl (stop, is, expected.1))
 
-run_told : (m : Machine) (c : Certificate) (run : ℕ) (given : Given) (Leads : Trace → Told → Type 0) → IsInScope m → ((t : Trace) → SomeTold (Leads t)) → SomeTold (OnRun m c run given Leads)
-run_told m c run given Leads scope some = stage_told m (IsSide m c given) (IsSideless m c run given) Leads (judged-side m c run given scope) some
+run_told : (m : Machine) (c : Certificate) (run : ℕ) (given : RunSource) (Leads : Trace → ExpectedResult → Type 0) → IsInScope m → ((t : Trace) → SomeTold (Leads t)) → SomeTold (ContinuesFromRun m c run given Leads)
+run_told m c run given Leads scope some = stage_told m (IsRunTrace m c given) (HasNoRunTrace m c run given) Leads (judged-side m c run given scope) some
 
-side_told : (files : Option Files) (m : Machine) (c : Certificate) (run : ℕ) (side : Side) (Leads : Trace → Told → Type 0) → IsInScope m → ((t : Trace) → SomeTold (Leads t)) → SomeTold (OnSide files m c run side Leads)
+side_told : (files : Option Files) (m : Machine) (c : Certificate) (run : ℕ) (side : Side) (Leads : Trace → ExpectedResult → Type 0) → IsInScope m → ((t : Trace) → SomeTold (Leads t)) → SomeTold (ContinuesFromSide files m c run side Leads)
 side_told files m c run first_run Leads scope some = run_told m c run first_order Leads scope some
 side_told files m c run second_run Leads scope some = run_told m c run second_order Leads scope some
 side_told files m c run (traced name) Leads scope some = reads_told files name _ (λ bytes. run_told m c run (given_trace bytes) Leads scope some)
 
 comparison_told : (one two : Side) (files : Option Files) (m : Machine) → IsInScope m → (text : List ℕ) → SomeTold (Compares one two m text files)
 comparison_told one two files m scope text =
-    stage_told m (IsBasis m text) (IsBaseless m text) (λ c. OnSides one two m c files) (judged-basis m text) (λ c.
-    side_told files m c 1 one (λ t1. OnSide files m c 2 two (OnBoth m c t1)) scope (λ t1.
-    side_told files m c 2 two (OnBoth m c t1) scope (λ t2.
-    stage_told m (IsCompared m c t1 t2) (IsUncompared m c t1 t2) (λ text. Says (λ answer. answer ≡ text_answer text)) (judged-text m c t1 t2) (λ text. says_told (text_answer text)))))
+    stage_told m (IsUsableCertificate m text) (IsUnusableCertificate m text) (λ c. ContinuesFromSides one two m c files) (judged-basis m text) (λ c.
+    side_told files m c 1 one (λ t1. ContinuesFromSide files m c 2 two (ComparesTraces m c t1)) scope (λ t1.
+    side_told files m c 2 two (ComparesTraces m c t1) scope (λ t2.
+    stage_told m (IsCompared m c t1 t2) (IsComparisonRefused m c t1 t2) (λ text. AnswersWith (λ answer. answer ≡ text_answer text)) (judged-text m c t1 t2) (λ text. says_told (text_answer text)))))
 
-command_told : (command : Command) → HasShare command → (files : Files) → (told : Told) × CommandLeadsTo command (Some files) told
+command_told : (command : Command) → HasShare command → (files : Files) → (expected : ExpectedResult) × CommandExpects command (Some files) expected
 command_told (run_model model options) few files = file_told model (IsRunAnswer options) (run_answer options few) files
 command_told (print_model model) few files = file_told model IsPrintAnswer print_answer files
-command_told (certify_model model certificate share) few files = both_told share few model certificate (SaysOn IsCertifyAnswer) (Some files) (answer_told IsCertifyAnswer some_certify (Some files))
-command_told (upgrade_model model certificate) few files = both_told 0 (omega arith) model certificate (SaysOn IsUpgradeAnswer) (Some files) (answer_told IsUpgradeAnswer some_upgrade (Some files))
-command_told (check_model model trace) few files = both_told 0 (omega arith) model trace (SaysOn IsCheckAnswer) (Some files) (answer_told IsCheckAnswer some_check (Some files))
+command_told (certify_model model certificate share) few files = both_told share few model certificate (AnswersWithText IsCertifyAnswer) (Some files) (answer_told IsCertifyAnswer some_certify (Some files))
+command_told (upgrade_model model certificate) few files = both_told 0 (omega arith) model certificate (AnswersWithText IsUpgradeAnswer) (Some files) (answer_told IsUpgradeAnswer some_upgrade (Some files))
+command_told (check_model model trace) few files = both_told 0 (omega arith) model trace (AnswersWithText IsCheckAnswer) (Some files) (answer_told IsCheckAnswer some_check (Some files))
 command_told (propose_model model) few files = file_told model (IsMachineAnswer 0 IsProposeAnswer) propose_answer files
 command_told (second_model model) few files = file_told model (IsMachineAnswer 0 IsSecondAnswer) second_answer files
 command_told (coupled_model model) few files = file_told model (IsRunAnswer plain_options) plain_answer files
 command_told (compare_runs model certificate one two) few files = both_told 0 (omega arith) model certificate (Compares one two) (Some files) (comparison_told one two (Some files))
 command_told (generate_model seed cells) few files =
     let answer = generation_answer seed cells in
-    (record { arrivals = []; reply = answered answer.0 }, (answer.0, answer.1, refl))
+    (record { files_read = []; reply = answered answer.0 }, (answer.0, answer.1, refl))
 
-all_told : (command : Option Command) → IfSome command HasShare → (files : Option Files) → (told : Told) × Defines command files told
-all_told None few files = (record { arrivals = []; reply = answered (refusal ends.Usage usage) }, (refusal ends.Usage usage, refl, refl))
-all_told (Some command) few None = (record { arrivals = files_of command; reply = untold command }, refl)
+all_told : (command : Option Command) → IfSome command HasShare → (files : Option Files) → (expected : ExpectedResult) × CommandLineExpects command files expected
+all_told None few files = (record { files_read = []; reply = answered (refusal ends.Usage usage) }, (refusal ends.Usage usage, refl, refl))
+all_told (Some command) few None = (record { files_read = files_of command; reply = unspecified command }, refl)
 all_told (Some command) few (Some files) = command_told command few files
 
 pub answers_exist : AnswersExist
@@ -185,63 +185,63 @@ answers_exist words files = all_told (command_of words) (command_share words) fi
 -- ---- files that are not told
 
 -- an answer may be replied
-abbrev pub MayReply : (Told → Type 0) → Type 0
-MayReply Leads = (told : Told) × (answer : Answer) × Leads told × (told.reply ≡ answered answer)
+abbrev pub MayReply : (ExpectedResult → Type 0) → Type 0
+MayReply Leads = (expected : ExpectedResult) × (answer : Answer) × Leads expected × (expected.reply ≡ answered answer)
 
-pub says_reply : (Is : Answer → Type 0) → (answer : Answer) × Is answer → MayReply (Says Is)
-says_reply Is such = (record { arrivals = []; reply = answered such.0 }, such.0, (such.0, such.1, refl), refl)
+pub says_reply : (Is : Answer → Type 0) → (answer : Answer) × Is answer → MayReply (AnswersWith Is)
+says_reply Is such = (record { files_read = []; reply = answered such.0 }, such.0, (such.0, such.1, refl), refl)
 
 -- to bytes that may be read
-bytes_reply : (name : List ℕ) (Leads : List ℕ → Told → Type 0) (bytes : List ℕ) → MayReply (Leads bytes) → MayReply (Reads None name Leads)
-bytes_reply name Leads bytes later = (record { arrivals = name ∷ later.0.arrivals; reply = later.0.reply }, later.1, (Some bytes, refl, (later.0, later.2, refl)), later.3)
+bytes_reply : (name : List ℕ) (Leads : List ℕ → ExpectedResult → Type 0) (bytes : List ℕ) → MayReply (Leads bytes) → MayReply (ReadsFile None name Leads)
+bytes_reply name Leads bytes later = (record { files_read = name ∷ later.0.files_read; reply = later.0.reply }, later.1, (Some bytes, refl, (later.0, later.2, refl)), later.3)
 
-pub reads_reply : (name : List ℕ) (Leads : List ℕ → Told → Type 0) → ((bytes : List ℕ) → MayReply (Leads bytes)) → MayReply (Reads None name Leads)
+pub reads_reply : (name : List ℕ) (Leads : List ℕ → ExpectedResult → Type 0) → ((bytes : List ℕ) → MayReply (Leads bytes)) → MayReply (ReadsFile None name Leads)
 reads_reply name Leads some = bytes_reply name Leads [] (some [])
 
-pub certificate_reply : (share : ℕ) → share ≤ 2048 → (bytes certificate : List ℕ) (Leads : Machine → List ℕ → Option Files → Told → Type 0)
-    → ((m : Machine) → IsInScope m → (text : List ℕ) → MayReply (Leads m text None)) → MayReply (ByMachine share bytes (λ m. ReadsText certificate Leads m None))
+pub certificate_reply : (share : ℕ) → share ≤ 2048 → (bytes certificate : List ℕ) (Leads : Machine → List ℕ → Option Files → ExpectedResult → Type 0)
+    → ((m : Machine) → IsInScope m → (text : List ℕ) → MayReply (Leads m text None)) → MayReply (ContinuesFromMachine share bytes (λ m. ContinuesFromText certificate Leads m None))
 certificate_reply share few bytes certificate Leads some = by (source_judged share few bytes)
   where
-    scope : (m : Machine) → ((why : Outside) × IsOutsideBy m why) ⊎ IsInScope m → MayReply (ReadsText certificate Leads m None)
-    scope m (inl out) = let a = uncertifying (certs.Outside out.0) in (record { arrivals = []; reply = answered a }, a, inl (out.0, out.1, (a, refl, refl)), refl)
+    scope : (m : Machine) → ((why : Outside) × IsOutsideBy m why) ⊎ IsInScope m → MayReply (ContinuesFromText certificate Leads m None)
+    scope m (inl out) = let a = certificate_rejection (certs.Outside out.0) in (record { files_read = []; reply = answered a }, a, inl (out.0, out.1, (a, refl, refl)), refl)
     scope m (inr inside) = let p = reads_reply certificate (λ text. Leads m text None) (some m inside) in (p.0, p.1, inr (inside, p.2), p.3)
 
-    by : ((a : Answer) × IsSourceRefusal bytes a) ⊎ ((m : Machine) × IsSourceMachine share bytes m) → MayReply (ByMachine share bytes (λ m. ReadsText certificate Leads m None))
-    by (inl fails) = (record { arrivals = []; reply = answered fails.0 }, fails.0, inl (fails.0, fails.1, refl), refl)
+    by : ((a : Answer) × IsSourceRefusal bytes a) ⊎ ((m : Machine) × IsSourceMachine share bytes m) → MayReply (ContinuesFromMachine share bytes (λ m. ContinuesFromText certificate Leads m None))
+    by (inl fails) = (record { files_read = []; reply = answered fails.0 }, fails.0, inl (fails.0, fails.1, refl), refl)
     by (inr found) = let p = scope found.0 (scope_of found.0) in (p.0, p.1, inr (found.0, found.1, p.2), p.3)
 
-pub stage_reply : {X : Type 0} (m : Machine) (Gives : X → Type 0) (Stops : Stop → Type 0) (Leads : X → Told → Type 0) → IsJudged Gives Stops → ((x : X) → MayReply (Leads x)) → MayReply (Stage m Gives Stops Leads)
+pub stage_reply : {X : Type 0} (m : Machine) (Gives : X → Type 0) (Stops : ComparisonStop → Type 0) (Leads : X → ExpectedResult → Type 0) → IsJudged Gives Stops → ((x : X) → MayReply (Leads x)) → MayReply (ComparisonStep m Gives Stops Leads)
 stage_reply {X} m Gives Stops Leads judged some = by judged.some
   where
-    by : ((x : X) × Gives x) ⊎ ((stop : Stop) × Stops stop) → MayReply (Stage m Gives Stops Leads)
+    by : ((x : X) × Gives x) ⊎ ((stop : ComparisonStop) × Stops stop) → MayReply (ComparisonStep m Gives Stops Leads)
     by (inl (x, is)) = let p = some x in (p.0, p.1, inr (x, is, p.2), p.3)
-    by (inr (stop, is)) = let p = says_reply (λ a. a ≡ stop_answer m stop) (stop_answer m stop, refl) in (p.0, p.1, inl (stop, is, p.2), p.3)
+    by (inr (stop, is)) = let p = says_reply (λ a. a ≡ comparison_stop_answer m stop) (comparison_stop_answer m stop, refl) in (p.0, p.1, inl (stop, is, p.2), p.3)
 
-pub run_reply : (m : Machine) (c : Certificate) (run : ℕ) (given : Given) (Leads : Trace → Told → Type 0) → IsInScope m → ((t : Trace) → MayReply (Leads t)) → MayReply (OnRun m c run given Leads)
-run_reply m c run given Leads scope some = stage_reply m (IsSide m c given) (IsSideless m c run given) Leads (judged-side m c run given scope) some
+pub run_reply : (m : Machine) (c : Certificate) (run : ℕ) (given : RunSource) (Leads : Trace → ExpectedResult → Type 0) → IsInScope m → ((t : Trace) → MayReply (Leads t)) → MayReply (ContinuesFromRun m c run given Leads)
+run_reply m c run given Leads scope some = stage_reply m (IsRunTrace m c given) (HasNoRunTrace m c run given) Leads (judged-side m c run given scope) some
 
-pub side_reply : (m : Machine) (c : Certificate) (run : ℕ) (side : Side) (Leads : Trace → Told → Type 0) → IsInScope m → ((t : Trace) → MayReply (Leads t)) → MayReply (OnSide None m c run side Leads)
+pub side_reply : (m : Machine) (c : Certificate) (run : ℕ) (side : Side) (Leads : Trace → ExpectedResult → Type 0) → IsInScope m → ((t : Trace) → MayReply (Leads t)) → MayReply (ContinuesFromSide None m c run side Leads)
 side_reply m c run first_run Leads scope some = run_reply m c run first_order Leads scope some
 side_reply m c run second_run Leads scope some = run_reply m c run second_order Leads scope some
 side_reply m c run (traced name) Leads scope some = reads_reply name _ (λ bytes. run_reply m c run (given_trace bytes) Leads scope some)
 
 -- what may be replied where both runs, or a certificate, or its bytes are had
-pub both_reply : (m : Machine) (c : Certificate) (t1 t2 : Trace) → MayReply (OnBoth m c t1 t2)
+pub both_reply : (m : Machine) (c : Certificate) (t1 t2 : Trace) → MayReply (ComparesTraces m c t1 t2)
 both_reply m c t1 t2 =
-    stage_reply m (IsCompared m c t1 t2) (IsUncompared m c t1 t2) (λ text. Says (λ answer. answer ≡ text_answer text)) (judged-text m c t1 t2)
+    stage_reply m (IsCompared m c t1 t2) (IsComparisonRefused m c t1 t2) (λ text. AnswersWith (λ answer. answer ≡ text_answer text)) (judged-text m c t1 t2)
     (λ text. says_reply (λ answer. answer ≡ text_answer text) (text_answer text, refl))
 
-pub sides_reply : (one two : Side) (m : Machine) (c : Certificate) → IsInScope m → MayReply (OnSides one two m c None)
-sides_reply one two m c scope = side_reply m c 1 one (λ t1. OnSide None m c 2 two (OnBoth m c t1)) scope (λ t1. side_reply m c 2 two (OnBoth m c t1) scope (both_reply m c t1))
+pub sides_reply : (one two : Side) (m : Machine) (c : Certificate) → IsInScope m → MayReply (ContinuesFromSides one two m c None)
+sides_reply one two m c scope = side_reply m c 1 one (λ t1. ContinuesFromSide None m c 2 two (ComparesTraces m c t1)) scope (λ t1. side_reply m c 2 two (ComparesTraces m c t1) scope (both_reply m c t1))
 
-pub given_reply : (one two : Given) (m : Machine) (c : Certificate) → IsInScope m → MayReply (OnGiven one two m c)
-given_reply one two m c scope = run_reply m c 1 one (λ t1. OnRun m c 2 two (OnBoth m c t1)) scope (λ t1. run_reply m c 2 two (OnBoth m c t1) scope (both_reply m c t1))
+pub given_reply : (one two : RunSource) (m : Machine) (c : Certificate) → IsInScope m → MayReply (ContinuesFromSources one two m c)
+given_reply one two m c scope = run_reply m c 1 one (λ t1. ContinuesFromRun m c 2 two (ComparesTraces m c t1)) scope (λ t1. run_reply m c 2 two (ComparesTraces m c t1) scope (both_reply m c t1))
 
-pub comparing_reply : (one two : Given) (m : Machine) → IsInScope m → (text : List ℕ) → MayReply (ComparesGiven one two m text)
-comparing_reply one two m scope text = stage_reply m (IsBasis m text) (IsBaseless m text) (OnGiven one two m) (judged-basis m text) (λ c. given_reply one two m c scope)
+pub comparing_reply : (one two : RunSource) (m : Machine) → IsInScope m → (text : List ℕ) → MayReply (ComparesGiven one two m text)
+comparing_reply one two m scope text = stage_reply m (IsUsableCertificate m text) (IsUnusableCertificate m text) (ContinuesFromSources one two m) (judged-basis m text) (λ c. given_reply one two m c scope)
 
 pub comparison_reply : (one two : Side) (m : Machine) → IsInScope m → (text : List ℕ) → MayReply (Compares one two m text None)
-comparison_reply one two m scope text = stage_reply m (IsBasis m text) (IsBaseless m text) (λ c. OnSides one two m c None) (judged-basis m text) (λ c. sides_reply one two m c scope)
+comparison_reply one two m scope text = stage_reply m (IsUsableCertificate m text) (IsUnusableCertificate m text) (λ c. ContinuesFromSides one two m c None) (judged-basis m text) (λ c. sides_reply one two m c scope)
 
 -- there are bytes of each length
 pub bytes_of : (n : ℕ) → (bytes : List ℕ) × (length bytes ≡ n)
@@ -251,39 +251,39 @@ pub longer : (n : ℕ) (bytes : List ℕ) → length bytes ≡ n + 1 → n < len
 longer n bytes e = omega arith
 
 -- each command may be answered: its model may be too long
-refuses_long : (command : Command) (bytes : List ℕ) → 2 ^ 20 < length bytes → MayReply (CommandLeadsTo command None)
+refuses_long : (command : Command) (bytes : List ℕ) → 2 ^ 20 < length bytes → MayReply (CommandExpects command None)
 refuses_long (run_model model options) bytes long =
-    bytes_reply model (λ bytes. Says (IsRunAnswer options bytes)) bytes (says_reply (IsRunAnswer options bytes) (refusal ends.ModelRefused too_long, inl (long_for IsRefused bytes long)))
+    bytes_reply model (λ bytes. AnswersWith (IsRunAnswer options bytes)) bytes (says_reply (IsRunAnswer options bytes) (refusal ends.ModelRefused too_long, inl (long_for IsRefused bytes long)))
 refuses_long (print_model model) bytes long =
-    bytes_reply model (λ bytes. Says (IsPrintAnswer bytes)) bytes (says_reply (IsPrintAnswer bytes) (refusal ends.ModelRefused too_long, inl (long_for IsUnspelled bytes long)))
+    bytes_reply model (λ bytes. AnswersWith (IsPrintAnswer bytes)) bytes (says_reply (IsPrintAnswer bytes) (refusal ends.ModelRefused too_long, inl (long_for IsUnspelled bytes long)))
 refuses_long (certify_model model certificate share) bytes long =
     let p = says_reply (IsSourceRefusal bytes) (refusal ends.ModelRefused too_long, long_refusal bytes long) in
-    bytes_reply model (λ bytes. ByMachine share bytes (λ m. ReadsText certificate (SaysOn IsCertifyAnswer) m None)) bytes (p.0, p.1, inl p.2, p.3)
+    bytes_reply model (λ bytes. ContinuesFromMachine share bytes (λ m. ContinuesFromText certificate (AnswersWithText IsCertifyAnswer) m None)) bytes (p.0, p.1, inl p.2, p.3)
 refuses_long (upgrade_model model certificate) bytes long =
     let p = says_reply (IsSourceRefusal bytes) (refusal ends.ModelRefused too_long, long_refusal bytes long) in
-    bytes_reply model (λ bytes. ByMachine 0 bytes (λ m. ReadsText certificate (SaysOn IsUpgradeAnswer) m None)) bytes (p.0, p.1, inl p.2, p.3)
+    bytes_reply model (λ bytes. ContinuesFromMachine 0 bytes (λ m. ContinuesFromText certificate (AnswersWithText IsUpgradeAnswer) m None)) bytes (p.0, p.1, inl p.2, p.3)
 refuses_long (check_model model trace) bytes long =
     let p = says_reply (IsSourceRefusal bytes) (refusal ends.ModelRefused too_long, long_refusal bytes long) in
-    bytes_reply model (λ bytes. ByMachine 0 bytes (λ m. ReadsText trace (SaysOn IsCheckAnswer) m None)) bytes (p.0, p.1, inl p.2, p.3)
+    bytes_reply model (λ bytes. ContinuesFromMachine 0 bytes (λ m. ContinuesFromText trace (AnswersWithText IsCheckAnswer) m None)) bytes (p.0, p.1, inl p.2, p.3)
 refuses_long (compare_runs model certificate one two) bytes long =
     let p = says_reply (IsSourceRefusal bytes) (refusal ends.ModelRefused too_long, long_refusal bytes long) in
-    bytes_reply model (λ bytes. ByMachine 0 bytes (λ m. ReadsText certificate (Compares one two) m None)) bytes (p.0, p.1, inl p.2, p.3)
+    bytes_reply model (λ bytes. ContinuesFromMachine 0 bytes (λ m. ContinuesFromText certificate (Compares one two) m None)) bytes (p.0, p.1, inl p.2, p.3)
 refuses_long (propose_model model) bytes long =
-    bytes_reply model (λ bytes. Says (IsMachineAnswer 0 IsProposeAnswer bytes)) bytes
+    bytes_reply model (λ bytes. AnswersWith (IsMachineAnswer 0 IsProposeAnswer bytes)) bytes
     (says_reply (IsMachineAnswer 0 IsProposeAnswer bytes) (refusal ends.ModelRefused too_long, inl (long_for IsRefused bytes long)))
 refuses_long (second_model model) bytes long =
-    bytes_reply model (λ bytes. Says (IsMachineAnswer 0 IsSecondAnswer bytes)) bytes
+    bytes_reply model (λ bytes. AnswersWith (IsMachineAnswer 0 IsSecondAnswer bytes)) bytes
     (says_reply (IsMachineAnswer 0 IsSecondAnswer bytes) (refusal ends.ModelRefused too_long, inl (long_for IsRefused bytes long)))
 refuses_long (coupled_model model) bytes long =
-    bytes_reply model (λ bytes. Says (IsRunAnswer plain_options bytes)) bytes
+    bytes_reply model (λ bytes. AnswersWith (IsRunAnswer plain_options bytes)) bytes
     (says_reply (IsRunAnswer plain_options bytes) (refusal ends.ModelRefused too_long, inl (long_for IsRefused bytes long)))
 refuses_long (generate_model seed cells) bytes long = says_reply (IsGenerationAnswer seed cells) (generation_answer seed cells)
 
 -- what holds of each answer is so of each reply
-pub replies_all : (Is : Answer → Type 0) → ((answer : Answer) → Is answer) → (reply : Reply) → Replies Is reply
+pub replies_all : (Is : Answer → Type 0) → ((answer : Answer) → Is answer) → (reply : ExpectedReply) → HasReply Is reply
 replies_all Is all (answered answer) = all answer
-replies_all Is all absent = all (refusal ends.ReadFault quiet)
-replies_all Is all (untold command) =
+replies_all Is all file_missing = all (refusal ends.ReadFault quiet)
+replies_all Is all (unspecified command) =
     let long = bytes_of (2 ^ 20 + 1) in
     let p = refuses_long command long.0 (longer (2 ^ 20) long.0 long.1) in
     (p.0, p.1, p.2, p.3, all p.1)

@@ -1,19 +1,19 @@
-pub mod Sources
-pub mod Refusals
-pub mod Sameness
-pub mod Existence
-pub mod OutcomeFacts
-pub mod SecondFacts
-pub mod Serving
-pub mod Tellings
-pub mod Generations
-pub mod Jobs
-pub mod ByBytes
-pub mod TopFacts
-pub mod TwoFiles
-pub mod Comparing
-pub mod Compared
-pub mod Certified
-pub mod Headline
-pub mod Completeness
-pub mod Proposed
+mod Sources
+mod Refusals
+mod Sameness
+mod Existence
+mod OutcomeFacts
+mod SecondFacts
+mod Serving
+mod Tellings
+mod Generations
+mod Jobs
+mod ByBytes
+mod TopFacts
+mod TwoFiles
+mod Comparing
+mod Compared
+mod Certified
+mod Headline
+mod Completeness
+mod Proposed

@@ -8,16 +8,16 @@ use Rattle.csv.specs.Writing.{default_writer, row_text, row_body, end_text}
 use Rattle.mu_io.specs.Sinks.{AppendsPrefix}
 use Rattle.qss_machine.specs.declared.rows.Row.{Row}
 use Rattle.qss_machine.specs.declared.system.Machine.{Machine}
-use Rattle.qss_play.specs.Plays.{run_under, text_of, EndsSo, IsShort}
-use Rattle.qss_play.specs.declared.played.Played.TheVariants as played
-use Rattle.qss_play.proofs.RowLines.{lines_passed-append, lines_passed-true}
+use Rattle.qss_events.specs.RunTexts.{run_by_rule, run_text, IsRunResult, IsRunCutShort}
+use Rattle.qss_rows.specs.declared.run_result.RunResult.TheVariants as played
+use Rattle.qss_rows.proofs.RowLines.{lines_passed-append, lines_passed-true}
 use Rattle.qss_rows.specs.Filters.{passes, lines_passed}
-use Rattle.qss_rows.specs.Lines.{header, fields_of, line_of, lines_of}
-use Rattle.qss_top.specs.Answers.{Answer, printed}
-use Rattle.qss_words.specs.Commands.{RunOptions}
-use Rattle.qss_top.specs.Outcomes.{IsOutcome, status_of}
+use Rattle.qss_rows.specs.RowTexts.{header, fields_of, line_of, lines_of}
+use Rattle.qss_top.specs.ExpectedResults.{Answer, printed_run_answer}
+use Rattle.qss_cli.specs.Commands.{RunOptions}
+use Rattle.qss_top.specs.CommandOutcomes.{IsOutcome, status_of}
 use Rattle.qss_top.specs.Statuses.{is_defined}
-use Rattle.qss_top.specs.TopCall.{IsCutShort}
+use Rattle.qss_top.specs.Replies.{IsOutOfMemoryPrefix}
 use Rattle.qss_top.specs.declared.outcome.Outcome.{Outcome}
 use Rattle.qss_top.specs.declared.outcome.Outcome.TheVariants as outcome
 
@@ -29,8 +29,8 @@ pub nothing_outcome : (a : Answer) (what : Outcome) (old : Option (List ℕ)) (b
 nothing_outcome a what old before e = record { defined = λ d. absurd (cc (e, d)); prefix = no_prefix old a.out; short = λ d. inl (Appends-nil old); quiet = λ e. refl }
 
 -- nothing was written of a run, since memory was wanting
-pub not_begun : (options : RunOptions) (m : Machine) (old : Option (List ℕ)) (before : ℕ) → IsOutcome (printed options m) outcome.Memory old old before before
-not_begun options m old before = nothing_outcome (printed options m) outcome.Memory old before refl
+pub not_begun : (options : RunOptions) (m : Machine) (old : Option (List ℕ)) (before : ℕ) → IsOutcome (printed_run_answer options m) outcome.Memory old old before before
+not_begun options m old before = nothing_outcome (printed_run_answer options m) outcome.Memory old before refl
 
 -- ---- lines
 
@@ -67,9 +67,9 @@ passed_some only m row rows passed e =
 -- a run that stopped for want of memory is cut short
 module _ {K : Type 0} (written : K → Option (List ℕ)) (options : RunOptions) (m : Machine) (old new : K) where
   abbrev by_name : Option (List ℕ) → Answer
-  by_name only = printed (record { rule = options.rule; only = only; share = options.share }) m
+  by_name only = printed_run_answer (record { rule = options.rule; only = only; share = options.share }) m
 
-  cut_by : (only : Option (List ℕ)) → IsShort written only m (run_under options.rule m) old new → IsCutShort (written old) (written new) (by_name only)
+  cut_by : (only : Option (List ℕ)) → IsRunCutShort written only m (run_by_rule options.rule m) old new → IsOutOfMemoryPrefix (written old) (written new) (by_name only)
   cut_by only (inl same) = inl (subst (λ (k : K). Appends (written old) (written k) []) (sym same) (Appends-nil (written old)))
   cut_by only (inr (inl s)) = inr (inl (record {
     lines = header ++ lines_passed only m s.front;
@@ -80,35 +80,35 @@ module _ {K : Type 0} (written : K → Option (List ℕ)) (options : RunOptions)
     more = passed_some only m s.row s.rest s.passed;
     appended = s.appended;
   }))
-  cut_by only (inr (inr (over, all))) = inr (inr (rw (over.1) refl, all))
+  cut_by only (inr (inr (overflowed, all))) = inr (inr (rw (overflowed.1) refl, all))
 
-  pub run_cut : (only : Option (List ℕ)) → only ≡ options.only → IsShort written only m (run_under options.rule m) old new → IsCutShort (written old) (written new) (printed options m)
-  run_cut only same short = subst (λ (o : Option (List ℕ)). IsCutShort (written old) (written new) (by_name o)) same (cut_by only short)
+  pub run_cut : (only : Option (List ℕ)) → only ≡ options.only → IsRunCutShort written only m (run_by_rule options.rule m) old new → IsOutOfMemoryPrefix (written old) (written new) (printed_run_answer options m)
+  run_cut only same short = subst (λ (o : Option (List ℕ)). IsOutOfMemoryPrefix (written old) (written new) (by_name o)) same (cut_by only short)
 
 -- ---- outcomes
 
 -- the name of a filter is the one that is said
 module _ (options : RunOptions) (m : Machine) (only : Option (List ℕ)) (same : only ≡ options.only) (old now : Option (List ℕ)) (before later : ℕ)
-    (written : AppendsPrefix old now (text_of only m (run_under options.rule m))) where
-  prefix : AppendsPrefix old now (text_of options.only m (run_under options.rule m))
-  prefix = subst (λ (o : Option (List ℕ)). AppendsPrefix old now (text_of o m (run_under options.rule m))) same written
+    (written : AppendsPrefix old now (run_text only m (run_by_rule options.rule m))) where
+  prefix : AppendsPrefix old now (run_text options.only m (run_by_rule options.rule m))
+  prefix = subst (λ (o : Option (List ℕ)). AppendsPrefix old now (run_text o m (run_by_rule options.rule m))) same written
 
   -- out gained a part of the text, and then a write failed or memory was wanting
-  pub cut_short : IsOutcome (printed options m) outcome.WriteFault old now before later
+  pub cut_short : IsOutcome (printed_run_answer options m) outcome.WriteFault old now before later
   cut_short = record { defined = λ e. absurd (cc e); prefix = prefix; short = λ e. absurd (cc e); quiet = λ e. absurd (cc e) }
 
-  pub out_of_memory : IsCutShort old now (printed options m) → IsOutcome (printed options m) outcome.Memory old now before later
+  pub out_of_memory : IsOutOfMemoryPrefix old now (printed_run_answer options m) → IsOutcome (printed_run_answer options m) outcome.Memory old now before later
   out_of_memory cut = record { defined = λ e. absurd (cc e); prefix = prefix; short = λ e. cut; quiet = λ e. absurd (cc e) }
 
   -- out gained the whole text
-  module _ (all : Appends old now (text_of only m (run_under options.rule m))) where
-    whole : Appends old now (text_of options.only m (run_under options.rule m))
-    whole = subst (λ (o : Option (List ℕ)). Appends old now (text_of o m (run_under options.rule m))) same all
+  module _ (all : Appends old now (run_text only m (run_by_rule options.rule m))) where
+    whole : Appends old now (run_text options.only m (run_by_rule options.rule m))
+    whole = subst (λ (o : Option (List ℕ)). Appends old now (run_text o m (run_by_rule options.rule m))) same all
 
-    pub run_done : EndsSo m (run_under options.rule m) played.Ended → IsOutcome (printed options m) outcome.Done old now before later
+    pub run_done : IsRunResult m (run_by_rule options.rule m) played.Ended → IsOutcome (printed_run_answer options m) outcome.Done old now before later
     run_done end = record { defined = λ e. (rw end refl, rw end refl, whole); prefix = prefix; short = λ e. absurd (cc e); quiet = λ e. absurd (cc e) }
 
-    pub run_over : (name : List ℕ) (tick : ℕ) → EndsSo m (run_under options.rule m) (played.Overflowed name tick) → IsOutcome (printed options m) (outcome.Overflow name tick) old now before later
+    pub run_over : (name : List ℕ) (tick : ℕ) → IsRunResult m (run_by_rule options.rule m) (played.Overflowed name tick) → IsOutcome (printed_run_answer options m) (outcome.Overflow name tick) old now before later
     run_over name tick end = record {
       defined = λ e. (rw (end.1) refl, rw (end.1, end.2, end.3) refl, whole);
       prefix = prefix;

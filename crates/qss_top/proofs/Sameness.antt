@@ -6,24 +6,24 @@ use Rattle.cert_check.specs.Scope.{IsInScope}
 use Rattle.cert_check.specs.declared.certificate.Certificate.{Certificate}
 use Rattle.cert_check.specs.declared.outside.Outside.{Outside}
 use Rattle.qss_trace.specs.declared.trace.Trace.{Trace}
-use Rattle.cert_answer.specs.Answers as Certificates
-use Rattle.cert_answer.specs.Answers.{IsCertification, IsUpgrade}
-use Rattle.cert_answer.specs.declared.ending.CertificateRefusal.TheVariants as certs
-use Rattle.cert_answer.proofs.Sameness.{one_each}
-use Rattle.cert_answer.proofs.Scopes.{one_outside, not_outside}
-use Rattle.trace_answer.proofs.Bases.{judged-basis}
-use Rattle.trace_answer.proofs.Compared.{judged-text}
-use Rattle.trace_answer.proofs.Sameness.{one_each as one_trace}
-use Rattle.trace_answer.proofs.Sides.{judged-side}
-use Rattle.trace_answer.specs.Comparisons.{Given, first_order, second_order, traced as given_trace, IsBasis, IsBaseless, IsSide, IsSideless, IsCompared, IsUncompared}
-use Rattle.trace_answer.specs.Laws.{IsJudged}
-use Rattle.trace_answer.specs.declared.stop.Stop.{Stop}
-use Rattle.propose_answer.proofs.Sameness.{one_proposed}
+use Rattle.qss_answers.specs.CertificateAnswers as Certificates
+use Rattle.qss_answers.specs.CertificateAnswers.{IsCertification, IsUpgrade}
+use Rattle.qss_answers.specs.declared.certificate_ending.CertificateRefusal.TheVariants as certs
+use Rattle.qss_answers.proofs.OneCertificateAnswer.{one_each}
+use Rattle.qss_answers.proofs.Scopes.{one_outside, not_outside}
+use Rattle.qss_answers.proofs.Bases.{judged-basis}
+use Rattle.qss_answers.proofs.Compared.{judged-text}
+use Rattle.qss_answers.proofs.OneTraceAnswer.{one_each as one_trace}
+use Rattle.qss_answers.proofs.Sides.{judged-side}
+use Rattle.qss_answers.specs.Comparisons.{RunSource, first_order, second_order, traced as given_trace, IsUsableCertificate, IsUnusableCertificate, IsRunTrace, HasNoRunTrace, IsCompared, IsComparisonRefused}
+use Rattle.qss_answers.specs.TraceLaws.{IsJudged}
+use Rattle.qss_answers.specs.declared.stop.ComparisonStop.{ComparisonStop}
+use Rattle.qss_answers.proofs.OneProposalAnswer.{one_proposed}
 use Rattle.qss_machine.specs.declared.system.Machine.{Machine}
 use Rattle.qss_generate.specs.Source.{source}
-use Rattle.qss_words.specs.Commands.{RunOptions, plain_options, Command, run_model, print_model, certify_model, upgrade_model, generate_model, check_model, propose_model, second_model, compare_runs, coupled_model, Side, first_run, second_run, traced, command_of}
-use Rattle.qss_top.specs.Answers.{Answer, Told, printed, printed_text, summed, IsSourceRefusal, IsTreeRefusal, IsSourceTree, IsMachineAnswer, IsRunAnswer, IsPrintAnswer, IsSummedAnswer, IsGenerationAnswer, answered, uncertifying, certificate_answer, IsCertificateAnswer, IsCertifyAnswer, IsUpgradeAnswer, IsCheckAnswer, trace_answer, IsProposeAnswer, proposal_answer, IsSecondAnswer, Says, ReadsThen, Reads, InScope, ByMachine, ReadsBoth, SaysOn, stop_answer, text_answer, Stage, OnRun, OnSide, OnBoth, OnSides, Compares, CommandLeadsTo, Defines}
-use Rattle.qss_top.specs.Laws.{AnswersAreUnique}
+use Rattle.qss_cli.specs.Commands.{RunOptions, plain_options, Command, run_model, print_model, certify_model, upgrade_model, generate_model, check_model, propose_model, second_model, compare_runs, coupled_model, Side, first_run, second_run, traced, command_of}
+use Rattle.qss_top.specs.ExpectedResults.{Answer, ExpectedResult, printed_run_answer, model_answer, summary_answer, IsSourceRefusal, IsTreeRefusal, IsSourceTree, IsMachineAnswer, IsRunAnswer, IsPrintAnswer, IsSummedAnswer, IsGenerationAnswer, answered, certificate_rejection, certificate_answer, IsCertificateAnswer, IsCertifyAnswer, IsUpgradeAnswer, IsCheckAnswer, trace_answer, IsProposeAnswer, proposal_answer, IsSecondAnswer, AnswersWith, ContinuesFromFile, ReadsFile, InScope, ContinuesFromMachine, ReadsModelAndText, AnswersWithText, comparison_stop_answer, text_answer, ComparisonStep, ContinuesFromRun, ContinuesFromSide, ComparesTraces, ContinuesFromSides, Compares, CommandExpects, CommandLineExpects}
+use Rattle.qss_top.specs.AnswerLaws.{AnswersAreUnique}
 use Rattle.qss_top.proofs.Sources.{one_source_refusal, one_tree_refusal, one_source_machine, one_source_tree, source_fine, tree_fine}
 
 -- a refusal or an answer by what is given, where there is at most one refusal, at most one thing that is given, and not both
@@ -43,48 +43,48 @@ one_machine_answer share Is one bytes a b (inr p) (inl q) = absurd (source_fine 
 one_machine_answer share Is one bytes a b (inr p) (inr q) = one p.0 a b p.2 (subst (λ (m : Machine). Is m b) (one_source_machine share bytes q.0 p.0 q.1 p.1) q.2)
 
 pub one_run : (options : RunOptions) (bytes : List ℕ) (a b : Answer) → IsRunAnswer options bytes a → IsRunAnswer options bytes b → a ≡ b
-one_run options bytes a b p q = one_machine_answer options.share (λ m such. such ≡ printed options m) (λ m a b e f. e ∙ sym f) bytes a b p q
+one_run options bytes a b p q = one_machine_answer options.share (λ m such. such ≡ printed_run_answer options m) (λ m a b e f. e ∙ sym f) bytes a b p q
 
 pub one_print : (bytes : List ℕ) (a b : Answer) → IsPrintAnswer bytes a → IsPrintAnswer bytes b → a ≡ b
-one_print bytes a b p q = one_choice (IsTreeRefusal bytes) (IsSourceTree bytes) printed_text (one_tree_refusal bytes) (one_source_tree bytes) (tree_fine bytes) a b p q
+one_print bytes a b p q = one_choice (IsTreeRefusal bytes) (IsSourceTree bytes) model_answer (one_tree_refusal bytes) (one_source_tree bytes) (tree_fine bytes) a b p q
 
 pub one_summed : (cells : ℕ) (bytes : List ℕ) (a b : Answer) → IsSummedAnswer cells bytes a → IsSummedAnswer cells bytes b → a ≡ b
-one_summed cells bytes a b p q = one_machine_answer 0 (λ m such. such ≡ summed cells m) (λ m a b e f. e ∙ sym f) bytes a b p q
+one_summed cells bytes a b p q = one_machine_answer 0 (λ m such. such ≡ summary_answer cells m) (λ m a b e f. e ∙ sym f) bytes a b p q
 
-one_says : (P : Answer → Type 0) → ((a b : Answer) → P a → P b → a ≡ b) → (s t : Told) → Says P s → Says P t → s ≡ t
-one_says P one s t p q = p.2 ∙ ap (λ (answer : Answer). record { arrivals = []; reply = answered answer }) (one p.0 q.0 p.1 q.1) ∙ sym q.2
+one_says : (P : Answer → Type 0) → ((a b : Answer) → P a → P b → a ≡ b) → (s t : ExpectedResult) → AnswersWith P s → AnswersWith P t → s ≡ t
+one_says P one s t p q = p.2 ∙ ap (λ (answer : Answer). record { files_read = []; reply = answered answer }) (one p.0 q.0 p.1 q.1) ∙ sym q.2
 
-one_read : (name : List ℕ) (Leads : List ℕ → Told → Type 0) → ((bytes : List ℕ) (s t : Told) → Leads bytes s → Leads bytes t → s ≡ t) → (found : Option (List ℕ)) (s t : Told)
-    → ReadsThen name Leads found s → ReadsThen name Leads found t → s ≡ t
+one_read : (name : List ℕ) (Leads : List ℕ → ExpectedResult → Type 0) → ((bytes : List ℕ) (s t : ExpectedResult) → Leads bytes s → Leads bytes t → s ≡ t) → (found : Option (List ℕ)) (s t : ExpectedResult)
+    → ContinuesFromFile name Leads found s → ContinuesFromFile name Leads found t → s ≡ t
 one_read name Leads one None s t p q = p ∙ sym q
 one_read name Leads one (Some bytes) s t p q =
-    p.2 ∙ ap (λ (later : Told). record { arrivals = name ∷ later.arrivals; reply = later.reply }) (one bytes p.0 q.0 p.1 q.1) ∙ sym q.2
+    p.2 ∙ ap (λ (later : ExpectedResult). record { files_read = name ∷ later.files_read; reply = later.reply }) (one bytes p.0 q.0 p.1 q.1) ∙ sym q.2
 
-one_file : (name : List ℕ) (Leads : List ℕ → Told → Type 0) → ((bytes : List ℕ) (s t : Told) → Leads bytes s → Leads bytes t → s ≡ t) → (files : Files) (s t : Told)
-    → Reads (Some files) name Leads s → Reads (Some files) name Leads t → s ≡ t
+one_file : (name : List ℕ) (Leads : List ℕ → ExpectedResult → Type 0) → ((bytes : List ℕ) (s t : ExpectedResult) → Leads bytes s → Leads bytes t → s ≡ t) → (files : Files) (s t : ExpectedResult)
+    → ReadsFile (Some files) name Leads s → ReadsFile (Some files) name Leads t → s ≡ t
 one_file name Leads one files s t p q =
     one_read name Leads one (file_of files name) s t
-    (subst (λ (found : Option (List ℕ)). ReadsThen name Leads found s) p.1 p.2) (subst (λ (found : Option (List ℕ)). ReadsThen name Leads found t) q.1 q.2)
+    (subst (λ (found : Option (List ℕ)). ContinuesFromFile name Leads found s) p.1 p.2) (subst (λ (found : Option (List ℕ)). ContinuesFromFile name Leads found t) q.1 q.2)
 
 -- ---- two files
 
 -- what leads on leads to one thing that is told
-abbrev pub IsOne : (Told → Type 0) → Type 0
-IsOne Leads = (s t : Told) → Leads s → Leads t → s ≡ t
+abbrev pub IsOne : (ExpectedResult → Type 0) → Type 0
+IsOne Leads = (s t : ExpectedResult) → Leads s → Leads t → s ≡ t
 
-one_answer_told : (answer : Answer) → IsOne (Says (λ a. a ≡ answer))
+one_answer_told : (answer : Answer) → IsOne (AnswersWith (λ a. a ≡ answer))
 one_answer_told answer s t p q = one_says (λ a. a ≡ answer) (λ a b e f. e ∙ sym f) s t p q
 
-one_machine_told : (share : ℕ) (bytes : List ℕ) (Leads : Machine → Told → Type 0) → ((m : Machine) → IsOne (Leads m)) → IsOne (ByMachine share bytes Leads)
+one_machine_told : (share : ℕ) (bytes : List ℕ) (Leads : Machine → ExpectedResult → Type 0) → ((m : Machine) → IsOne (Leads m)) → IsOne (ContinuesFromMachine share bytes Leads)
 one_machine_told share bytes Leads one s t (inl p) (inl q) = one_says (IsSourceRefusal bytes) (one_source_refusal bytes) s t p q
 one_machine_told share bytes Leads one s t (inl p) (inr q) = absurd (source_fine share bytes p.0 q.0 p.1 q.1)
 one_machine_told share bytes Leads one s t (inr p) (inl q) = absurd (source_fine share bytes q.0 p.0 q.1 p.1)
 one_machine_told share bytes Leads one s t (inr p) (inr q) = one p.0 s t p.2 (subst (λ (m : Machine). Leads m t) (one_source_machine share bytes q.0 p.0 q.1 p.1) q.2)
 
-one_scope_told : (m : Machine) (Leads : Told → Type 0) → (IsInScope m → IsOne Leads) → IsOne (InScope m Leads)
+one_scope_told : (m : Machine) (Leads : ExpectedResult → Type 0) → (IsInScope m → IsOne Leads) → IsOne (InScope m Leads)
 one_scope_told m Leads one s t (inl p) (inl q) =
-    one_answer_told (uncertifying (certs.Outside p.0)) s t p.2
-    (subst (λ (why : Outside). Says (λ answer. answer ≡ uncertifying (certs.Outside why)) t) (one_outside m q.0 p.0 q.1 p.1) q.2)
+    one_answer_told (certificate_rejection (certs.Outside p.0)) s t p.2
+    (subst (λ (why : Outside). AnswersWith (λ answer. answer ≡ certificate_rejection (certs.Outside why)) t) (one_outside m q.0 p.0 q.1 p.1) q.2)
 one_scope_told m Leads one s t (inl p) (inr q) = absurd (not_outside m p.0 p.1 q.0)
 one_scope_told m Leads one s t (inr p) (inl q) = absurd (not_outside m q.0 q.1 p.0)
 one_scope_told m Leads one s t (inr p) (inr q) = one p.0 s t p.1 q.1
@@ -114,57 +114,57 @@ one_proposing bytes a b p q = one_machine_answer 0 IsProposeAnswer one_propose b
 pub one_second : (bytes : List ℕ) (a b : Answer) → IsMachineAnswer 0 IsSecondAnswer bytes a → IsMachineAnswer 0 IsSecondAnswer bytes b → a ≡ b
 one_second bytes a b p q = one_machine_answer 0 IsSecondAnswer (λ m a b e f. e ∙ sym f) bytes a b p q
 
-one_both : (share : ℕ) (model certificate : List ℕ) (Leads : Machine → List ℕ → Option Files → Told → Type 0) (files : Files)
-    → ((m : Machine) → IsInScope m → (text : List ℕ) → IsOne (Leads m text (Some files))) → IsOne (ReadsBoth share model certificate Leads (Some files))
+one_both : (share : ℕ) (model certificate : List ℕ) (Leads : Machine → List ℕ → Option Files → ExpectedResult → Type 0) (files : Files)
+    → ((m : Machine) → IsInScope m → (text : List ℕ) → IsOne (Leads m text (Some files))) → IsOne (ReadsModelAndText share model certificate Leads (Some files))
 one_both share model certificate Leads files one s t p q =
     one_file model _ (λ bytes. one_machine_told share bytes _ (λ m. one_scope_told m _ (λ scope. one_file certificate _ (λ text. one m scope text) files))) files s t p q
 
 one_answer : (Is : Machine → List ℕ → Answer → Type 0) → ((m : Machine) (text : List ℕ) (a b : Answer) → Is m text a → Is m text b → a ≡ b) → (files : Files) (m : Machine) → IsInScope m → (text : List ℕ)
-    → IsOne (SaysOn Is m text (Some files))
+    → IsOne (AnswersWithText Is m text (Some files))
 one_answer Is one files m scope text s t p q = one_says (Is m text) (one m text) s t p q
 
 -- ---- a comparison
 
-one_stage : {X : Type 0} (m : Machine) (Gives : X → Type 0) (Stops : Stop → Type 0) (Leads : X → Told → Type 0) → IsJudged Gives Stops → ((x : X) → IsOne (Leads x)) → IsOne (Stage m Gives Stops Leads)
+one_stage : {X : Type 0} (m : Machine) (Gives : X → Type 0) (Stops : ComparisonStop → Type 0) (Leads : X → ExpectedResult → Type 0) → IsJudged Gives Stops → ((x : X) → IsOne (Leads x)) → IsOne (ComparisonStep m Gives Stops Leads)
 one_stage {X} m Gives Stops Leads judged one s t (inl (stop, is, p)) (inl (other, so, q)) =
-    one_answer_told (stop_answer m stop) s t p (subst (λ (x : Stop). Says (λ answer. answer ≡ stop_answer m x) t) (judged.one_stop other stop so is) q)
+    one_answer_told (comparison_stop_answer m stop) s t p (subst (λ (x : ComparisonStop). AnswersWith (λ answer. answer ≡ comparison_stop_answer m x) t) (judged.one_stop other stop so is) q)
 one_stage {X} m Gives Stops Leads judged one s t (inl (stop, is, p)) (inr (x, so, q)) = absurd (judged.apart x stop so is)
 one_stage {X} m Gives Stops Leads judged one s t (inr (x, is, p)) (inl (stop, so, q)) = absurd (judged.apart x stop is so)
 one_stage {X} m Gives Stops Leads judged one s t (inr (x, is, p)) (inr (y, so, q)) = one x s t p (subst (λ (z : X). Leads z t) (judged.one y x so is) q)
 
-one_run_told : (m : Machine) (c : Certificate) (run : ℕ) (given : Given) (Leads : Trace → Told → Type 0) → IsInScope m → ((t : Trace) → IsOne (Leads t)) → IsOne (OnRun m c run given Leads)
-one_run_told m c run given Leads scope one = one_stage m (IsSide m c given) (IsSideless m c run given) Leads (judged-side m c run given scope) one
+one_run_told : (m : Machine) (c : Certificate) (run : ℕ) (given : RunSource) (Leads : Trace → ExpectedResult → Type 0) → IsInScope m → ((t : Trace) → IsOne (Leads t)) → IsOne (ContinuesFromRun m c run given Leads)
+one_run_told m c run given Leads scope one = one_stage m (IsRunTrace m c given) (HasNoRunTrace m c run given) Leads (judged-side m c run given scope) one
 
-one_side : (files : Files) (m : Machine) (c : Certificate) (run : ℕ) (side : Side) (Leads : Trace → Told → Type 0) → IsInScope m → ((t : Trace) → IsOne (Leads t)) → IsOne (OnSide (Some files) m c run side Leads)
+one_side : (files : Files) (m : Machine) (c : Certificate) (run : ℕ) (side : Side) (Leads : Trace → ExpectedResult → Type 0) → IsInScope m → ((t : Trace) → IsOne (Leads t)) → IsOne (ContinuesFromSide (Some files) m c run side Leads)
 one_side files m c run first_run Leads scope one = one_run_told m c run first_order Leads scope one
 one_side files m c run second_run Leads scope one = one_run_told m c run second_order Leads scope one
 one_side files m c run (traced name) Leads scope one = one_file name _ (λ bytes. one_run_told m c run (given_trace bytes) Leads scope one) files
 
 one_comparison : (one two : Side) (files : Files) (m : Machine) → IsInScope m → (text : List ℕ) → IsOne (Compares one two m text (Some files))
 one_comparison one two files m scope text =
-    one_stage m (IsBasis m text) (IsBaseless m text) (λ c. OnSides one two m c (Some files)) (judged-basis m text) (λ c.
-    one_side files m c 1 one (λ t1. OnSide (Some files) m c 2 two (OnBoth m c t1)) scope (λ t1.
-    one_side files m c 2 two (OnBoth m c t1) scope (λ t2.
-    one_stage m (IsCompared m c t1 t2) (IsUncompared m c t1 t2) (λ text. Says (λ answer. answer ≡ text_answer text)) (judged-text m c t1 t2) (λ text. one_answer_told (text_answer text)))))
+    one_stage m (IsUsableCertificate m text) (IsUnusableCertificate m text) (λ c. ContinuesFromSides one two m c (Some files)) (judged-basis m text) (λ c.
+    one_side files m c 1 one (λ t1. ContinuesFromSide (Some files) m c 2 two (ComparesTraces m c t1)) scope (λ t1.
+    one_side files m c 2 two (ComparesTraces m c t1) scope (λ t2.
+    one_stage m (IsCompared m c t1 t2) (IsComparisonRefused m c t1 t2) (λ text. AnswersWith (λ answer. answer ≡ text_answer text)) (judged-text m c t1 t2) (λ text. one_answer_told (text_answer text)))))
 
-one_command : (command : Command) (files : Files) (s t : Told) → CommandLeadsTo command (Some files) s → CommandLeadsTo command (Some files) t → s ≡ t
+one_command : (command : Command) (files : Files) (s t : ExpectedResult) → CommandExpects command (Some files) s → CommandExpects command (Some files) t → s ≡ t
 one_command (run_model model options) files s t p q =
-    one_file model (λ bytes. Says (IsRunAnswer options bytes)) (λ bytes. one_says (IsRunAnswer options bytes) (one_run options bytes)) files s t p q
+    one_file model (λ bytes. AnswersWith (IsRunAnswer options bytes)) (λ bytes. one_says (IsRunAnswer options bytes) (one_run options bytes)) files s t p q
 one_command (print_model model) files s t p q =
-    one_file model (λ bytes. Says (IsPrintAnswer bytes)) (λ bytes. one_says (IsPrintAnswer bytes) (one_print bytes)) files s t p q
-one_command (certify_model model certificate share) files s t p q = one_both share model certificate (SaysOn IsCertifyAnswer) files (one_answer IsCertifyAnswer one_certify files) s t p q
-one_command (upgrade_model model certificate) files s t p q = one_both 0 model certificate (SaysOn IsUpgradeAnswer) files (one_answer IsUpgradeAnswer one_upgrade files) s t p q
-one_command (check_model model trace) files s t p q = one_both 0 model trace (SaysOn IsCheckAnswer) files (one_answer IsCheckAnswer one_check files) s t p q
+    one_file model (λ bytes. AnswersWith (IsPrintAnswer bytes)) (λ bytes. one_says (IsPrintAnswer bytes) (one_print bytes)) files s t p q
+one_command (certify_model model certificate share) files s t p q = one_both share model certificate (AnswersWithText IsCertifyAnswer) files (one_answer IsCertifyAnswer one_certify files) s t p q
+one_command (upgrade_model model certificate) files s t p q = one_both 0 model certificate (AnswersWithText IsUpgradeAnswer) files (one_answer IsUpgradeAnswer one_upgrade files) s t p q
+one_command (check_model model trace) files s t p q = one_both 0 model trace (AnswersWithText IsCheckAnswer) files (one_answer IsCheckAnswer one_check files) s t p q
 one_command (compare_runs model certificate one two) files s t p q = one_both 0 model certificate (Compares one two) files (one_comparison one two files) s t p q
 one_command (propose_model model) files s t p q =
-    one_file model (λ bytes. Says (IsMachineAnswer 0 IsProposeAnswer bytes)) (λ bytes. one_says (IsMachineAnswer 0 IsProposeAnswer bytes) (one_proposing bytes)) files s t p q
+    one_file model (λ bytes. AnswersWith (IsMachineAnswer 0 IsProposeAnswer bytes)) (λ bytes. one_says (IsMachineAnswer 0 IsProposeAnswer bytes) (one_proposing bytes)) files s t p q
 one_command (second_model model) files s t p q =
-    one_file model (λ bytes. Says (IsMachineAnswer 0 IsSecondAnswer bytes)) (λ bytes. one_says (IsMachineAnswer 0 IsSecondAnswer bytes) (one_second bytes)) files s t p q
+    one_file model (λ bytes. AnswersWith (IsMachineAnswer 0 IsSecondAnswer bytes)) (λ bytes. one_says (IsMachineAnswer 0 IsSecondAnswer bytes) (one_second bytes)) files s t p q
 one_command (coupled_model model) files s t p q =
-    one_file model (λ bytes. Says (IsRunAnswer plain_options bytes)) (λ bytes. one_says (IsRunAnswer plain_options bytes) (one_run plain_options bytes)) files s t p q
+    one_file model (λ bytes. AnswersWith (IsRunAnswer plain_options bytes)) (λ bytes. one_says (IsRunAnswer plain_options bytes) (one_run plain_options bytes)) files s t p q
 one_command (generate_model seed cells) files s t p q = one_says (IsGenerationAnswer seed cells) (one_summed cells (source seed cells)) s t p q
 
-one_told : (command : Option Command) (files : Option Files) (s t : Told) → Defines command files s → Defines command files t → s ≡ t
+one_told : (command : Option Command) (files : Option Files) (s t : ExpectedResult) → CommandLineExpects command files s → CommandLineExpects command files t → s ≡ t
 one_told None files s t p q = one_says _ (λ a b e f. e ∙ sym f) s t p q
 one_told (Some command) None s t p q = p ∙ sym q
 one_told (Some command) (Some files) s t p q = one_command command files s t p q

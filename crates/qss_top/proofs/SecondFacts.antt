@@ -8,14 +8,14 @@ use Rattle.csv.specs.Writing.{default_writer, row_body}
 use Rattle.mu_io.specs.Sinks.{AppendsPrefix}
 use Rattle.qss_machine.specs.declared.system.Machine.{Machine}
 use Rattle.qss_order2.specs.declared.rows.Row2.{Row2}
-use Rattle.qss_order2.specs.Lines.{fields2_of, line2_of, lines2_of}
-use Rattle.qss_play.specs.declared.played.Played.TheVariants as played
-use Rattle.qss_play.specs.Plays2.{near_run, text2_of, EndsSo2, IsShort2}
-use Rattle.qss_play.proofs.SecondLines.{lines2-append}
-use Rattle.qss_rows.specs.Lines.{header}
-use Rattle.qss_top.specs.Answers.{printed2}
-use Rattle.qss_top.specs.Outcomes.{IsOutcome}
-use Rattle.qss_top.specs.TopCall.{IsCutShort}
+use Rattle.qss_order2.specs.SecondRowLines.{fields2_of, line2_of, lines2_of}
+use Rattle.qss_rows.specs.declared.run_result.RunResult.TheVariants as played
+use Rattle.qss_order2.specs.SecondRunTexts.{second_order_run, second_run_text, IsSecondRunResult, IsSecondRunCutShort}
+use Rattle.qss_order2.proofs.SecondLines.{lines2-append}
+use Rattle.qss_rows.specs.RowTexts.{header}
+use Rattle.qss_top.specs.ExpectedResults.{second_run_answer}
+use Rattle.qss_top.specs.CommandOutcomes.{IsOutcome}
+use Rattle.qss_top.specs.Replies.{IsOutOfMemoryPrefix}
 use Rattle.qss_top.specs.declared.outcome.Outcome.TheVariants as outcome
 use Rattle.qss_top.proofs.OutcomeFacts.{append_none, row_none, EndsLine, line_ends}
 
@@ -31,7 +31,7 @@ row_some : (m : Machine) (row : Row2) (rows : List Row2) → lines2_of m (row �
 row_some m row rows e = row_none (fields2_of m row) (append_none (line2_of m row) (lines2_of m rows) e).0
 
 -- a run that stopped for want of memory is cut short
-pub second_cut : {K : Type 0} (written : K → Option (List ℕ)) (m : Machine) (old new : K) → IsShort2 written m (near_run m) old new → IsCutShort (written old) (written new) (printed2 m)
+pub second_cut : {K : Type 0} (written : K → Option (List ℕ)) (m : Machine) (old new : K) → IsSecondRunCutShort written m (second_order_run m) old new → IsOutOfMemoryPrefix (written old) (written new) (second_run_answer m)
 second_cut written m old new (inl same) = inl (subst (λ k. Appends (written old) (written k) []) (sym same) (Appends-nil (written old)))
 second_cut written m old new (inr (inl s)) = inr (inl (record {
   lines = header ++ lines2_of m s.front;
@@ -42,24 +42,24 @@ second_cut written m old new (inr (inl s)) = inr (inl (record {
   more = row_some m s.row s.rest;
   appended = s.appended;
 }))
-second_cut written m old new (inr (inr (over, all))) = inr (inr (rw (over.1) refl, all))
+second_cut written m old new (inr (inr (overflowed, all))) = inr (inr (rw (overflowed.1) refl, all))
 
 -- ---- outcomes
 
-module _ (m : Machine) (old now : Option (List ℕ)) (before later : ℕ) (written : AppendsPrefix old now (text2_of m (near_run m))) where
+module _ (m : Machine) (old now : Option (List ℕ)) (before later : ℕ) (written : AppendsPrefix old now (second_run_text m (second_order_run m))) where
   -- out gained a part of the text, and then a write failed or memory was wanting
-  pub second_fault : IsOutcome (printed2 m) outcome.WriteFault old now before later
+  pub second_fault : IsOutcome (second_run_answer m) outcome.WriteFault old now before later
   second_fault = record { defined = λ e. absurd (cc e); prefix = written; short = λ e. absurd (cc e); quiet = λ e. absurd (cc e) }
 
-  pub second_memory : IsCutShort old now (printed2 m) → IsOutcome (printed2 m) outcome.Memory old now before later
+  pub second_memory : IsOutOfMemoryPrefix old now (second_run_answer m) → IsOutcome (second_run_answer m) outcome.Memory old now before later
   second_memory cut = record { defined = λ e. absurd (cc e); prefix = written; short = λ e. cut; quiet = λ e. absurd (cc e) }
 
   -- out gained the whole text
-  module _ (whole : Appends old now (text2_of m (near_run m))) where
-    pub second_done : EndsSo2 m (near_run m) played.Ended → IsOutcome (printed2 m) outcome.Done old now before later
+  module _ (whole : Appends old now (second_run_text m (second_order_run m))) where
+    pub second_done : IsSecondRunResult m (second_order_run m) played.Ended → IsOutcome (second_run_answer m) outcome.Done old now before later
     second_done end = record { defined = λ e. (rw end refl, rw end refl, whole); prefix = written; short = λ e. absurd (cc e); quiet = λ e. absurd (cc e) }
 
-    pub second_over : (name : List ℕ) (tick : ℕ) → EndsSo2 m (near_run m) (played.Overflowed name tick) → IsOutcome (printed2 m) (outcome.Overflow name tick) old now before later
+    pub second_over : (name : List ℕ) (tick : ℕ) → IsSecondRunResult m (second_order_run m) (played.Overflowed name tick) → IsOutcome (second_run_answer m) (outcome.Overflow name tick) old now before later
     second_over name tick end = record {
       defined = λ e. (rw (end.1) refl, rw (end.1, end.2) refl, whole);
       prefix = written;

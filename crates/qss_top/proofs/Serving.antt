@@ -4,14 +4,14 @@ use Rattle.std.specs.declared.option.Option.{Option}
 use Rattle.std.specs.Prelude.{IfSome, IsSomeAnd, Contains, bytes_eq}
 use Rattle.std.proofs.KnownBytes.{Appends-nil}
 use Rattle.std.proofs.lemmas.Slice.Eq.{bytes_eq-Decides}
-use Rattle.mu_io.specs.Faults.{Rose, OnlyCounts}
+use Rattle.mu_io.specs.FaultCounts.{Rose, OnlyCounts}
 use Rattle.mu_io.specs.Files.{Files, file_of}
 use Rattle.mu_io.specs.Sinks.{AppendsPrefix}
-use Rattle.qss_top.specs.Answers.{Answer, Told, Reply, answered, absent, untold, Says, ReadsThen, Reads, CommandLeadsTo, Defines}
-use Rattle.qss_words.specs.Commands.{Command, files_of}
-use Rattle.qss_top.specs.Outcomes.{IsOutcome, Meets, Serves, status_of}
+use Rattle.qss_top.specs.ExpectedResults.{Answer, ExpectedResult, ExpectedReply, answered, file_missing, unspecified, AnswersWith, ContinuesFromFile, ReadsFile, CommandExpects, CommandLineExpects}
+use Rattle.qss_cli.specs.Commands.{Command, files_of}
+use Rattle.qss_top.specs.CommandOutcomes.{IsOutcome, SatisfiesExpected, ImplementsExpected, status_of}
 use Rattle.qss_top.specs.Statuses.{is_defined}
-use Rattle.qss_top.specs.TopCall.{IsReplied, Replies, IsCutShort, SomeRose}
+use Rattle.qss_top.specs.Replies.{IsReplyGiven, HasReply, IsOutOfMemoryPrefix, SomeFaultCounted}
 use Rattle.qss_top.specs.declared.outcome.Outcome.{Outcome}
 use Rattle.qss_top.specs.declared.outcome.Outcome.TheVariants as outcome
 use Rattle.qss_top.specs.declared.status.Status.{Status}
@@ -42,31 +42,31 @@ unchanged name before now counts calm other = by (bytes_eq other name) refl
     by true is = let same = (bytes_eq-Decides other name).0 is in ap now same ∙ calm ∙ ap before (sym same)
     by false is = counts.others other (λ e. let wrong = (bytes_eq-Decides other name).1 e in absurd (cc))
 
-rose_earlier : (names : List (List ℕ)) (before mid now : List ℕ → ℕ) → ((other : List ℕ) → mid other ≡ before other) → SomeRose names mid now → SomeRose names before now
+rose_earlier : (names : List (List ℕ)) (before mid now : List ℕ → ℕ) → ((other : List ℕ) → mid other ≡ before other) → SomeFaultCounted names mid now → SomeFaultCounted names before now
 rose_earlier names before mid now same rose = (rose.0, rose.1, subst (λ (n : ℕ). Rose n (now rose.0)) (same rose.0) rose.2)
 
-rose_among : (name : List ℕ) (names : List (List ℕ)) (before now : List ℕ → ℕ) → SomeRose names before now → SomeRose (name ∷ names) before now
+rose_among : (name : List ℕ) (names : List (List ℕ)) (before now : List ℕ → ℕ) → SomeFaultCounted names before now → SomeFaultCounted (name ∷ names) before now
 rose_among name names before now rose = (rose.0, later_of name rose.0 names rose.1, rose.2)
 
 -- nothing is written
-pub unwritten : (reply : Reply) (old : Option (List ℕ)) → Replies (λ answer. AppendsPrefix old old answer.out) reply
+pub unwritten : (reply : ExpectedReply) (old : Option (List ℕ)) → HasReply (λ answer. AppendsPrefix old old answer.out) reply
 unwritten reply old = replies_all (λ answer. AppendsPrefix old old answer.out) (λ answer. no_prefix old answer.out) reply
 
-pub uncut : (reply : Reply) (old : Option (List ℕ)) → Replies (IsCutShort old old) reply
-uncut reply old = replies_all (IsCutShort old old) (λ answer. inl (Appends-nil old)) reply
+pub uncut : (reply : ExpectedReply) (old : Option (List ℕ)) → HasReply (IsOutOfMemoryPrefix old old) reply
+uncut reply old = replies_all (IsOutOfMemoryPrefix old old) (λ answer. inl (Appends-nil old)) reply
 
 -- want of memory tells nothing of the answer
-pub untold_memory : (reply : Reply) (old : Option (List ℕ)) → IsReplied reply ends.Memory old old
+pub untold_memory : (reply : ExpectedReply) (old : Option (List ℕ)) → IsReplyGiven reply ends.Memory old old
 untold_memory (answered answer) old = λ d. absurd (cc d)
-untold_memory absent old = inr refl
-untold_memory (untold command) old = λ d. absurd (cc d)
+untold_memory file_missing old = inr refl
+untold_memory (unspecified command) old = λ d. absurd (cc d)
 
 -- ---- a whole command
 
 pub told_meets : (command : Command) (files : Option Files) (what : Outcome) (old new : Option (List ℕ)) (out_before out_now : ℕ) (before now : List ℕ → ℕ)
-    → Serves files (files_of command) (CommandLeadsTo command) what old new out_before out_now before now → (told : Told) → Defines (Some command) files told → Meets told what old new out_before out_now before now
-told_meets command None what old new out_before out_now before now h told leads =
-    subst (λ (t : Told). Meets t what old new out_before out_now before now) (sym leads) (record {
+    → ImplementsExpected files (files_of command) (CommandExpects command) what old new out_before out_now before now → (expected : ExpectedResult) → CommandLineExpects (Some command) files expected → SatisfiesExpected expected what old new out_before out_now before now
+told_meets command None what old new out_before out_now before now h expected leads =
+    subst (λ (t : ExpectedResult). SatisfiesExpected t what old new out_before out_now before now) (sym leads) (record {
       replied = λ e. let p = h.some in let d = p.4.defined e in (p.0, p.1, p.2, p.3, (d.0, d.2));
       line = λ e. let p = h.some in let d = p.4.defined e in (p.0, p.1, p.2, p.3, (d.0, d.2, d.1));
       prefix = let p = h.some in (p.0, p.1, p.2, p.3, p.4.prefix);
@@ -75,26 +75,26 @@ told_meets command None what old new out_before out_now before now h told leads 
       read_fault = h.read_fault;
       others = h.others;
     })
-told_meets command (Some fs) what old new out_before out_now before now h told leads = h.known fs refl told leads
+told_meets command (Some fs) what old new out_before out_now before now h expected leads = h.known fs refl expected leads
 
 -- the same for the command of some words
 pub command_meets : (command : Command) (found : Option Command) (files : Option Files) (what : Outcome) (old new : Option (List ℕ)) (out_before out_now : ℕ) (before now : List ℕ → ℕ)
-    → Some command ≡ found → Serves files (files_of command) (CommandLeadsTo command) what old new out_before out_now before now → (told : Told) → Defines found files told → Meets told what old new out_before out_now before now
-command_meets command found files what old new out_before out_now before now is h told defines =
-    told_meets command files what old new out_before out_now before now h told (subst (λ (c : Option Command). Defines c files told) (sym is) defines)
+    → Some command ≡ found → ImplementsExpected files (files_of command) (CommandExpects command) what old new out_before out_now before now → (expected : ExpectedResult) → CommandLineExpects found files expected → SatisfiesExpected expected what old new out_before out_now before now
+command_meets command found files what old new out_before out_now before now is h expected defines =
+    told_meets command files what old new out_before out_now before now h expected (subst (λ (c : Option Command). CommandLineExpects c files expected) (sym is) defines)
 
 -- ---- an answer, where nothing more is read
 
 pub says_served : (files : Option Files) (Is : Answer → Type 0) (what : Outcome) (old new : Option (List ℕ)) (out_before out_now : ℕ) (before : List ℕ → ℕ)
-    → ((a : Answer) → Is a → IsOutcome a what old new out_before out_now) → (a : Answer) × Is a → what ≢ outcome.ReadFault → Serves files [] (λ fs. Says Is) what old new out_before out_now before before
+    → ((a : Answer) → Is a → IsOutcome a what old new out_before out_now) → (a : Answer) × Is a → what ≢ outcome.ReadFault → ImplementsExpected files [] (λ fs. AnswersWith Is) what old new out_before out_now before before
 says_served files Is what old new out_before out_now before h a not_read = record {
-  known = λ fs e told leads. subst (λ (t : Told). Meets t what old new out_before out_now before before) (sym leads.2) (meets leads.0 (h leads.0 leads.1));
-  some = (record { arrivals = []; reply = answered a.0 }, a.0, (a.0, a.1, refl), refl, h a.0 a.1);
+  known = λ fs e expected leads. subst (λ (t : ExpectedResult). SatisfiesExpected t what old new out_before out_now before before) (sym leads.2) (meets leads.0 (h leads.0 leads.1));
+  some = (record { files_read = []; reply = answered a.0 }, a.0, (a.0, a.1, refl), refl, h a.0 a.1);
   read_fault = λ e. absurd (not_read e);
   others = λ name apart. refl;
 }
   where
-    meets : (b : Answer) → IsOutcome b what old new out_before out_now → Meets (record { arrivals = []; reply = answered b }) what old new out_before out_now before before
+    meets : (b : Answer) → IsOutcome b what old new out_before out_now → SatisfiesExpected (record { files_read = []; reply = answered b }) what old new out_before out_now before before
     meets b is = record {
       replied = λ e. let d = is.defined e in (d.0, d.2);
       line = λ e. (is.defined e).1;
@@ -107,19 +107,19 @@ says_served files Is what old new out_before out_now before h a not_read = recor
 
 -- ---- a file that is read
 
-module _ (name : List ℕ) (names : List (List ℕ)) (Leads : List ℕ → Option Files → Told → Type 0) (files : Option Files) where
+module _ (name : List ℕ) (names : List (List ℕ)) (Leads : List ℕ → Option Files → ExpectedResult → Type 0) (files : Option Files) where
   -- what is told behind a read
-  abbrev behind : Told → Told
-  behind later = record { arrivals = name ∷ later.arrivals; reply = later.reply }
+  abbrev behind : ExpectedResult → ExpectedResult
+  behind later = record { files_read = name ∷ later.files_read; reply = later.reply }
 
-  abbrev ReadsName : Option Files → Told → Type 0
-  ReadsName fs = Reads fs name (λ bytes. Leads bytes fs)
+  abbrev ReadsName : Option Files → ExpectedResult → Type 0
+  ReadsName fs = ReadsFile fs name (λ bytes. Leads bytes fs)
 
   -- the bytes were found, and the rest of the command serves them
   pub read_served : (bytes : List ℕ) (what : Outcome) (old new : Option (List ℕ)) (out_before out_now : ℕ) (before mid now : List ℕ → ℕ)
       → OnlyCounts name before mid → mid name ≡ before name → IfSome files (λ fs. file_of fs name ≡ Some bytes)
-      → Serves files names (Leads bytes) what old new out_before out_now mid now → Serves files (name ∷ names) ReadsName what old new out_before out_now before now
-  read_served bytes what old new out_before out_now before mid now counts calm told h = record {
+      → ImplementsExpected files names (Leads bytes) what old new out_before out_now mid now → ImplementsExpected files (name ∷ names) ReadsName what old new out_before out_now before now
+  read_served bytes what old new out_before out_now before mid now counts calm expected h = record {
     known = λ fs e t leads. by fs e t leads.0 leads.1 leads.2;
     some = let p = h.some in (behind p.0, p.1, (Some bytes, refl, (p.0, p.2, refl)), p.3, p.4);
     read_fault = λ e. rose_among name names before now (rose_earlier names before mid now same (h.read_fault e));
@@ -130,50 +130,50 @@ module _ (name : List ℕ) (names : List (List ℕ)) (Leads : List ℕ → Optio
       same = unchanged name before mid counts calm
 
       stands : (fs : Files) → files ≡ Some fs → file_of fs name ≡ Some bytes
-      stands fs e = rw e at told
+      stands fs e = rw e at expected
 
-      meets : (later : Told) → Meets later what old new out_before out_now mid now → Meets (behind later) what old new out_before out_now before now
+      meets : (later : ExpectedResult) → SatisfiesExpected later what old new out_before out_now mid now → SatisfiesExpected (behind later) what old new out_before out_now before now
       meets later is = record {
         replied = is.replied;
         line = is.line;
         prefix = is.prefix;
         short = is.short;
         quiet = is.quiet;
-        read_fault = λ e. rose_among name later.arrivals before now (rose_earlier later.arrivals before mid now same (is.read_fault e));
-        others = λ other apart. is.others other (λ c. apart (later_of name other later.arrivals c)) ∙ same other;
+        read_fault = λ e. rose_among name later.files_read before now (rose_earlier later.files_read before mid now same (is.read_fault e));
+        others = λ other apart. is.others other (λ c. apart (later_of name other later.files_read c)) ∙ same other;
       }
 
-      by : (fs : Files) → files ≡ Some fs → (t : Told) (found : Option (List ℕ)) → found ≡ file_of fs name → ReadsThen name (λ bytes. Leads bytes (Some fs)) found t → Meets t what old new out_before out_now before now
+      by : (fs : Files) → files ≡ Some fs → (t : ExpectedResult) (found : Option (List ℕ)) → found ≡ file_of fs name → ContinuesFromFile name (λ bytes. Leads bytes (Some fs)) found t → SatisfiesExpected t what old new out_before out_now before now
       by fs e t None is leads = absurd (let wrong = is ∙ stands fs e in cc)
       by fs e t (Some b) is leads =
           let one : b ≡ bytes = (let there = is ∙ stands fs e in cc) in
           let later : Leads bytes (Some fs) leads.0 = subst (λ (x : List ℕ). Leads x (Some fs) leads.0) one leads.1 in
-          subst (λ (u : Told). Meets u what old new out_before out_now before now) (sym leads.2) (meets leads.0 (h.known fs e leads.0 later))
+          subst (λ (u : ExpectedResult). SatisfiesExpected u what old new out_before out_now before now) (sym leads.2) (meets leads.0 (h.known fs e leads.0 later))
 
   -- the name stands first among the arrivals
-  arrived : (t : Told) (L : List ℕ → Told → Type 0) (found : Option (List ℕ)) → ReadsThen name L found t → Contains t.arrivals name
-  arrived t L None leads = subst (λ (u : Told). Contains u.arrivals name) (sym leads) (first_of name [])
-  arrived t L (Some bytes) leads = subst (λ (u : Told). Contains u.arrivals name) (sym leads.2) (first_of name leads.0.arrivals)
+  at_arrival : (t : ExpectedResult) (L : List ℕ → ExpectedResult → Type 0) (found : Option (List ℕ)) → ContinuesFromFile name L found t → Contains t.files_read name
+  at_arrival t L None leads = subst (λ (u : ExpectedResult). Contains u.files_read name) (sym leads) (first_of name [])
+  at_arrival t L (Some bytes) leads = subst (λ (u : ExpectedResult). Contains u.files_read name) (sym leads.2) (first_of name leads.0.files_read)
 
   -- a status that tells nothing of the answer
-  untelling : (reply : Reply) (status : Status) (old : Option (List ℕ)) → is_defined status ≡ false → (status ≡ ends.ReadFault) ⊎ (status ≡ ends.Memory) → IsReplied reply status old old
+  untelling : (reply : ExpectedReply) (status : Status) (old : Option (List ℕ)) → is_defined status ≡ false → (status ≡ ends.ReadFault) ⊎ (status ≡ ends.Memory) → IsReplyGiven reply status old old
   untelling (answered answer) status old e is = λ d. absurd (cc (e, d))
-  untelling absent status old e is = is
-  untelling (untold command) status old e is = λ d. absurd (cc (e, d))
+  untelling file_missing status old e is = is
+  untelling (unspecified command) status old e is = λ d. absurd (cc (e, d))
 
   -- the file was not read
   stopped : (what : Outcome) (old : Option (List ℕ)) (out_before : ℕ) (before now : List ℕ → ℕ) → OnlyCounts name before now → is_defined (status_of what) ≡ false
       → (status_of what ≡ ends.ReadFault) ⊎ (status_of what ≡ ends.Memory) → (what ≡ outcome.ReadFault → Rose (before name) (now name)) → ((bytes : List ℕ) → MayReply (Leads bytes None))
-      → Serves files (name ∷ names) ReadsName what old old out_before out_before before now
+      → ImplementsExpected files (name ∷ names) ReadsName what old old out_before out_before before now
   stopped what old out_before before now counts silent is rose some = record {
-    known = λ fs e t leads. let here = arrived t (λ bytes. Leads bytes (Some fs)) leads.0 leads.2 in record {
+    known = λ fs e t leads. let here = at_arrival t (λ bytes. Leads bytes (Some fs)) leads.0 leads.2 in record {
       replied = untelling t.reply (status_of what) old silent is;
       line = λ d. absurd (cc (silent, d));
       prefix = unwritten t.reply old;
       short = λ d. uncut t.reply old;
       quiet = λ d. refl;
       read_fault = λ d. (name, here, rose d);
-      others = λ other apart. counts.others other (λ same. apart (subst (λ (n : List ℕ). Contains t.arrivals n) (sym same) here));
+      others = λ other apart. counts.others other (λ same. apart (subst (λ (n : List ℕ). Contains t.files_read n) (sym same) here));
     };
     some = let p = reads_reply name (λ bytes. Leads bytes None) some in (p.0, p.1, p.2, p.3, nothing_outcome p.1 what old out_before silent);
     read_fault = λ d. (name, first_of name names, rose d);
@@ -181,22 +181,22 @@ module _ (name : List ℕ) (names : List (List ℕ)) (Leads : List ℕ → Optio
   }
 
   pub fault_served : (old : Option (List ℕ)) (out_before : ℕ) (before now : List ℕ → ℕ) → OnlyCounts name before now → Rose (before name) (now name) → ((bytes : List ℕ) → MayReply (Leads bytes None))
-      → Serves files (name ∷ names) ReadsName outcome.ReadFault old old out_before out_before before now
+      → ImplementsExpected files (name ∷ names) ReadsName outcome.ReadFault old old out_before out_before before now
   fault_served old out_before before now counts rose some = stopped outcome.ReadFault old out_before before now counts refl (inl refl) (λ e. rose) some
 
   pub memory_served : (old : Option (List ℕ)) (out_before : ℕ) (before now : List ℕ → ℕ) → OnlyCounts name before now → ((bytes : List ℕ) → MayReply (Leads bytes None))
-      → Serves files (name ∷ names) ReadsName outcome.Memory old old out_before out_before before now
+      → ImplementsExpected files (name ∷ names) ReadsName outcome.Memory old old out_before out_before before now
   memory_served old out_before before now counts some = stopped outcome.Memory old out_before before now counts refl (inr refl) (λ e. absurd (cc e)) some
 
   -- the file is too long: all that long bytes lead to is this answer
   pub long_served : (limit : ℕ) (a : Answer) (what : Outcome) (old : Option (List ℕ)) (out_before : ℕ) (before now : List ℕ → ℕ) → OnlyCounts name before now → now name ≡ before name
       → IfSome files (λ fs. IsSomeAnd (file_of fs name) (λ bytes. limit < length bytes))
-      → ((bytes : List ℕ) → limit < length bytes → (fs : Option Files) (t : Told) → Leads bytes fs t → t ≡ record { arrivals = []; reply = answered a })
-      → ((bytes : List ℕ) → limit < length bytes → Leads bytes None (record { arrivals = []; reply = answered a })) → (bytes : List ℕ) × (limit < length bytes)
-      → IsOutcome a what old old out_before out_before → what ≢ outcome.ReadFault → Serves files (name ∷ names) ReadsName what old old out_before out_before before now
-  long_served limit a what old out_before before now counts calm told only all long is not_read = record {
+      → ((bytes : List ℕ) → limit < length bytes → (fs : Option Files) (t : ExpectedResult) → Leads bytes fs t → t ≡ record { files_read = []; reply = answered a })
+      → ((bytes : List ℕ) → limit < length bytes → Leads bytes None (record { files_read = []; reply = answered a })) → (bytes : List ℕ) × (limit < length bytes)
+      → IsOutcome a what old old out_before out_before → what ≢ outcome.ReadFault → ImplementsExpected files (name ∷ names) ReadsName what old old out_before out_before before now
+  long_served limit a what old out_before before now counts calm expected only all long is not_read = record {
     known = λ fs e t leads. by fs e t leads.0 leads.1 leads.2;
-    some = (record { arrivals = name ∷ []; reply = answered a }, a, (Some long.0, refl, (record { arrivals = []; reply = answered a }, all long.0 long.1, refl)), refl, is);
+    some = (record { files_read = name ∷ []; reply = answered a }, a, (Some long.0, refl, (record { files_read = []; reply = answered a }, all long.0 long.1, refl)), refl, is);
     read_fault = λ d. absurd (not_read d);
     others = λ other apart. same other;
   }
@@ -205,9 +205,9 @@ module _ (name : List ℕ) (names : List (List ℕ)) (Leads : List ℕ → Optio
       same = unchanged name before now counts calm
 
       stands : (fs : Files) → files ≡ Some fs → IsSomeAnd (file_of fs name) (λ bytes. limit < length bytes)
-      stands fs e = rw e at told
+      stands fs e = rw e at expected
 
-      meets : Meets (record { arrivals = name ∷ []; reply = answered a }) what old old out_before out_before before now
+      meets : SatisfiesExpected (record { files_read = name ∷ []; reply = answered a }) what old old out_before out_before before now
       meets = record {
         replied = λ d. let p = is.defined d in (p.0, p.2);
         line = λ d. (is.defined d).1;
@@ -218,10 +218,10 @@ module _ (name : List ℕ) (names : List (List ℕ)) (Leads : List ℕ → Optio
         others = λ other apart. same other;
       }
 
-      by : (fs : Files) → files ≡ Some fs → (t : Told) (found : Option (List ℕ)) → found ≡ file_of fs name → ReadsThen name (λ bytes. Leads bytes (Some fs)) found t → Meets t what old old out_before out_before before now
+      by : (fs : Files) → files ≡ Some fs → (t : ExpectedResult) (found : Option (List ℕ)) → found ≡ file_of fs name → ContinuesFromFile name (λ bytes. Leads bytes (Some fs)) found t → SatisfiesExpected t what old old out_before out_before before now
       by fs e t None f leads = absurd (rw (sym f) at (stands fs e))
       by fs e t (Some b) f leads =
           let h : limit < length b = rw (sym f) at (stands fs e) in
           let later = only b h (Some fs) leads.0 leads.1 in
-          let here : t ≡ record { arrivals = name ∷ []; reply = answered a } = leads.2 ∙ ap behind later in
-          subst (λ (u : Told). Meets u what old old out_before out_before before now) (sym here) meets
+          let here : t ≡ record { files_read = name ∷ []; reply = answered a } = leads.2 ∙ ap behind later in
+          subst (λ (u : ExpectedResult). SatisfiesExpected u what old old out_before out_before before now) (sym here) meets

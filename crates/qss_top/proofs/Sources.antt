@@ -8,10 +8,10 @@ use Rattle.qss_compile.specs.declared.fault.Refused.{Refused}
 use Rattle.qss_compile.proofs.Deciding.{Single, Decides}
 use Rattle.qss_compile.proofs.Existence.{spelled_decides, sources_decided}
 use Rattle.qss_compile.proofs.Singles.{spelled_single, source_single}
-use Rattle.qss_machine.specs.Limits.{HasUnits}
+use Rattle.qss_machine.specs.MachineLimits.{HasUnits}
 use Rattle.qss_machine.specs.declared.system.Machine.{Machine}
 use Rattle.qss_machine.proofs.Fields.{same_machine}
-use Rattle.qss_top.specs.Answers.{Answer, refusal, refused, too_long, IsRefusalFor, IsSourceRefusal, IsTreeRefusal, IsSourceMachine, IsSourceTree}
+use Rattle.qss_top.specs.ExpectedResults.{Answer, refusal, refused, too_long, IsRefusalFor, IsSourceRefusal, IsTreeRefusal, IsSourceMachine, IsSourceTree}
 use Rattle.qss_top.specs.Shares.{IsShared}
 use Rattle.qss_top.specs.declared.status.Status.TheVariants as ends
 

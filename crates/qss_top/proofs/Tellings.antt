@@ -3,18 +3,18 @@ use Rattle.std.proofs.Common.{◌≡◌, ◌≢◌, ◌+◌, ◌<◌, ◌≤◌,
 use Rattle.std.specs.declared.option.Option.{Option}
 use Rattle.std.specs.Prelude.{IfSome, IsSomeAnd}
 use Rattle.std.proofs.KnownBytes.{Appends-nil}
-use Rattle.mu_io.specs.Faults.{Rose, OnlyCounts}
+use Rattle.mu_io.specs.FaultCounts.{Rose, OnlyCounts}
 use Rattle.mu_io.specs.Files.{Files, file_of}
 use Rattle.mu_tree.specs.ModelTree.{ModelTree}
 use Rattle.qss_compile.specs.Meanings.{IsUnspelled, IsRefused}
 use Rattle.qss_compile.specs.declared.fault.Refused.{Refused}
-use Rattle.qss_top.specs.Answers.{Answer, Told, Message, Tells, refusal, refused as refused_line, printed_text, too_long, usage, answered, IsRefusalFor, IsTreeRefusal, IsSourceTree, IsPrintAnswer, IsGenerationAnswer, Says, Reads, CommandLeadsTo}
-use Rattle.qss_words.specs.Commands.{plain_options, generate_model, files_of}
-use Rattle.qss_words.specs.Requests.{command_with, options_in}
+use Rattle.qss_top.specs.ExpectedResults.{Answer, ExpectedResult, Message, IsMessageText, refusal, refused as refused_line, model_answer, too_long, usage, answered, IsRefusalFor, IsTreeRefusal, IsSourceTree, IsPrintAnswer, IsGenerationAnswer, AnswersWith, ReadsFile, CommandExpects}
+use Rattle.qss_cli.specs.Commands.{plain_options, generate_model, files_of}
+use Rattle.qss_cli.specs.Requests.{command_with, options_in}
 use Rattle.qss_top.specs.Tasks.{IsTaskAnswer}
-use Rattle.qss_words.specs.declared.request.Task.{Task}
-use Rattle.qss_words.specs.declared.request.Task.TheVariants as tasks
-use Rattle.qss_top.specs.Outcomes.{IsOutcome, Meets, Serves, IsRefusedFor, status_of, line_text}
+use Rattle.qss_cli.specs.declared.request.Task.{Task}
+use Rattle.qss_cli.specs.declared.request.Task.TheVariants as tasks
+use Rattle.qss_top.specs.CommandOutcomes.{IsOutcome, SatisfiesExpected, ImplementsExpected, IsRefusedFor, status_of, line_text}
 use Rattle.qss_top.specs.declared.outcome.Outcome.{Outcome}
 use Rattle.qss_top.specs.declared.outcome.Outcome.TheVariants as outcome
 use Rattle.qss_top.specs.declared.status.Status.TheVariants as ends
@@ -25,19 +25,19 @@ use Rattle.qss_top.proofs.Sources.{one_refusal, long_for, short_for, tree_fine}
 use Rattle.qss_top.proofs.OutcomeFacts.{no_prefix, nothing_outcome}
 
 -- a refusal, where nothing was written
-pub refusal_outcome : (line : Message) (what : Outcome) (old : Option (List ℕ)) (before : ℕ) → (status_of what ≡ ends.ModelRefused) → Tells line (line_text what) → IsOutcome (refusal ends.ModelRefused line) what old old before before
+pub refusal_outcome : (line : Message) (what : Outcome) (old : Option (List ℕ)) (before : ℕ) → (status_of what ≡ ends.ModelRefused) → IsMessageText line (line_text what) → IsOutcome (refusal ends.ModelRefused line) what old old before before
 refusal_outcome line what old before status said = record { defined = λ e. (status, said, Appends-nil old); prefix = no_prefix old []; short = λ e. inl (Appends-nil old); quiet = λ e. refl }
 
 -- a source that is refused, and the outcome of its refusal
 module _ (Refuses : List ℕ → Refused → Type 0) (bytes : List ℕ) (why : (r : Refused) → Refuses bytes r → IsRefused bytes r) (short : length bytes ≤ 2 ^ 20) (a : Answer) (old : Option (List ℕ)) (before : ℕ) where
-  told : (r : Refused) → Refuses bytes r → IsRefusalFor Refuses bytes a → IsOutcome a (outcome.Refused r) old old before before
-  told r refuses is =
+  expected : (r : Refused) → Refuses bytes r → IsRefusalFor Refuses bytes a → IsOutcome a (outcome.Refused r) old old before before
+  expected r refuses is =
       subst (λ (x : Answer). IsOutcome x (outcome.Refused r) old old before before) (one_refusal Refuses bytes (refusal ends.ModelRefused (refused_line bytes)) a (short_for Refuses bytes short r refuses) is)
       (refusal_outcome (refused_line bytes) (outcome.Refused r) old before refl (record { refusal = r; is = why r refuses; same = refl }))
 
   pub refused_outcome : (what : Outcome) → IsRefusedFor (Refuses bytes) what → ((r : Refused) → Refuses bytes r → IsRefusalFor Refuses bytes a) → IsOutcome a what old old before before
   refused_outcome what (inl memory) is = subst (λ (w : Outcome). IsOutcome a w old old before before) (sym memory) (nothing_outcome a outcome.Memory old before refl)
-  refused_outcome what (inr found) is = subst (λ (w : Outcome). IsOutcome a w old old before before) (sym found.2) (told found.0 found.1 (is found.0 found.1))
+  refused_outcome what (inr found) is = subst (λ (w : Outcome). IsOutcome a w old old before before) (sym found.2) (expected found.0 found.1 (is found.0 found.1))
 
 -- `print` on a source that is refused
 pub print_refused : (bytes : List ℕ) (what : Outcome) (old : Option (List ℕ)) (before : ℕ) → length bytes ≤ 2 ^ 20 → IsRefusedFor (IsUnspelled bytes) what → (a : Answer) → IsPrintAnswer bytes a → IsOutcome a what old old before before
@@ -48,8 +48,8 @@ print_refused bytes what old before short h a answers = refused_outcome IsUnspel
     refusal_of r refuses (inr p) = absurd (tree_fine bytes (refusal ends.ModelRefused (refused_line bytes)) p.0 (short_for IsUnspelled bytes short r refuses) p.1)
 
 -- the answer to `print` on a source that spells a model
-pub print_is : (bytes : List ℕ) (tree : ModelTree) → IsSourceTree bytes tree → (a : Answer) → IsPrintAnswer bytes a → printed_text tree ≡ a
-print_is bytes tree is a answers = one_print bytes (printed_text tree) a (inr (tree, is, refl)) answers
+pub print_is : (bytes : List ℕ) (tree : ModelTree) → IsSourceTree bytes tree → (a : Answer) → IsPrintAnswer bytes a → model_answer tree ≡ a
+print_is bytes tree is a answers = one_print bytes (model_answer tree) a (inr (tree, is, refl)) answers
 
 -- each source has an answer
 file_answer : (task : Task) (bytes : List ℕ) → (a : Answer) × IsTaskAnswer task bytes a
@@ -60,15 +60,15 @@ file_answer tasks.Second bytes = second_answer bytes
 file_answer tasks.Coupled bytes = plain_answer bytes
 
 -- each source may be answered, where files are not told
-file_reply : (task : Task) (bytes : List ℕ) → MayReply (Says (IsTaskAnswer task bytes))
+file_reply : (task : Task) (bytes : List ℕ) → MayReply (AnswersWith (IsTaskAnswer task bytes))
 file_reply task bytes = says_reply (IsTaskAnswer task bytes) (file_answer task bytes)
 
 -- the file of a command on one file
 abbrev OneFile : Task → List ℕ → Option Files → (what : Outcome) (old new : Option (List ℕ)) (out_before out_now : ℕ) (before now : List ℕ → ℕ) → Type 0
-OneFile task name files = Serves files (files_of (command_with task name)) (CommandLeadsTo (command_with task name))
+OneFile task name files = ImplementsExpected files (files_of (command_with task name)) (CommandExpects (command_with task name))
 
 task_served : (task : Task) (name : List ℕ) (files : Option Files) (what : Outcome) (old new : Option (List ℕ)) (out_before out_now : ℕ) (before now : List ℕ → ℕ)
-    → Serves files (name ∷ []) (λ fs. Reads fs name (λ bytes. Says (IsTaskAnswer task bytes))) what old new out_before out_now before now → OneFile task name files what old new out_before out_now before now
+    → ImplementsExpected files (name ∷ []) (λ fs. ReadsFile fs name (λ bytes. AnswersWith (IsTaskAnswer task bytes))) what old new out_before out_now before now → OneFile task name files what old new out_before out_now before now
 task_served (tasks.Run options) name files what old new out_before out_now before now h = h
 task_served tasks.Print name files what old new out_before out_now before now h = h
 task_served tasks.Propose name files what old new out_before out_now before now h = h
@@ -78,9 +78,9 @@ task_served tasks.Coupled name files what old new out_before out_now before now 
 pub source_served : (task : Task) (name : List ℕ) (files : Option Files) (bytes : List ℕ) (what : Outcome) (old new : Option (List ℕ)) (out_before out_now : ℕ) (before now : List ℕ → ℕ)
     → OnlyCounts name before now → now name ≡ before name → IfSome files (λ fs. file_of fs name ≡ Some bytes) → what ≢ outcome.ReadFault
     → ((a : Answer) → IsTaskAnswer task bytes a → IsOutcome a what old new out_before out_now) → OneFile task name files what old new out_before out_now before now
-source_served task name files bytes what old new out_before out_now before now counts calm told not_read is =
+source_served task name files bytes what old new out_before out_now before now counts calm expected not_read is =
     task_served task name files what old new out_before out_now before now
-    (read_served name [] (λ b fs. Says (IsTaskAnswer task b)) files bytes what old new out_before out_now before now now counts calm told
+    (read_served name [] (λ b fs. AnswersWith (IsTaskAnswer task b)) files bytes what old new out_before out_now before now now counts calm expected
     (says_served files (IsTaskAnswer task bytes) what old new out_before out_now now is (file_answer task bytes) not_read))
 
 long_answered : (task : Task) (bytes : List ℕ) → 2 ^ 20 < length bytes → IsTaskAnswer task bytes (refusal ends.ModelRefused too_long)
@@ -102,31 +102,31 @@ too_long_answer task bytes a h answers = one_task task bytes a (refusal ends.Mod
 
 pub long_model_served : (task : Task) (name : List ℕ) (files : Option Files) (old : Option (List ℕ)) (out_before : ℕ) (before now : List ℕ → ℕ)
     → OnlyCounts name before now → now name ≡ before name → IfSome files (λ fs. IsSomeAnd (file_of fs name) (λ bytes. 2 ^ 20 < length bytes)) → OneFile task name files outcome.TooLong old old out_before out_before before now
-long_model_served task name files old out_before before now counts calm told =
+long_model_served task name files old out_before before now counts calm expected =
     let a = refusal ends.ModelRefused too_long in
     let long = bytes_of (2 ^ 20 + 1) in
     task_served task name files outcome.TooLong old old out_before out_before before now
-    (long_served name [] (λ b fs. Says (IsTaskAnswer task b)) files (2 ^ 20) a outcome.TooLong old out_before before now counts calm told
-    (λ bytes h fs t leads. leads.2 ∙ ap (λ (b : Answer). record { arrivals = []; reply = answered b }) (too_long_answer task bytes leads.0 h leads.1))
+    (long_served name [] (λ b fs. AnswersWith (IsTaskAnswer task b)) files (2 ^ 20) a outcome.TooLong old out_before before now counts calm expected
+    (λ bytes h fs t leads. leads.2 ∙ ap (λ (b : Answer). record { files_read = []; reply = answered b }) (too_long_answer task bytes leads.0 h leads.1))
     (λ bytes h. (a, long_answered task bytes h, refl)) (long.0, longer (2 ^ 20) long.0 long.1) (refusal_outcome too_long outcome.TooLong old out_before refl refl) (λ e. cc e))
 
 pub model_fault_served : (task : Task) (name : List ℕ) (files : Option Files) (old : Option (List ℕ)) (out_before : ℕ) (before now : List ℕ → ℕ)
     → OnlyCounts name before now → Rose (before name) (now name) → OneFile task name files outcome.ReadFault old old out_before out_before before now
 model_fault_served task name files old out_before before now counts rose =
     task_served task name files outcome.ReadFault old old out_before out_before before now
-    (fault_served name [] (λ b fs. Says (IsTaskAnswer task b)) files old out_before before now counts rose (file_reply task))
+    (fault_served name [] (λ b fs. AnswersWith (IsTaskAnswer task b)) files old out_before before now counts rose (file_reply task))
 
 pub model_memory_served : (task : Task) (name : List ℕ) (files : Option Files) (old : Option (List ℕ)) (out_before : ℕ) (before now : List ℕ → ℕ)
     → OnlyCounts name before now → OneFile task name files outcome.Memory old old out_before out_before before now
 model_memory_served task name files old out_before before now counts =
     task_served task name files outcome.Memory old old out_before out_before before now
-    (memory_served name [] (λ b fs. Says (IsTaskAnswer task b)) files old out_before before now counts (file_reply task))
+    (memory_served name [] (λ b fs. AnswersWith (IsTaskAnswer task b)) files old out_before before now counts (file_reply task))
 
 -- words that are no command
-pub usage_meets : (told : Told) (old : Option (List ℕ)) (out_before : ℕ) (before : List ℕ → ℕ) → Says (λ answer. answer ≡ refusal ends.Usage usage) told → Meets told outcome.Usage old old out_before out_before before before
-usage_meets told old out_before before says =
-    let same : told ≡ record { arrivals = []; reply = answered (refusal ends.Usage usage) } = says.2 ∙ ap (λ (a : Answer). record { arrivals = []; reply = answered a }) says.1 in
-    subst (λ (t : Told). Meets t outcome.Usage old old out_before out_before before before) (sym same) (record {
+pub usage_meets : (expected : ExpectedResult) (old : Option (List ℕ)) (out_before : ℕ) (before : List ℕ → ℕ) → AnswersWith (λ answer. answer ≡ refusal ends.Usage usage) expected → SatisfiesExpected expected outcome.Usage old old out_before out_before before before
+usage_meets expected old out_before before says =
+    let same : expected ≡ record { files_read = []; reply = answered (refusal ends.Usage usage) } = says.2 ∙ ap (λ (a : Answer). record { files_read = []; reply = answered a }) says.1 in
+    subst (λ (t : ExpectedResult). SatisfiesExpected t outcome.Usage old old out_before out_before before before) (sym same) (record {
       replied = λ e. (refl, Appends-nil old);
       line = λ e. refl;
       prefix = no_prefix old [];
@@ -137,12 +137,12 @@ usage_meets told old out_before before says =
     })
 
 -- memory was wanting before anything was done
-pub memory_meets : (told : Told) (old : Option (List ℕ)) (out_before : ℕ) (before : List ℕ → ℕ) → Meets told outcome.Memory old old out_before out_before before before
-memory_meets told old out_before before = record {
-  replied = untold_memory told.reply old;
+pub memory_meets : (expected : ExpectedResult) (old : Option (List ℕ)) (out_before : ℕ) (before : List ℕ → ℕ) → SatisfiesExpected expected outcome.Memory old old out_before out_before before before
+memory_meets expected old out_before before = record {
+  replied = untold_memory expected.reply old;
   line = λ e. absurd (cc e);
-  prefix = unwritten told.reply old;
-  short = λ e. uncut told.reply old;
+  prefix = unwritten expected.reply old;
+  short = λ e. uncut expected.reply old;
   quiet = λ e. refl;
   read_fault = λ e. absurd (cc e);
   others = λ other apart. refl;
@@ -151,6 +151,6 @@ memory_meets told old out_before before = record {
 -- the answer to a command that reads no file
 pub generation_served : (seed cells : ℕ) (files : Option Files) (what : Outcome) (old new : Option (List ℕ)) (out_before out_now : ℕ) (before : List ℕ → ℕ)
     → ((a : Answer) → IsGenerationAnswer seed cells a → IsOutcome a what old new out_before out_now) → what ≢ outcome.ReadFault
-    → Serves files (files_of (generate_model seed cells)) (CommandLeadsTo (generate_model seed cells)) what old new out_before out_now before before
+    → ImplementsExpected files (files_of (generate_model seed cells)) (CommandExpects (generate_model seed cells)) what old new out_before out_now before before
 generation_served seed cells files what old new out_before out_now before is not_read =
     says_served files (IsGenerationAnswer seed cells) what old new out_before out_now before is (generation_answer seed cells) not_read

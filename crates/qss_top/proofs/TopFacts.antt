@@ -2,16 +2,16 @@
 use Rattle.std.proofs.Common.{◌≡◌, ◌≢◌, ◌⊎◌, Bool, true, ℕ, List, refl, sym, ap, ◌∙◌, subst, inl, inr}
 use Rattle.std.specs.declared.option.Option.{Option}
 use Rattle.std.specs.Prelude.{not}
-use Rattle.cert_answer.specs.declared.ending.CertificateRefusal.{CertificateRefusal}
-use Rattle.cert_answer.specs.declared.ending.CertificateRefusal.TheVariants as certs
-use Rattle.trace_answer.specs.declared.ending.TraceRefusal.{TraceRefusal}
-use Rattle.trace_answer.specs.declared.ending.TraceRefusal.TheVariants as traces
-use Rattle.trace_answer.specs.declared.stop.ComparisonRefusal.{ComparisonRefusal}
-use Rattle.trace_answer.specs.declared.stop.ComparisonRefusal.TheVariants as comparisons
-use Rattle.qss_top.specs.Answers.{Reply, answered, absent, untold, status_of_comparison}
-use Rattle.qss_top.specs.Outcomes.{status_of, line_text, takes_memory, IsReported}
+use Rattle.qss_answers.specs.declared.certificate_ending.CertificateRefusal.{CertificateRefusal}
+use Rattle.qss_answers.specs.declared.certificate_ending.CertificateRefusal.TheVariants as certs
+use Rattle.qss_answers.specs.declared.trace_ending.TraceRefusal.{TraceRefusal}
+use Rattle.qss_answers.specs.declared.trace_ending.TraceRefusal.TheVariants as traces
+use Rattle.qss_answers.specs.declared.stop.ComparisonRefusal.{ComparisonRefusal}
+use Rattle.qss_answers.specs.declared.stop.ComparisonRefusal.TheVariants as comparisons
+use Rattle.qss_top.specs.ExpectedResults.{ExpectedReply, answered, file_missing, unspecified, status_of_comparison}
+use Rattle.qss_top.specs.CommandOutcomes.{status_of, line_text, takes_memory, IsReported}
 use Rattle.qss_top.specs.Statuses.{is_defined, leaves_out}
-use Rattle.qss_top.specs.TopCall.{IsReplied, IsReplyLine, IsLineOf, Replies, IsCutShort}
+use Rattle.qss_top.specs.Replies.{IsReplyGiven, IsReplyLine, IsLineOf, HasReply, IsOutOfMemoryPrefix}
 use Rattle.qss_top.specs.declared.outcome.Outcome.{Outcome}
 use Rattle.qss_top.specs.declared.outcome.Outcome.TheVariants as outcome
 use Rattle.qss_top.specs.declared.status.Status.{Status}
@@ -22,26 +22,26 @@ use Rattle.qss_top.proofs.Serving.{uncut}
 abbrev pub IsStatus : Status → Outcome → Type 0
 IsStatus status what = (status ≡ status_of what) ⊎ ((status ≡ ends.Memory) × (takes_memory what ≡ true))
 
-in_memory : (reply : Reply) (old new : Option (List ℕ)) → IsReplied reply ends.Memory old new
+in_memory : (reply : ExpectedReply) (old new : Option (List ℕ)) → IsReplyGiven reply ends.Memory old new
 in_memory (answered answer) old new = λ e. absurd (cc e)
-in_memory absent old new = inr refl
-in_memory (untold command) old new = λ e. absurd (cc e)
+in_memory file_missing old new = inr refl
+in_memory (unspecified command) old new = λ e. absurd (cc e)
 
-pub replied : (reply : Reply) (status : Status) (what : Outcome) (old new : Option (List ℕ)) → IsStatus status what → IsReplied reply (status_of what) old new → IsReplied reply status old new
-replied reply status what old new (inl e) h = subst (λ (s : Status). IsReplied reply s old new) (sym e) h
-replied reply status what old new (inr e) h = subst (λ (s : Status). IsReplied reply s old new) (sym e.0) (in_memory reply old new)
+pub replied : (reply : ExpectedReply) (status : Status) (what : Outcome) (old new : Option (List ℕ)) → IsStatus status what → IsReplyGiven reply (status_of what) old new → IsReplyGiven reply status old new
+replied reply status what old new (inl e) h = subst (λ (s : Status). IsReplyGiven reply s old new) (sym e) h
+replied reply status what old new (inr e) h = subst (λ (s : Status). IsReplyGiven reply s old new) (sym e.0) (in_memory reply old new)
 
 pub defined_of : (status : Status) (what : Outcome) → IsStatus status what → is_defined status ≡ true → is_defined (status_of what) ≡ true
 defined_of status what (inl e) d = sym (ap is_defined e) ∙ d
 defined_of status what (inr e) d = absurd (cc (ap is_defined e.0, d))
 
-refusal_leaves : (goes : Bool) (why : CertificateRefusal) → leaves_out goes (status_of (outcome.Uncertified why)) ≡ true
+refusal_leaves : (goes : Bool) (why : CertificateRefusal) → leaves_out goes (status_of (outcome.CertificateRefused why)) ≡ true
 refusal_leaves goes (certs.Outside why) = refl
 refusal_leaves goes certs.TooLong = refl
 refusal_leaves goes (certs.Unread why) = refl
 refusal_leaves goes (certs.Rejected v) = refl
 
-trace_leaves : (goes : Bool) (why : TraceRefusal) → leaves_out goes (status_of (outcome.Untraced why)) ≡ true
+trace_leaves : (goes : Bool) (why : TraceRefusal) → leaves_out goes (status_of (outcome.TraceRefused why)) ≡ true
 trace_leaves goes (traces.Outside why) = refl
 trace_leaves goes traces.TooLong = refl
 trace_leaves goes (traces.Unread why) = refl
@@ -62,21 +62,21 @@ comparison_ends (comparisons.Quantum run state) = inl refl
 comparison_ends (comparisons.Long last) = inl refl
 comparison_ends (comparisons.Range place1 place2) = inl refl
 
-comparison_leaves : (goes : Bool) (why : ComparisonRefusal) → leaves_out goes (status_of (outcome.Incomparable why)) ≡ true
+comparison_leaves : (goes : Bool) (why : ComparisonRefusal) → leaves_out goes (status_of (outcome.ComparisonRefused why)) ≡ true
 comparison_leaves goes why = elim (comparison_ends why) [ inl is ↦ ap (leaves_out goes) is | inr is ↦ ap (leaves_out goes) is ]
 
 -- no other status is that of a comparison that is refused
-no_comparison : (why : ComparisonRefusal) (status : Status) → status ≢ ends.Rejected → status ≢ ends.CertRefused → status ≡ status_of (outcome.Incomparable why) → ⊥
+no_comparison : (why : ComparisonRefusal) (status : Status) → status ≢ ends.Rejected → status ≢ ends.CertRefused → status ≡ status_of (outcome.ComparisonRefused why) → ⊥
 no_comparison why status one other e = elim (comparison_ends why) [ inl is ↦ one (e ∙ is) | inr is ↦ other (e ∙ is) ]
 
 -- a line that found no memory is one of a refusal or an overflow
 line_leaves : (goes : Bool) (what : Outcome) → takes_memory what ≡ true → not goes ≡ true → leaves_out goes (status_of what) ≡ true
 line_leaves goes (outcome.Refused r) takes e = refl
 line_leaves goes (outcome.Overflow name tick) takes e = e
-line_leaves goes (outcome.Uncertified why) takes e = refusal_leaves goes why
-line_leaves goes (outcome.Untraced why) takes e = trace_leaves goes why
-line_leaves goes (outcome.Unproposed why) takes e = refl
-line_leaves goes (outcome.Incomparable why) takes e = comparison_leaves goes why
+line_leaves goes (outcome.CertificateRefused why) takes e = refusal_leaves goes why
+line_leaves goes (outcome.TraceRefused why) takes e = trace_leaves goes why
+line_leaves goes (outcome.ProposalRefused why) takes e = refl
+line_leaves goes (outcome.ComparisonRefused why) takes e = comparison_leaves goes why
 line_leaves goes outcome.Done takes e = absurd (cc takes)
 line_leaves goes outcome.Usage takes e = absurd (cc takes)
 line_leaves goes outcome.ReadFault takes e = absurd (cc takes)
@@ -102,16 +102,16 @@ read_is outcome.TooLong e = absurd (cc e)
 read_is (outcome.Refused r) e = absurd (cc e)
 read_is (outcome.Overflow name tick) e = absurd (cc e)
 read_is outcome.Memory e = absurd (cc e)
-read_is (outcome.Uncertified (certs.Outside why)) e = absurd (cc e)
-read_is (outcome.Uncertified certs.TooLong) e = absurd (cc e)
-read_is (outcome.Uncertified (certs.Unread why)) e = absurd (cc e)
-read_is (outcome.Uncertified (certs.Rejected v)) e = absurd (cc e)
-read_is (outcome.Untraced (traces.Outside why)) e = absurd (cc e)
-read_is (outcome.Untraced traces.TooLong) e = absurd (cc e)
-read_is (outcome.Untraced (traces.Unread why)) e = absurd (cc e)
-read_is (outcome.Untraced (traces.Broken place fact state left right)) e = absurd (cc e)
-read_is (outcome.Unproposed why) e = absurd (cc e)
-read_is (outcome.Incomparable why) e = absurd (no_comparison why ends.ReadFault (λ d. cc d) (λ d. cc d) e)
+read_is (outcome.CertificateRefused (certs.Outside why)) e = absurd (cc e)
+read_is (outcome.CertificateRefused certs.TooLong) e = absurd (cc e)
+read_is (outcome.CertificateRefused (certs.Unread why)) e = absurd (cc e)
+read_is (outcome.CertificateRefused (certs.Rejected v)) e = absurd (cc e)
+read_is (outcome.TraceRefused (traces.Outside why)) e = absurd (cc e)
+read_is (outcome.TraceRefused traces.TooLong) e = absurd (cc e)
+read_is (outcome.TraceRefused (traces.Unread why)) e = absurd (cc e)
+read_is (outcome.TraceRefused (traces.Broken place fact state left right)) e = absurd (cc e)
+read_is (outcome.ProposalRefused why) e = absurd (cc e)
+read_is (outcome.ComparisonRefused why) e = absurd (no_comparison why ends.ReadFault (λ d. cc d) (λ d. cc d) e)
 
 write_is : (what : Outcome) → ends.WriteFault ≡ status_of what → what ≡ outcome.WriteFault
 write_is outcome.Done e = absurd (cc e)
@@ -122,16 +122,16 @@ write_is outcome.TooLong e = absurd (cc e)
 write_is (outcome.Refused r) e = absurd (cc e)
 write_is (outcome.Overflow name tick) e = absurd (cc e)
 write_is outcome.Memory e = absurd (cc e)
-write_is (outcome.Uncertified (certs.Outside why)) e = absurd (cc e)
-write_is (outcome.Uncertified certs.TooLong) e = absurd (cc e)
-write_is (outcome.Uncertified (certs.Unread why)) e = absurd (cc e)
-write_is (outcome.Uncertified (certs.Rejected v)) e = absurd (cc e)
-write_is (outcome.Untraced (traces.Outside why)) e = absurd (cc e)
-write_is (outcome.Untraced traces.TooLong) e = absurd (cc e)
-write_is (outcome.Untraced (traces.Unread why)) e = absurd (cc e)
-write_is (outcome.Untraced (traces.Broken place fact state left right)) e = absurd (cc e)
-write_is (outcome.Unproposed why) e = absurd (cc e)
-write_is (outcome.Incomparable why) e = absurd (no_comparison why ends.WriteFault (λ d. cc d) (λ d. cc d) e)
+write_is (outcome.CertificateRefused (certs.Outside why)) e = absurd (cc e)
+write_is (outcome.CertificateRefused certs.TooLong) e = absurd (cc e)
+write_is (outcome.CertificateRefused (certs.Unread why)) e = absurd (cc e)
+write_is (outcome.CertificateRefused (certs.Rejected v)) e = absurd (cc e)
+write_is (outcome.TraceRefused (traces.Outside why)) e = absurd (cc e)
+write_is (outcome.TraceRefused traces.TooLong) e = absurd (cc e)
+write_is (outcome.TraceRefused (traces.Unread why)) e = absurd (cc e)
+write_is (outcome.TraceRefused (traces.Broken place fact state left right)) e = absurd (cc e)
+write_is (outcome.ProposalRefused why) e = absurd (cc e)
+write_is (outcome.ComparisonRefused why) e = absurd (no_comparison why ends.WriteFault (λ d. cc d) (λ d. cc d) e)
 
 memory_is : (what : Outcome) → ends.Memory ≡ status_of what → what ≡ outcome.Memory
 memory_is outcome.Done e = absurd (cc e)
@@ -142,16 +142,16 @@ memory_is outcome.TooLong e = absurd (cc e)
 memory_is (outcome.Refused r) e = absurd (cc e)
 memory_is (outcome.Overflow name tick) e = absurd (cc e)
 memory_is outcome.Memory e = refl
-memory_is (outcome.Uncertified (certs.Outside why)) e = absurd (cc e)
-memory_is (outcome.Uncertified certs.TooLong) e = absurd (cc e)
-memory_is (outcome.Uncertified (certs.Unread why)) e = absurd (cc e)
-memory_is (outcome.Uncertified (certs.Rejected v)) e = absurd (cc e)
-memory_is (outcome.Untraced (traces.Outside why)) e = absurd (cc e)
-memory_is (outcome.Untraced traces.TooLong) e = absurd (cc e)
-memory_is (outcome.Untraced (traces.Unread why)) e = absurd (cc e)
-memory_is (outcome.Untraced (traces.Broken place fact state left right)) e = absurd (cc e)
-memory_is (outcome.Unproposed why) e = absurd (cc e)
-memory_is (outcome.Incomparable why) e = absurd (no_comparison why ends.Memory (λ d. cc d) (λ d. cc d) e)
+memory_is (outcome.CertificateRefused (certs.Outside why)) e = absurd (cc e)
+memory_is (outcome.CertificateRefused certs.TooLong) e = absurd (cc e)
+memory_is (outcome.CertificateRefused (certs.Unread why)) e = absurd (cc e)
+memory_is (outcome.CertificateRefused (certs.Rejected v)) e = absurd (cc e)
+memory_is (outcome.TraceRefused (traces.Outside why)) e = absurd (cc e)
+memory_is (outcome.TraceRefused traces.TooLong) e = absurd (cc e)
+memory_is (outcome.TraceRefused (traces.Unread why)) e = absurd (cc e)
+memory_is (outcome.TraceRefused (traces.Broken place fact state left right)) e = absurd (cc e)
+memory_is (outcome.ProposalRefused why) e = absurd (cc e)
+memory_is (outcome.ComparisonRefused why) e = absurd (no_comparison why ends.Memory (λ d. cc d) (λ d. cc d) e)
 
 done_is : (what : Outcome) → ends.Ok ≡ status_of what → what ≡ outcome.Done
 done_is outcome.Done e = refl
@@ -162,16 +162,16 @@ done_is outcome.TooLong e = absurd (cc e)
 done_is (outcome.Refused r) e = absurd (cc e)
 done_is (outcome.Overflow name tick) e = absurd (cc e)
 done_is outcome.Memory e = absurd (cc e)
-done_is (outcome.Uncertified (certs.Outside why)) e = absurd (cc e)
-done_is (outcome.Uncertified certs.TooLong) e = absurd (cc e)
-done_is (outcome.Uncertified (certs.Unread why)) e = absurd (cc e)
-done_is (outcome.Uncertified (certs.Rejected v)) e = absurd (cc e)
-done_is (outcome.Untraced (traces.Outside why)) e = absurd (cc e)
-done_is (outcome.Untraced traces.TooLong) e = absurd (cc e)
-done_is (outcome.Untraced (traces.Unread why)) e = absurd (cc e)
-done_is (outcome.Untraced (traces.Broken place fact state left right)) e = absurd (cc e)
-done_is (outcome.Unproposed why) e = absurd (cc e)
-done_is (outcome.Incomparable why) e = absurd (no_comparison why ends.Ok (λ d. cc d) (λ d. cc d) e)
+done_is (outcome.CertificateRefused (certs.Outside why)) e = absurd (cc e)
+done_is (outcome.CertificateRefused certs.TooLong) e = absurd (cc e)
+done_is (outcome.CertificateRefused (certs.Unread why)) e = absurd (cc e)
+done_is (outcome.CertificateRefused (certs.Rejected v)) e = absurd (cc e)
+done_is (outcome.TraceRefused (traces.Outside why)) e = absurd (cc e)
+done_is (outcome.TraceRefused traces.TooLong) e = absurd (cc e)
+done_is (outcome.TraceRefused (traces.Unread why)) e = absurd (cc e)
+done_is (outcome.TraceRefused (traces.Broken place fact state left right)) e = absurd (cc e)
+done_is (outcome.ProposalRefused why) e = absurd (cc e)
+done_is (outcome.ComparisonRefused why) e = absurd (no_comparison why ends.Ok (λ d. cc d) (λ d. cc d) e)
 
 usage_is : (what : Outcome) → ends.Usage ≡ status_of what → what ≡ outcome.Usage
 usage_is outcome.Done e = absurd (cc e)
@@ -182,16 +182,16 @@ usage_is outcome.TooLong e = absurd (cc e)
 usage_is (outcome.Refused r) e = absurd (cc e)
 usage_is (outcome.Overflow name tick) e = absurd (cc e)
 usage_is outcome.Memory e = absurd (cc e)
-usage_is (outcome.Uncertified (certs.Outside why)) e = absurd (cc e)
-usage_is (outcome.Uncertified certs.TooLong) e = absurd (cc e)
-usage_is (outcome.Uncertified (certs.Unread why)) e = absurd (cc e)
-usage_is (outcome.Uncertified (certs.Rejected v)) e = absurd (cc e)
-usage_is (outcome.Untraced (traces.Outside why)) e = absurd (cc e)
-usage_is (outcome.Untraced traces.TooLong) e = absurd (cc e)
-usage_is (outcome.Untraced (traces.Unread why)) e = absurd (cc e)
-usage_is (outcome.Untraced (traces.Broken place fact state left right)) e = absurd (cc e)
-usage_is (outcome.Unproposed why) e = absurd (cc e)
-usage_is (outcome.Incomparable why) e = absurd (no_comparison why ends.Usage (λ d. cc d) (λ d. cc d) e)
+usage_is (outcome.CertificateRefused (certs.Outside why)) e = absurd (cc e)
+usage_is (outcome.CertificateRefused certs.TooLong) e = absurd (cc e)
+usage_is (outcome.CertificateRefused (certs.Unread why)) e = absurd (cc e)
+usage_is (outcome.CertificateRefused (certs.Rejected v)) e = absurd (cc e)
+usage_is (outcome.TraceRefused (traces.Outside why)) e = absurd (cc e)
+usage_is (outcome.TraceRefused traces.TooLong) e = absurd (cc e)
+usage_is (outcome.TraceRefused (traces.Unread why)) e = absurd (cc e)
+usage_is (outcome.TraceRefused (traces.Broken place fact state left right)) e = absurd (cc e)
+usage_is (outcome.ProposalRefused why) e = absurd (cc e)
+usage_is (outcome.ComparisonRefused why) e = absurd (no_comparison why ends.Usage (λ d. cc d) (λ d. cc d) e)
 
 pub read_of : (status : Status) (what : Outcome) → IsStatus status what → status ≡ ends.ReadFault → what ≡ outcome.ReadFault
 read_of status what h e = read_is what (sym e ∙ same_status status what h (λ m. absurd (cc (e, m))))
@@ -225,7 +225,7 @@ same_defined : (status : Status) (what : Outcome) → IsStatus status what → i
 same_defined status what (inl e) d = e
 same_defined status what (inr e) d = absurd (cc (ap is_defined e.0, d))
 
-module _ (reply : Reply) (what : Outcome) (old new : Option (List ℕ)) (line : List ℕ) where
+module _ (reply : ExpectedReply) (what : Outcome) (old new : Option (List ℕ)) (line : List ℕ) where
   -- the line of an outcome is that of its status
   tells : (status : Status) → status ≡ status_of what → IsReplyLine reply (status_of what) old new (line_text what) → line ≡ line_text what → IsReplyLine reply status old new line
   tells status same has is = subst (λ (s : Status). IsReplyLine reply s old new line) (sym same) (subst (λ (l : List ℕ). IsReplyLine reply (status_of what) old new l) (sym is) has)
@@ -246,24 +246,24 @@ module _ (reply : Reply) (what : Outcome) (old new : Option (List ℕ)) (line : 
   line_is ends.Memory is has h = h
 
 -- what is written where memory was wanting, for the command or for its line
-module _ {K : Type 0} (written : K → Option (List ℕ)) (reply : Reply) (goes : Bool) (what : Outcome) (old new : K) where
+module _ {K : Type 0} (written : K → Option (List ℕ)) (reply : ExpectedReply) (goes : Bool) (what : Outcome) (old new : K) where
   -- all was written, and the line of an overflow was not made
-  over_cut : (r : Reply) → IsReplied r ends.Overflow (written old) (written new) → Replies (IsCutShort (written old) (written new)) r
+  over_cut : (r : ExpectedReply) → IsReplyGiven r ends.Overflow (written old) (written new) → HasReply (IsOutOfMemoryPrefix (written old) (written new)) r
   over_cut (answered answer) h = let d = h refl in inr (inr (sym d.0, d.1))
-  over_cut absent (inl e) = absurd (cc e)
-  over_cut absent (inr e) = absurd (cc e)
-  over_cut (untold command) h = let p = h refl in (p.0, p.1, p.2, p.3, inr (inr (sym p.4.0, p.4.1)))
+  over_cut file_missing (inl e) = absurd (cc e)
+  over_cut file_missing (inr e) = absurd (cc e)
+  over_cut (unspecified command) h = let p = h refl in (p.0, p.1, p.2, p.3, inr (inr (sym p.4.0, p.4.1)))
 
-  kept : new ≡ old → Replies (IsCutShort (written old) (written new)) reply
-  kept same = subst (λ (k : K). Replies (IsCutShort (written old) (written k)) reply) (sym same) (uncut reply (written old))
+  kept : new ≡ old → HasReply (IsOutOfMemoryPrefix (written old) (written new)) reply
+  kept same = subst (λ (k : K). HasReply (IsOutOfMemoryPrefix (written old) (written k)) reply) (sym same) (uncut reply (written old))
 
-  line_cut : (w : Outcome) → takes_memory w ≡ true → IsReplied reply (status_of w) (written old) (written new) → (leaves_out goes (status_of w) ≡ true → new ≡ old) → Replies (IsCutShort (written old) (written new)) reply
+  line_cut : (w : Outcome) → takes_memory w ≡ true → IsReplyGiven reply (status_of w) (written old) (written new) → (leaves_out goes (status_of w) ≡ true → new ≡ old) → HasReply (IsOutOfMemoryPrefix (written old) (written new)) reply
   line_cut (outcome.Refused r) takes h left = kept (left refl)
   line_cut (outcome.Overflow name tick) takes h left = over_cut reply h
-  line_cut (outcome.Uncertified why) takes h left = kept (left (refusal_leaves goes why))
-  line_cut (outcome.Untraced why) takes h left = kept (left (trace_leaves goes why))
-  line_cut (outcome.Unproposed why) takes h left = kept (left refl)
-  line_cut (outcome.Incomparable why) takes h left = kept (left (comparison_leaves goes why))
+  line_cut (outcome.CertificateRefused why) takes h left = kept (left (refusal_leaves goes why))
+  line_cut (outcome.TraceRefused why) takes h left = kept (left (trace_leaves goes why))
+  line_cut (outcome.ProposalRefused why) takes h left = kept (left refl)
+  line_cut (outcome.ComparisonRefused why) takes h left = kept (left (comparison_leaves goes why))
   line_cut outcome.Done takes h left = absurd (cc takes)
   line_cut outcome.Usage takes h left = absurd (cc takes)
   line_cut outcome.ReadFault takes h left = absurd (cc takes)
@@ -271,7 +271,7 @@ module _ {K : Type 0} (written : K → Option (List ℕ)) (reply : Reply) (goes 
   line_cut outcome.TooLong takes h left = absurd (cc takes)
   line_cut outcome.Memory takes h left = absurd (cc takes)
 
-  pub short_of : (status : Status) → IsStatus status what → status ≡ ends.Memory → (what ≡ outcome.Memory → Replies (IsCutShort (written old) (written new)) reply) → IsReplied reply (status_of what) (written old) (written new)
-      → (leaves_out goes (status_of what) ≡ true → new ≡ old) → Replies (IsCutShort (written old) (written new)) reply
+  pub short_of : (status : Status) → IsStatus status what → status ≡ ends.Memory → (what ≡ outcome.Memory → HasReply (IsOutOfMemoryPrefix (written old) (written new)) reply) → IsReplyGiven reply (status_of what) (written old) (written new)
+      → (leaves_out goes (status_of what) ≡ true → new ≡ old) → HasReply (IsOutOfMemoryPrefix (written old) (written new)) reply
   short_of status (inl e) memory cut h left = cut (memory_is what (sym memory ∙ e))
   short_of status (inr e) memory cut h left = line_cut what e.1 h left

@@ -5,53 +5,53 @@ use Rattle.std.specs.Prelude.{IfSome, IsSomeAnd, bytes_eq}
 use Rattle.std.specs.Io.KnownBytes.{Appends}
 use Rattle.std.proofs.KnownBytes.{Appends-nil}
 use Rattle.std.proofs.lemmas.Slice.Eq.{bytes_eq-Decides}
-use Rattle.mu_io.specs.Faults.{Rose, OnlyCounts}
+use Rattle.mu_io.specs.FaultCounts.{Rose, OnlyCounts}
 use Rattle.mu_io.specs.Files.{Files, file_of}
 use Rattle.mu_io.specs.Sinks.{AppendsPrefix}
 use Rattle.cert_check.specs.Scope.{IsInScope, IsOutsideBy}
 use Rattle.cert_check.specs.declared.certificate.Certificate.{Certificate}
 use Rattle.cert_check.specs.declared.outside.Outside.{Outside}
-use Rattle.cert_lines.specs.Bounds.{bounds_text, bounds_header, bound_lines}
-use Rattle.cert_text.specs.Lines.{Line as TextLine, lines}
-use Rattle.cert_text.specs.Written.{lines_text, line_text, fields_of_line}
-use Rattle.cert_answer.specs.Answers as Certificates
-use Rattle.cert_answer.specs.Endings.{Ends, MayEnd, text_of as text_of_answer, leaves_out as leaves_sink}
-use Rattle.cert_answer.specs.declared.ending.CertificateRefusal.TheVariants as certs
-use Rattle.cert_answer.specs.declared.ending.Ending.{Ending}
-use Rattle.cert_answer.specs.declared.ending.Ending.TheVariants as ending
-use Rattle.cert_answer.proofs.Bounds.{bounds}
-use Rattle.cert_answer.proofs.Sameness.{one_each}
-use Rattle.cert_answer.proofs.Scopes.{one_outside, not_outside}
-use Rattle.trace_answer.specs.Answers as Traces
-use Rattle.trace_answer.specs.Endings as TraceEndings
-use Rattle.trace_answer.specs.declared.ending.Ending.{Ending as TraceEnding}
-use Rattle.trace_answer.specs.declared.ending.Ending.TheVariants as traced
-use Rattle.trace_answer.specs.declared.ending.TraceRefusal.TheVariants as traces
-use Rattle.trace_answer.specs.Comparisons.{IsBaseless}
-use Rattle.trace_answer.specs.declared.stop.ComparisonRefusal.TheVariants as comparisons
-use Rattle.trace_answer.specs.declared.stop.Stop.{Stop}
-use Rattle.trace_answer.specs.declared.stop.Stop.TheVariants as stops
-use Rattle.trace_answer.proofs.Accepting.{accepted}
-use Rattle.trace_answer.proofs.Bases.{judged-basis}
-use Rattle.trace_answer.proofs.Sameness.{one_each as one_trace}
-use Rattle.propose_answer.specs.Answers as Proposals
-use Rattle.propose_answer.specs.Endings as ProposalEndings
-use Rattle.propose_answer.specs.declared.ending.ProposalEnding.{ProposalEnding}
-use Rattle.propose_answer.specs.declared.ending.ProposalEnding.TheVariants as proposed
-use Rattle.propose_answer.proofs.Kept.{kept_texts}
-use Rattle.propose_answer.proofs.Sameness.{one_proposed}
+use Rattle.qss_answers.specs.BoundTexts.{bounds_text, bounds_header, bound_lines}
+use Rattle.cert_check.specs.CertificateLines.{Line as TextLine, lines}
+use Rattle.cert_check.specs.Written.{lines_text, line_text, fields_of_line}
+use Rattle.qss_answers.specs.CertificateAnswers as Certificates
+use Rattle.qss_answers.specs.CertificateEndings.{Ends, MayEnd, text_of as text_of_answer, leaves_out as leaves_sink}
+use Rattle.qss_answers.specs.declared.certificate_ending.CertificateRefusal.TheVariants as certs
+use Rattle.qss_answers.specs.declared.certificate_ending.CertificateResult.{CertificateResult}
+use Rattle.qss_answers.specs.declared.certificate_ending.CertificateResult.TheVariants as ending
+use Rattle.qss_answers.proofs.BoundsHold.{bounds}
+use Rattle.qss_answers.proofs.OneCertificateAnswer.{one_each}
+use Rattle.qss_answers.proofs.Scopes.{one_outside, not_outside}
+use Rattle.qss_answers.specs.TraceAnswers as Traces
+use Rattle.qss_answers.specs.TraceEndings as TraceEndings
+use Rattle.qss_answers.specs.declared.trace_ending.TraceResult.{TraceResult as TraceEnding}
+use Rattle.qss_answers.specs.declared.trace_ending.TraceResult.TheVariants as traced
+use Rattle.qss_answers.specs.declared.trace_ending.TraceRefusal.TheVariants as traces
+use Rattle.qss_answers.specs.Comparisons.{IsUnusableCertificate}
+use Rattle.qss_answers.specs.declared.stop.ComparisonRefusal.TheVariants as comparisons
+use Rattle.qss_answers.specs.declared.stop.ComparisonStop.{ComparisonStop}
+use Rattle.qss_answers.specs.declared.stop.ComparisonStop.TheVariants as stops
+use Rattle.qss_answers.proofs.Accepting.{accepted}
+use Rattle.qss_answers.proofs.Bases.{judged-basis}
+use Rattle.qss_answers.proofs.OneTraceAnswer.{one_each as one_trace}
+use Rattle.qss_answers.specs.ProposalAnswers as Proposals
+use Rattle.qss_answers.specs.ProposalEndings as ProposalEndings
+use Rattle.qss_answers.specs.declared.proposal_ending.ProposalResult.{ProposalResult}
+use Rattle.qss_answers.specs.declared.proposal_ending.ProposalResult.TheVariants as proposed
+use Rattle.qss_answers.proofs.ProposalPromises.{kept_texts}
+use Rattle.qss_answers.proofs.OneProposalAnswer.{one_proposed}
 use Rattle.qss_machine.specs.declared.system.Machine.{Machine}
 use Rattle.qss_compile.specs.Meanings.{IsRefused}
 use Rattle.qss_compile.specs.declared.fault.Refused.{Refused}
-use Rattle.qss_top.specs.Answers.{Answer, Message, Tells, refused, Told, Reply, answered, absent, untold, refusal, too_long, IsSourceRefusal, IsSourceMachine, uncertified, uncertifying, certificate_answer, status_of_refusal, IsCertificateAnswer, IsCertifyAnswer, IsUpgradeAnswer, quiet, untraced, status_of_trace, trace_answer, IsCheckAnswer, unproposed, proposal_answer, IsProposeAnswer, incomparable, stop_answer, Reads, InScope, ByMachine, ReadsText, CommandLeadsTo}
-use Rattle.qss_top.specs.Certificates.{IsDone, files_behind, limit_in, long_in, outcome_by, outcome_traced, outcome_proposed, share_in}
-use Rattle.qss_words.specs.Commands.{files_of}
-use Rattle.qss_top.specs.Outcomes.{IsOutcome, IsRefusedFor, Meets, Serves, status_of, line_text as outcome_text}
+use Rattle.qss_top.specs.ExpectedResults.{Answer, Message, IsMessageText, refused, ExpectedResult, ExpectedReply, answered, file_missing, unspecified, refusal, too_long, IsSourceRefusal, IsSourceMachine, certificate_refused, certificate_rejection, certificate_answer, status_of_refusal, IsCertificateAnswer, IsCertifyAnswer, IsUpgradeAnswer, quiet, trace_refused, status_of_trace, trace_answer, IsCheckAnswer, proposal_refused, proposal_answer, IsProposeAnswer, comparison_refused, comparison_stop_answer, ReadsFile, InScope, ContinuesFromMachine, ContinuesFromText, CommandExpects}
+use Rattle.qss_top.specs.CertificateOutcomes.{IsDone, files_behind, limit_in, long_in, outcome_by, outcome_traced, outcome_proposed, share_in}
+use Rattle.qss_cli.specs.Commands.{files_of}
+use Rattle.qss_top.specs.CommandOutcomes.{IsOutcome, IsRefusedFor, SatisfiesExpected, ImplementsExpected, status_of, line_text as outcome_text}
 use Rattle.qss_top.specs.Statuses.{leaves_out}
-use Rattle.qss_top.specs.TopCall.{IsReplied}
-use Rattle.qss_words.specs.Requests.{command_on, side_in}
-use Rattle.qss_words.specs.declared.request.Deed.{Deed}
-use Rattle.qss_words.specs.declared.request.Deed.TheVariants as deeds
+use Rattle.qss_top.specs.Replies.{IsReplyGiven}
+use Rattle.qss_cli.specs.Requests.{command_on, side_in}
+use Rattle.qss_cli.specs.declared.request.TwoFileTask.{TwoFileTask}
+use Rattle.qss_cli.specs.declared.request.TwoFileTask.TheVariants as deeds
 use Rattle.qss_top.specs.declared.outcome.Outcome.{Outcome}
 use Rattle.qss_top.specs.declared.outcome.Outcome.TheVariants as outcome
 use Rattle.qss_top.specs.declared.status.Status.{Status}
@@ -63,15 +63,15 @@ use Rattle.qss_top.proofs.Sameness.{one_certify, one_upgrade, one_check}
 use Rattle.qss_top.proofs.Serving.{unwritten, uncut, read_served, fault_served, memory_served, long_served}
 
 -- a refusal, where nothing was written
-pub refused_now : (status : Status) (line : Message) (what : Outcome) (old : Option (List ℕ)) (before : ℕ) → status_of what ≡ status → Tells line (outcome_text what) → IsOutcome (refusal status line) what old old before before
+pub refused_now : (status : Status) (line : Message) (what : Outcome) (old : Option (List ℕ)) (before : ℕ) → status_of what ≡ status → IsMessageText line (outcome_text what) → IsOutcome (refusal status line) what old old before before
 refused_now status line what old before is said = record { defined = λ e. (is, said, Appends-nil old); prefix = no_prefix old []; short = λ e. inl (Appends-nil old); quiet = λ e. refl }
 
 -- all that is led to is this answer, and nothing more is read
-pub one_served : (files : Option Files) (names : List (List ℕ)) (Leads : Option Files → Told → Type 0) (a : Answer) (what : Outcome) (old : Option (List ℕ)) (out_before : ℕ) (before : List ℕ → ℕ)
-    → ((fs : Files) (t : Told) → Leads (Some fs) t → t ≡ record { arrivals = []; reply = answered a }) → Leads None (record { arrivals = []; reply = answered a })
-    → IsOutcome a what old old out_before out_before → what ≢ outcome.ReadFault → Serves files names Leads what old old out_before out_before before before
+pub one_served : (files : Option Files) (names : List (List ℕ)) (Leads : Option Files → ExpectedResult → Type 0) (a : Answer) (what : Outcome) (old : Option (List ℕ)) (out_before : ℕ) (before : List ℕ → ℕ)
+    → ((fs : Files) (t : ExpectedResult) → Leads (Some fs) t → t ≡ record { files_read = []; reply = answered a }) → Leads None (record { files_read = []; reply = answered a })
+    → IsOutcome a what old old out_before out_before → what ≢ outcome.ReadFault → ImplementsExpected files names Leads what old old out_before out_before before before
 one_served files names Leads a what old out_before before only all is not_read = record {
-  known = λ fs e t leads. subst (λ (u : Told). Meets u what old old out_before out_before before before) (sym (only fs t leads)) (record {
+  known = λ fs e t leads. subst (λ (u : ExpectedResult). SatisfiesExpected u what old old out_before out_before before before) (sym (only fs t leads)) (record {
     replied = λ d. let p = is.defined d in (p.0, p.2);
     line = λ d. (is.defined d).1;
     prefix = is.prefix;
@@ -80,19 +80,19 @@ one_served files names Leads a what old out_before before only all is not_read =
     read_fault = λ d. absurd (not_read d);
     others = λ name apart. refl;
   });
-  some = (record { arrivals = []; reply = answered a }, a, all, refl, is);
+  some = (record { files_read = []; reply = answered a }, a, all, refl, is);
   read_fault = λ d. absurd (not_read d);
   others = λ name apart. refl;
 }
 
 -- memory was wanting, and nothing is told of the answer
-untelling : (reply : Reply) (old : Option (List ℕ)) → IsReplied reply ends.Memory old old
+untelling : (reply : ExpectedReply) (old : Option (List ℕ)) → IsReplyGiven reply ends.Memory old old
 untelling (answered answer) old = λ d. absurd (cc d)
-untelling absent old = inr refl
-untelling (untold command) old = λ d. absurd (cc d)
+untelling file_missing old = inr refl
+untelling (unspecified command) old = λ d. absurd (cc d)
 
-pub memory_wanted : (files : Option Files) (names : List (List ℕ)) (Leads : Option Files → Told → Type 0) (old : Option (List ℕ)) (out_before : ℕ) (before : List ℕ → ℕ) → MayReply (Leads None)
-    → Serves files names Leads outcome.Memory old old out_before out_before before before
+pub memory_wanted : (files : Option Files) (names : List (List ℕ)) (Leads : Option Files → ExpectedResult → Type 0) (old : Option (List ℕ)) (out_before : ℕ) (before : List ℕ → ℕ) → MayReply (Leads None)
+    → ImplementsExpected files names Leads outcome.Memory old old out_before out_before before before
 memory_wanted files names Leads old out_before before p = record {
   known = λ fs e t leads. record {
     replied = untelling t.reply old;
@@ -110,12 +110,12 @@ memory_wanted files names Leads old out_before before p = record {
 
 -- ---- the machine of a source
 
-module _ (files : Option Files) (names : List (List ℕ)) (share : ℕ) (bytes : List ℕ) (Leads : Machine → Option Files → Told → Type 0) where
-  abbrev Source : Option Files → Told → Type 0
-  Source fs = ByMachine share bytes (λ m. Leads m fs)
+module _ (files : Option Files) (names : List (List ℕ)) (share : ℕ) (bytes : List ℕ) (Leads : Machine → Option Files → ExpectedResult → Type 0) where
+  abbrev Source : Option Files → ExpectedResult → Type 0
+  Source fs = ContinuesFromMachine share bytes (λ m. Leads m fs)
 
   pub machine_served : (m : Machine) (what : Outcome) (old new : Option (List ℕ)) (out_before out_now : ℕ) (before now : List ℕ → ℕ) → IsSourceMachine share bytes m
-      → Serves files names (Leads m) what old new out_before out_now before now → Serves files names Source what old new out_before out_now before now
+      → ImplementsExpected files names (Leads m) what old new out_before out_now before now → ImplementsExpected files names Source what old new out_before out_now before now
   machine_served m what old new out_before out_now before now is h = record {
     known = λ fs e t leads. h.known fs e t (to_machine fs t leads);
     some = let p = h.some in (p.0, p.1, inr (m, is, p.2), p.3, p.4);
@@ -123,12 +123,12 @@ module _ (files : Option Files) (names : List (List ℕ)) (share : ℕ) (bytes :
     others = h.others;
   }
     where
-      to_machine : (fs : Files) (t : Told) → Source (Some fs) t → Leads m (Some fs) t
+      to_machine : (fs : Files) (t : ExpectedResult) → Source (Some fs) t → Leads m (Some fs) t
       to_machine fs t (inl says) = absurd (source_fine share bytes says.0 m says.1 is)
       to_machine fs t (inr found) = subst (λ (n : Machine). Leads n (Some fs) t) (one_source_machine share bytes found.0 m found.1 is) found.2
 
   -- a source that is refused
-  refused_served : (r : Refused) (old : Option (List ℕ)) (out_before : ℕ) (before : List ℕ → ℕ) → length bytes ≤ 2 ^ 20 → IsRefused bytes r → Serves files names Source (outcome.Refused r) old old out_before out_before before before
+  refused_served : (r : Refused) (old : Option (List ℕ)) (out_before : ℕ) (before : List ℕ → ℕ) → length bytes ≤ 2 ^ 20 → IsRefused bytes r → ImplementsExpected files names Source (outcome.Refused r) old old out_before out_before before before
   refused_served r old out_before before short is =
       one_served files names Source (refusal ends.ModelRefused (refused bytes)) (outcome.Refused r) old out_before before only (inl (refusal ends.ModelRefused (refused bytes), refuses, refl))
       (refused_now ends.ModelRefused (refused bytes) (outcome.Refused r) old out_before refl (record { refusal = r; is = is; same = refl })) (λ e. cc e)
@@ -136,24 +136,24 @@ module _ (files : Option Files) (names : List (List ℕ)) (share : ℕ) (bytes :
       refuses : IsSourceRefusal bytes (refusal ends.ModelRefused (refused bytes))
       refuses = short_for IsRefused bytes short r is
 
-      only : (fs : Files) (t : Told) → Source (Some fs) t → t ≡ record { arrivals = []; reply = answered (refusal ends.ModelRefused (refused bytes)) }
+      only : (fs : Files) (t : ExpectedResult) → Source (Some fs) t → t ≡ record { files_read = []; reply = answered (refusal ends.ModelRefused (refused bytes)) }
       only fs t (inl says) =
-          says.2 ∙ ap (λ (a : Answer). record { arrivals = []; reply = answered a }) (one_source_refusal bytes says.0 (refusal ends.ModelRefused (refused bytes)) says.1 refuses)
+          says.2 ∙ ap (λ (a : Answer). record { files_read = []; reply = answered a }) (one_source_refusal bytes says.0 (refusal ends.ModelRefused (refused bytes)) says.1 refuses)
       only fs t (inr found) = absurd (source_fine share bytes (refusal ends.ModelRefused (refused bytes)) found.0 refuses found.1)
 
   -- a source that gives no machine
   pub no_machine_served : (what : Outcome) (old : Option (List ℕ)) (out_before : ℕ) (before : List ℕ → ℕ) → length bytes ≤ 2 ^ 20 → IsRefusedFor (IsRefused bytes) what → MayReply (Source None)
-      → Serves files names Source what old old out_before out_before before before
+      → ImplementsExpected files names Source what old old out_before out_before before before
   no_machine_served what old out_before before short (inl e) some =
-      subst (λ (w : Outcome). Serves files names Source w old old out_before out_before before before) (sym e) (memory_wanted files names Source old out_before before some)
+      subst (λ (w : Outcome). ImplementsExpected files names Source w old old out_before out_before before before) (sym e) (memory_wanted files names Source old out_before before some)
   no_machine_served what old out_before before short (inr (r, is, e)) some =
-      subst (λ (w : Outcome). Serves files names Source w old old out_before out_before before before) (sym e) (refused_served r old out_before before short is)
+      subst (λ (w : Outcome). ImplementsExpected files names Source w old old out_before out_before before before) (sym e) (refused_served r old out_before before short is)
 
 -- ---- the scope of certificates
 
-module _ (files : Option Files) (names : List (List ℕ)) (m : Machine) (Leads : Option Files → Told → Type 0) where
-  pub scope_served : (what : Outcome) (old new : Option (List ℕ)) (out_before out_now : ℕ) (before now : List ℕ → ℕ) → IsInScope m → Serves files names Leads what old new out_before out_now before now
-      → Serves files names (λ fs t. InScope m (Leads fs) t) what old new out_before out_now before now
+module _ (files : Option Files) (names : List (List ℕ)) (m : Machine) (Leads : Option Files → ExpectedResult → Type 0) where
+  pub scope_served : (what : Outcome) (old new : Option (List ℕ)) (out_before out_now : ℕ) (before now : List ℕ → ℕ) → IsInScope m → ImplementsExpected files names Leads what old new out_before out_now before now
+      → ImplementsExpected files names (λ fs t. InScope m (Leads fs) t) what old new out_before out_now before now
   scope_served what old new out_before out_now before now scope h = record {
     known = λ fs e t leads. by fs e t leads;
     some = let p = h.some in (p.0, p.1, inr (scope, p.2), p.3, p.4);
@@ -161,19 +161,19 @@ module _ (files : Option Files) (names : List (List ℕ)) (m : Machine) (Leads :
     others = h.others;
   }
     where
-      by : (fs : Files) → files ≡ Some fs → (t : Told) → InScope m (Leads (Some fs)) t → Meets t what old new out_before out_now before now
+      by : (fs : Files) → files ≡ Some fs → (t : ExpectedResult) → InScope m (Leads (Some fs)) t → SatisfiesExpected t what old new out_before out_now before now
       by fs e t (inl out) = absurd (not_outside m out.0 out.1 scope)
       by fs e t (inr inside) = h.known fs e t inside.1
 
   pub outside_served : (why : Outside) (old : Option (List ℕ)) (out_before : ℕ) (before : List ℕ → ℕ) → IsOutsideBy m why
-      → Serves files names (λ fs t. InScope m (Leads fs) t) (outcome.Uncertified (certs.Outside why)) old old out_before out_before before before
+      → ImplementsExpected files names (λ fs t. InScope m (Leads fs) t) (outcome.CertificateRefused (certs.Outside why)) old old out_before out_before before before
   outside_served why old out_before before is =
-      one_served files names (λ fs t. InScope m (Leads fs) t) (uncertifying (certs.Outside why)) (outcome.Uncertified (certs.Outside why)) old out_before before only
-      (inl (why, is, (uncertifying (certs.Outside why), refl, refl))) (refused_now ends.Rejected (uncertified (certs.Outside why)) (outcome.Uncertified (certs.Outside why)) old out_before refl refl) (λ e. cc e)
+      one_served files names (λ fs t. InScope m (Leads fs) t) (certificate_rejection (certs.Outside why)) (outcome.CertificateRefused (certs.Outside why)) old out_before before only
+      (inl (why, is, (certificate_rejection (certs.Outside why), refl, refl))) (refused_now ends.Rejected (certificate_refused (certs.Outside why)) (outcome.CertificateRefused (certs.Outside why)) old out_before refl refl) (λ e. cc e)
     where
-      only : (fs : Files) (t : Told) → InScope m (Leads (Some fs)) t → t ≡ record { arrivals = []; reply = answered (uncertifying (certs.Outside why)) }
+      only : (fs : Files) (t : ExpectedResult) → InScope m (Leads (Some fs)) t → t ≡ record { files_read = []; reply = answered (certificate_rejection (certs.Outside why)) }
       only fs t (inl out) =
-          out.2.2 ∙ ap (λ (a : Answer). record { arrivals = []; reply = answered a }) (out.2.1 ∙ ap (λ (w : Outside). uncertifying (certs.Outside w)) (one_outside m out.0 why out.1 is))
+          out.2.2 ∙ ap (λ (a : Answer). record { files_read = []; reply = answered a }) (out.2.1 ∙ ap (λ (w : Outside). certificate_rejection (certs.Outside w)) (one_outside m out.0 why out.1 is))
       only fs t (inr inside) = absurd (not_outside m why is inside.0)
 
 -- ---- the text of an answer
@@ -220,7 +220,7 @@ module _ {K : Type 0} (known : K → Option (List ℕ)) (faults : K → ℕ) (fa
   wrote text old new whole calm = record { defined = λ e. (refl, refl, whole); prefix = whole_prefix (known old) (known new) text whole; short = λ e. absurd (cc e); quiet = λ e. calm }
 
   -- a refusal is told
-  told_so : (status : Status) (line : Message) (what : Outcome) (old new : K) → new ≡ old → status_of what ≡ status → Tells line (outcome_text what) → Became (refusal status line) what old new
+  told_so : (status : Status) (line : Message) (what : Outcome) (old new : K) → new ≡ old → status_of what ≡ status → IsMessageText line (outcome_text what) → Became (refusal status line) what old new
   told_so status line what old new same is said = kept (refusal status line) what old new same (refused_now status line what (known old) (faults old) is said)
 
   -- a write failed in a text that is not empty
@@ -231,31 +231,31 @@ module _ {K : Type 0} (known : K → Option (List ℕ)) (faults : K → ℕ) (fa
   wanting : (a : Answer) (old new : K) → new ≡ old → Became a outcome.Memory old new
   wanting a old new same = kept a outcome.Memory old new same (nothing_outcome a outcome.Memory (known old) (faults old) refl)
 
-  became : (end : Ending) (a : Certificates.Answer) (old new : K) → MayEnd a end → ((text : List ℕ) → a ≡ Certificates.written text → text ≡ [] → ⊥)
+  became : (end : CertificateResult) (a : Certificates.Answer) (old new : K) → MayEnd a end → ((text : List ℕ) → a ≡ Certificates.written text → text ≡ [] → ⊥)
       → (end ≡ ending.Written → Appends (known old) (known new) (text_of_answer a)) → (end ≡ ending.Fault → AppendsPrefix (known old) (known new) (text_of_answer a))
       → (leaves_sink end ≡ true → new ≡ old) → (end ≢ ending.Fault → faults new ≡ faults old) → Became (certificate_answer a) (outcome_by end) old new
-  became ending.Written (Certificates.written text) old new told some whole prefix untouched calm = wrote text old new (whole refl) (calm (λ d. cc d))
-  became ending.Written (Certificates.refused why) old new told some whole prefix untouched calm = absurd (cc told)
-  became (ending.Refused why) a old new told some whole prefix untouched calm =
-      subst (λ (x : Certificates.Answer). Became (certificate_answer x) (outcome.Uncertified why) old new) (sym told)
-      (told_so (status_of_refusal why) (uncertified why) (outcome.Uncertified why) old new (untouched refl) refl refl)
-  became ending.Fault (Certificates.written text) old new told some whole prefix untouched calm = wrote_front text old new (some text refl) (prefix refl)
-  became ending.Fault (Certificates.refused why) old new told some whole prefix untouched calm = absurd (cc told)
-  became ending.Memory a old new told some whole prefix untouched calm = wanting (certificate_answer a) old new (untouched refl)
+  became ending.Written (Certificates.written text) old new expected some whole prefix untouched calm = wrote text old new (whole refl) (calm (λ d. cc d))
+  became ending.Written (Certificates.refused why) old new expected some whole prefix untouched calm = absurd (cc expected)
+  became (ending.Refused why) a old new expected some whole prefix untouched calm =
+      subst (λ (x : Certificates.Answer). Became (certificate_answer x) (outcome.CertificateRefused why) old new) (sym expected)
+      (told_so (status_of_refusal why) (certificate_refused why) (outcome.CertificateRefused why) old new (untouched refl) refl refl)
+  became ending.Fault (Certificates.written text) old new expected some whole prefix untouched calm = wrote_front text old new (some text refl) (prefix refl)
+  became ending.Fault (Certificates.refused why) old new expected some whole prefix untouched calm = absurd (cc expected)
+  became ending.Memory a old new expected some whole prefix untouched calm = wanting (certificate_answer a) old new (untouched refl)
 
   -- what became of a certificate, where its text has one answer, and no empty one
   done_outcome : (Is : Certificates.Answer → Type 0) → ((a b : Certificates.Answer) → Is a → Is b → a ≡ b) → ((text : List ℕ) → Is (Certificates.written text) → text ≡ [] → ⊥)
-      → (end : Ending) (old new : K) → Ends known faults failed Is end old new → (answer : Answer) → IsCertificateAnswer Is answer → Became answer (outcome_by end) old new
+      → (end : CertificateResult) (old new : K) → Ends known faults failed Is end old new → (answer : Answer) → IsCertificateAnswer Is answer → Became answer (outcome_by end) old new
   done_outcome Is one some end old new h answer (such, is, e) =
       let same = one h.answer such h.is is in
       subst (λ (a : Answer). Became a (outcome_by end) old new) (ap certificate_answer same ∙ sym e)
       (became end h.answer old new h.told (λ text at. some text (subst Is at h.is)) h.whole h.prefix h.untouched h.calm)
 
-  pub certified_outcome : (m : Machine) (bytes : List ℕ) (end : Ending) (old new : K) → Ends known faults failed (Certificates.IsCertification m bytes) end old new
+  pub certified_outcome : (m : Machine) (bytes : List ℕ) (end : CertificateResult) (old new : K) → Ends known faults failed (Certificates.IsCertification m bytes) end old new
       → (answer : Answer) → IsCertifyAnswer m bytes answer → Became answer (outcome_by end) old new
   certified_outcome m bytes end old new h answer is = done_outcome (Certificates.IsCertification m bytes) (one_each.one_certification m bytes) (bounds_some m bytes) end old new h answer is
 
-  pub upgraded_outcome : (m : Machine) (bytes : List ℕ) (end : Ending) (old new : K) → Ends known faults failed (Certificates.IsUpgrade m bytes) end old new
+  pub upgraded_outcome : (m : Machine) (bytes : List ℕ) (end : CertificateResult) (old new : K) → Ends known faults failed (Certificates.IsUpgrade m bytes) end old new
       → (answer : Answer) → IsUpgradeAnswer m bytes answer → Became answer (outcome_by end) old new
   upgraded_outcome m bytes end old new h answer is = done_outcome (Certificates.IsUpgrade m bytes) (one_each.one_upgrade m bytes) (upgrade_some m bytes) end old new h answer is
 
@@ -263,14 +263,14 @@ module _ {K : Type 0} (known : K → Option (List ℕ)) (faults : K → ℕ) (fa
   checked : (end : TraceEnding) (a : Traces.Answer) (old new : K) → TraceEndings.MayEnd a end → ((text : List ℕ) → a ≡ Traces.written text → text ≡ [] → ⊥)
       → (end ≡ traced.Written → Appends (known old) (known new) (TraceEndings.text_of a)) → (end ≡ traced.Fault → AppendsPrefix (known old) (known new) (TraceEndings.text_of a))
       → (TraceEndings.leaves_out end ≡ true → new ≡ old) → (end ≢ traced.Fault → faults new ≡ faults old) → Became (trace_answer a) (outcome_traced end) old new
-  checked traced.Written (Traces.written text) old new told some whole prefix untouched calm = wrote text old new (whole refl) (calm (λ d. cc d))
-  checked traced.Written (Traces.refused why) old new told some whole prefix untouched calm = absurd (cc told)
-  checked (traced.Refused why) a old new told some whole prefix untouched calm =
-      subst (λ (x : Traces.Answer). Became (trace_answer x) (outcome.Untraced why) old new) (sym told)
-      (told_so (status_of_trace why) (untraced why) (outcome.Untraced why) old new (untouched refl) refl refl)
-  checked traced.Fault (Traces.written text) old new told some whole prefix untouched calm = wrote_front text old new (some text refl) (prefix refl)
-  checked traced.Fault (Traces.refused why) old new told some whole prefix untouched calm = absurd (cc told)
-  checked traced.Memory a old new told some whole prefix untouched calm = wanting (trace_answer a) old new (untouched refl)
+  checked traced.Written (Traces.written text) old new expected some whole prefix untouched calm = wrote text old new (whole refl) (calm (λ d. cc d))
+  checked traced.Written (Traces.refused why) old new expected some whole prefix untouched calm = absurd (cc expected)
+  checked (traced.Refused why) a old new expected some whole prefix untouched calm =
+      subst (λ (x : Traces.Answer). Became (trace_answer x) (outcome.TraceRefused why) old new) (sym expected)
+      (told_so (status_of_trace why) (trace_refused why) (outcome.TraceRefused why) old new (untouched refl) refl refl)
+  checked traced.Fault (Traces.written text) old new expected some whole prefix untouched calm = wrote_front text old new (some text refl) (prefix refl)
+  checked traced.Fault (Traces.refused why) old new expected some whole prefix untouched calm = absurd (cc expected)
+  checked traced.Memory a old new expected some whole prefix untouched calm = wanting (trace_answer a) old new (untouched refl)
 
   pub checked_outcome : (m : Machine) (bytes : List ℕ) (end : TraceEnding) (old new : K) → TraceEndings.Ends known faults failed (Traces.IsChecked m bytes) end old new
       → (answer : Answer) → IsCheckAnswer m bytes answer → Became answer (outcome_traced end) old new
@@ -280,19 +280,19 @@ module _ {K : Type 0} (known : K → Option (List ℕ)) (faults : K → ℕ) (fa
       (checked end h.answer old new h.told (λ text at. summary_some m bytes text (subst (Traces.IsChecked m bytes) at h.is)) h.whole h.prefix h.untouched h.calm)
 
   -- the same of a proposal
-  proposing : (end : ProposalEnding) (a : Proposals.Answer) (old new : K) → ProposalEndings.MayEnd a end → ((text : List ℕ) → a ≡ Proposals.written text → text ≡ [] → ⊥)
+  proposing : (end : ProposalResult) (a : Proposals.Answer) (old new : K) → ProposalEndings.MayEnd a end → ((text : List ℕ) → a ≡ Proposals.written text → text ≡ [] → ⊥)
       → (end ≡ proposed.Written → Appends (known old) (known new) (ProposalEndings.text_of a)) → (end ≡ proposed.Fault → AppendsPrefix (known old) (known new) (ProposalEndings.text_of a))
       → (ProposalEndings.leaves_out end ≡ true → new ≡ old) → (end ≢ proposed.Fault → faults new ≡ faults old) → Became (proposal_answer a) (outcome_proposed end) old new
-  proposing proposed.Written (Proposals.written text) old new told some whole prefix untouched calm = wrote text old new (whole refl) (calm (λ d. cc d))
-  proposing proposed.Written (Proposals.refused why) old new told some whole prefix untouched calm = absurd (cc told)
-  proposing (proposed.Refused why) a old new told some whole prefix untouched calm =
-      subst (λ (x : Proposals.Answer). Became (proposal_answer x) (outcome.Unproposed why) old new) (sym told)
-      (told_so ends.Rejected (unproposed why) (outcome.Unproposed why) old new (untouched refl) refl refl)
-  proposing proposed.Fault (Proposals.written text) old new told some whole prefix untouched calm = wrote_front text old new (some text refl) (prefix refl)
-  proposing proposed.Fault (Proposals.refused why) old new told some whole prefix untouched calm = absurd (cc told)
-  proposing proposed.Memory a old new told some whole prefix untouched calm = wanting (proposal_answer a) old new (untouched refl)
+  proposing proposed.Written (Proposals.written text) old new expected some whole prefix untouched calm = wrote text old new (whole refl) (calm (λ d. cc d))
+  proposing proposed.Written (Proposals.refused why) old new expected some whole prefix untouched calm = absurd (cc expected)
+  proposing (proposed.Refused why) a old new expected some whole prefix untouched calm =
+      subst (λ (x : Proposals.Answer). Became (proposal_answer x) (outcome.ProposalRefused why) old new) (sym expected)
+      (told_so ends.Rejected (proposal_refused why) (outcome.ProposalRefused why) old new (untouched refl) refl refl)
+  proposing proposed.Fault (Proposals.written text) old new expected some whole prefix untouched calm = wrote_front text old new (some text refl) (prefix refl)
+  proposing proposed.Fault (Proposals.refused why) old new expected some whole prefix untouched calm = absurd (cc expected)
+  proposing proposed.Memory a old new expected some whole prefix untouched calm = wanting (proposal_answer a) old new (untouched refl)
 
-  pub proposed_outcome : (m : Machine) (end : ProposalEnding) (old new : K) → ProposalEndings.Ends known faults failed (Proposals.IsProposed m) end old new
+  pub proposed_outcome : (m : Machine) (end : ProposalResult) (old new : K) → ProposalEndings.Ends known faults failed (Proposals.IsProposed m) end old new
       → (answer : Answer) → IsProposeAnswer m answer → Became answer (outcome_proposed end) old new
   proposed_outcome m end old new h answer (such, is, e) =
       let same = one_proposed.one m h.answer such h.is is in
@@ -323,37 +323,37 @@ traced_read (traced.Refused why) = (λ e. cc e, λ e. cc e)
 traced_read traced.Fault = (λ e. cc e, λ e. cc e)
 traced_read traced.Memory = (λ e. cc e, λ e. cc e)
 
-pub proposed_left : (end : ProposalEnding) → leaves_out false (status_of (outcome_proposed end)) ≡ true → ProposalEndings.leaves_out end ≡ true
+pub proposed_left : (end : ProposalResult) → leaves_out false (status_of (outcome_proposed end)) ≡ true → ProposalEndings.leaves_out end ≡ true
 proposed_left proposed.Written e = e
 proposed_left (proposed.Refused why) e = refl
 proposed_left proposed.Fault e = e
 proposed_left proposed.Memory e = refl
 
-pub proposed_fault : (end : ProposalEnding) → outcome_proposed end ≡ outcome.WriteFault → end ≡ proposed.Fault
+pub proposed_fault : (end : ProposalResult) → outcome_proposed end ≡ outcome.WriteFault → end ≡ proposed.Fault
 proposed_fault proposed.Written e = absurd (cc e)
 proposed_fault (proposed.Refused why) e = absurd (cc e)
 proposed_fault proposed.Fault e = refl
 proposed_fault proposed.Memory e = absurd (cc e)
 
-pub proposed_read : (end : ProposalEnding) → (outcome_proposed end ≢ outcome.ReadFault) × (outcome_proposed end ≢ outcome.Usage)
+pub proposed_read : (end : ProposalResult) → (outcome_proposed end ≢ outcome.ReadFault) × (outcome_proposed end ≢ outcome.Usage)
 proposed_read proposed.Written = (λ e. cc e, λ e. cc e)
 proposed_read (proposed.Refused why) = (λ e. cc e, λ e. cc e)
 proposed_read proposed.Fault = (λ e. cc e, λ e. cc e)
 proposed_read proposed.Memory = (λ e. cc e, λ e. cc e)
 
-pub done_left : (end : Ending) → leaves_out false (status_of (outcome_by end)) ≡ true → leaves_sink end ≡ true
+pub done_left : (end : CertificateResult) → leaves_out false (status_of (outcome_by end)) ≡ true → leaves_sink end ≡ true
 done_left ending.Written e = e
 done_left (ending.Refused why) e = refl
 done_left ending.Fault e = e
 done_left ending.Memory e = refl
 
-pub done_fault : (end : Ending) → outcome_by end ≡ outcome.WriteFault → end ≡ ending.Fault
+pub done_fault : (end : CertificateResult) → outcome_by end ≡ outcome.WriteFault → end ≡ ending.Fault
 done_fault ending.Written e = absurd (cc e)
 done_fault (ending.Refused why) e = absurd (cc e)
 done_fault ending.Fault e = refl
 done_fault ending.Memory e = absurd (cc e)
 
-pub done_read : (end : Ending) → (outcome_by end ≢ outcome.ReadFault) × (outcome_by end ≢ outcome.Usage)
+pub done_read : (end : CertificateResult) → (outcome_by end ≢ outcome.ReadFault) × (outcome_by end ≢ outcome.Usage)
 done_read ending.Written = (λ e. cc e, λ e. cc e)
 done_read (ending.Refused why) = (λ e. cc e, λ e. cc e)
 done_read ending.Fault = (λ e. cc e, λ e. cc e)
@@ -370,78 +370,78 @@ counted_later name before now counts other = by (bytes_eq other name) refl
     by false is = let same = counts.others other (λ e. let wrong = (bytes_eq-Decides other name).1 e in absurd (cc)) in omega (arith, same)
 
 -- what a text may be replied, where files are not told
-done_reply : (deed : Deed) (m : Machine) → IsInScope m → (text : List ℕ) → MayReply (IsDone deed m text None)
+done_reply : (deed : TwoFileTask) (m : Machine) → IsInScope m → (text : List ℕ) → MayReply (IsDone deed m text None)
 done_reply (deeds.Certify share) m scope text = says_reply (IsCertifyAnswer m text) (some_certify m text)
 done_reply deeds.Upgrade m scope text = says_reply (IsUpgradeAnswer m text) (some_upgrade m text)
 done_reply deeds.Check m scope text = says_reply (IsCheckAnswer m text) (some_check m text)
 done_reply (deeds.Compare sides) m scope text = comparison_reply (side_in sides.one) (side_in sides.two) m scope text
 
 -- bytes past the limit have this answer
-abbrev pub said : Answer → Told
-said answer = record { arrivals = []; reply = answered answer }
+abbrev pub said : Answer → ExpectedResult
+said answer = record { files_read = []; reply = answered answer }
 
-abbrev long_stop : Stop
+abbrev long_stop : ComparisonStop
 long_stop = stops.Refused (comparisons.Certificate certs.TooLong)
 
-abbrev long_answer : Machine → Deed → Answer
-long_answer m (deeds.Certify share) = uncertifying certs.TooLong
-long_answer m deeds.Upgrade = uncertifying certs.TooLong
-long_answer m deeds.Check = refusal ends.CertRefused (untraced traces.TooLong)
-long_answer m (deeds.Compare sides) = stop_answer m long_stop
+abbrev long_answer : Machine → TwoFileTask → Answer
+long_answer m (deeds.Certify share) = certificate_rejection certs.TooLong
+long_answer m deeds.Upgrade = certificate_rejection certs.TooLong
+long_answer m deeds.Check = refusal ends.CertRefused (trace_refused traces.TooLong)
+long_answer m (deeds.Compare sides) = comparison_stop_answer m long_stop
 
 module _ (m : Machine) (bytes : List ℕ) (scope : IsInScope m) where
-  long_certify : 2 ^ 18 < length bytes → IsCertifyAnswer m bytes (uncertifying certs.TooLong)
+  long_certify : 2 ^ 18 < length bytes → IsCertifyAnswer m bytes (certificate_rejection certs.TooLong)
   long_certify long = (Certificates.refused certs.TooLong, inl (certs.TooLong, (scope, long), refl), refl)
 
-  long_upgrade : 2 ^ 18 < length bytes → IsUpgradeAnswer m bytes (uncertifying certs.TooLong)
+  long_upgrade : 2 ^ 18 < length bytes → IsUpgradeAnswer m bytes (certificate_rejection certs.TooLong)
   long_upgrade long = (Certificates.refused certs.TooLong, inl (certs.TooLong, (scope, long), refl), refl)
 
-  long_check : 2 ^ 24 < length bytes → IsCheckAnswer m bytes (refusal ends.CertRefused (untraced traces.TooLong))
+  long_check : 2 ^ 24 < length bytes → IsCheckAnswer m bytes (refusal ends.CertRefused (trace_refused traces.TooLong))
   long_check long = (Traces.refused traces.TooLong, inl (traces.TooLong, (scope, long), refl), refl)
 
-  long_baseless : 2 ^ 18 < length bytes → IsBaseless m bytes long_stop
+  long_baseless : 2 ^ 18 < length bytes → IsUnusableCertificate m bytes long_stop
   long_baseless long = inl (certs.TooLong, (scope, long), refl)
 
-  long_leads : (d : Deed) → limit_in d < length bytes → (fs : Option Files) (t : Told) → IsDone d m bytes fs t → t ≡ said (long_answer m d)
-  long_leads (deeds.Certify share) long fs t leads = leads.2 ∙ ap said (one_certify m bytes leads.0 (uncertifying certs.TooLong) leads.1 (long_certify long))
-  long_leads deeds.Upgrade long fs t leads = leads.2 ∙ ap said (one_upgrade m bytes leads.0 (uncertifying certs.TooLong) leads.1 (long_upgrade long))
-  long_leads deeds.Check long fs t leads = leads.2 ∙ ap said (one_check m bytes leads.0 (refusal ends.CertRefused (untraced traces.TooLong)) leads.1 (long_check long))
-  long_leads (deeds.Compare sides) long fs t (inl (stop, is, says)) = says.2 ∙ ap said (says.1 ∙ ap (stop_answer m) ((judged-basis m bytes).one_stop stop long_stop is (long_baseless long)))
+  long_leads : (d : TwoFileTask) → limit_in d < length bytes → (fs : Option Files) (t : ExpectedResult) → IsDone d m bytes fs t → t ≡ said (long_answer m d)
+  long_leads (deeds.Certify share) long fs t leads = leads.2 ∙ ap said (one_certify m bytes leads.0 (certificate_rejection certs.TooLong) leads.1 (long_certify long))
+  long_leads deeds.Upgrade long fs t leads = leads.2 ∙ ap said (one_upgrade m bytes leads.0 (certificate_rejection certs.TooLong) leads.1 (long_upgrade long))
+  long_leads deeds.Check long fs t leads = leads.2 ∙ ap said (one_check m bytes leads.0 (refusal ends.CertRefused (trace_refused traces.TooLong)) leads.1 (long_check long))
+  long_leads (deeds.Compare sides) long fs t (inl (stop, is, says)) = says.2 ∙ ap said (says.1 ∙ ap (comparison_stop_answer m) ((judged-basis m bytes).one_stop stop long_stop is (long_baseless long)))
   long_leads (deeds.Compare sides) long fs t (inr (c, basis, leads)) = absurd ((judged-basis m bytes).apart c long_stop basis (long_baseless long))
 
-  long_all : (d : Deed) → limit_in d < length bytes → IsDone d m bytes None (said (long_answer m d))
-  long_all (deeds.Certify share) long = (uncertifying certs.TooLong, long_certify long, refl)
-  long_all deeds.Upgrade long = (uncertifying certs.TooLong, long_upgrade long, refl)
-  long_all deeds.Check long = (refusal ends.CertRefused (untraced traces.TooLong), long_check long, refl)
-  long_all (deeds.Compare sides) long = inl (long_stop, long_baseless long, (stop_answer m long_stop, refl, refl))
+  long_all : (d : TwoFileTask) → limit_in d < length bytes → IsDone d m bytes None (said (long_answer m d))
+  long_all (deeds.Certify share) long = (certificate_rejection certs.TooLong, long_certify long, refl)
+  long_all deeds.Upgrade long = (certificate_rejection certs.TooLong, long_upgrade long, refl)
+  long_all deeds.Check long = (refusal ends.CertRefused (trace_refused traces.TooLong), long_check long, refl)
+  long_all (deeds.Compare sides) long = inl (long_stop, long_baseless long, (comparison_stop_answer m long_stop, refl, refl))
 
-long_outcome : (m : Machine) (d : Deed) (old : Option (List ℕ)) (before : ℕ) → IsOutcome (long_answer m d) (long_in d) old old before before × (long_in d ≢ outcome.ReadFault)
-long_outcome m (deeds.Certify share) old before = (refused_now ends.CertRefused (uncertified certs.TooLong) (outcome.Uncertified certs.TooLong) old before refl refl, λ e. cc e)
-long_outcome m deeds.Upgrade old before = (refused_now ends.CertRefused (uncertified certs.TooLong) (outcome.Uncertified certs.TooLong) old before refl refl, λ e. cc e)
-long_outcome m deeds.Check old before = (refused_now ends.CertRefused (untraced traces.TooLong) (outcome.Untraced traces.TooLong) old before refl refl, λ e. cc e)
+long_outcome : (m : Machine) (d : TwoFileTask) (old : Option (List ℕ)) (before : ℕ) → IsOutcome (long_answer m d) (long_in d) old old before before × (long_in d ≢ outcome.ReadFault)
+long_outcome m (deeds.Certify share) old before = (refused_now ends.CertRefused (certificate_refused certs.TooLong) (outcome.CertificateRefused certs.TooLong) old before refl refl, λ e. cc e)
+long_outcome m deeds.Upgrade old before = (refused_now ends.CertRefused (certificate_refused certs.TooLong) (outcome.CertificateRefused certs.TooLong) old before refl refl, λ e. cc e)
+long_outcome m deeds.Check old before = (refused_now ends.CertRefused (trace_refused traces.TooLong) (outcome.TraceRefused traces.TooLong) old before refl refl, λ e. cc e)
 long_outcome m (deeds.Compare sides) old before =
-    (refused_now ends.CertRefused (incomparable (comparisons.Certificate certs.TooLong)) (outcome.Incomparable (comparisons.Certificate certs.TooLong)) old before refl refl, λ e. cc e)
+    (refused_now ends.CertRefused (comparison_refused (comparisons.Certificate certs.TooLong)) (outcome.ComparisonRefused (comparisons.Certificate certs.TooLong)) old before refl refl, λ e. cc e)
 
 -- the text in a file of this name
-module _ (deed : Deed) (m : Machine) (certificate : List ℕ) (files : Option Files) where
-  abbrev Leads : List ℕ → Option Files → Told → Type 0
+module _ (deed : TwoFileTask) (m : Machine) (certificate : List ℕ) (files : Option Files) where
+  abbrev Leads : List ℕ → Option Files → ExpectedResult → Type 0
   Leads text fs = IsDone deed m text fs
 
   abbrev TextFile : (what : Outcome) (old new : Option (List ℕ)) (out_before out_now : ℕ) (before now : List ℕ → ℕ) → Type 0
-  TextFile = Serves files (certificate ∷ files_behind deed) (λ fs. Reads fs certificate (λ text. Leads text fs))
+  TextFile = ImplementsExpected files (certificate ∷ files_behind deed) (λ fs. ReadsFile fs certificate (λ text. Leads text fs))
 
   pub text_served : (bytes : List ℕ) (what : Outcome) (old new : Option (List ℕ)) (out_before out_now : ℕ) (before mid now : List ℕ → ℕ)
       → OnlyCounts certificate before mid → mid certificate ≡ before certificate → IfSome files (λ fs. file_of fs certificate ≡ Some bytes)
-      → Serves files (files_behind deed) (Leads bytes) what old new out_before out_now mid now → TextFile what old new out_before out_now before now
-  text_served bytes what old new out_before out_now before mid now counts calm told h =
-      read_served certificate (files_behind deed) Leads files bytes what old new out_before out_now before mid now counts calm told h
+      → ImplementsExpected files (files_behind deed) (Leads bytes) what old new out_before out_now mid now → TextFile what old new out_before out_now before now
+  text_served bytes what old new out_before out_now before mid now counts calm expected h =
+      read_served certificate (files_behind deed) Leads files bytes what old new out_before out_now before mid now counts calm expected h
 
   pub long_text_served : (old : Option (List ℕ)) (out_before : ℕ) (before now : List ℕ → ℕ) → IsInScope m → OnlyCounts certificate before now → now certificate ≡ before certificate
       → IfSome files (λ fs. IsSomeAnd (file_of fs certificate) (λ bytes. limit_in deed < length bytes)) → TextFile (long_in deed) old old out_before out_before before now
-  long_text_served old out_before before now scope counts calm told =
+  long_text_served old out_before before now scope counts calm expected =
       let long = bytes_of (limit_in deed + 1) in
       let is = long_outcome m deed old out_before in
-      long_served certificate (files_behind deed) Leads files (limit_in deed) (long_answer m deed) (long_in deed) old out_before before now counts calm told
+      long_served certificate (files_behind deed) Leads files (limit_in deed) (long_answer m deed) (long_in deed) old out_before before now counts calm expected
       (λ bytes h fs t leads. long_leads m bytes scope deed h fs t leads) (λ bytes h. long_all m bytes scope deed h) (long.0, longer (limit_in deed) long.0 long.1) is.0 is.1
 
   pub text_fault_served : (old : Option (List ℕ)) (out_before : ℕ) (before now : List ℕ → ℕ) → IsInScope m → OnlyCounts certificate before now → Rose (before certificate) (now certificate)
@@ -453,26 +453,26 @@ module _ (deed : Deed) (m : Machine) (certificate : List ℕ) (files : Option Fi
   text_memory_served old out_before before now scope counts = memory_served certificate (files_behind deed) Leads files old out_before before now counts (done_reply deed m scope)
 
 -- each source may be answered, where files are not told
-few_in : (deed : Deed) → share_in deed ≤ 2048
+few_in : (deed : TwoFileTask) → share_in deed ≤ 2048
 few_in (deeds.Certify share) = share.within
 few_in deeds.Upgrade = omega arith
 few_in deeds.Check = omega arith
 few_in (deeds.Compare sides) = omega arith
 
-pub source_reply : (deed : Deed) (certificate bytes : List ℕ) → MayReply (ByMachine (share_in deed) bytes (λ m. ReadsText certificate (IsDone deed) m None))
+pub source_reply : (deed : TwoFileTask) (certificate bytes : List ℕ) → MayReply (ContinuesFromMachine (share_in deed) bytes (λ m. ContinuesFromText certificate (IsDone deed) m None))
 source_reply deed certificate bytes = certificate_reply (share_in deed) (few_in deed) bytes certificate (IsDone deed) (done_reply deed)
 
 -- the model and the text in files of these names
-module _ (deed : Deed) (model certificate : List ℕ) (files : Option Files) where
-  abbrev Behind : List ℕ → Option Files → Told → Type 0
-  Behind bytes fs = ByMachine (share_in deed) bytes (λ m. ReadsText certificate (IsDone deed) m fs)
+module _ (deed : TwoFileTask) (model certificate : List ℕ) (files : Option Files) where
+  abbrev Behind : List ℕ → Option Files → ExpectedResult → Type 0
+  Behind bytes fs = ContinuesFromMachine (share_in deed) bytes (λ m. ContinuesFromText certificate (IsDone deed) m fs)
 
   abbrev Both : (what : Outcome) (old new : Option (List ℕ)) (out_before out_now : ℕ) (before now : List ℕ → ℕ) → Type 0
-  Both = Serves files (files_of (command_on deed model certificate)) (CommandLeadsTo (command_on deed model certificate))
+  Both = ImplementsExpected files (files_of (command_on deed model certificate)) (CommandExpects (command_on deed model certificate))
 
-  both_served : (d : Deed) (what : Outcome) (old new : Option (List ℕ)) (out_before out_now : ℕ) (before now : List ℕ → ℕ)
-      → Serves files (model ∷ certificate ∷ files_behind d) (λ fs. Reads fs model (λ bytes. ByMachine (share_in d) bytes (λ m. ReadsText certificate (IsDone d) m fs))) what old new out_before out_now before now
-      → Serves files (files_of (command_on d model certificate)) (CommandLeadsTo (command_on d model certificate)) what old new out_before out_now before now
+  both_served : (d : TwoFileTask) (what : Outcome) (old new : Option (List ℕ)) (out_before out_now : ℕ) (before now : List ℕ → ℕ)
+      → ImplementsExpected files (model ∷ certificate ∷ files_behind d) (λ fs. ReadsFile fs model (λ bytes. ContinuesFromMachine (share_in d) bytes (λ m. ContinuesFromText certificate (IsDone d) m fs))) what old new out_before out_now before now
+      → ImplementsExpected files (files_of (command_on d model certificate)) (CommandExpects (command_on d model certificate)) what old new out_before out_now before now
   both_served (deeds.Certify share) what old new out_before out_now before now h = h
   both_served deeds.Upgrade what old new out_before out_now before now h = h
   both_served deeds.Check what old new out_before out_now before now h = h
@@ -480,24 +480,24 @@ module _ (deed : Deed) (model certificate : List ℕ) (files : Option Files) whe
 
   pub models_served : (bytes : List ℕ) (what : Outcome) (old new : Option (List ℕ)) (out_before out_now : ℕ) (before mid now : List ℕ → ℕ)
       → OnlyCounts model before mid → mid model ≡ before model → IfSome files (λ fs. file_of fs model ≡ Some bytes)
-      → Serves files (certificate ∷ files_behind deed) (Behind bytes) what old new out_before out_now mid now → Both what old new out_before out_now before now
-  models_served bytes what old new out_before out_now before mid now counts calm told h =
-      both_served deed what old new out_before out_now before now (read_served model (certificate ∷ files_behind deed) Behind files bytes what old new out_before out_now before mid now counts calm told h)
+      → ImplementsExpected files (certificate ∷ files_behind deed) (Behind bytes) what old new out_before out_now mid now → Both what old new out_before out_now before now
+  models_served bytes what old new out_before out_now before mid now counts calm expected h =
+      both_served deed what old new out_before out_now before now (read_served model (certificate ∷ files_behind deed) Behind files bytes what old new out_before out_now before mid now counts calm expected h)
 
-  long_model_leads : (bytes : List ℕ) → 2 ^ 20 < length bytes → (fs : Option Files) (t : Told) → Behind bytes fs t → t ≡ record { arrivals = []; reply = answered (refusal ends.ModelRefused too_long) }
+  long_model_leads : (bytes : List ℕ) → 2 ^ 20 < length bytes → (fs : Option Files) (t : ExpectedResult) → Behind bytes fs t → t ≡ record { files_read = []; reply = answered (refusal ends.ModelRefused too_long) }
   long_model_leads bytes h fs t (inl says) =
-      says.2 ∙ ap (λ (b : Answer). record { arrivals = []; reply = answered b }) (one_source_refusal bytes says.0 (refusal ends.ModelRefused too_long) says.1 (long_refusal bytes h))
+      says.2 ∙ ap (λ (b : Answer). record { files_read = []; reply = answered b }) (one_source_refusal bytes says.0 (refusal ends.ModelRefused too_long) says.1 (long_refusal bytes h))
   long_model_leads bytes h fs t (inr found) = absurd (source_fine (share_in deed) bytes (refusal ends.ModelRefused too_long) found.0 (long_refusal bytes h) found.1)
 
-  long_model_all : (bytes : List ℕ) → 2 ^ 20 < length bytes → Behind bytes None (record { arrivals = []; reply = answered (refusal ends.ModelRefused too_long) })
+  long_model_all : (bytes : List ℕ) → 2 ^ 20 < length bytes → Behind bytes None (record { files_read = []; reply = answered (refusal ends.ModelRefused too_long) })
   long_model_all bytes h = inl (refusal ends.ModelRefused too_long, long_refusal bytes h, refl)
 
   pub long_models_served : (old : Option (List ℕ)) (out_before : ℕ) (before now : List ℕ → ℕ) → OnlyCounts model before now → now model ≡ before model
       → IfSome files (λ fs. IsSomeAnd (file_of fs model) (λ bytes. 2 ^ 20 < length bytes)) → Both outcome.TooLong old old out_before out_before before now
-  long_models_served old out_before before now counts calm told =
+  long_models_served old out_before before now counts calm expected =
       let long = bytes_of (2 ^ 20 + 1) in
       both_served deed outcome.TooLong old old out_before out_before before now
-      (long_served model (certificate ∷ files_behind deed) Behind files (2 ^ 20) (refusal ends.ModelRefused too_long) outcome.TooLong old out_before before now counts calm told long_model_leads long_model_all
+      (long_served model (certificate ∷ files_behind deed) Behind files (2 ^ 20) (refusal ends.ModelRefused too_long) outcome.TooLong old out_before before now counts calm expected long_model_leads long_model_all
       (long.0, longer (2 ^ 20) long.0 long.1) (refused_now ends.ModelRefused too_long outcome.TooLong old out_before refl refl) (λ e. cc e))
 
   pub models_fault_served : (old : Option (List ℕ)) (out_before : ℕ) (before now : List ℕ → ℕ) → OnlyCounts model before now → Rose (before model) (now model) → Both outcome.ReadFault old old out_before out_before before now

@@ -1,13 +1,13 @@
 -- What it means for the runs of a model that the program accepts a certificate.
 use Rattle.std.specs.Prelude.{◌≡◌, ℕ, List, Option, Some}
 use Rattle.mu_io.specs.Files.{Files}
-use Rattle.cert_check.specs.Promises.{IsPromised, AdmitsRuns}
+use Rattle.cert_check.specs.Bounds.{BoundsAreGuaranteed, CoversOwnRuns}
 use Rattle.cert_check.specs.declared.certificate.Certificate.{Certificate}
-use Rattle.cert_lines.specs.Bounds.{bounds_text}
-use Rattle.cert_text.specs.Texts.{IsTextOf}
+use Rattle.qss_answers.specs.BoundTexts.{bounds_text}
+use Rattle.cert_check.specs.CertificateTexts.{IsTextOf}
 use Rattle.qss_machine.specs.declared.system.Machine.{Machine}
-use Rattle.qss_top.specs.Answers.{Answer, Told, answered, Finds, IsSourceMachine, CommandLeadsTo}
-use Rattle.qss_words.specs.Commands.{certify_model}
+use Rattle.qss_top.specs.ExpectedResults.{Answer, ExpectedResult, answered, IsFileContent, IsSourceMachine, CommandExpects}
+use Rattle.qss_cli.specs.Commands.{certify_model}
 use Rattle.qss_top.specs.declared.status.Status.TheVariants as ends
 
 -- for these bytes of a model and of a certificate, the machine that is meant and the certificate that is spelled: what is written are the
@@ -19,20 +19,20 @@ pub record AreCertifiedBy (share : ℕ) (source text out : List ℕ) : Type 0 wh
   pub spelled : Certificate
   pub is : IsTextOf machine text spelled
   pub bounds : out ≡ bounds_text machine spelled
-  pub promised : IsPromised machine spelled
-  pub admitted : AdmitsRuns machine spelled
+  pub promised : BoundsAreGuaranteed machine spelled
+  pub admitted : CoversOwnRuns machine spelled
 
 -- that, for the bytes of both files
 pub record AreCertified (model certificate : List ℕ) (share : ℕ) (files : Option Files) (out : List ℕ) : Type 0 where
   pub source : List ℕ
-  pub found : Finds files model (Some source)
+  pub found : IsFileContent files model (Some source)
   pub text : List ℕ
-  pub read : Finds files certificate (Some text)
+  pub read : IsFileContent files certificate (Some text)
   pub certified : AreCertifiedBy share source text out
 
 -- where the answer to a certificate and a model is that all went well, the runs of the model are certified
-abbrev pub CertifiedRunsStayNear : Type 0
-CertifiedRunsStayNear =
-    (model certificate : List ℕ) (share : ℕ) (files : Option Files) (told : Told) (answer : Answer) →
-    CommandLeadsTo (certify_model model certificate share) files told → told.reply ≡ answered answer → answer.status ≡ ends.Ok →
+abbrev pub CertifiedRunsStayWithinBounds : Type 0
+CertifiedRunsStayWithinBounds =
+    (model certificate : List ℕ) (share : ℕ) (files : Option Files) (expected : ExpectedResult) (answer : Answer) →
+    CommandExpects (certify_model model certificate share) files expected → expected.reply ≡ answered answer → answer.status ≡ ends.Ok →
     AreCertified model certificate share files answer.out

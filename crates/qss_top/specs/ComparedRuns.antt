@@ -4,30 +4,30 @@ use Rattle.mu_io.specs.Files.{Files}
 use Rattle.cert_check.specs.declared.certificate.Certificate.{Certificate}
 use Rattle.qss_machine.specs.declared.system.Machine.{Machine}
 use Rattle.qss_trace.specs.declared.trace.Trace.{Trace}
-use Rattle.trace_answer.specs.Comparisons.{IsBasis}
-use Rattle.trace_answer.specs.Laws.{AreNear}
-use Rattle.qss_words.specs.Commands.{Side, compare_runs}
-use Rattle.qss_top.specs.Answers.{Answer, Told, answered, Finds, IsSourceMachine, CommandLeadsTo}
+use Rattle.qss_answers.specs.Comparisons.{IsUsableCertificate}
+use Rattle.qss_answers.specs.TraceLaws.{AreWithinBound}
+use Rattle.qss_cli.specs.Commands.{Side, compare_runs}
+use Rattle.qss_top.specs.ExpectedResults.{Answer, ExpectedResult, answered, IsFileContent, IsSourceMachine, CommandExpects}
 use Rattle.qss_top.specs.declared.status.Status.TheVariants as ends
 
 -- for the bytes of both files, the machine that the model means and the certificate that is spelled, which is accepted and has the machine's start: the text
 -- is that of two legitimate runs side by side, and the greatest form of their difference, which it tells, is at most the certificate's bound
 pub record AreCompared (model certificate : List ℕ) (files : Option Files) (out : List ℕ) : Type 0 where
   pub source : List ℕ
-  pub found : Finds files model (Some source)
+  pub found : IsFileContent files model (Some source)
   pub text : List ℕ
-  pub read : Finds files certificate (Some text)
+  pub read : IsFileContent files certificate (Some text)
   pub machine : Machine
   pub means : IsSourceMachine 0 source machine
   pub basis : Certificate
-  pub accepted : IsBasis machine text basis
+  pub accepted : IsUsableCertificate machine text basis
   pub first : Trace
   pub second : Trace
-  pub near : AreNear machine basis first second out
+  pub near : AreWithinBound machine basis first second out
 
 -- where the answer to a comparison of two runs is that all went well, they are near each other
-abbrev pub ComparedRunsStayNear : Type 0
-ComparedRunsStayNear =
-    (model certificate : List ℕ) (one two : Side) (files : Option Files) (told : Told) (answer : Answer) →
-    CommandLeadsTo (compare_runs model certificate one two) files told → told.reply ≡ answered answer → answer.status ≡ ends.Ok →
+abbrev pub ComparedRunsStayWithinBound : Type 0
+ComparedRunsStayWithinBound =
+    (model certificate : List ℕ) (one two : Side) (files : Option Files) (expected : ExpectedResult) (answer : Answer) →
+    CommandExpects (compare_runs model certificate one two) files expected → expected.reply ≡ answered answer → answer.status ≡ ends.Ok →
     AreCompared model certificate files answer.out

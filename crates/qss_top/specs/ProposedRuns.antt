@@ -2,24 +2,24 @@
 use Rattle.std.specs.Prelude.{◌≡◌, ℕ, List, Option, Some}
 use Rattle.mu_io.specs.Files.{Files}
 use Rattle.cert_check.specs.declared.certificate.Certificate.{Certificate}
-use Rattle.propose_answer.specs.Laws.{IsKeptText}
+use Rattle.qss_answers.specs.ProposalLaws.{IsSoundProposal}
 use Rattle.qss_machine.specs.declared.system.Machine.{Machine}
-use Rattle.qss_top.specs.Answers.{Answer, Told, answered, Finds, IsSourceMachine, CommandLeadsTo}
-use Rattle.qss_words.specs.Commands.{propose_model}
+use Rattle.qss_top.specs.ExpectedResults.{Answer, ExpectedResult, answered, IsFileContent, IsSourceMachine, CommandExpects}
+use Rattle.qss_cli.specs.Commands.{propose_model}
 use Rattle.qss_top.specs.declared.status.Status.TheVariants as ends
 
 -- for the bytes of the file and the machine that they mean: the text is that of a certificate, which it reads as; any two legitimate runs from the
 -- machine's start lie within its bounds, and the machine's own runs are among these
 pub record AreProposed (model : List ℕ) (files : Option Files) (out : List ℕ) : Type 0 where
   pub source : List ℕ
-  pub found : Finds files model (Some source)
+  pub found : IsFileContent files model (Some source)
   pub machine : Machine
   pub means : IsSourceMachine 0 source machine
   pub proposal : Certificate
-  pub kept : IsKeptText machine out proposal
+  pub kept : IsSoundProposal machine out proposal
 
 -- where the answer to a model for which a certificate is proposed is that all went well, its runs stay within the bounds of the certificate that is printed
 abbrev pub ProposedRunsStayNear : Type 0
 ProposedRunsStayNear =
-    (model : List ℕ) (files : Option Files) (told : Told) (answer : Answer) →
-    CommandLeadsTo (propose_model model) files told → told.reply ≡ answered answer → answer.status ≡ ends.Ok → AreProposed model files answer.out
+    (model : List ℕ) (files : Option Files) (expected : ExpectedResult) (answer : Answer) →
+    CommandExpects (propose_model model) files expected → expected.reply ≡ answered answer → answer.status ≡ ends.Ok → AreProposed model files answer.out

@@ -1,36 +1,36 @@
 -- What is done with a model, and what is answered.
 use Rattle.std.specs.Prelude.{◌≡◌, Bool, true, false, ℕ, List}
 use Rattle.qss_machine.specs.declared.system.Machine.{Machine}
-use Rattle.qss_words.specs.Commands.{plain_options}
-use Rattle.qss_words.specs.Requests.{options_in}
-use Rattle.qss_words.specs.declared.request.Task.{Task}
-use Rattle.qss_words.specs.declared.request.Task.TheVariants as task
-use Rattle.qss_top.specs.Answers.{Answer, printed, summed, IsMachineAnswer, IsRunAnswer, IsPrintAnswer, IsProposeAnswer, IsSecondAnswer}
-use Rattle.trace_answer.specs.Comparisons.{Given, first_order, second_order, traced}
-use Rattle.qss_top.specs.declared.given.Given.{Given as GivenRun}
-use Rattle.qss_top.specs.declared.given.Given.TheVariants as given
-use Rattle.qss_top.specs.declared.machine.Job.{Job}
-use Rattle.qss_top.specs.declared.machine.Job.TheVariants as jobs
+use Rattle.qss_cli.specs.Commands.{plain_options}
+use Rattle.qss_cli.specs.Requests.{options_in}
+use Rattle.qss_cli.specs.declared.request.Task.{Task}
+use Rattle.qss_cli.specs.declared.request.Task.TheVariants as task
+use Rattle.qss_top.specs.ExpectedResults.{Answer, printed_run_answer, summary_answer, IsMachineAnswer, IsRunAnswer, IsPrintAnswer, IsProposeAnswer, IsSecondAnswer}
+use Rattle.qss_answers.specs.Comparisons.{RunSource, first_order, second_order, traced}
+use Rattle.qss_top.specs.declared.given.RunSource.{RunSource as GivenRun}
+use Rattle.qss_top.specs.declared.given.RunSource.TheVariants as given
+use Rattle.qss_top.specs.declared.machine.MachineTask.{MachineTask}
+use Rattle.qss_top.specs.declared.machine.MachineTask.TheVariants as jobs
 
 -- whether what is done with a machine writes as it goes
-abbrev pub job_goes : Job → Bool
+abbrev pub job_goes : MachineTask → Bool
 job_goes (jobs.Run options) = true
 job_goes jobs.Second = true
 job_goes jobs.Coupled = true
 job_goes _ = false
 
 -- the share of the levels that quanta then have
-abbrev pub job_share : Job → ℕ
+abbrev pub job_share : MachineTask → ℕ
 job_share (jobs.Run options) = options.share
 job_share _ = 0
 
 -- the answer to a machine
-abbrev pub IsJobAnswer : Job → Machine → Answer → Type 0
-IsJobAnswer (jobs.Run options) m answer = answer ≡ printed (options_in options) m
-IsJobAnswer (jobs.Sum cells) m answer = answer ≡ summed cells m
+abbrev pub IsJobAnswer : MachineTask → Machine → Answer → Type 0
+IsJobAnswer (jobs.Run options) m answer = answer ≡ printed_run_answer (options_in options) m
+IsJobAnswer (jobs.Sum cells) m answer = answer ≡ summary_answer cells m
 IsJobAnswer jobs.Propose m answer = IsProposeAnswer m answer
 IsJobAnswer jobs.Second m answer = IsSecondAnswer m answer
-IsJobAnswer jobs.Coupled m answer = answer ≡ printed plain_options m
+IsJobAnswer jobs.Coupled m answer = answer ≡ printed_run_answer plain_options m
 
 -- whether what is done with a model writes as it goes
 abbrev pub task_goes : Task → Bool
@@ -48,7 +48,7 @@ IsTaskAnswer task.Second bytes answer = IsMachineAnswer 0 IsSecondAnswer bytes a
 IsTaskAnswer task.Coupled bytes answer = IsRunAnswer plain_options bytes answer
 
 -- a run that is compared
-abbrev pub given_in : GivenRun → Given
+abbrev pub given_in : GivenRun → RunSource
 given_in given.First = first_order
 given_in given.Second = second_order
 given_in (given.Traced bytes) = traced bytes.now

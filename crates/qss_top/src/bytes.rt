@@ -4,26 +4,27 @@ ghost use Rattle.std.specs.Io.KnownBytes.{Appends};
 ghost use Rattle.mu_io.specs.Sinks.{EndsByFault};
 ghost use Rattle.qss_machine.specs.Machines.{state_count};
 ghost use Rattle.qss_machine.specs.declared.system.Machine.{Machine};
-ghost use Rattle.qss_trace.specs.Texts.{IsTextOf};
+ghost use Rattle.qss_trace.specs.TraceTexts.{IsTextOf};
 ghost use Rattle.qss_trace.specs.Trace.{IsRunOf};
 ghost use Rattle.qss_trace.specs.declared.trace.Trace.{Trace};
-ghost use Rattle.qss_top.specs.Answers.{Answer, IsCertifyAnswer, IsCheckAnswer, IsCompareAnswer, IsMachineAnswer, IsSourceMachine, IsUpgradeAnswer};
-ghost use Rattle.qss_top.specs.Certificates.{outcome_by, outcome_traced};
+ghost use Rattle.qss_top.specs.ExpectedResults.{Answer, IsCertifyAnswer, IsCheckAnswer, IsCompareAnswer, IsMachineAnswer, IsSourceMachine, IsUpgradeAnswer};
+ghost use Rattle.qss_top.specs.CertificateOutcomes.{outcome_by, outcome_traced};
 ghost use Rattle.qss_top.specs.CertifiedRuns.{AreCertifiedBy};
-ghost use Rattle.qss_top.specs.Outcomes.{IsOutcome, status_of};
+ghost use Rattle.qss_top.specs.CommandOutcomes.{IsOutcome, status_of};
 ghost use Rattle.qss_top.specs.Statuses.{leaves_out};
 ghost use Rattle.qss_top.specs.Tasks.{given_in, task_goes, IsTaskAnswer};
 
 use crate::command::{MODEL_LIMIT, on_source};
-use crate::given::{GivenRuns, compare_machine};
+use crate::given::{RunSources, compare_machine};
 use crate::outcome::Outcome;
 use crate::source::machine_of;
-use cert_answer::{Ending, certify, upgrade};
 use mu_io::Sink;
+use qss_answers::{
+    CertificateResult, TraceResult as TraceEnding, certify, check_trace_text, upgrade,
+};
+use qss_cli::{Share, Task};
 use qss_machine::Machine;
-use qss_words::{Share, Task};
 use std::alloc::Global;
-use trace_answer::{Ending as TraceEnding, check_trace_text};
 
 /// Does this with a source. What becomes of it, and what is written, is the answer to these bytes.
 pub fn answer_source<O: Sink>(alloc: Global, task: Task, source: &[u8], out: &mut O) -> Outcome
@@ -34,8 +35,8 @@ pub fn answer_source<O: Sink>(alloc: Global, task: Task, source: &[u8], out: &mu
     ensures not_read { result ≢ Outcome.ReadFault }
     ensures untouched { leaves_out (task_goes task.entry) (status_of result) ≡ true
         → out.new ≡ out.old }
-    ensures calm { result ≢ Outcome.WriteFault → O.faults out.new ≡ O.faults out.old }
-    ensures last { result ≡ Outcome.WriteFault → EndsByFault O.faults O.failed out.old out.new }
+    ensures no_new_fault { result ≢ Outcome.WriteFault → O.faults out.new ≡ O.faults out.old }
+    ensures fault_was_last { result ≡ Outcome.WriteFault → EndsByFault O.faults O.failed out.old out.new }
 {
     if source.len() > MODEL_LIMIT {
         return Outcome::TooLong;
@@ -66,8 +67,8 @@ pub fn answer_certificate<O: Sink>(
     ensures not_usage { result ≢ Outcome.Usage }
     ensures not_read { result ≢ Outcome.ReadFault }
     ensures untouched { leaves_out false (status_of result) ≡ true → out.new ≡ out.old }
-    ensures calm { result ≢ Outcome.WriteFault → O.faults out.new ≡ O.faults out.old }
-    ensures last { result ≡ Outcome.WriteFault → EndsByFault O.faults O.failed out.old out.new }
+    ensures no_new_fault { result ≢ Outcome.WriteFault → O.faults out.new ≡ O.faults out.old }
+    ensures fault_was_last { result ≡ Outcome.WriteFault → EndsByFault O.faults O.failed out.old out.new }
 {
     if source.len() > MODEL_LIMIT {
         return Outcome::TooLong;
@@ -88,8 +89,8 @@ pub fn answer_upgrade<O: Sink>(alloc: Global, source: &[u8], text: &[u8], out: &
     ensures not_usage { result ≢ Outcome.Usage }
     ensures not_read { result ≢ Outcome.ReadFault }
     ensures untouched { leaves_out false (status_of result) ≡ true → out.new ≡ out.old }
-    ensures calm { result ≢ Outcome.WriteFault → O.faults out.new ≡ O.faults out.old }
-    ensures last { result ≡ Outcome.WriteFault → EndsByFault O.faults O.failed out.old out.new }
+    ensures no_new_fault { result ≢ Outcome.WriteFault → O.faults out.new ≡ O.faults out.old }
+    ensures fault_was_last { result ≡ Outcome.WriteFault → EndsByFault O.faults O.failed out.old out.new }
 {
     if source.len() > MODEL_LIMIT {
         return Outcome::TooLong;
@@ -116,8 +117,8 @@ pub fn answer_trace<O: Sink>(alloc: Global, source: &[u8], text: &[u8], out: &mu
     ensures not_usage { result ≢ Outcome.Usage }
     ensures not_read { result ≢ Outcome.ReadFault }
     ensures untouched { leaves_out false (status_of result) ≡ true → out.new ≡ out.old }
-    ensures calm { result ≢ Outcome.WriteFault → O.faults out.new ≡ O.faults out.old }
-    ensures last { result ≡ Outcome.WriteFault → EndsByFault O.faults O.failed out.old out.new }
+    ensures no_new_fault { result ≢ Outcome.WriteFault → O.faults out.new ≡ O.faults out.old }
+    ensures fault_was_last { result ≡ Outcome.WriteFault → EndsByFault O.faults O.failed out.old out.new }
 {
     if source.len() > MODEL_LIMIT {
         return Outcome::TooLong;
@@ -134,7 +135,7 @@ pub fn answer_comparison<O: Sink>(
     alloc: Global,
     source: &[u8],
     text: &[u8],
-    runs: GivenRuns,
+    runs: RunSources,
     out: &mut O,
 ) -> Outcome
     ensures outcome { (answer : Answer)
@@ -146,8 +147,8 @@ pub fn answer_comparison<O: Sink>(
     ensures not_usage { result ≢ Outcome.Usage }
     ensures not_read { result ≢ Outcome.ReadFault }
     ensures untouched { leaves_out false (status_of result) ≡ true → out.new ≡ out.old }
-    ensures calm { result ≢ Outcome.WriteFault → O.faults out.new ≡ O.faults out.old }
-    ensures last { result ≡ Outcome.WriteFault → EndsByFault O.faults O.failed out.old out.new }
+    ensures no_new_fault { result ≢ Outcome.WriteFault → O.faults out.new ≡ O.faults out.old }
+    ensures fault_was_last { result ≡ Outcome.WriteFault → EndsByFault O.faults O.failed out.old out.new }
 {
     if source.len() > MODEL_LIMIT {
         return Outcome::TooLong;
@@ -171,8 +172,8 @@ pub(crate) fn certify_machine<O: Sink>(
     ensures not_usage { result ≢ Outcome.Usage }
     ensures not_read { result ≢ Outcome.ReadFault }
     ensures untouched { leaves_out false (status_of result) ≡ true → out.new ≡ out.old }
-    ensures calm { result ≢ Outcome.WriteFault → O.faults out.new ≡ O.faults out.old }
-    ensures last { result ≡ Outcome.WriteFault → EndsByFault O.faults O.failed out.old out.new }
+    ensures no_new_fault { result ≢ Outcome.WriteFault → O.faults out.new ≡ O.faults out.old }
+    ensures fault_was_last { result ≡ Outcome.WriteFault → EndsByFault O.faults O.failed out.old out.new }
 {
     outcome_of(certify(alloc, m, text, out))
 }
@@ -190,8 +191,8 @@ pub(crate) fn upgrade_machine<O: Sink>(
     ensures not_usage { result ≢ Outcome.Usage }
     ensures not_read { result ≢ Outcome.ReadFault }
     ensures untouched { leaves_out false (status_of result) ≡ true → out.new ≡ out.old }
-    ensures calm { result ≢ Outcome.WriteFault → O.faults out.new ≡ O.faults out.old }
-    ensures last { result ≡ Outcome.WriteFault → EndsByFault O.faults O.failed out.old out.new }
+    ensures no_new_fault { result ≢ Outcome.WriteFault → O.faults out.new ≡ O.faults out.old }
+    ensures fault_was_last { result ≡ Outcome.WriteFault → EndsByFault O.faults O.failed out.old out.new }
 {
     outcome_of(upgrade(alloc, m, text, out))
 }
@@ -211,21 +212,21 @@ pub(crate) fn check_machine<O: Sink>(
     ensures not_usage { result ≢ Outcome.Usage }
     ensures not_read { result ≢ Outcome.ReadFault }
     ensures untouched { leaves_out false (status_of result) ≡ true → out.new ≡ out.old }
-    ensures calm { result ≢ Outcome.WriteFault → O.faults out.new ≡ O.faults out.old }
-    ensures last { result ≡ Outcome.WriteFault → EndsByFault O.faults O.failed out.old out.new }
+    ensures no_new_fault { result ≢ Outcome.WriteFault → O.faults out.new ≡ O.faults out.old }
+    ensures fault_was_last { result ≡ Outcome.WriteFault → EndsByFault O.faults O.failed out.old out.new }
 {
     traced_outcome(check_trace_text(alloc, m, text, out))
 }
 
 // What became of a command whose answer to a certificate ended so.
-fn outcome_of(ending: Ending) -> Outcome
+fn outcome_of(ending: CertificateResult) -> Outcome
     ensures { result ≡ outcome_by ending }
 {
     match ending {
-        Ending::Written => Outcome::Done,
-        Ending::Refused(why) => Outcome::Uncertified(why),
-        Ending::Fault => Outcome::WriteFault,
-        Ending::Memory => Outcome::Memory,
+        CertificateResult::Written => Outcome::Done,
+        CertificateResult::Refused(why) => Outcome::CertificateRefused(why),
+        CertificateResult::Fault => Outcome::WriteFault,
+        CertificateResult::Memory => Outcome::Memory,
     }
 }
 
@@ -235,7 +236,7 @@ fn traced_outcome(ending: TraceEnding) -> Outcome
 {
     match ending {
         TraceEnding::Written => Outcome::Done,
-        TraceEnding::Refused(why) => Outcome::Untraced(why),
+        TraceEnding::Refused(why) => Outcome::TraceRefused(why),
         TraceEnding::Fault => Outcome::WriteFault,
         TraceEnding::Memory => Outcome::Memory,
     }

@@ -2,25 +2,24 @@
 ghost use Rattle.std.specs.Prelude.{length, ◌≡◌, ◌≢◌, ◌≤◌, ◌^◌, [], ◌∷◌, true, false, ℕ, List};
 ghost use Rattle.mu_io.specs.Sinks.{EndsByFault};
 ghost use Rattle.cert_check.specs.Scope.{IsInScope};
-ghost use Rattle.qss_top.specs.Answers.{ByMachine, ReadsText, Reads, CommandLeadsTo};
-ghost use Rattle.qss_top.specs.Certificates.{IsDone, files_behind, limit_in, long_in, share_in};
-ghost use Rattle.qss_words.specs.Commands.{files_of};
-ghost use Rattle.qss_top.specs.Outcomes.{Serves, status_of};
+ghost use Rattle.qss_top.specs.ExpectedResults.{ContinuesFromMachine, ContinuesFromText, ReadsFile, CommandExpects};
+ghost use Rattle.qss_top.specs.CertificateOutcomes.{IsDone, files_behind, limit_in, long_in, share_in};
+ghost use Rattle.qss_cli.specs.Commands.{files_of};
+ghost use Rattle.qss_top.specs.CommandOutcomes.{ImplementsExpected, status_of};
 ghost use Rattle.qss_top.specs.Statuses.{leaves_out};
-ghost use Rattle.qss_words.specs.Requests.{command_on};
+ghost use Rattle.qss_cli.specs.Requests.{command_on};
 
 use crate::bytes::{certify_machine, check_machine, upgrade_machine};
 use crate::command::MODEL_LIMIT;
 use crate::comparison::compare_runs;
 use crate::outcome::Outcome;
 use crate::source::machine_of;
-use cert_answer::CertificateRefusal;
 use cert_check::scope;
 use mu_io::{ReadErr, Shelf, Sink, read_all};
+use qss_answers::{CertificateRefusal, ComparisonRefusal, TraceRefusal};
+use qss_cli::{Share, TwoFileTask};
 use qss_machine::Machine;
-use qss_words::{Deed, Share};
 use std::alloc::Global;
-use trace_answer::{ComparisonRefusal, TraceRefusal};
 
 // The longest certificate that is read, in bytes.
 const CERTIFICATE_LIMIT: usize = 1 << 18;
@@ -29,26 +28,26 @@ const CERTIFICATE_LIMIT: usize = 1 << 18;
 pub(crate) const TRACE_LIMIT: usize = 1 << 24;
 
 /// Does this with the model and the certificate in two files.
-pub(crate) fn on_certificate<S: Shelf, O: Sink>(
+pub(crate) fn certificate_command<S: Shelf, O: Sink>(
     alloc: Global,
-    deed: Deed,
+    deed: TwoFileTask,
     model: &str,
     certificate: &str,
     shelf: &mut S,
     out: &mut O,
 ) -> Outcome
-    ensures serves { Serves (S.files shelf.old)
+    ensures implements { ImplementsExpected (S.files shelf.old)
         (files_of (command_on deed.entry model.now certificate.now))
-        (CommandLeadsTo (command_on deed.entry model.now certificate.now)) result
+        (CommandExpects (command_on deed.entry model.now certificate.now)) result
         (O.written out.old) (O.written out.new) (O.faults out.old) (O.faults out.new)
         (S.faults shelf.old) (S.faults shelf.new) }
     ensures not_usage { result ≢ Outcome.Usage }
     ensures untouched { leaves_out false (status_of result) ≡ true → out.new ≡ out.old }
-    ensures calm { result ≢ Outcome.WriteFault → O.faults out.new ≡ O.faults out.old }
-    ensures last { result ≡ Outcome.WriteFault → EndsByFault O.faults O.failed out.old out.new }
+    ensures no_new_fault { result ≢ Outcome.WriteFault → O.faults out.new ≡ O.faults out.old }
+    ensures fault_was_last { result ≡ Outcome.WriteFault → EndsByFault O.faults O.failed out.old out.new }
     ensures files { S.files shelf.new ≡ S.files shelf.old }
-    ensures later { (name : List ℕ) → S.faults shelf.old name ≤ S.faults shelf.new name }
-    ensures unharmed { result ≢ Outcome.ReadFault
+    ensures counts_never_fall { (name : List ℕ) → S.faults shelf.old name ≤ S.faults shelf.new name }
+    ensures no_read_fault { result ≢ Outcome.ReadFault
         → (name : List ℕ) → S.faults shelf.new name ≡ S.faults shelf.old name }
 {
     match read_all(alloc, shelf, model, MODEL_LIMIT) {
@@ -62,25 +61,25 @@ pub(crate) fn on_certificate<S: Shelf, O: Sink>(
 // Does this with the machine of a source.
 fn on_model<S: Shelf, O: Sink>(
     alloc: Global,
-    deed: Deed,
+    deed: TwoFileTask,
     bytes: &[u8],
     certificate: &str,
     shelf: &mut S,
     out: &mut O,
 ) -> Outcome
     requires { length bytes.now ≤ 2 ^ 20 }
-    ensures serves { Serves (S.files shelf.old) (certificate.now ∷ files_behind deed.entry)
-        (λ files. ByMachine (share_in deed.entry) bytes.now
-        (λ m. ReadsText certificate.now (IsDone deed.entry) m files))
+    ensures implements { ImplementsExpected (S.files shelf.old) (certificate.now ∷ files_behind deed.entry)
+        (λ files. ContinuesFromMachine (share_in deed.entry) bytes.now
+        (λ m. ContinuesFromText certificate.now (IsDone deed.entry) m files))
         result (O.written out.old) (O.written out.new) (O.faults out.old) (O.faults out.new)
         (S.faults shelf.old) (S.faults shelf.new) }
     ensures not_usage { result ≢ Outcome.Usage }
     ensures untouched { leaves_out false (status_of result) ≡ true → out.new ≡ out.old }
-    ensures calm { result ≢ Outcome.WriteFault → O.faults out.new ≡ O.faults out.old }
-    ensures last { result ≡ Outcome.WriteFault → EndsByFault O.faults O.failed out.old out.new }
+    ensures no_new_fault { result ≢ Outcome.WriteFault → O.faults out.new ≡ O.faults out.old }
+    ensures fault_was_last { result ≡ Outcome.WriteFault → EndsByFault O.faults O.failed out.old out.new }
     ensures files { S.files shelf.new ≡ S.files shelf.old }
-    ensures later { (name : List ℕ) → S.faults shelf.old name ≤ S.faults shelf.new name }
-    ensures unharmed { result ≢ Outcome.ReadFault
+    ensures counts_never_fall { (name : List ℕ) → S.faults shelf.old name ≤ S.faults shelf.new name }
+    ensures no_read_fault { result ≢ Outcome.ReadFault
         → (name : List ℕ) → S.faults shelf.new name ≡ S.faults shelf.old name }
 {
     let share = share_of(deed);
@@ -91,64 +90,64 @@ fn on_model<S: Shelf, O: Sink>(
 }
 
 // The share of what is done: an upgrade asks for none.
-fn share_of(deed: Deed) -> Share
+fn share_of(deed: TwoFileTask) -> Share
     ensures { result.share ≡ share_in deed.entry }
 {
     match deed {
-        Deed::Certify(share) => share,
-        Deed::Upgrade | Deed::Check | Deed::Compare(_) => Share { share: 0 },
+        TwoFileTask::Certify(share) => share,
+        TwoFileTask::Upgrade | TwoFileTask::Check | TwoFileTask::Compare(_) => Share { share: 0 },
     }
 }
 
 // Goes on where certificates can speak of the machine.
 fn in_scope<S: Shelf, O: Sink>(
     alloc: Global,
-    deed: Deed,
+    deed: TwoFileTask,
     m: &Machine,
     certificate: &str,
     shelf: &mut S,
     out: &mut O,
 ) -> Outcome
-    ensures serves { Serves (S.files shelf.old) (certificate.now ∷ files_behind deed.entry)
-        (ReadsText certificate.now (IsDone deed.entry) m.now) result (O.written out.old)
+    ensures implements { ImplementsExpected (S.files shelf.old) (certificate.now ∷ files_behind deed.entry)
+        (ContinuesFromText certificate.now (IsDone deed.entry) m.now) result (O.written out.old)
         (O.written out.new) (O.faults out.old) (O.faults out.new) (S.faults shelf.old)
         (S.faults shelf.new) }
     ensures not_usage { result ≢ Outcome.Usage }
     ensures untouched { leaves_out false (status_of result) ≡ true → out.new ≡ out.old }
-    ensures calm { result ≢ Outcome.WriteFault → O.faults out.new ≡ O.faults out.old }
-    ensures last { result ≡ Outcome.WriteFault → EndsByFault O.faults O.failed out.old out.new }
+    ensures no_new_fault { result ≢ Outcome.WriteFault → O.faults out.new ≡ O.faults out.old }
+    ensures fault_was_last { result ≡ Outcome.WriteFault → EndsByFault O.faults O.failed out.old out.new }
     ensures files { S.files shelf.new ≡ S.files shelf.old }
-    ensures later { (name : List ℕ) → S.faults shelf.old name ≤ S.faults shelf.new name }
-    ensures unharmed { result ≢ Outcome.ReadFault
+    ensures counts_never_fall { (name : List ℕ) → S.faults shelf.old name ≤ S.faults shelf.new name }
+    ensures no_read_fault { result ≢ Outcome.ReadFault
         → (name : List ℕ) → S.faults shelf.new name ≡ S.faults shelf.old name }
 {
     match scope(m) {
-        Ok(_states) => on_text_file(alloc, deed, m, certificate, shelf, out),
-        Err(why) => Outcome::Uncertified(CertificateRefusal::Outside(why)),
+        Ok(_states) => text_file_command(alloc, deed, m, certificate, shelf, out),
+        Err(why) => Outcome::CertificateRefused(CertificateRefusal::Outside(why)),
     }
 }
 
 // Does this with the certificate in a file.
-fn on_text_file<S: Shelf, O: Sink>(
+fn text_file_command<S: Shelf, O: Sink>(
     alloc: Global,
-    deed: Deed,
+    deed: TwoFileTask,
     m: &Machine,
     certificate: &str,
     shelf: &mut S,
     out: &mut O,
 ) -> Outcome
     requires { IsInScope m.now }
-    ensures serves { Serves (S.files shelf.old) (certificate.now ∷ files_behind deed.entry)
-        (λ files. Reads files certificate.now (λ text. IsDone deed.entry m.now text files)) result
+    ensures implements { ImplementsExpected (S.files shelf.old) (certificate.now ∷ files_behind deed.entry)
+        (λ files. ReadsFile files certificate.now (λ text. IsDone deed.entry m.now text files)) result
         (O.written out.old) (O.written out.new) (O.faults out.old) (O.faults out.new)
         (S.faults shelf.old) (S.faults shelf.new) }
     ensures not_usage { result ≢ Outcome.Usage }
     ensures untouched { leaves_out false (status_of result) ≡ true → out.new ≡ out.old }
-    ensures calm { result ≢ Outcome.WriteFault → O.faults out.new ≡ O.faults out.old }
-    ensures last { result ≡ Outcome.WriteFault → EndsByFault O.faults O.failed out.old out.new }
+    ensures no_new_fault { result ≢ Outcome.WriteFault → O.faults out.new ≡ O.faults out.old }
+    ensures fault_was_last { result ≡ Outcome.WriteFault → EndsByFault O.faults O.failed out.old out.new }
     ensures files { S.files shelf.new ≡ S.files shelf.old }
-    ensures later { (name : List ℕ) → S.faults shelf.old name ≤ S.faults shelf.new name }
-    ensures unharmed { result ≢ Outcome.ReadFault
+    ensures counts_never_fall { (name : List ℕ) → S.faults shelf.old name ≤ S.faults shelf.new name }
+    ensures no_read_fault { result ≢ Outcome.ReadFault
         → (name : List ℕ) → S.faults shelf.new name ≡ S.faults shelf.old name }
 {
     match read_all(alloc, shelf, certificate, limit_of(deed)) {
@@ -160,26 +159,29 @@ fn on_text_file<S: Shelf, O: Sink>(
 }
 
 // The longest text that is read, in bytes.
-fn limit_of(deed: Deed) -> usize
+fn limit_of(deed: TwoFileTask) -> usize
     ensures { result ≡ limit_in deed.entry }
 {
     match deed {
-        Deed::Certify(_) | Deed::Upgrade | Deed::Compare(_) => CERTIFICATE_LIMIT,
-        Deed::Check => TRACE_LIMIT,
+        TwoFileTask::Certify(_) | TwoFileTask::Upgrade | TwoFileTask::Compare(_) =>
+            CERTIFICATE_LIMIT,
+        TwoFileTask::Check => TRACE_LIMIT,
     }
 }
 
 // What becomes of a command whose text is longer.
-fn too_long(deed: Deed) -> Outcome
+fn too_long(deed: TwoFileTask) -> Outcome
     ensures what { result ≡ long_in deed.entry }
     ensures not_usage { result ≢ Outcome.Usage }
     ensures not_read { result ≢ Outcome.ReadFault }
     ensures not_write { result ≢ Outcome.WriteFault }
 {
     match deed {
-        Deed::Certify(_) | Deed::Upgrade => Outcome::Uncertified(CertificateRefusal::TooLong),
-        Deed::Check => Outcome::Untraced(TraceRefusal::TooLong),
-        Deed::Compare(_) => Outcome::Incomparable(ComparisonRefusal::Certificate(
+        TwoFileTask::Certify(_) | TwoFileTask::Upgrade => Outcome::CertificateRefused(
+            CertificateRefusal::TooLong,
+        ),
+        TwoFileTask::Check => Outcome::TraceRefused(TraceRefusal::TooLong),
+        TwoFileTask::Compare(_) => Outcome::ComparisonRefused(ComparisonRefusal::Certificate(
             CertificateRefusal::TooLong,
         )),
     }
@@ -188,29 +190,29 @@ fn too_long(deed: Deed) -> Outcome
 // Does this with the bytes of a text.
 fn on_text<S: Shelf, O: Sink>(
     alloc: Global,
-    deed: Deed,
+    deed: TwoFileTask,
     m: &Machine,
     text: &[u8],
     shelf: &mut S,
     out: &mut O,
 ) -> Outcome
     requires { IsInScope m.now }
-    ensures serves { Serves (S.files shelf.old) (files_behind deed.entry)
+    ensures implements { ImplementsExpected (S.files shelf.old) (files_behind deed.entry)
         (IsDone deed.entry m.now text.now) result (O.written out.old) (O.written out.new)
         (O.faults out.old) (O.faults out.new) (S.faults shelf.old) (S.faults shelf.new) }
     ensures not_usage { result ≢ Outcome.Usage }
     ensures untouched { leaves_out false (status_of result) ≡ true → out.new ≡ out.old }
-    ensures calm { result ≢ Outcome.WriteFault → O.faults out.new ≡ O.faults out.old }
-    ensures last { result ≡ Outcome.WriteFault → EndsByFault O.faults O.failed out.old out.new }
+    ensures no_new_fault { result ≢ Outcome.WriteFault → O.faults out.new ≡ O.faults out.old }
+    ensures fault_was_last { result ≡ Outcome.WriteFault → EndsByFault O.faults O.failed out.old out.new }
     ensures files { S.files shelf.new ≡ S.files shelf.old }
-    ensures later { (name : List ℕ) → S.faults shelf.old name ≤ S.faults shelf.new name }
-    ensures unharmed { result ≢ Outcome.ReadFault
+    ensures counts_never_fall { (name : List ℕ) → S.faults shelf.old name ≤ S.faults shelf.new name }
+    ensures no_read_fault { result ≢ Outcome.ReadFault
         → (name : List ℕ) → S.faults shelf.new name ≡ S.faults shelf.old name }
 {
     match deed {
-        Deed::Certify(_) => certify_machine(alloc, m, text, out),
-        Deed::Upgrade => upgrade_machine(alloc, m, text, out),
-        Deed::Check => check_machine(alloc, m, text, out),
-        Deed::Compare(sides) => compare_runs(alloc, sides, m, text, shelf, out),
+        TwoFileTask::Certify(_) => certify_machine(alloc, m, text, out),
+        TwoFileTask::Upgrade => upgrade_machine(alloc, m, text, out),
+        TwoFileTask::Check => check_machine(alloc, m, text, out),
+        TwoFileTask::Compare(sides) => compare_runs(alloc, sides, m, text, shelf, out),
     }
 }

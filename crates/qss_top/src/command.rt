@@ -1,25 +1,25 @@
 // The commands: what the words ask for, and what is done for it.
 ghost use Rattle.std.specs.Prelude.{length, ◌≡◌, ◌≢◌, ◌≤◌, ◌⊎◌, ◌^◌, true, false, map, None, Some, ℕ, List};
-ghost use Rattle.mu_io.specs.Faults.{OnlyCounts};
+ghost use Rattle.mu_io.specs.FaultCounts.{OnlyCounts};
 ghost use Rattle.mu_io.specs.Sinks.{EndsByFault};
 ghost use Rattle.mu_tree.specs.ModelTree.{model};
-ghost use Rattle.qss_top.specs.Answers.{Answer, Told, IsPrintAnswer, printed_text, CommandLeadsTo, Defines, IsTold};
-ghost use Rattle.qss_words.specs.Commands.{command_of, files_of, writes_as_it_goes};
-ghost use Rattle.qss_top.specs.Outcomes.{IsOutcome, Meets, Serves, status_of};
+ghost use Rattle.qss_top.specs.ExpectedResults.{Answer, ExpectedResult, IsPrintAnswer, model_answer, CommandExpects, CommandLineExpects, IsExpectedResult};
+ghost use Rattle.qss_cli.specs.Commands.{command_of, files_of, writes_as_it_goes};
+ghost use Rattle.qss_top.specs.CommandOutcomes.{IsOutcome, SatisfiesExpected, ImplementsExpected, status_of};
 ghost use Rattle.qss_top.specs.Statuses.{leaves_out};
-ghost use Rattle.qss_words.specs.Requests.{command_in, command_with};
+ghost use Rattle.qss_cli.specs.Requests.{command_in, command_with};
 ghost use Rattle.qss_top.specs.Tasks.{task_goes, IsTaskAnswer};
 
 use crate::bytes::answer_source;
-use crate::certificate::on_certificate;
+use crate::certificate::certificate_command;
 use crate::generation::on_generation;
-use crate::machine::{Job, by_machine};
+use crate::machine::{MachineTask, by_machine};
 use crate::outcome::Outcome;
 use crate::source::model_of;
 use mu_io::{ReadErr, Shelf, Sink, WriteErr, read_all, write_all};
-use mu_print::write_model;
 use mu_tree::tree::Model;
-use qss_words::{Request, Task, read_words};
+use mu_tree::write_model;
+use qss_cli::{Request, Task, read_words};
 use std::alloc::Global;
 
 // The longest model that is read, in bytes.
@@ -32,9 +32,9 @@ pub(crate) fn answer<S: Shelf, O: Sink>(
     shelf: &mut S,
     out: &mut O,
 ) -> Outcome
-    ensures meets { (told : Told)
-        → IsTold (map (λ word. word.now) words.now) (S.files shelf.old) told
-        → Meets told result (O.written out.old) (O.written out.new) (O.faults out.old)
+    ensures meets { (expected : ExpectedResult)
+        → IsExpectedResult (map (λ word. word.now) words.now) (S.files shelf.old) expected
+        → SatisfiesExpected expected result (O.written out.old) (O.written out.new) (O.faults out.old)
         (O.faults out.new) (S.faults shelf.old) (S.faults shelf.new) }
     ensures usage { result ≡ Outcome.Usage → command_of (map (λ word. word.now) words.now) ≡ None }
     ensures no_command { command_of (map (λ word. word.now) words.now) ≡ None
@@ -44,11 +44,11 @@ pub(crate) fn answer<S: Shelf, O: Sink>(
         (status_of result)
         ≡ true
         → out.new ≡ out.old }
-    ensures calm { result ≢ Outcome.WriteFault → O.faults out.new ≡ O.faults out.old }
-    ensures last { result ≡ Outcome.WriteFault → EndsByFault O.faults O.failed out.old out.new }
+    ensures no_new_fault { result ≢ Outcome.WriteFault → O.faults out.new ≡ O.faults out.old }
+    ensures fault_was_last { result ≡ Outcome.WriteFault → EndsByFault O.faults O.failed out.old out.new }
     ensures files { S.files shelf.new ≡ S.files shelf.old }
-    ensures later { (name : List ℕ) → S.faults shelf.old name ≤ S.faults shelf.new name }
-    ensures unharmed { result ≢ Outcome.ReadFault
+    ensures counts_never_fall { (name : List ℕ) → S.faults shelf.old name ≤ S.faults shelf.new name }
+    ensures no_read_fault { result ≢ Outcome.ReadFault
         → (name : List ℕ) → S.faults shelf.new name ≡ S.faults shelf.old name }
 {
     match read_words(alloc, words) {
@@ -65,20 +65,20 @@ fn on_request<S: Shelf, O: Sink>(
     shelf: &mut S,
     out: &mut O,
 ) -> Outcome
-    ensures meets { (told : Told)
-        → Defines (Some (command_in request.entry)) (S.files shelf.old) told
-        → Meets told result (O.written out.old) (O.written out.new) (O.faults out.old)
+    ensures meets { (expected : ExpectedResult)
+        → CommandLineExpects (Some (command_in request.entry)) (S.files shelf.old) expected
+        → SatisfiesExpected expected result (O.written out.old) (O.written out.new) (O.faults out.old)
         (O.faults out.new) (S.faults shelf.old) (S.faults shelf.new) }
     ensures not_usage { result ≢ Outcome.Usage }
     ensures untouched { leaves_out (writes_as_it_goes (Some (command_in request.entry)))
         (status_of result)
         ≡ true
         → out.new ≡ out.old }
-    ensures calm { result ≢ Outcome.WriteFault → O.faults out.new ≡ O.faults out.old }
-    ensures last { result ≡ Outcome.WriteFault → EndsByFault O.faults O.failed out.old out.new }
+    ensures no_new_fault { result ≢ Outcome.WriteFault → O.faults out.new ≡ O.faults out.old }
+    ensures fault_was_last { result ≡ Outcome.WriteFault → EndsByFault O.faults O.failed out.old out.new }
     ensures files { S.files shelf.new ≡ S.files shelf.old }
-    ensures later { (name : List ℕ) → S.faults shelf.old name ≤ S.faults shelf.new name }
-    ensures unharmed { result ≢ Outcome.ReadFault
+    ensures counts_never_fall { (name : List ℕ) → S.faults shelf.old name ≤ S.faults shelf.new name }
+    ensures no_read_fault { result ≢ Outcome.ReadFault
         → (name : List ℕ) → S.faults shelf.new name ≡ S.faults shelf.old name }
 {
     match request {
@@ -87,7 +87,7 @@ fn on_request<S: Shelf, O: Sink>(
             deed,
             model,
             certificate,
-        } => on_certificate(alloc, deed, model, certificate, shelf, out),
+        } => certificate_command(alloc, deed, model, certificate, shelf, out),
         Request::Generated(generation) => on_generation(alloc, generation, out),
     }
 }
@@ -100,18 +100,18 @@ fn on_file<S: Shelf, O: Sink>(
     shelf: &mut S,
     out: &mut O,
 ) -> Outcome
-    ensures serves { Serves (S.files shelf.old) (files_of (command_with task.entry model.now))
-        (CommandLeadsTo (command_with task.entry model.now)) result (O.written out.old)
+    ensures implements { ImplementsExpected (S.files shelf.old) (files_of (command_with task.entry model.now))
+        (CommandExpects (command_with task.entry model.now)) result (O.written out.old)
         (O.written out.new) (O.faults out.old) (O.faults out.new) (S.faults shelf.old)
         (S.faults shelf.new) }
     ensures not_usage { result ≢ Outcome.Usage }
     ensures untouched { leaves_out (task_goes task.entry) (status_of result) ≡ true
         → out.new ≡ out.old }
-    ensures calm { result ≢ Outcome.WriteFault → O.faults out.new ≡ O.faults out.old }
-    ensures last { result ≡ Outcome.WriteFault → EndsByFault O.faults O.failed out.old out.new }
+    ensures no_new_fault { result ≢ Outcome.WriteFault → O.faults out.new ≡ O.faults out.old }
+    ensures fault_was_last { result ≡ Outcome.WriteFault → EndsByFault O.faults O.failed out.old out.new }
     ensures files { S.files shelf.new ≡ S.files shelf.old }
     ensures counts { OnlyCounts model.now (S.faults shelf.old) (S.faults shelf.new) }
-    ensures unharmed { result ≢ Outcome.ReadFault
+    ensures no_read_fault { result ≢ Outcome.ReadFault
         → (name : List ℕ) → S.faults shelf.new name ≡ S.faults shelf.old name }
 {
     match read_all(alloc, shelf, model, MODEL_LIMIT) {
@@ -132,15 +132,15 @@ pub(crate) fn on_source<O: Sink>(alloc: Global, task: Task, bytes: &[u8], out: &
     ensures not_read { result ≢ Outcome.ReadFault }
     ensures untouched { leaves_out (task_goes task.entry) (status_of result) ≡ true
         → out.new ≡ out.old }
-    ensures calm { result ≢ Outcome.WriteFault → O.faults out.new ≡ O.faults out.old }
-    ensures last { result ≡ Outcome.WriteFault → EndsByFault O.faults O.failed out.old out.new }
+    ensures no_new_fault { result ≢ Outcome.WriteFault → O.faults out.new ≡ O.faults out.old }
+    ensures fault_was_last { result ≡ Outcome.WriteFault → EndsByFault O.faults O.failed out.old out.new }
 {
     match task {
-        Task::Run(options) => by_machine(alloc, Job::Run(options), bytes, out),
+        Task::Run(options) => by_machine(alloc, MachineTask::Run(options), bytes, out),
         Task::Print => print_source(alloc, bytes, out),
-        Task::Propose => by_machine(alloc, Job::Propose, bytes, out),
-        Task::Second => by_machine(alloc, Job::Second, bytes, out),
-        Task::Coupled => by_machine(alloc, Job::Coupled, bytes, out),
+        Task::Propose => by_machine(alloc, MachineTask::Propose, bytes, out),
+        Task::Second => by_machine(alloc, MachineTask::Second, bytes, out),
+        Task::Coupled => by_machine(alloc, MachineTask::Coupled, bytes, out),
     }
 }
 
@@ -153,8 +153,8 @@ fn print_source<O: Sink>(alloc: Global, bytes: &[u8], out: &mut O) -> Outcome
     ensures not_usage { result ≢ Outcome.Usage }
     ensures not_read { result ≢ Outcome.ReadFault }
     ensures untouched { leaves_out false (status_of result) ≡ true → out.new ≡ out.old }
-    ensures calm { result ≢ Outcome.WriteFault → O.faults out.new ≡ O.faults out.old }
-    ensures last { result ≡ Outcome.WriteFault → EndsByFault O.faults O.failed out.old out.new }
+    ensures no_new_fault { result ≢ Outcome.WriteFault → O.faults out.new ≡ O.faults out.old }
+    ensures fault_was_last { result ≡ Outcome.WriteFault → EndsByFault O.faults O.failed out.old out.new }
 {
     match model_of(alloc, bytes) {
         Ok(tree) => print_model(alloc, &tree, out),
@@ -164,12 +164,12 @@ fn print_source<O: Sink>(alloc: Global, bytes: &[u8], out: &mut O) -> Outcome
 
 // Writes the canonical text of a model.
 fn print_model<O: Sink>(alloc: Global, tree: &Model, out: &mut O) -> Outcome
-    ensures outcome { IsOutcome (printed_text (model tree.now)) result (O.written out.old)
+    ensures outcome { IsOutcome (model_answer (model tree.now)) result (O.written out.old)
         (O.written out.new) (O.faults out.old) (O.faults out.new) }
     ensures prints { leaves_out true (status_of result) ≡ false }
     ensures untouched { leaves_out false (status_of result) ≡ true → out.new ≡ out.old }
-    ensures calm { result ≢ Outcome.WriteFault → O.faults out.new ≡ O.faults out.old }
-    ensures last { result ≡ Outcome.WriteFault → EndsByFault O.faults O.failed out.old out.new }
+    ensures no_new_fault { result ≢ Outcome.WriteFault → O.faults out.new ≡ O.faults out.old }
+    ensures fault_was_last { result ≡ Outcome.WriteFault → EndsByFault O.faults O.failed out.old out.new }
 {
     match write_model(alloc, tree) {
         Ok(text) => match write_all(out, &text) {

@@ -3,30 +3,30 @@ ghost use Rattle.std.specs.Prelude.{◌≡◌, ◌≢◌, ◌≤◌, ◌⊎◌, 
 ghost use Rattle.mu_io.specs.Files.{Files};
 ghost use Rattle.mu_io.specs.Sinks.{EndsByFault};
 ghost use Rattle.qss_machine.specs.Machines.{state_count};
-ghost use Rattle.qss_rows.specs.Lines as Rows;
+ghost use Rattle.qss_rows.specs.RowTexts as Rows;
 ghost use Rattle.cert_check.specs.Scope.{IsInScope};
 ghost use Rattle.qss_trace.specs.declared.trace.Trace.{Trace};
-ghost use Rattle.trace_answer.specs.declared.stop.Stop.{Stop};
-ghost use Rattle.qss_words.specs.Commands.{files_of_side, traced};
-ghost use Rattle.qss_words.specs.Requests.{side_in};
-ghost use Rattle.qss_top.specs.Answers.{text_answer, OnBoth, OnSide, OnSides, Compares};
-ghost use Rattle.qss_top.specs.Comparing.{IsStopOutcome, IsHad, IsNotHad};
-ghost use Rattle.qss_top.specs.Outcomes.{IsOutcome, Serves, status_of};
+ghost use Rattle.qss_answers.specs.declared.stop.ComparisonStop.{ComparisonStop};
+ghost use Rattle.qss_cli.specs.Commands.{files_of_side, traced};
+ghost use Rattle.qss_cli.specs.Requests.{side_in};
+ghost use Rattle.qss_top.specs.ExpectedResults.{text_answer, ComparesTraces, ContinuesFromSide, ContinuesFromSides, Compares};
+ghost use Rattle.qss_top.specs.ComparisonOutcomes.{IsStopOutcome, IsHad, IsNotHad};
+ghost use Rattle.qss_top.specs.CommandOutcomes.{IsOutcome, ImplementsExpected, status_of};
 ghost use Rattle.qss_top.specs.Statuses.{leaves_out};
 
 use crate::certificate::TRACE_LIMIT;
 use crate::outcome::Outcome;
 use cert_check::Certificate;
 use mu_io::{Name, ReadErr, Shelf, Sink, WriteErr, read_all, write_all};
+use qss_answers::{
+    ComparisonRefusal, ComparisonStop, TraceRefusal, comparison_text, first_side, second_side,
+    traced_side, usable_certificate,
+};
+use qss_cli::{Side, Sides};
 use qss_machine::Machine;
 use qss_rows::variable_name;
 use qss_trace::Trace;
-use qss_words::{Side, Sides};
 use std::alloc::Global;
-use trace_answer::{
-    ComparisonRefusal, Stop, TraceRefusal, basis_of, comparison_text, first_side, second_side,
-    traced_side,
-};
 
 /// Compares two runs of a machine, by the bytes of a certificate.
 pub(crate) fn compare_runs<S: Shelf, O: Sink>(
@@ -38,21 +38,21 @@ pub(crate) fn compare_runs<S: Shelf, O: Sink>(
     out: &mut O,
 ) -> Outcome
     requires { IsInScope m.now }
-    ensures serves { Serves (S.files shelf.old)
+    ensures implements { ImplementsExpected (S.files shelf.old)
         (files_of_side (side_in sides.entry.one) ++ files_of_side (side_in sides.entry.two))
         (Compares (side_in sides.entry.one) (side_in sides.entry.two) m.now text.now) result
         (O.written out.old) (O.written out.new) (O.faults out.old) (O.faults out.new)
         (S.faults shelf.old) (S.faults shelf.new) }
     ensures not_usage { result ≢ Outcome.Usage }
     ensures untouched { leaves_out false (status_of result) ≡ true → out.new ≡ out.old }
-    ensures calm { result ≢ Outcome.WriteFault → O.faults out.new ≡ O.faults out.old }
-    ensures last { result ≡ Outcome.WriteFault → EndsByFault O.faults O.failed out.old out.new }
+    ensures no_new_fault { result ≢ Outcome.WriteFault → O.faults out.new ≡ O.faults out.old }
+    ensures fault_was_last { result ≡ Outcome.WriteFault → EndsByFault O.faults O.failed out.old out.new }
     ensures files { S.files shelf.new ≡ S.files shelf.old }
-    ensures later { (name : List ℕ) → S.faults shelf.old name ≤ S.faults shelf.new name }
-    ensures unharmed { result ≢ Outcome.ReadFault
+    ensures counts_never_fall { (name : List ℕ) → S.faults shelf.old name ≤ S.faults shelf.new name }
+    ensures no_read_fault { result ≢ Outcome.ReadFault
         → (name : List ℕ) → S.faults shelf.new name ≡ S.faults shelf.old name }
 {
-    match basis_of(alloc, m, text) {
+    match usable_certificate(alloc, m, text) {
         Ok(c) => with_first(alloc, sides, m, &c, shelf, out),
         Err(stop) => stopped(alloc, m, stop),
     }
@@ -69,18 +69,18 @@ fn with_first<S: Shelf, O: Sink>(
 ) -> Outcome
     requires scope { IsInScope m.now }
     requires size { c.now.n ≡ state_count m.now }
-    ensures serves { Serves (S.files shelf.old)
+    ensures implements { ImplementsExpected (S.files shelf.old)
         (files_of_side (side_in sides.entry.one) ++ files_of_side (side_in sides.entry.two))
-        (OnSides (side_in sides.entry.one) (side_in sides.entry.two) m.now c.now) result
+        (ContinuesFromSides (side_in sides.entry.one) (side_in sides.entry.two) m.now c.now) result
         (O.written out.old) (O.written out.new) (O.faults out.old) (O.faults out.new)
         (S.faults shelf.old) (S.faults shelf.new) }
     ensures not_usage { result ≢ Outcome.Usage }
     ensures untouched { leaves_out false (status_of result) ≡ true → out.new ≡ out.old }
-    ensures calm { result ≢ Outcome.WriteFault → O.faults out.new ≡ O.faults out.old }
-    ensures last { result ≡ Outcome.WriteFault → EndsByFault O.faults O.failed out.old out.new }
+    ensures no_new_fault { result ≢ Outcome.WriteFault → O.faults out.new ≡ O.faults out.old }
+    ensures fault_was_last { result ≡ Outcome.WriteFault → EndsByFault O.faults O.failed out.old out.new }
     ensures files { S.files shelf.new ≡ S.files shelf.old }
-    ensures later { (name : List ℕ) → S.faults shelf.old name ≤ S.faults shelf.new name }
-    ensures unharmed { result ≢ Outcome.ReadFault
+    ensures counts_never_fall { (name : List ℕ) → S.faults shelf.old name ≤ S.faults shelf.new name }
+    ensures no_read_fault { result ≢ Outcome.ReadFault
         → (name : List ℕ) → S.faults shelf.new name ≡ S.faults shelf.old name }
 {
     match side_of(alloc, m, c, 1, sides.one, shelf) {
@@ -102,17 +102,17 @@ fn with_second<S: Shelf, O: Sink>(
     requires scope { IsInScope m.now }
     requires size { c.now.n ≡ state_count m.now }
     requires first { t1.now.n ≡ state_count m.now }
-    ensures serves { Serves (S.files shelf.old) (files_of_side (side_in side.entry))
-        (λ files. OnSide files m.now c.now 2 (side_in side.entry) (OnBoth m.now c.now t1.now))
+    ensures implements { ImplementsExpected (S.files shelf.old) (files_of_side (side_in side.entry))
+        (λ files. ContinuesFromSide files m.now c.now 2 (side_in side.entry) (ComparesTraces m.now c.now t1.now))
         result (O.written out.old) (O.written out.new) (O.faults out.old) (O.faults out.new)
         (S.faults shelf.old) (S.faults shelf.new) }
     ensures not_usage { result ≢ Outcome.Usage }
     ensures untouched { leaves_out false (status_of result) ≡ true → out.new ≡ out.old }
-    ensures calm { result ≢ Outcome.WriteFault → O.faults out.new ≡ O.faults out.old }
-    ensures last { result ≡ Outcome.WriteFault → EndsByFault O.faults O.failed out.old out.new }
+    ensures no_new_fault { result ≢ Outcome.WriteFault → O.faults out.new ≡ O.faults out.old }
+    ensures fault_was_last { result ≡ Outcome.WriteFault → EndsByFault O.faults O.failed out.old out.new }
     ensures files { S.files shelf.new ≡ S.files shelf.old }
-    ensures later { (name : List ℕ) → S.faults shelf.old name ≤ S.faults shelf.new name }
-    ensures unharmed { result ≢ Outcome.ReadFault
+    ensures counts_never_fall { (name : List ℕ) → S.faults shelf.old name ≤ S.faults shelf.new name }
+    ensures no_read_fault { result ≢ Outcome.ReadFault
         → (name : List ℕ) → S.faults shelf.new name ≡ S.faults shelf.old name }
 {
     match side_of(alloc, m, c, 2, side, shelf) {
@@ -134,14 +134,14 @@ pub(crate) fn with_both<O: Sink>(
     requires size { c.now.n ≡ state_count m.now }
     requires first { t1.now.n ≡ state_count m.now }
     requires second { t2.now.n ≡ state_count m.now }
-    ensures serves { (files : Option Files) (before : List ℕ → ℕ)
-        → Serves files [] (λ fs. OnBoth m.now c.now t1.now t2.now) result (O.written out.old)
+    ensures implements { (files : Option Files) (before : List ℕ → ℕ)
+        → ImplementsExpected files [] (λ fs. ComparesTraces m.now c.now t1.now t2.now) result (O.written out.old)
         (O.written out.new) (O.faults out.old) (O.faults out.new) before before }
     ensures not_usage { result ≢ Outcome.Usage }
     ensures not_read { result ≢ Outcome.ReadFault }
     ensures untouched { leaves_out false (status_of result) ≡ true → out.new ≡ out.old }
-    ensures calm { result ≢ Outcome.WriteFault → O.faults out.new ≡ O.faults out.old }
-    ensures last { result ≡ Outcome.WriteFault → EndsByFault O.faults O.failed out.old out.new }
+    ensures no_new_fault { result ≢ Outcome.WriteFault → O.faults out.new ≡ O.faults out.old }
+    ensures fault_was_last { result ≡ Outcome.WriteFault → EndsByFault O.faults O.failed out.old out.new }
 {
     match comparison_text(alloc, m, c, t1, t2) {
         Ok(text) => write_text(&text, out),
@@ -157,8 +157,8 @@ fn write_text<O: Sink>(text: &[u8], out: &mut O) -> Outcome
     ensures not_usage { result ≢ Outcome.Usage }
     ensures not_read { result ≢ Outcome.ReadFault }
     ensures untouched { leaves_out false (status_of result) ≡ true → out.new ≡ out.old }
-    ensures calm { result ≢ Outcome.WriteFault → O.faults out.new ≡ O.faults out.old }
-    ensures last { result ≡ Outcome.WriteFault → EndsByFault O.faults O.failed out.old out.new }
+    ensures no_new_fault { result ≢ Outcome.WriteFault → O.faults out.new ≡ O.faults out.old }
+    ensures fault_was_last { result ≡ Outcome.WriteFault → EndsByFault O.faults O.failed out.old out.new }
 {
     match write_all(out, text) {
         Ok(()) => Outcome::Done,
@@ -177,7 +177,7 @@ fn side_of<S: Shelf>(
 ) -> Result<Trace, Outcome>
     requires scope { IsInScope m.now }
     requires size { c.now.n ≡ state_count m.now }
-    ensures had { IfOk result
+    ensures were_read { IfOk result
         (IsHad m.now c.now (side_in side.entry) (S.files shelf.old) (S.faults shelf.old)
         (S.faults shelf.new)) }
     ensures not_had { IfErr result
@@ -202,7 +202,7 @@ fn side_in_file<S: Shelf>(
     shelf: &mut S,
 ) -> Result<Trace, Outcome>
     requires { c.now.n ≡ state_count m.now }
-    ensures had { IfOk result
+    ensures were_read { IfOk result
         (IsHad m.now c.now (traced name.now) (S.files shelf.old) (S.faults shelf.old)
         (S.faults shelf.new)) }
     ensures not_had { IfErr result
@@ -212,7 +212,7 @@ fn side_in_file<S: Shelf>(
 {
     match read_all(alloc, shelf, name, TRACE_LIMIT) {
         Ok(bytes) => or_stopped(alloc, m, traced_side(alloc, m, c, run, &bytes)),
-        Err(ReadErr::TooLong) => Err(Outcome::Incomparable(ComparisonRefusal::Trace(
+        Err(ReadErr::TooLong) => Err(Outcome::ComparisonRefused(ComparisonRefusal::Trace(
             TraceRefusal::TooLong,
         ))),
         Err(ReadErr::Fault) => Err(Outcome::ReadFault),
@@ -221,10 +221,14 @@ fn side_in_file<S: Shelf>(
 }
 
 // The trace of a run, or what becomes of a comparison that was stopped.
-fn or_stopped(alloc: Global, m: &Machine, side: Result<Trace, Stop>) -> Result<Trace, Outcome>
-    ensures had { (t : Trace) → result ≡ Ok t → side ≡ Ok t }
+fn or_stopped(
+    alloc: Global,
+    m: &Machine,
+    side: Result<Trace, ComparisonStop>,
+) -> Result<Trace, Outcome>
+    ensures were_read { (t : Trace) → result ≡ Ok t → side ≡ Ok t }
     ensures stopped { IfErr result
-        (λ what. (stop : Stop) × (side ≡ Err stop) × IsStopOutcome m.now stop what) }
+        (λ what. (stop : ComparisonStop) × (side ≡ Err stop) × IsStopOutcome m.now stop what) }
 {
     match side {
         Ok(t) => Ok(t),
@@ -233,16 +237,16 @@ fn or_stopped(alloc: Global, m: &Machine, side: Result<Trace, Stop>) -> Result<T
 }
 
 /// What became of a comparison that was stopped.
-pub(crate) fn stopped(alloc: Global, m: &Machine, stop: Stop) -> Outcome
+pub(crate) fn stopped(alloc: Global, m: &Machine, stop: ComparisonStop) -> Outcome
     ensures told { IsStopOutcome m.now stop result }
     ensures not_usage { result ≢ Outcome.Usage }
     ensures not_read { result ≢ Outcome.ReadFault }
     ensures not_write { result ≢ Outcome.WriteFault }
 {
     match stop {
-        Stop::Refused(why) => Outcome::Incomparable(why),
-        Stop::Over { tick, var } => overflow_of(alloc, m, var, tick),
-        Stop::Memory => Outcome::Memory,
+        ComparisonStop::Refused(why) => Outcome::ComparisonRefused(why),
+        ComparisonStop::Over { tick, var } => overflow_of(alloc, m, var, tick),
+        ComparisonStop::Memory => Outcome::Memory,
     }
 }
 

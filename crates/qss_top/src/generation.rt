@@ -1,17 +1,17 @@
 // The run of a generated model, summed up.
 ghost use Rattle.std.specs.Prelude.{◌≡◌, ◌≢◌, true, false, IfOk};
 ghost use Rattle.mu_io.specs.Sinks.{EndsByFault};
-ghost use Rattle.qss_top.specs.Answers.{Answer, IsGenerationAnswer, summary_of, summed};
-ghost use Rattle.qss_top.specs.Outcomes.{IsOutcome, status_of};
+ghost use Rattle.qss_top.specs.ExpectedResults.{Answer, IsGenerationAnswer, summary_of, summary_answer};
+ghost use Rattle.qss_top.specs.CommandOutcomes.{IsOutcome, status_of};
 ghost use Rattle.qss_top.specs.Statuses.{leaves_out};
 
-use crate::machine::{Job, by_machine};
+use crate::machine::{MachineTask, by_machine};
 use crate::outcome::Outcome;
 use mu_io::{Sink, WriteErr, write_all};
+use qss_cli::Generation;
 use qss_generate::generate;
 use qss_machine::Machine;
-use qss_play::{Tallied, tally};
-use qss_words::Generation;
+use qss_run::{RunSummary, summarize};
 use std::alloc::{AllocError, Global};
 
 /// Sums up the run of a generated model.
@@ -23,36 +23,36 @@ pub(crate) fn on_generation<O: Sink>(alloc: Global, generation: Generation, out:
     ensures not_usage { result ≢ Outcome.Usage }
     ensures not_read { result ≢ Outcome.ReadFault }
     ensures untouched { leaves_out false (status_of result) ≡ true → out.new ≡ out.old }
-    ensures calm { result ≢ Outcome.WriteFault → O.faults out.new ≡ O.faults out.old }
-    ensures last { result ≡ Outcome.WriteFault → EndsByFault O.faults O.failed out.old out.new }
+    ensures no_new_fault { result ≢ Outcome.WriteFault → O.faults out.new ≡ O.faults out.old }
+    ensures fault_was_last { result ≡ Outcome.WriteFault → EndsByFault O.faults O.failed out.old out.new }
 {
     match generate(alloc, generation.seed, generation.cells) {
-        Ok(source) => by_machine(alloc, Job::Sum(generation.cells), &source, out),
+        Ok(source) => by_machine(alloc, MachineTask::Sum(generation.cells), &source, out),
         Err(_) => Outcome::Memory,
     }
 }
 
 /// Sums up the run of a machine.
 pub(crate) fn sum_machine<O: Sink>(alloc: Global, cells: u32, m: Machine, out: &mut O) -> Outcome
-    ensures outcome { IsOutcome (summed cells m) result (O.written out.old) (O.written out.new)
+    ensures outcome { IsOutcome (summary_answer cells m) result (O.written out.old) (O.written out.new)
         (O.faults out.old) (O.faults out.new) }
     ensures not_usage { result ≢ Outcome.Usage }
     ensures not_read { result ≢ Outcome.ReadFault }
     ensures untouched { leaves_out false (status_of result) ≡ true → out.new ≡ out.old }
-    ensures calm { result ≢ Outcome.WriteFault → O.faults out.new ≡ O.faults out.old }
-    ensures last { result ≡ Outcome.WriteFault → EndsByFault O.faults O.failed out.old out.new }
+    ensures no_new_fault { result ≢ Outcome.WriteFault → O.faults out.new ≡ O.faults out.old }
+    ensures fault_was_last { result ≡ Outcome.WriteFault → EndsByFault O.faults O.failed out.old out.new }
 {
     let last = m.last;
-    match tally(alloc, m) {
-        Tallied::Ended { levels, sum } => match summary(alloc, cells, last, levels, sum) {
+    match summarize(alloc, m) {
+        RunSummary::Ended { levels, sum } => match summary(alloc, cells, last, levels, sum) {
             Ok(text) => match write_all(out, &text) {
                 Ok(()) => Outcome::Done,
                 Err(WriteErr::Fault) => Outcome::WriteFault,
             },
             Err(_) => Outcome::Memory,
         },
-        Tallied::Overflowed { name, tick } => Outcome::Overflow { name, tick },
-        Tallied::Memory => Outcome::Memory,
+        RunSummary::Overflowed { name, tick } => Outcome::Overflow { name, tick },
+        RunSummary::Memory => Outcome::Memory,
     }
 }
 

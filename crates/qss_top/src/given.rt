@@ -4,25 +4,26 @@ ghost use Rattle.mu_io.specs.Files.{Files};
 ghost use Rattle.mu_io.specs.Sinks.{EndsByFault};
 ghost use Rattle.qss_machine.specs.Machines.{state_count};
 ghost use Rattle.cert_check.specs.Scope.{IsInScope};
-ghost use Rattle.trace_answer.specs.Comparisons.{IsSide, IsSideless, MayStop};
-ghost use Rattle.qss_top.specs.Answers.{Answer, ComparesGiven, IsCompareAnswer, OnBoth, OnGiven, OnRun};
-ghost use Rattle.qss_top.specs.Outcomes.{IsOutcome, Serves, status_of};
+ghost use Rattle.qss_answers.specs.Comparisons.{IsRunTrace, HasNoRunTrace, MayStop};
+ghost use Rattle.qss_top.specs.ExpectedResults.{Answer, ComparesGiven, IsCompareAnswer, ComparesTraces, ContinuesFromSources, ContinuesFromRun};
+ghost use Rattle.qss_top.specs.CommandOutcomes.{IsOutcome, ImplementsExpected, status_of};
 ghost use Rattle.qss_top.specs.Statuses.{leaves_out};
 ghost use Rattle.qss_top.specs.Tasks.{given_in};
 
 use crate::comparison::{stopped, with_both};
 use crate::outcome::Outcome;
-use cert_answer::CertificateRefusal;
 use cert_check::{Certificate, scope};
 use mu_io::Sink;
+use qss_answers::{
+    CertificateRefusal, ComparisonStop, first_side, second_side, traced_side, usable_certificate,
+};
 use qss_machine::Machine;
 use qss_trace::Trace;
 use std::alloc::Global;
-use trace_answer::{Stop, basis_of, first_side, second_side, traced_side};
 
 /// One of two runs that are compared: the run by the rule `floor`, the second-order run, or that of the bytes of a trace.
 #[derive(Clone, Copy, Debug)]
-pub enum Given<'a> {
+pub enum RunSource<'a> {
     First,
     Second,
     Traced(&'a [u8]),
@@ -30,9 +31,9 @@ pub enum Given<'a> {
 
 /// Two runs that are compared.
 #[derive(Clone, Copy, Debug)]
-pub struct GivenRuns<'a> {
-    pub one: Given<'a>,
-    pub two: Given<'a>,
+pub struct RunSources<'a> {
+    pub one: RunSource<'a>,
+    pub two: RunSource<'a>,
 }
 
 /// Compares two runs of a machine by the bytes of a certificate.
@@ -40,7 +41,7 @@ pub(crate) fn compare_machine<O: Sink>(
     alloc: Global,
     m: &Machine,
     text: &[u8],
-    runs: GivenRuns,
+    runs: RunSources,
     out: &mut O,
 ) -> Outcome
     ensures outcome { (answer : Answer)
@@ -50,12 +51,12 @@ pub(crate) fn compare_machine<O: Sink>(
     ensures not_usage { result ≢ Outcome.Usage }
     ensures not_read { result ≢ Outcome.ReadFault }
     ensures untouched { leaves_out false (status_of result) ≡ true → out.new ≡ out.old }
-    ensures calm { result ≢ Outcome.WriteFault → O.faults out.new ≡ O.faults out.old }
-    ensures last { result ≡ Outcome.WriteFault → EndsByFault O.faults O.failed out.old out.new }
+    ensures no_new_fault { result ≢ Outcome.WriteFault → O.faults out.new ≡ O.faults out.old }
+    ensures fault_was_last { result ≡ Outcome.WriteFault → EndsByFault O.faults O.failed out.old out.new }
 {
     match scope(m) {
         Ok(_states) => compare_by(alloc, m, text, runs, out),
-        Err(why) => Outcome::Uncertified(CertificateRefusal::Outside(why)),
+        Err(why) => Outcome::CertificateRefused(CertificateRefusal::Outside(why)),
     }
 }
 
@@ -64,22 +65,22 @@ fn compare_by<O: Sink>(
     alloc: Global,
     m: &Machine,
     text: &[u8],
-    runs: GivenRuns,
+    runs: RunSources,
     out: &mut O,
 ) -> Outcome
     requires { IsInScope m.now }
-    ensures serves { (files : Option Files) (before : List ℕ → ℕ)
-        → Serves files []
+    ensures implements { (files : Option Files) (before : List ℕ → ℕ)
+        → ImplementsExpected files []
         (λ fs. ComparesGiven (given_in runs.entry.one) (given_in runs.entry.two) m.now text.now)
         result (O.written out.old) (O.written out.new) (O.faults out.old) (O.faults out.new)
         before before }
     ensures not_usage { result ≢ Outcome.Usage }
     ensures not_read { result ≢ Outcome.ReadFault }
     ensures untouched { leaves_out false (status_of result) ≡ true → out.new ≡ out.old }
-    ensures calm { result ≢ Outcome.WriteFault → O.faults out.new ≡ O.faults out.old }
-    ensures last { result ≡ Outcome.WriteFault → EndsByFault O.faults O.failed out.old out.new }
+    ensures no_new_fault { result ≢ Outcome.WriteFault → O.faults out.new ≡ O.faults out.old }
+    ensures fault_was_last { result ≡ Outcome.WriteFault → EndsByFault O.faults O.failed out.old out.new }
 {
-    match basis_of(alloc, m, text) {
+    match usable_certificate(alloc, m, text) {
         Ok(c) => with_one(alloc, m, &c, runs, out),
         Err(stop) => stopped(alloc, m, stop),
     }
@@ -90,21 +91,21 @@ fn with_one<O: Sink>(
     alloc: Global,
     m: &Machine,
     c: &Certificate,
-    runs: GivenRuns,
+    runs: RunSources,
     out: &mut O,
 ) -> Outcome
     requires scope { IsInScope m.now }
     requires size { c.now.n ≡ state_count m.now }
-    ensures serves { (files : Option Files) (before : List ℕ → ℕ)
-        → Serves files []
-        (λ fs. OnGiven (given_in runs.entry.one) (given_in runs.entry.two) m.now c.now) result
+    ensures implements { (files : Option Files) (before : List ℕ → ℕ)
+        → ImplementsExpected files []
+        (λ fs. ContinuesFromSources (given_in runs.entry.one) (given_in runs.entry.two) m.now c.now) result
         (O.written out.old) (O.written out.new) (O.faults out.old) (O.faults out.new) before
         before }
     ensures not_usage { result ≢ Outcome.Usage }
     ensures not_read { result ≢ Outcome.ReadFault }
     ensures untouched { leaves_out false (status_of result) ≡ true → out.new ≡ out.old }
-    ensures calm { result ≢ Outcome.WriteFault → O.faults out.new ≡ O.faults out.old }
-    ensures last { result ≡ Outcome.WriteFault → EndsByFault O.faults O.failed out.old out.new }
+    ensures no_new_fault { result ≢ Outcome.WriteFault → O.faults out.new ≡ O.faults out.old }
+    ensures fault_was_last { result ≡ Outcome.WriteFault → EndsByFault O.faults O.failed out.old out.new }
 {
     match given_side(alloc, m, c, 1, runs.one) {
         Ok(t1) => with_two(alloc, m, c, &t1, runs.two, out),
@@ -118,22 +119,22 @@ fn with_two<O: Sink>(
     m: &Machine,
     c: &Certificate,
     t1: &Trace,
-    given: Given,
+    given: RunSource,
     out: &mut O,
 ) -> Outcome
     requires scope { IsInScope m.now }
     requires size { c.now.n ≡ state_count m.now }
     requires first { t1.now.n ≡ state_count m.now }
-    ensures serves { (files : Option Files) (before : List ℕ → ℕ)
-        → Serves files []
-        (λ fs. OnRun m.now c.now 2 (given_in given.entry) (OnBoth m.now c.now t1.now)) result
+    ensures implements { (files : Option Files) (before : List ℕ → ℕ)
+        → ImplementsExpected files []
+        (λ fs. ContinuesFromRun m.now c.now 2 (given_in given.entry) (ComparesTraces m.now c.now t1.now)) result
         (O.written out.old) (O.written out.new) (O.faults out.old) (O.faults out.new) before
         before }
     ensures not_usage { result ≢ Outcome.Usage }
     ensures not_read { result ≢ Outcome.ReadFault }
     ensures untouched { leaves_out false (status_of result) ≡ true → out.new ≡ out.old }
-    ensures calm { result ≢ Outcome.WriteFault → O.faults out.new ≡ O.faults out.old }
-    ensures last { result ≡ Outcome.WriteFault → EndsByFault O.faults O.failed out.old out.new }
+    ensures no_new_fault { result ≢ Outcome.WriteFault → O.faults out.new ≡ O.faults out.old }
+    ensures fault_was_last { result ≡ Outcome.WriteFault → EndsByFault O.faults O.failed out.old out.new }
 {
     match given_side(alloc, m, c, 2, given) {
         Ok(t2) => with_both(alloc, m, c, t1, &t2, out),
@@ -147,16 +148,16 @@ fn given_side(
     m: &Machine,
     c: &Certificate,
     run: u32,
-    given: Given,
-) -> Result<Trace, Stop>
+    given: RunSource,
+) -> Result<Trace, ComparisonStop>
     requires scope { IsInScope m.now }
     requires size { c.now.n ≡ state_count m.now }
-    ensures side { IfOk result (IsSide m.now c.now (given_in given.entry)) }
-    ensures stopped { IfErr result (MayStop (IsSideless m.now c.now run (given_in given.entry))) }
+    ensures side { IfOk result (IsRunTrace m.now c.now (given_in given.entry)) }
+    ensures stopped { IfErr result (MayStop (HasNoRunTrace m.now c.now run (given_in given.entry))) }
 {
     match given {
-        Given::First => first_side(alloc, m, c, run),
-        Given::Second => second_side(alloc, m, c, run),
-        Given::Traced(bytes) => traced_side(alloc, m, c, run, bytes),
+        RunSource::First => first_side(alloc, m, c, run),
+        RunSource::Second => second_side(alloc, m, c, run),
+        RunSource::Traced(bytes) => traced_side(alloc, m, c, run, bytes),
     }
 }

@@ -1,8 +1,8 @@
 // Laws on what is told.
-ghost use Rattle.qss_top.specs.CertifiedRuns.{CertifiedRunsStayNear};
-ghost use Rattle.qss_top.specs.ComparedRuns.{ComparedRunsStayNear};
-ghost use Rattle.qss_top.specs.Headline.{RunPrintsTheRun, DevsAnswersAsRun, Run2PrintsTheRun, CertifyAcceptsExactly};
-ghost use Rattle.qss_top.specs.Laws.{AnswersAreUnique, AnswersExist};
+ghost use Rattle.qss_top.specs.CertifiedRuns.{CertifiedRunsStayWithinBounds};
+ghost use Rattle.qss_top.specs.ComparedRuns.{ComparedRunsStayWithinBound};
+ghost use Rattle.qss_top.specs.MainTheorems.{RunPrintsTheRun, DevsAnswersAsRun, Run2PrintsTheRun, CertifyAcceptsExactly};
+ghost use Rattle.qss_top.specs.AnswerLaws.{AnswersAreUnique, AnswersExist};
 ghost use Rattle.qss_top.specs.ProposedRuns.{ProposedRunsStayNear};
 
 /// Law: words and files define at most one answer, with the files at which it arrives.
@@ -40,18 +40,18 @@ pub fn certify_accepts_exactly()
 
 /// Law: where a certificate is accepted, any two legitimate runs of the machine that the model means, from the certificate's
 /// starts, lie within the bounds that are printed, and the machine's own runs are among these where its start is one of them.
-pub fn certified_runs_stay_near()
-    ensures { CertifiedRunsStayNear }
+pub fn certified_runs_stay_within_bounds()
+    ensures { CertifiedRunsStayWithinBounds }
 {}
 
 /// Law: where a certificate is proposed, its text reads back, any two legitimate runs from the machine's start lie within its
 /// bounds, and the machine's own runs are among these.
-pub fn proposed_runs_stay_near()
+pub fn proposed_runs_stay_within_bounds()
     ensures { ProposedRunsStayNear }
 {}
 
 /// Law: where two runs are compared, both are legitimate runs of the machine that the model means, from its start and with quanta
 /// that the certificate allows, and the text has the greatest form of their difference, which is at most the certificate's bound.
-pub fn compared_runs_stay_near()
-    ensures { ComparedRunsStayNear }
+pub fn compared_runs_stay_within_bound()
+    ensures { ComparedRunsStayWithinBound }
 {}

@@ -1,12 +1,12 @@
 // What is done with the machine that a source means.
 ghost use Rattle.std.specs.Prelude.{length, ◌≡◌, ◌≢◌, ◌≤◌, ◌^◌, true, false, option_map, IfOk};
 ghost use Rattle.mu_io.specs.Sinks.{EndsByFault};
-ghost use Rattle.qss_top.specs.Answers.{Answer, IsMachineAnswer, IsProposeAnswer, printed};
-ghost use Rattle.qss_top.specs.Certificates.{outcome_proposed};
-ghost use Rattle.qss_top.specs.Outcomes.{IsOutcome, status_of};
+ghost use Rattle.qss_top.specs.ExpectedResults.{Answer, IsMachineAnswer, IsProposeAnswer, printed_run_answer};
+ghost use Rattle.qss_top.specs.CertificateOutcomes.{outcome_proposed};
+ghost use Rattle.qss_top.specs.CommandOutcomes.{IsOutcome, status_of};
 ghost use Rattle.qss_top.specs.Statuses.{leaves_out};
 ghost use Rattle.qss_top.specs.Tasks.{job_goes, job_share, IsJobAnswer};
-ghost use Rattle.qss_words.specs.Requests.{options_in};
+ghost use Rattle.qss_cli.specs.Requests.{options_in};
 
 use crate::coupled::coupled_machine;
 use crate::generation::sum_machine;
@@ -14,16 +14,17 @@ use crate::outcome::Outcome;
 use crate::second::second_machine;
 use crate::source::machine_of;
 use mu_io::{Name, Sink};
-use propose_answer::{ProposalEnding, propose_text};
+use qss_answers::{ProposalResult, propose_text};
+use qss_cli::{Options, Share};
 use qss_machine::Machine;
-use qss_play::{Played, play};
-use qss_words::{Options, Share};
+use qss_rows::RunResult;
+use qss_run::write_run_by_rule;
 use std::alloc::{AllocError, Global};
 
 /// What is done with a machine: its run is written, the run of so many cells is summed up, a certificate is proposed, its
 /// second-order run is written, or its run as a coupled model.
 #[derive(Clone, Copy, Debug)]
-pub enum Job<'a> {
+pub enum MachineTask<'a> {
     Run(Options<'a>),
     Sum(u32),
     Propose,
@@ -32,7 +33,12 @@ pub enum Job<'a> {
 }
 
 /// Does this with the machine that a source means.
-pub(crate) fn by_machine<O: Sink>(alloc: Global, job: Job, bytes: &[u8], out: &mut O) -> Outcome
+pub(crate) fn by_machine<O: Sink>(
+    alloc: Global,
+    job: MachineTask,
+    bytes: &[u8],
+    out: &mut O,
+) -> Outcome
     requires { length bytes.now ≤ 2 ^ 20 }
     ensures outcome { (answer : Answer)
         → IsMachineAnswer (job_share job.entry) (IsJobAnswer job.entry) bytes.now answer
@@ -42,8 +48,8 @@ pub(crate) fn by_machine<O: Sink>(alloc: Global, job: Job, bytes: &[u8], out: &m
     ensures not_read { result ≢ Outcome.ReadFault }
     ensures untouched { leaves_out (job_goes job.entry) (status_of result) ≡ true
         → out.new ≡ out.old }
-    ensures calm { result ≢ Outcome.WriteFault → O.faults out.new ≡ O.faults out.old }
-    ensures last { result ≡ Outcome.WriteFault → EndsByFault O.faults O.failed out.old out.new }
+    ensures no_new_fault { result ≢ Outcome.WriteFault → O.faults out.new ≡ O.faults out.old }
+    ensures fault_was_last { result ≡ Outcome.WriteFault → EndsByFault O.faults O.failed out.old out.new }
 {
     let share = share_of(job);
     match machine_of(alloc, share.share, bytes) {
@@ -53,11 +59,11 @@ pub(crate) fn by_machine<O: Sink>(alloc: Global, job: Job, bytes: &[u8], out: &m
 }
 
 // The share of the levels that quanta then have.
-fn share_of(job: Job) -> Share
+fn share_of(job: MachineTask) -> Share
     ensures { result.share ≡ job_share job.entry }
 {
     match job {
-        Job::Run(options) => Share {
+        MachineTask::Run(options) => Share {
             share: options.share,
         },
         _ => Share { share: 0 },
@@ -65,7 +71,7 @@ fn share_of(job: Job) -> Share
 }
 
 // Does this with a machine.
-fn on_machine<O: Sink>(alloc: Global, job: Job, m: Machine, out: &mut O) -> Outcome
+fn on_machine<O: Sink>(alloc: Global, job: MachineTask, m: Machine, out: &mut O) -> Outcome
     ensures outcome { (answer : Answer) → IsJobAnswer job.entry m answer
         → IsOutcome answer result (O.written out.old) (O.written out.new) (O.faults out.old)
         (O.faults out.new) }
@@ -73,15 +79,15 @@ fn on_machine<O: Sink>(alloc: Global, job: Job, m: Machine, out: &mut O) -> Outc
     ensures not_read { result ≢ Outcome.ReadFault }
     ensures untouched { leaves_out (job_goes job.entry) (status_of result) ≡ true
         → out.new ≡ out.old }
-    ensures calm { result ≢ Outcome.WriteFault → O.faults out.new ≡ O.faults out.old }
-    ensures last { result ≡ Outcome.WriteFault → EndsByFault O.faults O.failed out.old out.new }
+    ensures no_new_fault { result ≢ Outcome.WriteFault → O.faults out.new ≡ O.faults out.old }
+    ensures fault_was_last { result ≡ Outcome.WriteFault → EndsByFault O.faults O.failed out.old out.new }
 {
     match job {
-        Job::Run(options) => run_machine(alloc, options, m, out),
-        Job::Sum(cells) => sum_machine(alloc, cells, m, out),
-        Job::Propose => propose_machine(alloc, &m, out),
-        Job::Second => second_machine(alloc, m, out),
-        Job::Coupled => coupled_machine(alloc, m, out),
+        MachineTask::Run(options) => run_machine(alloc, options, m, out),
+        MachineTask::Sum(cells) => sum_machine(alloc, cells, m, out),
+        MachineTask::Propose => propose_machine(alloc, &m, out),
+        MachineTask::Second => second_machine(alloc, m, out),
+        MachineTask::Coupled => coupled_machine(alloc, m, out),
     }
 }
 
@@ -100,18 +106,18 @@ fn name_of(alloc: Global, name: Option<&str>) -> Result<Option<Name>, AllocError
 
 // Runs a machine. The header and each row are written as they come, each by a write of its own.
 fn run_machine<O: Sink>(alloc: Global, options: Options, m: Machine, out: &mut O) -> Outcome
-    ensures outcome { IsOutcome (printed (options_in options.entry) m) result (O.written out.old)
+    ensures outcome { IsOutcome (printed_run_answer (options_in options.entry) m) result (O.written out.old)
         (O.written out.new) (O.faults out.old) (O.faults out.new) }
     ensures runs { leaves_out true (status_of result) ≡ false }
-    ensures calm { result ≢ Outcome.WriteFault → O.faults out.new ≡ O.faults out.old }
-    ensures last { result ≡ Outcome.WriteFault → EndsByFault O.faults O.failed out.old out.new }
+    ensures no_new_fault { result ≢ Outcome.WriteFault → O.faults out.new ≡ O.faults out.old }
+    ensures fault_was_last { result ≡ Outcome.WriteFault → EndsByFault O.faults O.failed out.old out.new }
 {
     match name_of(alloc, options.only) {
-        Ok(only) => match play(alloc, m, options.rule, only, out) {
-            Played::Ended => Outcome::Done,
-            Played::Overflowed { name, tick } => Outcome::Overflow { name, tick },
-            Played::Fault => Outcome::WriteFault,
-            Played::Memory => Outcome::Memory,
+        Ok(only) => match write_run_by_rule(alloc, m, options.rule, only, out) {
+            RunResult::Ended => Outcome::Done,
+            RunResult::Overflowed { name, tick } => Outcome::Overflow { name, tick },
+            RunResult::Fault => Outcome::WriteFault,
+            RunResult::Memory => Outcome::Memory,
         },
         Err(_) => Outcome::Memory,
     }
@@ -125,20 +131,20 @@ fn propose_machine<O: Sink>(alloc: Global, m: &Machine, out: &mut O) -> Outcome
     ensures not_usage { result ≢ Outcome.Usage }
     ensures not_read { result ≢ Outcome.ReadFault }
     ensures untouched { leaves_out false (status_of result) ≡ true → out.new ≡ out.old }
-    ensures calm { result ≢ Outcome.WriteFault → O.faults out.new ≡ O.faults out.old }
-    ensures last { result ≡ Outcome.WriteFault → EndsByFault O.faults O.failed out.old out.new }
+    ensures no_new_fault { result ≢ Outcome.WriteFault → O.faults out.new ≡ O.faults out.old }
+    ensures fault_was_last { result ≡ Outcome.WriteFault → EndsByFault O.faults O.failed out.old out.new }
 {
     proposed_outcome(propose_text(alloc, m, out))
 }
 
 // What became of a command whose proposal of a certificate ended so.
-fn proposed_outcome(ending: ProposalEnding) -> Outcome
+fn proposed_outcome(ending: ProposalResult) -> Outcome
     ensures { result ≡ outcome_proposed ending }
 {
     match ending {
-        ProposalEnding::Written => Outcome::Done,
-        ProposalEnding::Refused(why) => Outcome::Unproposed(why),
-        ProposalEnding::Fault => Outcome::WriteFault,
-        ProposalEnding::Memory => Outcome::Memory,
+        ProposalResult::Written => Outcome::Done,
+        ProposalResult::Refused(why) => Outcome::ProposalRefused(why),
+        ProposalResult::Fault => Outcome::WriteFault,
+        ProposalResult::Memory => Outcome::Memory,
     }
 }

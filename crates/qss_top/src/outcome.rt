@@ -1,16 +1,18 @@
 // What became of a command, and the line that tells it.
 ghost use Rattle.std.specs.Prelude.{true, ◌≡◌, ◌⊎◌, ◌≤◌, ℕ, List, codes, IfOk};
-ghost use Rattle.qss_top.specs.Answers.{overflow_line, status_of_comparison, status_of_refusal, status_of_trace};
-ghost use Rattle.qss_top.specs.Outcomes as Spec;
-ghost use Rattle.qss_top.specs.TopCall.{WritesLine};
+ghost use Rattle.qss_top.specs.ExpectedResults.{overflow_line, status_of_comparison, status_of_refusal, status_of_trace};
+ghost use Rattle.qss_top.specs.CommandOutcomes as Spec;
+ghost use Rattle.qss_top.specs.Replies.{IsLineWritten};
 
-use crate::Status;
-use cert_answer::{CertificateRefusal, refusal_line as certificate_line};
+use crate::status::Status;
 use mu_io::{Name, Sink, write_all};
-use propose_answer::{ProposalRefusal, refusal_line as proposal_line};
+use qss_answers::{
+    CertificateRefusal, ComparisonRefusal, ProposalRefusal, TraceRefusal,
+    certificate_refusal_line as certificate_line, comparison_line,
+    proposal_refusal_line as proposal_line, trace_refusal_line as trace_line,
+};
 use qss_compile::{ModelErr, Refused, refusal_line};
 use std::alloc::{AllocError, Global};
-use trace_answer::{ComparisonRefusal, TraceRefusal, comparison_line, refusal_line as trace_line};
 
 /// What became of a command.
 #[derive(Drop)]
@@ -22,16 +24,16 @@ pub enum Outcome {
     TooLong,
     Refused(Refused),
     Overflow { name: Name, tick: u64 },
-    Uncertified(CertificateRefusal),
-    Untraced(TraceRefusal),
-    Unproposed(ProposalRefusal),
-    Incomparable(ComparisonRefusal),
+    CertificateRefused(CertificateRefusal),
+    TraceRefused(TraceRefusal),
+    ProposalRefused(ProposalRefusal),
+    ComparisonRefused(ComparisonRefusal),
     Memory,
 }
 
 impl From<Refused> for Outcome {
     ghost use Rattle.std.specs.Prelude.{◌≡◌};
-    ghost use Rattle.qss_top.specs.Outcomes.{refused_so};
+    ghost use Rattle.qss_top.specs.CommandOutcomes.{refused_so};
 
     ghost from_gives = { λ refused what. what ≡ refused_so refused };
 
@@ -47,12 +49,12 @@ impl From<Refused> for Outcome {
 pub fn report<E: Sink>(alloc: Global, outcome: &Outcome, err: &mut E) -> Status
     ensures status { (result ≡ Spec.status_of outcome.now)
         ⊎ ((result ≡ Status.Memory) × (Spec.takes_memory outcome.now ≡ true)) }
-    ensures silent { outcome.now ≡ Outcome.Done → err.new ≡ err.old }
+    ensures err_unchanged { outcome.now ≡ Outcome.Done → err.new ≡ err.old }
     ensures line { (line : List ℕ)
         × Spec.IsReported result outcome.now line
-        × WritesLine line (E.written err.old) (E.written err.new) (E.faults err.old)
+        × IsLineWritten line (E.written err.old) (E.written err.new) (E.faults err.old)
         (E.faults err.new) }
-    ensures later { E.faults err.old ≤ E.faults err.new }
+    ensures counts_never_fall { E.faults err.old ≤ E.faults err.new }
 {
     match outcome {
         Outcome::Done => Status::Ok,
@@ -72,19 +74,19 @@ pub fn report<E: Sink>(alloc: Global, outcome: &Outcome, err: &mut E) -> Status
             Ok(line) => tell(Status::Overflow, &line, err),
             Err(_) => tell(Status::Memory, b"out of memory\n", err),
         },
-        Outcome::Uncertified(why) => match certificate_line(alloc, *why) {
+        Outcome::CertificateRefused(why) => match certificate_line(alloc, *why) {
             Ok(line) => tell(refusal_status(*why), &line, err),
             Err(_) => tell(Status::Memory, b"out of memory\n", err),
         },
-        Outcome::Untraced(why) => match trace_line(alloc, *why) {
+        Outcome::TraceRefused(why) => match trace_line(alloc, *why) {
             Ok(line) => tell(trace_status(*why), &line, err),
             Err(_) => tell(Status::Memory, b"out of memory\n", err),
         },
-        Outcome::Unproposed(why) => match proposal_line(alloc, *why) {
+        Outcome::ProposalRefused(why) => match proposal_line(alloc, *why) {
             Ok(line) => tell(Status::Rejected, &line, err),
             Err(_) => tell(Status::Memory, b"out of memory\n", err),
         },
-        Outcome::Incomparable(why) => match comparison_line(alloc, *why) {
+        Outcome::ComparisonRefused(why) => match comparison_line(alloc, *why) {
             Ok(line) => tell(comparison_status(*why), &line, err),
             Err(_) => tell(Status::Memory, b"out of memory\n", err),
         },
@@ -126,9 +128,9 @@ fn comparison_status(why: ComparisonRefusal) -> Status
 // Writes a line, as far as the sink takes it, and gives the status.
 fn tell<E: Sink>(status: Status, line: &[u8], err: &mut E) -> Status
     ensures status { result ≡ status }
-    ensures line { WritesLine line.now (E.written err.old) (E.written err.new) (E.faults err.old)
+    ensures line { IsLineWritten line.now (E.written err.old) (E.written err.new) (E.faults err.old)
         (E.faults err.new) }
-    ensures later { E.faults err.old ≤ E.faults err.new }
+    ensures counts_never_fall { E.faults err.old ≤ E.faults err.new }
 {
     let _ = write_all(err, line);
     status

@@ -2,8 +2,8 @@
 ghost use Rattle.std.specs.Prelude.{◌≤◌, ◌^◌, length, IfOk, IfErr};
 ghost use Rattle.mu_tree.specs.ModelTree.{model};
 ghost use Rattle.qss_compile.specs.Meanings.{IsRefused, IsUnspelled};
-ghost use Rattle.qss_top.specs.Answers.{IsSourceMachine, IsSourceTree};
-ghost use Rattle.qss_top.specs.Outcomes.{IsRefusedFor};
+ghost use Rattle.qss_top.specs.ExpectedResults.{IsSourceMachine, IsSourceTree};
+ghost use Rattle.qss_top.specs.CommandOutcomes.{IsRefusedFor};
 
 use crate::outcome::Outcome;
 use mu_io::Items;

@@ -1,18 +1,18 @@
 // The top call.
 ghost use Rattle.std.specs.Io.KnownBytes.{Appends};
 ghost use Rattle.std.specs.Prelude.{◌≡◌, ◌≢◌, ◌≤◌, ◌⊎◌, [], true, List, ℕ, map, Some, None, Contains};
-ghost use Rattle.mu_io.specs.Faults.{Rose};
+ghost use Rattle.mu_io.specs.FaultCounts.{Rose};
 ghost use Rattle.mu_io.specs.Sinks.{AppendsPrefix, EndsByFault};
-ghost use Rattle.qss_top.specs.Answers.{Answer, Told, IsTold, answered};
+ghost use Rattle.qss_top.specs.ExpectedResults.{Answer, ExpectedResult, IsExpectedResult, answered};
 ghost use Rattle.qss_top.specs.CertifiedRuns.{AreCertified};
-ghost use Rattle.qss_words.specs.Commands.{certify_model, propose_model, command_of, writes_as_it_goes};
+ghost use Rattle.qss_cli.specs.Commands.{certify_model, propose_model, command_of, writes_as_it_goes};
 ghost use Rattle.qss_top.specs.ProposedRuns.{AreProposed};
 ghost use Rattle.qss_top.specs.Statuses.{leaves_out};
-ghost use Rattle.qss_top.specs.TopCall.{IsReplied, Replies, IsCutShort, text_of, SomeRose, ReportsStatus};
+ghost use Rattle.qss_top.specs.Replies.{IsReplyGiven, HasReply, IsOutOfMemoryPrefix, text_of, SomeFaultCounted, IsStatusReported};
 
-use crate::Status;
 use crate::command::answer;
 use crate::outcome::report;
+use crate::status::Status;
 use mu_io::{Shelf, Sink};
 use std::alloc::Global;
 
@@ -29,32 +29,32 @@ pub fn qss_main<S: Shelf, O: Sink, E: Sink>(
     // files define, and out gains exactly the answer's text; where the shelf tells no files, both are
     // those of the answer for some bytes. Where a file is absent, the status is a read fault or want of
     // memory. Out never gains more than a prefix of the text.
-    ensures replied { (told : Told)
-        → IsTold (map (λ word. word.now) words.now) (S.files shelf.old) told
-        → IsReplied told.reply result (O.written out.old) (O.written out.new) }
-    ensures prefix { (told : Told)
-        → IsTold (map (λ word. word.now) words.now) (S.files shelf.old) told
-        → Replies (λ answer. AppendsPrefix (O.written out.old) (O.written out.new) answer.out)
-        told.reply }
-    ensures quiet { (told : Told)
-        → IsTold (map (λ word. word.now) words.now) (S.files shelf.old) told
-        → text_of told.reply ≡ Some []
+    ensures replied { (expected : ExpectedResult)
+        → IsExpectedResult (map (λ word. word.now) words.now) (S.files shelf.old) expected
+        → IsReplyGiven expected.reply result (O.written out.old) (O.written out.new) }
+    ensures prefix { (expected : ExpectedResult)
+        → IsExpectedResult (map (λ word. word.now) words.now) (S.files shelf.old) expected
+        → HasReply (λ answer. AppendsPrefix (O.written out.old) (O.written out.new) answer.out)
+        expected.reply }
+    ensures no_fault_without_text { (expected : ExpectedResult)
+        → IsExpectedResult (map (λ word. word.now) words.now) (S.files shelf.old) expected
+        → text_of expected.reply ≡ Some []
         → O.faults out.new ≡ O.faults out.old }
 
     // Where memory is wanting, out gains nothing; or whole lines of the answer's text, with more to
     // come; or all of the text of a run that overflows.
-    ensures short { (told : Told)
-        → IsTold (map (λ word. word.now) words.now) (S.files shelf.old) told
+    ensures out_of_memory_prefix { (expected : ExpectedResult)
+        → IsExpectedResult (map (λ word. word.now) words.now) (S.files shelf.old) expected
         → result ≡ Status.Memory
-        → Replies (IsCutShort (O.written out.old) (O.written out.new)) told.reply }
+        → HasReply (IsOutOfMemoryPrefix (O.written out.old) (O.written out.new)) expected.reply }
 
     // Where no count of faults rises by one fault (or stands at its last value, 2^64 - 1), be it of a file
     // at which the answer arrives or of out, and no memory is wanting, the status is the answer's, and
     // out gains its whole text.
-    ensures complete { (told : Told) (answer : Answer)
-        → IsTold (map (λ word. word.now) words.now) (S.files shelf.old) told
-        → told.reply ≡ answered answer
-        → ¬ SomeRose told.arrivals (S.faults shelf.old) (S.faults shelf.new)
+    ensures complete { (expected : ExpectedResult) (answer : Answer)
+        → IsExpectedResult (map (λ word. word.now) words.now) (S.files shelf.old) expected
+        → expected.reply ≡ answered answer
+        → ¬ SomeFaultCounted expected.files_read (S.faults shelf.old) (S.faults shelf.new)
         → ¬ Rose (O.faults out.old) (O.faults out.new)
         → result ≢ Status.Memory
         → (result ≡ answer.status) × Appends (O.written out.old) (O.written out.new) answer.out }
@@ -85,23 +85,23 @@ pub fn qss_main<S: Shelf, O: Sink, E: Sink>(
 
     // A read fault comes only of a file at which the answer arrives: its count rises by one, or stands at
     // its last value. No count of another file changes.
-    ensures read_fault { (told : Told)
-        → IsTold (map (λ word. word.now) words.now) (S.files shelf.old) told
+    ensures read_fault { (expected : ExpectedResult)
+        → IsExpectedResult (map (λ word. word.now) words.now) (S.files shelf.old) expected
         → result ≡ Status.ReadFault
-        → SomeRose told.arrivals (S.faults shelf.old) (S.faults shelf.new) }
-    ensures others { (told : Told)
-        → IsTold (map (λ word. word.now) words.now) (S.files shelf.old) told
-        → (name : List ℕ) → ¬ Contains told.arrivals name
+        → SomeFaultCounted expected.files_read (S.faults shelf.old) (S.faults shelf.new) }
+    ensures other_counts_unchanged { (expected : ExpectedResult)
+        → IsExpectedResult (map (λ word. word.now) words.now) (S.files shelf.old) expected
+        → (name : List ℕ) → ¬ Contains expected.files_read name
         → S.faults shelf.new name ≡ S.faults shelf.old name }
     ensures files { S.files shelf.new ≡ S.files shelf.old }
-    ensures later { (name : List ℕ) → S.faults shelf.old name ≤ S.faults shelf.new name }
-    ensures unharmed { result ≢ Status.ReadFault
+    ensures counts_never_fall { (name : List ℕ) → S.faults shelf.old name ≤ S.faults shelf.new name }
+    ensures no_read_fault { result ≢ Status.ReadFault
         → (name : List ℕ) → S.faults shelf.new name ≡ S.faults shelf.old name }
 
     // A write fault comes only of out, whose last write failed, so that out gains nothing afterwards; no
     // other status comes of one. A refusal leaves out as it is, and so does want of memory, but in a run.
-    ensures last { result ≡ Status.WriteFault → EndsByFault O.faults O.failed out.old out.new }
-    ensures calm { result ≢ Status.WriteFault → O.faults out.new ≡ O.faults out.old }
+    ensures fault_was_last { result ≡ Status.WriteFault → EndsByFault O.faults O.failed out.old out.new }
+    ensures no_new_fault { result ≢ Status.WriteFault → O.faults out.new ≡ O.faults out.old }
     ensures untouched { leaves_out
         (writes_as_it_goes (command_of (map (λ word. word.now) words.now))) result
         ≡ true
@@ -109,12 +109,12 @@ pub fn qss_main<S: Shelf, O: Sink, E: Sink>(
 
     // The line of the status goes to err, or a prefix of it where err fails; nothing goes there
     // where all was read and written.
-    ensures line { (told : Told)
-        → IsTold (map (λ word. word.now) words.now) (S.files shelf.old) told
-        → ReportsStatus result told.reply (O.written out.old) (O.written out.new)
+    ensures line { (expected : ExpectedResult)
+        → IsExpectedResult (map (λ word. word.now) words.now) (S.files shelf.old) expected
+        → IsStatusReported result expected.reply (O.written out.old) (O.written out.new)
         (E.written err.old) (E.written err.new) (E.faults err.old) (E.faults err.new) }
-    ensures silent { result ≡ Status.Ok → err.new ≡ err.old }
-    ensures later_err { E.faults err.old ≤ E.faults err.new }
+    ensures err_unchanged { result ≡ Status.Ok → err.new ≡ err.old }
+    ensures err_count_never_falls { E.faults err.old ≤ E.faults err.new }
 {
     let outcome = answer(alloc, words, shelf, out);
     report(alloc, &outcome, err)

@@ -9,20 +9,20 @@ use Rattle.std.specs.Prelude.{bytes_eq, int_le, ◌≤ℤ◌, ◌&&◌, if◌the
 use Rattle.std.specs.List.{position_from}
 use Rattle.std.specs.Option.{option_map, option_or}
 use Rattle.std.specs.Ordering.{int_eq}
-use Rattle.cert_check.specs.Limits.{IsSize}
-use Rattle.cert_text.specs.Layout.{keyword_of}
-use Rattle.cert_text.specs.Lines.{line, Spells}
-use Rattle.cert_text.specs.Texts.{IsCutInto}
+use Rattle.cert_check.specs.CertificateLimits.{IsSize}
+use Rattle.cert_check.specs.Layout.{keyword_of}
+use Rattle.cert_check.specs.CertificateLines.{line, Spells}
+use Rattle.cert_check.specs.CertificateTexts.{IsCutInto}
 use Rattle.qss_trace.specs.declared.fault.TraceErr.{TraceErr}
 use Rattle.qss_trace.specs.declared.fault.TraceErr.TheVariants.{Keyword, Shape, Number, Missing, Form}
 use Rattle.qss_trace.specs.declared.limit.Limit.{Limit}
 use Rattle.qss_trace.specs.declared.limit.Limit.TheVariants as limit
 use Rattle.qss_trace.specs.declared.trace.Trace.{Trace}
-use Rattle.qss_trace.specs.Dues.{Due, due, part, due_at, fits, number_within, is_unfit, first_unfit, number_count, number_fault, shape_fault, form_fault, first_number, record_fault, fault_from, trace_fault}
-use Rattle.qss_trace.specs.Kept.{Kept}
-use Rattle.qss_trace.specs.Limits.{IsFactor}
-use Rattle.qss_trace.specs.Reading.{AddsNumbers, HasShape}
-use Rattle.qss_trace.specs.Texts.{IsTextOf, IsFaultOf, AreRecordsOf}
+use Rattle.qss_trace.specs.ExpectedFields.{Due, due, part, due_at, fits, number_within, is_unfit, first_unfit, number_count, number_fault, shape_fault, form_fault, first_number, record_fault, fault_from, trace_fault}
+use Rattle.qss_trace.specs.KeptTraces.{Kept}
+use Rattle.qss_trace.specs.TraceLimits.{IsFactor}
+use Rattle.qss_trace.specs.TraceData.{AddsNumbers, HasShape}
+use Rattle.qss_trace.specs.TraceTexts.{IsTextOf, IsFaultOf, AreRecordsOf}
 use Rattle.qss_trace.proofs.Cutting.{cut-total, records-few}
 use Rattle.qss_trace.proofs.Fields.{Parts, IsSound, trace_of}
 use Rattle.qss_trace.proofs.Judging.{within-is, spells-one, one-bad}

@@ -6,15 +6,15 @@ use Rattle.std.specs.Prelude.{unsigned_abs}
 use Rattle.mu_num.proofs.Tests.{eqb-false}
 use Rattle.cert_matrix.specs.Form.{Table, Vector, times}
 use Rattle.cert_matrix.specs.Matrix.{table, weight, IsInRange, IsFormInRange}
-use Rattle.qss_machine.specs.Legitimate.{cell}
+use Rattle.qss_machine.specs.Legitimate.{entry_at}
 use Rattle.qss_trace.specs.declared.trace.Trace.{Trace}
 use Rattle.qss_trace.specs.declared.comparing.Greatest.{Greatest}
 use Rattle.qss_trace.specs.declared.comparing.Greatest.TheVariants.{Found, Range}
 use Rattle.qss_trace.specs.declared.comparing.Search.{Search}
 use Rattle.qss_trace.specs.Trace.{count_of, states_of}
-use Rattle.qss_trace.specs.Common.{AreCommon, value_of, difference, both_units, bound_of, IsPairInRange, IsBoundInRange, AreGreatest, AreFirstOut, IsGreatest}
+use Rattle.qss_trace.specs.CommonTicks.{AreCommon, value_of, difference, both_units, bound_of, IsPairInRange, IsBoundInRange, AreGreatest, AreFirstOut, IsGreatest}
 use Rattle.qss_trace.specs.Comparing.{IsSearched}
-use Rattle.qss_trace.specs.Laws.{GreatestsAreOne}
+use Rattle.qss_trace.specs.TraceLaws.{GreatestsAreOne}
 use Rattle.qss_trace.proofs.Searching.{one-partner, search-none, search-skip, search-more, search-found}
 
 -- ---- one
@@ -107,7 +107,7 @@ form-decided n m y =
 pair-decided : (p : List (List ℤ)) (t1 t2 : Trace) (i1 i2 : ℕ) → IsDecided (IsPairInRange p t1 t2 i1 i2)
 pair-decided p t1 t2 i1 i2 =
     both (λ a b. record { parts = a; form = b }) (λ r. r.parts) (λ r. r.form)
-    (all-below t1.n (λ j. t2.scale * unsigned_abs (cell (states_of t1) i1 j) + t1.scale * unsigned_abs (cell (states_of t2) i2 j) ≤ 2 ^ 126) (λ j. at-most _ (2 ^ 126)))
+    (all-below t1.n (λ j. t2.scale * unsigned_abs (entry_at (states_of t1) i1 j) + t1.scale * unsigned_abs (entry_at (states_of t2) i2 j) ≤ 2 ^ 126) (λ j. at-most _ (2 ^ 126)))
     (form-decided t1.n (table p) (difference t1 t2 i1 i2))
 
 bound-decided : (c k : ℤ) (t1 t2 : Trace) → IsDecided (IsBoundInRange c k t1 t2)

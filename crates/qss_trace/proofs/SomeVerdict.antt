@@ -11,10 +11,10 @@ use Rattle.qss_trace.specs.declared.fact.Fact.TheVariants.{Start, Move, Near}
 use Rattle.qss_trace.specs.declared.trace.Trace.{Trace}
 use Rattle.qss_trace.specs.declared.verdict.TraceVerdict.{TraceVerdict}
 use Rattle.qss_trace.specs.declared.verdict.TraceVerdict.TheVariants as verdict
-use Rattle.qss_trace.specs.Checks.{IsFoundAmong, IsFoundAt}
-use Rattle.qss_trace.specs.Facts.{number_of, left_of, right_of, IsTakenAt, IsMet, HoldsAt}
+use Rattle.qss_trace.specs.TraceChecks.{IsFoundAmong, IsFoundAt}
+use Rattle.qss_trace.specs.LegitimateFacts.{number_of, left_of, right_of, IsTakenAt, IsMet, HoldsAt}
 use Rattle.qss_trace.specs.Trace.{count_of}
-use Rattle.qss_trace.specs.Verdicts.{IsVerdict}
+use Rattle.qss_trace.specs.TraceVerdicts.{IsVerdict}
 use Rattle.qss_trace.proofs.Found.{IsFirstOf, first-taken, found-first, found-near, HoldBelow, all-hold, first-broken}
 
 -- two sides stand to each other as a fact says, or not

@@ -2,12 +2,12 @@ use Rattle.std.proofs.Common.{◌≡◌, ◌≤ℤ◌, ◌<ℤ◌, ◌^◌, ℕ,
 use Rattle.std.specs.Int.{w128}
 use Rattle.std.proofs.lemmas.Int.{ints}
 use Rattle.std.proofs.lemmas.List.FromFn.{length-map-range_with_len}
-use Rattle.qss_machine.specs.Numbers.{tabulate}
+use Rattle.qss_machine.specs.IndexedSums.{tabulate}
 use Rattle.qss_machine.specs.Machines.{state_count, level_unit}
 use Rattle.qss_machine.specs.Legitimate.{start_coefficient}
 use Rattle.qss_machine.proofs.Near.{unit_positive, unit_high}
 use Rattle.cert_matrix.specs.Matrix.{table, vector}
-use Rattle.cert_check.specs.Certificate.{System}
+use Rattle.cert_check.specs.Inequalities.{System}
 use Rattle.cert_check.proofs.building.affine_system.Goals as goal
 
 -- a system by its lists

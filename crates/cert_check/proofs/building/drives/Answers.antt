@@ -4,10 +4,10 @@ use Rattle.std.specs.Prelude.{All, IsTrue}
 use Rattle.std.proofs.lemmas.List.{length-take}
 use Rattle.std.proofs.lemmas.List.FromFn.{length-map-range_with_len, map-range_with_len_more}
 use Rattle.mu_num.specs.Sizes.{IsWithin}
-use Rattle.qss_machine.specs.Numbers.{tabulate}
+use Rattle.qss_machine.specs.IndexedSums.{tabulate}
 use Rattle.qss_machine.specs.Slopes.{mode_fits}
 use Rattle.qss_machine.specs.Machines.{state_count, row_at, slope_at}
-use Rattle.qss_machine.specs.Legitimate.{start_drive}
+use Rattle.qss_machine.specs.Legitimate.{start_constant_part}
 use Rattle.cert_check.proofs.Starts.{starts-count, starts-small, starts-fit, zeros-at, slope-rest}
 use Rattle.cert_check.proofs.building.drives.Goals as goal
 
@@ -26,7 +26,7 @@ slope-requires-clause-modes c =
 
 pub push-requires : goal.push-requires
 push-requires c =
-    omega (arith, ap length c.loop-j.invariant, length-map-range_with_len (start_drive c.args.m.now) 0 c.loop-j.j, c.loop-j-test.true, c.requires.size, c.requires.scope.few)
+    omega (arith, ap length c.loop-j.invariant, length-map-range_with_len (start_constant_part c.args.m.now) 0 c.loop-j.j, c.loop-j-test.true, c.requires.size, c.requires.scope.few)
 
 pub loop-j-preserved : goal.loop-j-preserved
 loop-j-preserved c =
@@ -35,7 +35,7 @@ loop-j-preserved c =
     let levels : List ℤ = take c.args.n (replicate 16 (pos 0)) in
     let size : length (take c.args.n (replicate 16 (pos 0))) ≡ state_count c.args.m.now =
     omega (arith, length-take c.args.n (replicate 16 (pos 0)), c.requires.size, c.requires.scope.few) in
-    let value : slope_at c.args.m.now c.from.result (take c.args.n (replicate 16 (pos 0))) c.args.discretes.now ≡ start_drive c.args.m.now c.loop-j.j =
+    let value : slope_at c.args.m.now c.from.result (take c.args.n (replicate 16 (pos 0))) c.args.discretes.now ≡ start_constant_part c.args.m.now c.loop-j.j =
     rw (c.from.ensures, c.requires.values) (slope-rest c.args.m.now c.loop-j.j (take c.args.n (replicate 16 (pos 0))) size (zeros-at c.args.n 16)) in
     rw changed (ap₂ (λ (a : List ℤ) (b : ℤ). a ++ b ∷ []) c.loop-j.invariant (c.slope.ensures.value ∙ value)
-    ∙ sym (map-range_with_len_more (start_drive c.args.m.now) 0 c.loop-j.j c.loop-j.j (omega arith)))
+    ∙ sym (map-range_with_len_more (start_constant_part c.args.m.now) 0 c.loop-j.j c.loop-j.j (omega arith)))

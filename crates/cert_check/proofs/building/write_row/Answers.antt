@@ -10,13 +10,13 @@ use Rattle.cert_check.proofs.Tables.{changed-elsewhere}
 use Rattle.cert_check.proofs.Starts.{starts-count, starts-small}
 use Rattle.cert_check.proofs.building.write_row.Goals as goal
 
-pub mode_coef-coefficient-requires-clause-small : goal.mode_coef-coefficient-requires-clause-small
-mode_coef-coefficient-requires-clause-small c =
+pub mode_coef-coefficient-requires-clause-size_limit : goal.mode_coef-coefficient-requires-clause-size_limit
+mode_coef-coefficient-requires-clause-size_limit c =
     let P : List ℤ → Type 0 = All (IsWithin 43) in
     subst P (sym c.requires.values) (starts-small c.args.m.now)
 
-pub mode_coef-coefficient-requires-clause-as_many : goal.mode_coef-coefficient-requires-clause-as_many
-mode_coef-coefficient-requires-clause-as_many c = ap length c.requires.values ∙ starts-count c.args.m.now
+pub mode_coef-coefficient-requires-clause-same_length : goal.mode_coef-coefficient-requires-clause-same_length
+mode_coef-coefficient-requires-clause-same_length c = ap length c.requires.values ∙ starts-count c.args.m.now
 
 pub loop-k-preserved : goal.loop-k-preserved
 loop-k-preserved c =

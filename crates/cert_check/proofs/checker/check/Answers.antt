@@ -1,10 +1,10 @@
 use Rattle.std.proofs.Common.{◌≡◌, Option, None, sym, ap, subst, ◌∙◌}
 use Rattle.qss_machine.proofs.Near.{quanta_positive}
-use Rattle.cert_check.specs.declared.fault.Fault.{Fault}
-use Rattle.cert_check.specs.Certificate.{System, Holds}
-use Rattle.cert_check.specs.Reading.{claim}
+use Rattle.cert_check.specs.declared.failure.Fault.{Fault}
+use Rattle.cert_check.specs.Inequalities.{System, Holds}
+use Rattle.cert_check.specs.CertificateData.{certificate_data}
 use Rattle.cert_check.specs.Systems.{system_of}
-use Rattle.cert_check.specs.Inequality.{IsFirstFaultOf, fault_of, inequalities}
+use Rattle.cert_check.specs.InequalityTable.{IsFirstFaultOf, fault_of, inequalities}
 use Rattle.cert_check.specs.declared.verdict.Verdict.TheVariants.{Accepted}
 use Rattle.cert_check.proofs.Accepted.{accepted-holds}
 use Rattle.cert_check.proofs.Exactly.{accepted-ranges, accepts}
@@ -12,27 +12,27 @@ use Rattle.cert_check.proofs.Join.{promised}
 use Rattle.cert_check.proofs.Admit.{admitted}
 use Rattle.cert_check.proofs.checker.check.Goals as goal
 
-first : (c : goal.After-verdict_of) → IsFirstFaultOf (system_of c.args.m.now) (claim c.args.c.now) inequalities (fault_of c.verdict_of.result)
+first : (c : goal.After-verdict_of) → IsFirstFaultOf (system_of c.args.m.now) (certificate_data c.args.c.now) inequalities (fault_of c.verdict_of.result)
 first c =
-    let P : Option Fault → Type 0 = λ f. IsFirstFaultOf (system_of c.args.m.now) (claim c.args.c.now) inequalities f in
-    let Q : System → Type 0 = λ s. IsFirstFaultOf s (claim c.args.c.now) inequalities c.check_in_order.result in
+    let P : Option Fault → Type 0 = λ f. IsFirstFaultOf (system_of c.args.m.now) (certificate_data c.args.c.now) inequalities f in
+    let Q : System → Type 0 = λ s. IsFirstFaultOf s (certificate_data c.args.c.now) inequalities c.check_in_order.result in
     subst P (sym c.verdict_of.ensures) (subst Q c.affine_system-affine.ensures.system c.check_in_order.ensures)
 
-none : (c : goal.After-verdict_of) → c.verdict_of.result ≡ Accepted → IsFirstFaultOf (system_of c.args.m.now) (claim c.args.c.now) inequalities None
+none : (c : goal.After-verdict_of) → c.verdict_of.result ≡ Accepted → IsFirstFaultOf (system_of c.args.m.now) (certificate_data c.args.c.now) inequalities None
 none c accepted =
-    let P : Option Fault → Type 0 = λ f. IsFirstFaultOf (system_of c.args.m.now) (claim c.args.c.now) inequalities f in
+    let P : Option Fault → Type 0 = λ f. IsFirstFaultOf (system_of c.args.m.now) (certificate_data c.args.c.now) inequalities f in
     subst P (ap fault_of accepted) (first c)
 
-holds : (c : goal.After-verdict_of) → c.verdict_of.result ≡ Accepted → Holds (system_of c.args.m.now) (claim c.args.c.now)
-holds c accepted = accepted-holds (system_of c.args.m.now) (claim c.args.c.now) (quanta_positive c.args.m.now) (none c accepted)
+holds : (c : goal.After-verdict_of) → c.verdict_of.result ≡ Accepted → Holds (system_of c.args.m.now) (certificate_data c.args.c.now)
+holds c accepted = accepted-holds (system_of c.args.m.now) (certificate_data c.args.c.now) (quanta_positive c.args.m.now) (none c accepted)
 
 pub returns-clause-verdict : goal.returns-clause-verdict
 returns-clause-verdict c = first c
 
 pub returns-clause-accepted : goal.returns-clause-accepted
 returns-clause-accepted c = (
-  λ accepted. (holds c accepted, accepted-ranges (system_of c.args.m.now) (claim c.args.c.now) (none c accepted)),
-  λ both. accepts (system_of c.args.m.now) (claim c.args.c.now) c.verdict_of.result both.0 both.1 (first c),
+  λ accepted. (holds c accepted, accepted-ranges (system_of c.args.m.now) (certificate_data c.args.c.now) (none c accepted)),
+  λ both. accepts (system_of c.args.m.now) (certificate_data c.args.c.now) c.verdict_of.result both.0 both.1 (first c),
 )
 
 pub returns-clause-promised : goal.returns-clause-promised

@@ -1,8 +1,8 @@
 use Rattle.std.proofs.Common.{◌≡◌, ◌∙◌, refl, FitsSigned, arith, rules, to_z-of_z}
 use Rattle.std.specs.Int.{w128}
 use Rattle.std.proofs.lemmas.Int.{ints}
-use Rattle.cert_check.specs.Certificate.{decay}
-use Rattle.cert_check.specs.Reading.{claim, system}
+use Rattle.cert_check.specs.Inequalities.{decrease_matrix}
+use Rattle.cert_check.specs.CertificateData.{certificate_data, system}
 use Rattle.cert_check.proofs.stages.decay_at.Goals as goal
 
 pub returns-in_err-whole-clause-in_range : goal.returns-in_err-whole-clause-in_range
@@ -49,7 +49,7 @@ returns-clause-value c =
     let b = rw c.in_ok-turned.ensures.value at (simp to_z-of_z at c.in_ok-second.ensures.total) in
     let d = rw c.diagonal_at.ensures at (simp to_z-of_z at c.in_ok-third.ensures.total) in
     let e = rw c.get.ensures at (simp to_z-of_z at c.in_ok-whole.ensures.total) in
-    let value : c.in_ok-whole.whole.total ≡ decay (system c.args.m.now) (claim c.args.x.now) c.args.i c.args.j = omega (arith, ints, c.new.ensures.total) in
+    let value : c.in_ok-whole.whole.total ≡ decrease_matrix (system c.args.m.now) (certificate_data c.args.x.now) c.args.i c.args.j = omega (arith, ints, c.new.ensures.total) in
     rw to_z-of_z (c.total.ensures.value ∙ value)
 
 pub returns-in_err-second-clause-in_range : goal.returns-in_err-second-clause-in_range

@@ -1,8 +1,8 @@
 use Rattle.std.proofs.Common.{◌≡◌, ◌∙◌, FitsSigned, arith, rules, to_z-of_z}
 use Rattle.std.specs.Int.{w128}
 use Rattle.std.proofs.lemmas.Int.{ints}
-use Rattle.cert_check.specs.Certificate.{surplus}
-use Rattle.cert_check.specs.Reading.{claim}
+use Rattle.cert_check.specs.Inequalities.{diagonal_surplus}
+use Rattle.cert_check.specs.CertificateData.{certificate_data}
 use Rattle.cert_check.proofs.stages.surplus_at.Goals as goal
 
 pub returns-clause-value : goal.returns-clause-value
@@ -12,5 +12,5 @@ returns-clause-value c =
     let bound : FitsSigned w128 c.diagonal_at.result = search rules in
     let a = rw c.get.ensures at (simp to_z-of_z at c.in_ok-entry.ensures.total) in
     let b = rw c.diagonal_at.ensures at (simp to_z-of_z at c.in_ok-part.ensures.total) in
-    let value : c.in_ok-part.part.total ≡ surplus (claim c.args.x.now) c.args.i c.args.j = omega (arith, ints, c.new.ensures.total) in
+    let value : c.in_ok-part.part.total ≡ diagonal_surplus (certificate_data c.args.x.now) c.args.i c.args.j = omega (arith, ints, c.new.ensures.total) in
     rw to_z-of_z (c.total.ensures.value ∙ value)

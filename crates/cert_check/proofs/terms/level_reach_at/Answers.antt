@@ -1,8 +1,8 @@
 use Rattle.std.proofs.Common.{◌≡◌, ◌∙◌, refl, FitsSigned, arith, rules, to_z-of_z}
 use Rattle.std.specs.Int.{w128}
 use Rattle.std.proofs.lemmas.Int.{ints}
-use Rattle.cert_check.specs.Certificate.{level_reach}
-use Rattle.cert_check.specs.Reading.{claim}
+use Rattle.cert_check.specs.Inequalities.{level_range}
+use Rattle.cert_check.specs.CertificateData.{certificate_data}
 use Rattle.cert_check.proofs.terms.level_reach_at.Goals as goal
 
 pub returns-clause-value : goal.returns-clause-value
@@ -14,7 +14,7 @@ returns-clause-value c =
     let a = rw c.at.ensures at (simp to_z-of_z at c.in_ok-centre.ensures.total) in
     let b = rw c.at-2.ensures at (simp to_z-of_z at c.in_ok-state.ensures.total) in
     let d = rw c.at-3.ensures at (simp to_z-of_z at c.in_ok-level.ensures.total) in
-    let value : c.in_ok-level.level.total ≡ level_reach (claim c.args.x.now) c.args.j = omega (arith, ints, c.new.ensures.total) in
+    let value : c.in_ok-level.level.total ≡ level_range (certificate_data c.args.x.now) c.args.j = omega (arith, ints, c.new.ensures.total) in
     rw to_z-of_z (c.total.ensures.value ∙ value)
 
 pub returns-in_err-level-clause-in_range : goal.returns-in_err-level-clause-in_range

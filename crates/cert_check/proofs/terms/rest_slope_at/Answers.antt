@@ -3,8 +3,8 @@ use Rattle.std.specs.Int.{w128}
 use Rattle.std.proofs.lemmas.Int.{ints}
 use Rattle.cert_matrix.specs.Matrix.{table, vector}
 use Rattle.cert_matrix.proofs.Weights.{more-from, beyond-base}
-use Rattle.cert_check.specs.Certificate.{rest_slope}
-use Rattle.cert_check.specs.Reading.{claim, system}
+use Rattle.cert_check.specs.Inequalities.{centre_slope}
+use Rattle.cert_check.specs.CertificateData.{certificate_data, system}
 use Rattle.cert_check.proofs.terms.rest_slope_at.Goals as goal
 
 pub loop-k-preserved : goal.loop-k-preserved
@@ -37,6 +37,6 @@ returns-clause-value c =
     let fits : FitsSigned w128 c.total.result = search rules in
     let start : c.in_ok-sum.sum.total ≡ vector c.args.m.now.constant c.args.j =
     simp to_z-of_z at c.in_ok-sum.ensures.total ∙ rw (c.new.ensures.total, c.at.ensures) (omega (arith, ints)) in
-    let value : c.loop-k.sum.total ≡ rest_slope (system c.args.m.now) (claim c.args.x.now) c.args.j =
+    let value : c.loop-k.sum.total ≡ centre_slope (system c.args.m.now) (certificate_data c.args.x.now) c.args.j =
     (rw all at c.loop-k.invariant.total) ∙ rw start (omega (arith, ints)) in
     rw to_z-of_z (c.total.ensures.value ∙ value)

@@ -2,7 +2,7 @@ use Rattle.std.proofs.Common.{◌≡◌, ◌∙◌, ◌≤ℤ◌, pos, refl, sym
 use Rattle.std.specs.Int.{w128}
 use Rattle.std.proofs.lemmas.Int.{ints}
 use Rattle.cert_matrix.specs.Matrix.{vector}
-use Rattle.cert_check.specs.Reading.{system}
+use Rattle.cert_check.specs.CertificateData.{system}
 use Rattle.cert_propose.proofs.Candidates.{start-bound, grown-bound}
 use Rattle.cert_propose.proofs.basin.basin_of.Goals as goal
 

@@ -1,6 +1,6 @@
 use Rattle.std.proofs.Common.{◌≡◌, ◌∙◌, sym, FitsSigned, rules, to_z-of_z}
 use Rattle.std.specs.Int.{w128}
-use Rattle.cert_check.specs.Reading.{system}
+use Rattle.cert_check.specs.CertificateData.{system}
 use Rattle.cert_propose.proofs.Candidates.{round-bound}
 use Rattle.cert_propose.proofs.Rounds.{repeated-step, repeated-stop, repeated-end}
 use Rattle.cert_propose.proofs.basin.grown.Goals as goal

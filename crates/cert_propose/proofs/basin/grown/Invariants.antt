@@ -1,7 +1,7 @@
 use Rattle.std.proofs.Common.{◌≡◌, ◌-◌}
-use Rattle.cert_check.specs.Reading.{system}
-use Rattle.cert_propose.specs.Limits.{IsBound}
-use Rattle.cert_propose.specs.Sums.{repeated}
+use Rattle.cert_check.specs.CertificateData.{system}
+use Rattle.cert_propose.specs.ProposalLimits.{IsBound}
+use Rattle.cert_propose.specs.RangedSums.{repeated}
 use Rattle.cert_propose.specs.Candidate as Step
 use Rattle.cert_propose.proofs.basin.grown.Given as goal
 

@@ -3,7 +3,7 @@ use Rattle.std.specs.Int.{w128}
 use Rattle.std.proofs.lemmas.Int.{ints}
 use Rattle.mu_num.specs.Rounding.{ceiling_of}
 use Rattle.cert_matrix.specs.Matrix.{vector}
-use Rattle.cert_propose.specs.Sums.{root_up_of}
+use Rattle.cert_propose.specs.RangedSums.{root_up_of}
 use Rattle.cert_propose.proofs.Candidates.{ceiling-bound}
 use Rattle.cert_propose.proofs.Roots.{root-is}
 use Rattle.cert_propose.proofs.basin.root_over.Goals as goal

@@ -1,7 +1,7 @@
 use Rattle.std.proofs.Common.{◌≡◌, ◌∙◌, length, Some, None, refl, sym}
-use Rattle.cert_check.specs.Reading.{system}
+use Rattle.cert_check.specs.CertificateData.{system}
 use Rattle.cert_matrix.specs.Matrix.{table}
-use Rattle.cert_propose.specs.Sums.{product_of}
+use Rattle.cert_propose.specs.RangedSums.{product_of}
 use Rattle.cert_propose.specs.Candidate.{over_sizes, falls_of, row_sizes, raised}
 use Rattle.cert_propose.proofs.Collected.{collected-length}
 use Rattle.cert_propose.proofs.bounds.bounds_of.Goals as goal

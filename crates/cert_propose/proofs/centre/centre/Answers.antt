@@ -1,6 +1,6 @@
 use Rattle.std.proofs.Common.{◌≡◌, ◌∙◌, pos, refl, sym, rules}
-use Rattle.qss_machine.specs.Numbers.{tabulate}
-use Rattle.cert_check.specs.Reading.{system}
+use Rattle.qss_machine.specs.IndexedSums.{tabulate}
+use Rattle.cert_check.specs.CertificateData.{system}
 use Rattle.cert_propose.specs.Candidate as Step
 use Rattle.cert_propose.proofs.Rounds.{repeated-step, repeated-stop, repeated-end}
 use Rattle.cert_propose.proofs.centre.centre.Goals as goal

@@ -1,6 +1,6 @@
 use Rattle.std.proofs.Common.{◌≡◌, ◌-◌}
-use Rattle.cert_check.specs.Reading.{system}
-use Rattle.cert_propose.specs.Sums.{repeated}
+use Rattle.cert_check.specs.CertificateData.{system}
+use Rattle.cert_propose.specs.RangedSums.{repeated}
 use Rattle.cert_propose.specs.Candidate as Step
 use Rattle.cert_propose.proofs.centre.centre.Given as goal
 

@@ -1,6 +1,6 @@
 use Rattle.std.proofs.Common.{◌≡◌, ℕ, ◌<◌, ℤ, Option, Some, length}
-use Rattle.qss_machine.specs.Numbers.{tabulate}
-use Rattle.cert_propose.specs.Sums.{collected}
+use Rattle.qss_machine.specs.IndexedSums.{tabulate}
+use Rattle.cert_propose.specs.RangedSums.{collected}
 use Rattle.cert_propose.proofs.columns.column_by.Given as goal
 
 abbrev pub invariant-loop-k : goal.invariant-loop-k

@@ -2,7 +2,7 @@ use Rattle.std.proofs.Common.{◌≡◌, refl, subst, length, ◌∙◌, ◌++�
 use Rattle.std.specs.Int.{w128}
 use Rattle.std.proofs.lemmas.List.FromFn.{map-range_with_len_more}
 use Rattle.cert_matrix.specs.Matrix.{vector}
-use Rattle.cert_check.specs.Limits.{IsVector}
+use Rattle.cert_check.specs.CertificateLimits.{IsVector}
 use Rattle.cert_propose.proofs.Small.{whole}
 use Rattle.cert_propose.proofs.columns.list_of.Goals as goal
 

@@ -1,6 +1,6 @@
 use Rattle.std.proofs.Common.{◌≡◌, sym, subst, FitsSigned, rules, to_z-of_z}
 use Rattle.std.specs.Int.{w128}
-use Rattle.cert_propose.specs.Limits.{IsBound}
+use Rattle.cert_propose.specs.ProposalLimits.{IsBound}
 use Rattle.cert_propose.proofs.Candidates.{sum-bound, gains-≥, ceiling-bound}
 use Rattle.cert_propose.proofs.ellipsoid.ellipsoid_of.Goals as goal
 

@@ -4,4 +4,4 @@ use Rattle.cert_propose.proofs.Exponents.{far-above}
 use Rattle.cert_propose.proofs.exponent.is_above.Goals as goal
 
 pub returns-in-None : goal.returns-in-None
-returns-in-None c = sym (far-above (length c.args.a.now) c.args.q (table c.args.a.now c.args.i) c.requires.few (sym c.in-None.ensures))
+returns-in-None c = sym (far-above (length c.args.a.now) c.args.q (table c.args.a.now c.args.i) c.requires.count_limit (sym c.in-None.ensures))

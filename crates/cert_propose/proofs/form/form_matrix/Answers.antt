@@ -1,7 +1,7 @@
 use Rattle.std.proofs.Common.{◌≡◌, ◌∙◌, length, refl, sym, ap}
 use Rattle.std.proofs.lemmas.List.FromFn.{length-map-range_with_len}
 use Rattle.cert_matrix.proofs.Rows.{length-zeros}
-use Rattle.cert_check.specs.Reading.{system}
+use Rattle.cert_check.specs.CertificateData.{system}
 use Rattle.cert_propose.specs.Candidate as Step
 use Rattle.cert_propose.proofs.Candidates.{form-length}
 use Rattle.cert_propose.proofs.Rounds.{repeated-step, repeated-stop, repeated-end}

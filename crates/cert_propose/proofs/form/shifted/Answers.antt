@@ -1,5 +1,5 @@
 use Rattle.std.proofs.Common.{◌+ℤ◌, ◌^◌, pos, rules}
-use Rattle.cert_check.specs.Reading.{system}
+use Rattle.cert_check.specs.CertificateData.{system}
 use Rattle.cert_propose.specs.Candidate.{on_diagonal}
 use Rattle.cert_propose.proofs.form.shifted.Goals as goal
 

@@ -1,7 +1,7 @@
 use Rattle.std.proofs.Common.{◌≡◌, ◌∙◌, ◌⊎◌, inl, inr, ◌+◌, ◌<◌, ◌≤◌, ℕ, ℤ, length, Option, Some, None, refl, sym, ap, arith}
 use Rattle.std.proofs.lemmas.Bool.{cases_lt}
 use Rattle.cert_matrix.specs.Matrix.{table}
-use Rattle.cert_propose.specs.Sums.{vector_by}
+use Rattle.cert_propose.specs.RangedSums.{vector_by}
 use Rattle.cert_propose.proofs.Collected.{table-is, table-stop}
 use Rattle.cert_propose.proofs.matrices.matrix_by.Goals as goal
 

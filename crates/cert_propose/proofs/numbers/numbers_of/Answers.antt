@@ -1,6 +1,6 @@
 use Rattle.std.proofs.Common.{◌≡◌, ◌∙◌, length, None, Some, refl, sym, ap}
 use Rattle.cert_matrix.specs.Matrix.{table}
-use Rattle.cert_check.specs.Reading.{system}
+use Rattle.cert_check.specs.CertificateData.{system}
 use Rattle.cert_propose.specs.Candidate as Step
 use Rattle.cert_propose.proofs.Candidates.{form-fits, bounds-kept}
 use Rattle.cert_propose.proofs.numbers.numbers_of.Goals as goal

@@ -3,18 +3,18 @@ use Rattle.std.specs.Prelude.{Ok}
 use Rattle.std.proofs.lemmas.Int.{ints}
 use Rattle.cert_matrix.specs.Form.{Vector}
 use Rattle.cert_matrix.specs.Matrix.{vector}
-use Rattle.cert_check.specs.Certificate.{System}
-use Rattle.cert_check.specs.Reading.{system}
+use Rattle.cert_check.specs.Inequalities.{System}
+use Rattle.cert_check.specs.CertificateData.{system}
 use Rattle.cert_propose.specs.Candidate.{candidate, candidate_of}
-use Rattle.cert_propose.specs.Limits.{AreSmall}
+use Rattle.cert_propose.specs.ProposalLimits.{AreSmall}
 use Rattle.cert_propose.specs.Proposals.{HasCandidate, IsCandidate}
 use Rattle.cert_propose.proofs.Candidates.{candidate-fits}
 use Rattle.cert_propose.proofs.Machines.{starts-fit, quanta-fit, coefficients-small}
 use Rattle.cert_propose.proofs.Parts.{if-err}
 use Rattle.cert_propose.proofs.proposal.propose.Goals as goal
 
-pub numbers_of-requires-clause-small : goal.numbers_of-requires-clause-small
-numbers_of-requires-clause-small c = subst AreSmall (sym c.affine_system-affine.ensures.system) (coefficients-small c.args.m.now)
+pub numbers_of-requires-clause-size_limit : goal.numbers_of-requires-clause-size_limit
+numbers_of-requires-clause-size_limit c = subst AreSmall (sym c.affine_system-affine.ensures.system) (coefficients-small c.args.m.now)
 
 pub certificate_of-requires-clause-fit : goal.certificate_of-requires-clause-fit
 certificate_of-requires-clause-fit c =
@@ -30,8 +30,8 @@ certificate_of-requires-clause-start c = rw (c.start_of-start.ensures, c.affine_
 pub certificate_of-requires-clause-quanta : goal.certificate_of-requires-clause-quanta
 certificate_of-requires-clause-quanta c = rw (c.quanta_of-quantum.ensures, c.affine_system-affine.ensures.size) (quanta-fit c.args.m.now)
 
-pub returns-in_err-cert-in-Ok-clause-wanted : goal.returns-in_err-cert-in-Ok-clause-wanted
-returns-in_err-cert-in-Ok-clause-wanted c =
+pub returns-in_err-cert-in-Ok-clause-memory_was_needed : goal.returns-in_err-cert-in-Ok-clause-memory_was_needed
+returns-in_err-cert-in-Ok-clause-memory_was_needed c =
     let has : candidate_of c.args.m.now ≡ Ok c.in-Ok.x =
     ap₂ (λ (s : System) (xs : List ℤ). candidate s (vector xs)) (sym c.affine_system-affine.ensures.system) (sym c.start_of-start.ensures) ∙ sym c.numbers_of.ensures ∙ c.in-Ok.is in
     if-err (HasCandidate c.args.m.now) c.from_residual.result (c.in-Ok.x, has)

@@ -1,9 +1,9 @@
 use Rattle.std.proofs.Common.{◌≡◌, ◌∙◌, sym, ap, subst, true, false}
 use Rattle.std.specs.Prelude.{Err}
 use Rattle.std.proofs.lemmas.Result.{err_from_is_err_and}
-use Rattle.mu_forms.specs.AffineForm.{AffineForm}
-use Rattle.mu_forms.specs.Forms.{form_meaning, sum_meaning}
-use Rattle.mu_forms.specs.Parts.{join_forms, IsAnswer}
+use Rattle.mu_affine.specs.AffineForm.{AffineForm}
+use Rattle.mu_affine.specs.FinishedForms.{form_meaning, sum_meaning}
+use Rattle.mu_affine.specs.FormParts.{join_forms, IsAnswer}
 use Rattle.mu_affine.proofs.Walking.{fault_passes, sum_answer}
 use Rattle.mu_affine.proofs.Conditions.{sum_begins, never_fails}
 use Rattle.mu_affine.proofs.clause.difference.Goals as goal

@@ -1,6 +1,6 @@
 use Rattle.std.proofs.Common.{◌≡◌, drop, map}
-use Rattle.mu_flat.specs.FlatExpression.{flat_action}
-use Rattle.mu_affine.specs.Normal.{keep_actions}
+use Rattle.mu_tree.specs.FlatExpression.{flat_action}
+use Rattle.mu_affine.specs.FormSequence.{keep_actions}
 use Rattle.mu_affine.specs.Takings.{kept_so_far, IsKept}
 use Rattle.mu_affine.proofs.keeping.keep_actions.Given as goal
 

@@ -1,14 +1,14 @@
 use Rattle.std.proofs.Common.{◌≡◌, ◌∙◌, length, map, sym, ap, subst}
 use Rattle.std.specs.Prelude.{Result, Ok, All}
 use Rattle.std.proofs.lemmas.Result.{err_from_is_err_and}
-use Rattle.mu_flat.specs.declared.flat.FlatBranch.{FlatBranch}
-use Rattle.mu_flat.specs.FlatExpression.{flat_action, flat_branch}
-use Rattle.mu_forms.specs.declared.fault.AffineErr.{AffineErr}
-use Rattle.mu_forms.specs.declared.form.ExactForm.{ExactForm}
-use Rattle.mu_forms.specs.AffineForm.{AffineForm, coefficient_count}
-use Rattle.mu_forms.specs.Forms.{form_meaning}
+use Rattle.mu_tree.specs.declared.flat.FlatBranch.{FlatBranch}
+use Rattle.mu_tree.specs.FlatExpression.{flat_action, flat_branch}
+use Rattle.mu_affine.specs.declared.form_fault.AffineErr.{AffineErr}
+use Rattle.mu_affine.specs.declared.form.ExactForm.{ExactForm}
+use Rattle.mu_affine.specs.AffineForm.{AffineForm, coefficient_count}
+use Rattle.mu_affine.specs.FinishedForms.{form_meaning}
 use Rattle.mu_affine.specs.declared.counting.CountedForms.{CountedForms}
-use Rattle.mu_affine.specs.Normal.{keep_actions, keep_branches}
+use Rattle.mu_affine.specs.FormSequence.{keep_actions, keep_branches}
 use Rattle.mu_affine.specs.Walks.{IsNumberedAction}
 use Rattle.mu_affine.specs.Takings.{of_clauses, kept_so_far, IsNumberedBranch, IsFaultOf}
 use Rattle.mu_affine.proofs.Counts.{counted_few}

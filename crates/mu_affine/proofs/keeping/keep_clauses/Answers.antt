@@ -1,11 +1,11 @@
 use Rattle.std.proofs.Common.{◌≡◌, ◌∙◌, length, map, sym, ap, subst}
 use Rattle.std.specs.Prelude.{Ok, All}
 use Rattle.std.proofs.lemmas.Result.{err_from_is_err_and}
-use Rattle.mu_flat.specs.declared.flat.FlatClause.{FlatClause}
-use Rattle.mu_flat.specs.FlatExpression.{flat_branch, flat_clause}
-use Rattle.mu_forms.specs.declared.fault.AffineErr.{AffineErr}
+use Rattle.mu_tree.specs.declared.flat.FlatClause.{FlatClause}
+use Rattle.mu_tree.specs.FlatExpression.{flat_branch, flat_clause}
+use Rattle.mu_affine.specs.declared.form_fault.AffineErr.{AffineErr}
 use Rattle.mu_affine.specs.declared.counting.CountedForms.{CountedForms}
-use Rattle.mu_affine.specs.Normal.{keep_branches, keep_clauses}
+use Rattle.mu_affine.specs.FormSequence.{keep_branches, keep_clauses}
 use Rattle.mu_affine.specs.Takings.{of_clauses, kept_so_far, IsNumberedBranch, IsFaultOf}
 use Rattle.mu_affine.proofs.Equations.{mapped_one}
 use Rattle.mu_affine.proofs.KeptForms.{clause_more, clause_fails}

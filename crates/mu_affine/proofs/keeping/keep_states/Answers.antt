@@ -1,20 +1,20 @@
 use Rattle.std.proofs.Common.{◌≡◌, ◌∙◌, ◌≤◌, ◌+◌, ℕ, length, map, refl, sym, ap, arith}
 use Rattle.std.specs.Prelude.{Result, Ok}
 use Rattle.std.proofs.lemmas.Result.{err_from_is_err_and}
-use Rattle.mu_flat.specs.FlatExpression.{flat_model, flat_equation}
-use Rattle.mu_forms.specs.declared.fault.AffineErr.{AffineErr}
-use Rattle.mu_forms.specs.declared.form.ExactForm.{ExactForm}
-use Rattle.mu_forms.specs.AffineForm.{AffineForm, coefficient_count}
-use Rattle.mu_forms.specs.Forms.{form_meaning}
+use Rattle.mu_tree.specs.FlatExpression.{flat_model, flat_equation}
+use Rattle.mu_affine.specs.declared.form_fault.AffineErr.{AffineErr}
+use Rattle.mu_affine.specs.declared.form.ExactForm.{ExactForm}
+use Rattle.mu_affine.specs.AffineForm.{AffineForm, coefficient_count}
+use Rattle.mu_affine.specs.FinishedForms.{form_meaning}
 use Rattle.mu_affine.specs.declared.counting.CountedForms.{CountedForms}
 use Rattle.mu_affine.specs.FormOf.{form_of}
 use Rattle.mu_affine.specs.Solution.{equation_context}
-use Rattle.mu_affine.specs.Normal.{right_side, keep_states}
+use Rattle.mu_affine.specs.FormSequence.{right_side, keep_states}
 use Rattle.mu_affine.specs.Walks.{forms_in}
 use Rattle.mu_affine.specs.Takings.{of_equations, kept_so_far}
 use Rattle.mu_affine.proofs.Counts.{counted_few}
 use Rattle.mu_affine.proofs.Steps.{answer_fault, fault_same}
-use Rattle.mu_affine.proofs.InOrder.{part_along}
+use Rattle.mu_affine.proofs.FormsInOrder.{part_along}
 use Rattle.mu_affine.proofs.KeptForms.{none_kept, state_kept, length_kept, keep_part_fault, keep_count_fault, keep_done, state_part, state_more, state_fails, states_begin, states_end}
 use Rattle.mu_affine.proofs.keeping.keep_states.Goals as goal
 
@@ -23,7 +23,7 @@ loop-var-init c = record {
   rest = states_begin (flat_model c.args.m.now) c.args.sizes (kept_so_far c.args.solved.now c.args.kept.now);
   kept = none_kept c.args.sizes c.args.kept.now.forms.items c.requires.none;
   one_each = ap length c.requires.none;
-  few = c.requires.few;
+  few = c.requires.count_limit;
 }
 
 pub returns-in_err-form : goal.returns-in_err-form

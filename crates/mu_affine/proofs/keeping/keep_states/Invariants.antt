@@ -1,6 +1,6 @@
 use Rattle.std.proofs.Common.{◌≡◌, ◌≤◌, ◌-◌, ◌^◌, length}
-use Rattle.mu_flat.specs.FlatExpression.{flat_model}
-use Rattle.mu_affine.specs.Normal.{keep_states}
+use Rattle.mu_tree.specs.FlatExpression.{flat_model}
+use Rattle.mu_affine.specs.FormSequence.{keep_states}
 use Rattle.mu_affine.specs.Takings.{kept_so_far, AreKept}
 use Rattle.mu_affine.proofs.keeping.keep_states.Given as goal
 

@@ -1,17 +1,17 @@
 use Rattle.std.proofs.Common.{◌≡◌, ◌∙◌, ◌<◌, ℕ, List, length, map, refl, sym, ap, subst}
 use Rattle.std.specs.Prelude.{All, Ok}
 use Rattle.std.proofs.lemmas.Result.{err_from_is_err_and}
-use Rattle.mu_flat.specs.declared.flat.FlatRole.TheVariants.{State, Discrete}
-use Rattle.mu_flat.specs.FlatExpression.{FlatModelTree, flat_model, flat_variable, flat_clause}
-use Rattle.mu_forms.specs.declared.fault.AffineErr.{AffineErr}
-use Rattle.mu_forms.specs.declared.form.Forms.{Forms}
-use Rattle.mu_forms.specs.declared.form.Sizes.{Sizes}
+use Rattle.mu_tree.specs.declared.flat.FlatRole.TheVariants.{State, Discrete}
+use Rattle.mu_tree.specs.FlatExpression.{FlatModelTree, flat_model, flat_variable, flat_clause}
+use Rattle.mu_affine.specs.declared.form_fault.AffineErr.{AffineErr}
+use Rattle.mu_affine.specs.declared.form.Forms.{Forms}
+use Rattle.mu_affine.specs.declared.form.Sizes.{Sizes}
 use Rattle.mu_affine.specs.declared.counting.CountedForms.{CountedForms}
 use Rattle.mu_affine.specs.Solution.{count_of_role, sizes_of}
-use Rattle.mu_affine.specs.Normal.{solve_all, nothing_taken, keep_states, keep_clauses}
+use Rattle.mu_affine.specs.FormSequence.{solve_all, nothing_taken, keep_states, keep_clauses}
 use Rattle.mu_affine.specs.Walks.{AreSolved}
 use Rattle.mu_affine.specs.Takings.{of_equations, of_clauses, solved_so_far, kept_so_far, IsNumberedBranch, IsFaultOf}
-use Rattle.mu_affine.proofs.Whole.{sizes_same, sizes_small, states_few, one_for_each, equations_numbered, clauses_numbered, order_within, whole_done, whole_clauses_fault}
+use Rattle.mu_affine.proofs.WholeModels.{sizes_same, sizes_small, states_few, one_for_each, equations_numbered, clauses_numbered, order_within, whole_done, whole_clauses_fault}
 use Rattle.mu_affine.proofs.normal.normal.Goals as goal
 
 pub solve_all-requires-clause-fit : goal.solve_all-requires-clause-fit

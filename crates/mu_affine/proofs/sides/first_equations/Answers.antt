@@ -1,7 +1,7 @@
 use Rattle.std.proofs.Common.{◌∙◌, ◌<◌, ◌-◌, ℕ, length, get_or, length-set, refl, sym, subst, arith}
 use Rattle.std.proofs.lemmas.List.{get_or_default}
-use Rattle.mu_flat.specs.declared.flat.FlatEquation.{FlatEquation}
-use Rattle.mu_flat.specs.FlatExpression.{flat_equation}
+use Rattle.mu_tree.specs.declared.flat.FlatEquation.{FlatEquation}
+use Rattle.mu_tree.specs.FlatExpression.{flat_equation}
 use Rattle.mu_affine.proofs.Equations.{mapped_one, no_firsts, first_more}
 use Rattle.mu_affine.proofs.sides.first_equations.Goals as goal
 

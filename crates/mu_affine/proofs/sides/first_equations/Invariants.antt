@@ -1,6 +1,6 @@
 use Rattle.std.proofs.Common.{◌≡◌, ◌≤◌, ◌<◌, ℕ, length, map, drop, get_or}
-use Rattle.mu_flat.specs.FlatExpression.{flat_equation}
-use Rattle.mu_affine.specs.Normal.{right_side}
+use Rattle.mu_tree.specs.FlatExpression.{flat_equation}
+use Rattle.mu_affine.specs.FormSequence.{right_side}
 use Rattle.mu_affine.specs.Takings.{side_at}
 use Rattle.mu_affine.proofs.sides.first_equations.Given as goal
 

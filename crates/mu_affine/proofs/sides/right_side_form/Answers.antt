@@ -1,6 +1,6 @@
 use Rattle.std.proofs.Common.{◌∙◌, sym, ap}
 use Rattle.std.specs.Prelude.{Ok}
-use Rattle.mu_forms.specs.AffineForm.{constant_form}
+use Rattle.mu_affine.specs.AffineForm.{constant_form}
 use Rattle.mu_affine.specs.FormOf.{form_of}
 use Rattle.mu_affine.specs.Solution.{equation_context}
 use Rattle.mu_affine.specs.Walks.{forms_in}

@@ -1,6 +1,6 @@
 use Rattle.std.proofs.Common.{◌≡◌, ◌≤◌, ◌+◌, map, drop}
-use Rattle.mu_flat.specs.declared.flat.FlatRole.TheVariants.{State, Discrete}
-use Rattle.mu_flat.specs.FlatExpression.{flat_variable}
+use Rattle.mu_tree.specs.declared.flat.FlatRole.TheVariants.{State, Discrete}
+use Rattle.mu_tree.specs.FlatExpression.{flat_variable}
 use Rattle.mu_affine.specs.Solution.{count_of_role}
 use Rattle.mu_affine.proofs.sides.sizes_of.Given as goal
 

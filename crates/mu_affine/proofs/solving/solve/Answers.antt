@@ -2,20 +2,20 @@ use Rattle.std.proofs.Common.{◌≡◌, ◌∙◌, ◌<◌, length, length-set,
 use Rattle.std.specs.Prelude.{Ok}
 use Rattle.std.specs.Vec.{with_item}
 use Rattle.std.proofs.lemmas.Result.{err_from_is_err_and}
-use Rattle.mu_flat.specs.FlatExpression.{flat_model, flat_equation}
-use Rattle.mu_forms.specs.declared.fault.AffineErr.{AffineErr}
-use Rattle.mu_forms.specs.declared.form.ExactForm.{ExactForm}
-use Rattle.mu_forms.specs.AffineForm.{coefficient_count}
-use Rattle.mu_forms.specs.Forms.{form_meaning}
+use Rattle.mu_tree.specs.FlatExpression.{flat_model, flat_equation}
+use Rattle.mu_affine.specs.declared.form_fault.AffineErr.{AffineErr}
+use Rattle.mu_affine.specs.declared.form.ExactForm.{ExactForm}
+use Rattle.mu_affine.specs.AffineForm.{coefficient_count}
+use Rattle.mu_affine.specs.FinishedForms.{form_meaning}
 use Rattle.mu_affine.specs.declared.counting.CountedForms.{CountedForms}
 use Rattle.mu_affine.specs.FormOf.{form_of}
 use Rattle.mu_affine.specs.Solution.{equation_context}
-use Rattle.mu_affine.specs.Normal.{right_side, solve}
+use Rattle.mu_affine.specs.FormSequence.{right_side, solve}
 use Rattle.mu_affine.specs.Walks.{forms_in, AreSolved}
 use Rattle.mu_affine.specs.Takings.{of_equations, solved_so_far}
 use Rattle.mu_affine.proofs.Counts.{counted_few}
 use Rattle.mu_affine.proofs.Steps.{is_fault}
-use Rattle.mu_affine.proofs.InOrder.{part_along, solve_count_fault, solve_done, solved_more}
+use Rattle.mu_affine.proofs.FormsInOrder.{part_along, solve_count_fault, solve_done, solved_more}
 use Rattle.mu_affine.proofs.solving.solve.Goals as goal
 
 pub right_side_form-requires-clause-solved : goal.right_side_form-requires-clause-solved

@@ -1,8 +1,8 @@
 use Rattle.std.proofs.Common.{length, refl, sym, ap}
-use Rattle.mu_flat.specs.FlatExpression.{flat_model}
+use Rattle.mu_tree.specs.FlatExpression.{flat_model}
 use Rattle.mu_affine.specs.declared.counting.CountedForms.{CountedForms}
-use Rattle.mu_affine.specs.Normal.{solve_all}
-use Rattle.mu_affine.proofs.InOrder.{nothing_solved, zeros_solved}
+use Rattle.mu_affine.specs.FormSequence.{solve_all}
+use Rattle.mu_affine.proofs.FormsInOrder.{nothing_solved, zeros_solved}
 use Rattle.mu_affine.proofs.solving.solve_all.Goals as goal
 
 pub loop-var-init : goal.loop-var-init

@@ -1,6 +1,6 @@
 use Rattle.std.proofs.Common.{◌≡◌, length, drop}
-use Rattle.mu_flat.specs.FlatExpression.{flat_model}
-use Rattle.mu_affine.specs.Normal.{solve_all, nothing_taken}
+use Rattle.mu_tree.specs.FlatExpression.{flat_model}
+use Rattle.mu_affine.specs.FormSequence.{solve_all, nothing_taken}
 use Rattle.mu_affine.specs.Takings.{solved_so_far, IsSolved}
 use Rattle.mu_affine.proofs.solving.solve_all.Given as goal
 

@@ -1,7 +1,7 @@
 use Rattle.std.proofs.Common.{◌∙◌, ◌+◌, length, sym, ap, subst}
 use Rattle.std.proofs.lemmas.List.{length_push}
 use Rattle.std.proofs.lemmas.List.Elements.{All-push}
-use Rattle.mu_forms.specs.AffineForm.{constant_form}
+use Rattle.mu_affine.specs.AffineForm.{constant_form}
 use Rattle.mu_affine.specs.Takings.{IsZero, AreZeros}
 use Rattle.mu_affine.proofs.solving.zeros.Goals as goal
 

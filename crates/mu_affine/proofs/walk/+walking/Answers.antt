@@ -3,15 +3,15 @@ use Rattle.std.specs.Prelude.{Result, Ok, Err, pos}
 use Rattle.std.proofs.lemmas.List.{at_drop_all}
 use Rattle.std.proofs.lemmas.Result.{err_from_is_err_and}
 use Rattle.mu_num.specs.Fraction.{whole}
-use Rattle.mu_flat.specs.FlatExpression.{FlatExpression, flat_expression, flat_signed, flat_scaled, flat_terms_of, flat_factors_of}
-use Rattle.mu_flat.specs.FlatExpression as tree
-use Rattle.mu_flat.specs.declared.flat.FlatExpr.{FlatExpr, the_lemmas}
-use Rattle.mu_flat.specs.declared.flat.FlatTerm.{FlatTerm, out-FlatTerm}
-use Rattle.mu_flat.specs.declared.flat.FlatFactor.{FlatFactor, out-FlatFactor}
-use Rattle.mu_flat.proofs.FlatShapes.{flat_expression-Const, flat_expression-Var, flat_expression-Pre, flat_expression-Time, flat_expression-Sum, flat_expression-Product, flat_expression-Pow}
-use Rattle.mu_forms.specs.AffineForm.{AffineForm, constant_form, none}
-use Rattle.mu_forms.specs.Forms.{form_meaning, sum_meaning, IsOver}
-use Rattle.mu_forms.specs.Parts.{IsAnswer, join_forms, multiply_forms}
+use Rattle.mu_tree.specs.FlatExpression.{FlatExpression, flat_expression, flat_signed, flat_scaled, flat_terms_of, flat_factors_of}
+use Rattle.mu_tree.specs.FlatExpression as tree
+use Rattle.mu_tree.specs.declared.flat.FlatExpr.{FlatExpr, the_lemmas}
+use Rattle.mu_tree.specs.declared.flat.FlatTerm.{FlatTerm, out-FlatTerm}
+use Rattle.mu_tree.specs.declared.flat.FlatFactor.{FlatFactor, out-FlatFactor}
+use Rattle.mu_tree.proofs.FlatShapes.{flat_expression-Const, flat_expression-Var, flat_expression-Pre, flat_expression-Time, flat_expression-Sum, flat_expression-Product, flat_expression-Pow}
+use Rattle.mu_affine.specs.AffineForm.{AffineForm, constant_form, none}
+use Rattle.mu_affine.specs.FinishedForms.{form_meaning, sum_meaning, IsOver}
+use Rattle.mu_affine.specs.FormParts.{IsAnswer, join_forms, multiply_forms}
 use Rattle.mu_affine.specs.FormOf.{Context, form_of, sum_form, product_of}
 use Rattle.mu_affine.specs.Walks.{context_of, IsNumbered}
 use Rattle.mu_affine.proofs.Walking.{IsOver-constant, fault_passes, sum_answer, said, power_is, power_fault}

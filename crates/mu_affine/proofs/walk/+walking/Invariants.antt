@@ -1,9 +1,9 @@
 use Rattle.std.proofs.Common.{◌≡◌, map, drop, length}
 use Rattle.std.specs.Prelude.{Ok, pos}
 use Rattle.mu_num.specs.Fraction.{whole}
-use Rattle.mu_flat.specs.FlatExpression.{flat_signed, flat_scaled, flat_terms_of, flat_factors_of}
-use Rattle.mu_forms.specs.AffineForm.{constant_form, none}
-use Rattle.mu_forms.specs.Forms.{form_meaning, sum_meaning, IsOver, IsFinished, IsReducedSum}
+use Rattle.mu_tree.specs.FlatExpression.{flat_signed, flat_scaled, flat_terms_of, flat_factors_of}
+use Rattle.mu_affine.specs.AffineForm.{constant_form, none}
+use Rattle.mu_affine.specs.FinishedForms.{form_meaning, sum_meaning, IsOver, IsFinished, IsReducedSum}
 use Rattle.mu_affine.specs.FormOf.{sum_form, product_of}
 use Rattle.mu_affine.specs.Walks.{context_of, AreNumbered, AreNumberedFactors}
 use Rattle.mu_affine.proofs.walk.+walking.Given as goal

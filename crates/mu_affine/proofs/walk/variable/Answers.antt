@@ -1,8 +1,8 @@
 use Rattle.std.proofs.Common.{◌≡◌, ◌∙◌, sym, ap, subst, inl, inr, [], true, length}
 use Rattle.std.specs.Prelude.{Ok, ◌⊎◌, ◌==◌}
 use Rattle.std.proofs.lemmas.Bool.{false≢true}
-use Rattle.mu_forms.specs.Forms.{form_meaning, IsFinished}
-use Rattle.mu_forms.proofs.Showing.{not_true, not_false}
+use Rattle.mu_affine.specs.FinishedForms.{form_meaning, IsFinished}
+use Rattle.mu_affine.proofs.Showing.{not_true, not_false}
 use Rattle.mu_affine.proofs.Walking.{name_is, MayStand-below, algebraic_is, algebraic_refused, finished_anywhere, place_at, fits_place, pairs_left, empty_list}
 use Rattle.mu_affine.proofs.walk.variable.Goals as goal
 use Rattle.mu_affine.proofs.walk.variable.Goals.{else-not-place-via-then-not-place+else-not-is_empty, else-not-place-via-else-not-place}

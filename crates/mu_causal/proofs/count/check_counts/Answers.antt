@@ -1,8 +1,8 @@
 use Rattle.std.proofs.Common.{◌≡◌, ◌<◌, ◌∙◌, sym, ap, arith, inl, inr, length, map}
 use Rattle.std.specs.Prelude.{Some, slice_get}
 use Rattle.std.proofs.lemmas.List.{length-map}
-use Rattle.mu_flat.specs.FlatExpression.{flat_model, flat_variable}
-use Rattle.mu_causal.specs.Answers.{IsGiven}
+use Rattle.mu_tree.specs.FlatExpression.{flat_model, flat_variable}
+use Rattle.mu_causal.specs.OrderResults.{IsGiven}
 use Rattle.mu_causal.specs.Dependencies.{equation_numbers}
 use Rattle.mu_causal.proofs.Counting.{variable_there, counted_more, counted_all, given_there}
 use Rattle.mu_causal.proofs.count.check_counts.Goals.{then-wants_equation+in-Once, else-wants_equation}

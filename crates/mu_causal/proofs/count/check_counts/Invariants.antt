@@ -1,4 +1,4 @@
-use Rattle.mu_flat.specs.FlatExpression.{flat_model}
+use Rattle.mu_tree.specs.FlatExpression.{flat_model}
 use Rattle.mu_causal.specs.Dependencies.{AreCountedBelow}
 use Rattle.mu_causal.proofs.count.check_counts.Given as goal
 

@@ -2,10 +2,10 @@
 use Rattle.std.proofs.Common.{◌≡◌, ◌∙◌, ℕ, ◌+◌, ◌<◌, length, get_or, set, map, take, sym, ap, subst, arith, inl, inr}
 use Rattle.std.proofs.lemmas.Bool.{cases_eq}
 use Rattle.std.proofs.lemmas.List.{get_or-set_same, get_or-set_other, get_or_default, length-set}
-use Rattle.mu_flat.specs.declared.flat.FlatEquation.{FlatEquation}
-use Rattle.mu_flat.specs.FlatExpression.{flat_equation}
+use Rattle.mu_tree.specs.declared.flat.FlatEquation.{FlatEquation}
+use Rattle.mu_tree.specs.FlatExpression.{flat_equation}
 use Rattle.mu_causal.specs.declared.count.Given.TheVariants.{Never}
-use Rattle.mu_causal.specs.Answers.{IsGiven}
+use Rattle.mu_causal.specs.OrderResults.{IsGiven}
 use Rattle.mu_causal.specs.Dependencies.{numbers_from}
 use Rattle.mu_causal.proofs.Counting.{numbers_more, numbers_same}
 use Rattle.mu_causal.proofs.count.equations_by_target.Goals.{then-target-count, else-target-count}

@@ -1,7 +1,7 @@
 use Rattle.std.proofs.Common.{◌≡◌, ℕ, ◌<◌, length, get_or, map, take}
-use Rattle.mu_flat.specs.FlatExpression.{flat_equation}
+use Rattle.mu_tree.specs.FlatExpression.{flat_equation}
 use Rattle.mu_causal.specs.declared.count.Given.TheVariants.{Never}
-use Rattle.mu_causal.specs.Answers.{IsGiven}
+use Rattle.mu_causal.specs.OrderResults.{IsGiven}
 use Rattle.mu_causal.specs.Dependencies.{numbers_from}
 use Rattle.mu_causal.proofs.count.equations_by_target.Given as goal
 

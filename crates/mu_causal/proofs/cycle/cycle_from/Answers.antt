@@ -4,7 +4,7 @@ use Rattle.std.proofs.lemmas.List.{take_rest, get_or_default}
 use Rattle.std.proofs.lemmas.Result.{IfOk-weaker}
 use Rattle.std.proofs.Math.ListN.{length-set}
 use Rattle.mu_causal.specs.Causality.{IsCycle}
-use Rattle.mu_causal.specs.Marks.{IsMarked, IsUnmarked, Needs}
+use Rattle.mu_causal.specs.VisitMarks.{IsMarked, IsUnmarked, Needs}
 use Rattle.mu_causal.specs.Rounds.{IsTurned}
 use Rattle.mu_causal.proofs.Listing.{unmarked_count-set}
 use Rattle.mu_causal.proofs.Rounds.{Leads-push, IsRound, AreDistinct, round_from, cycle_from_round, on_path_push, seen_push, distinct_push, distinct_drop}

@@ -1,6 +1,6 @@
 use Rattle.std.proofs.Common.{◌≡◌, ℕ, ◌<◌, length}
 use Rattle.std.specs.Prelude.{Contains}
-use Rattle.mu_causal.specs.Marks.{IsMarked, IsUnmarked, Needs}
+use Rattle.mu_causal.specs.VisitMarks.{IsMarked, IsUnmarked, Needs}
 use Rattle.mu_causal.proofs.Listing.{unmarked_count}
 use Rattle.mu_causal.proofs.Rounds.{Leads, AreDistinct}
 use Rattle.mu_causal.proofs.cycle.cycle_from.Given as goal

@@ -1,6 +1,6 @@
 use Rattle.std.proofs.Common.{◌≡◌, ◌∙◌, ◌<◌, subst, arith, length, take, drop, ◌++◌}
-use Rattle.mu_causal.specs.Marks.{IsListing, IsMarked}
-use Rattle.mu_causal.specs.Marks as marks
+use Rattle.mu_causal.specs.VisitMarks.{IsListing, IsMarked}
+use Rattle.mu_causal.specs.VisitMarks as marks
 use Rattle.mu_causal.proofs.Orders.{IsCycle-weaker}
 use Rattle.mu_causal.proofs.Listing.{order_from, unknown_of, written_back}
 use Rattle.mu_causal.proofs.graph.causality_of.Goals as goal

@@ -1,5 +1,5 @@
 use Rattle.std.proofs.Common.{ℕ, ◌<◌}
-use Rattle.mu_causal.specs.Marks.{IsMarked}
+use Rattle.mu_causal.specs.VisitMarks.{IsMarked}
 use Rattle.mu_causal.proofs.graph.causality_of.Given as goal
 
 abbrev pub invariant-loop-v : goal.invariant-loop-v

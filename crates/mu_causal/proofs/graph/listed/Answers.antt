@@ -1,6 +1,6 @@
 use Rattle.std.proofs.Common.{◌≡◌, ◌∙◌, ◌<◌, ◌++◌, ◌∷◌, [], arith, length}
 use Rattle.mu_causal.specs.Causality.{IsNext}
-use Rattle.mu_causal.specs.Marks.{IsOpen, Needs}
+use Rattle.mu_causal.specs.VisitMarks.{IsOpen, Needs}
 use Rattle.mu_causal.proofs.Listing.{unmarked_count-set, next_is, Follow-push, AreMarks-push, ArePassed-more, written_back}
 use Rattle.mu_causal.proofs.graph.listed.Goals as goal
 

@@ -1,6 +1,6 @@
 use Rattle.std.proofs.Common.{[]}
 use Rattle.mu_causal.specs.Causality.{Follow}
-use Rattle.mu_causal.specs.Marks.{ArePassed, AreMarks, IsOpen, Needs}
+use Rattle.mu_causal.specs.VisitMarks.{ArePassed, AreMarks, IsOpen, Needs}
 use Rattle.mu_causal.proofs.Listing.{unmarked_count}
 use Rattle.mu_causal.proofs.graph.listed.Given as goal
 

@@ -1,5 +1,5 @@
 use Rattle.std.proofs.Common.{◌∙◌, ◌++◌, ◌+◌, map, drop, ap, sym, append_assoc}
-use Rattle.mu_flat.specs.FlatExpression.{flat_expression, flat_signed, flat_scaled, flat_terms_of, flat_factors_of}
+use Rattle.mu_tree.specs.FlatExpression.{flat_expression, flat_signed, flat_scaled, flat_terms_of, flat_factors_of}
 use Rattle.mu_causal.specs.Dependencies.{names_of, names_of_terms, names_of_factors}
 use Rattle.mu_causal.proofs.FlatShapes.{flat_expression-Pow, flat_terms_from, flat_factors_from}
 use Rattle.mu_causal.proofs.names.+naming.Goals as goal

@@ -1,5 +1,5 @@
 use Rattle.std.proofs.Common.{◌≡◌, map, drop, ◌++◌}
-use Rattle.mu_flat.specs.FlatExpression.{flat_signed, flat_scaled, flat_terms_of, flat_factors_of}
+use Rattle.mu_tree.specs.FlatExpression.{flat_signed, flat_scaled, flat_terms_of, flat_factors_of}
 use Rattle.mu_causal.specs.Dependencies.{names_of_terms, names_of_factors}
 use Rattle.mu_causal.proofs.names.+naming.Given as goal
 

@@ -2,7 +2,7 @@ use Rattle.std.proofs.Common.{◌≡◌, ℕ, length}
 use Rattle.std.specs.Prelude.{Some, slice_get}
 use Rattle.std.specs.declared.vec.Vec.{Vec}
 use Rattle.std.specs.declared.alloc.Global.{Global}
-use Rattle.mu_flat.specs.FlatExpression.{FlatVariable, flat_model}
+use Rattle.mu_tree.specs.FlatExpression.{FlatVariable, flat_model}
 use Rattle.mu_causal.specs.Flat.{row_for}
 use Rattle.mu_causal.proofs.names.graph_of.Given as goal
 

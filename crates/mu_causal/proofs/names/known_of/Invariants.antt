@@ -1,5 +1,5 @@
 use Rattle.std.proofs.Common.{◌≡◌, map, take}
-use Rattle.mu_flat.specs.FlatExpression.{flat_variable}
+use Rattle.mu_tree.specs.FlatExpression.{flat_variable}
 use Rattle.mu_causal.specs.Flat.{is_known}
 use Rattle.mu_causal.proofs.names.known_of.Given as goal
 

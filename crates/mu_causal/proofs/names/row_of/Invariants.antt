@@ -1,5 +1,5 @@
 use Rattle.std.proofs.Common.{◌≡◌, map, drop, ◌++◌}
-use Rattle.mu_flat.specs.FlatExpression.{flat_equation}
+use Rattle.mu_tree.specs.FlatExpression.{flat_equation}
 use Rattle.mu_causal.specs.Flat.{names_for}
 use Rattle.mu_causal.proofs.names.row_of.Given as goal
 

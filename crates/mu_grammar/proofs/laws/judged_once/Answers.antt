@@ -1,4 +1,4 @@
-use Rattle.mu_grammar.specs.Models.{SpellsModel}
+use Rattle.mu_grammar.specs.ModelGrammar.{SpellsModel}
 use Rattle.mu_grammar.proofs.Judged.{judged_once}
 use Rattle.mu_grammar.proofs.laws.judged_once.Goals as goal
 

@@ -1,5 +1,5 @@
 use Rattle.mu_grammar.specs.ModelMachine.{model_machine}
-use Rattle.mu_grammar.specs.Models.{SpellsModel}
+use Rattle.mu_grammar.specs.ModelGrammar.{SpellsModel}
 use Rattle.mu_grammar.proofs.Judged.{judged}
 use Rattle.mu_grammar.proofs.ModelDecides.{model_decides}
 use Rattle.mu_grammar.proofs.laws.tokens_are_judged.Goals as goal

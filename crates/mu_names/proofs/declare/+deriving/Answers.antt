@@ -1,8 +1,8 @@
 use Rattle.std.proofs.Common.{◌≡◌, ◌∙◌, ap, sym, List, ℕ, [], ◌∷◌}
 use Rattle.std.specs.Prelude.{is_some, ◌||◌, Option}
 use Rattle.std.proofs.lemmas.Result.{on_ok_weaker}
-use Rattle.mu_names.specs.Stands.{derived, is_among}
-use Rattle.mu_names.specs.Tables.{entry_at, is_entry}
+use Rattle.mu_names.specs.DeclaredRoles.{derived, is_among}
+use Rattle.mu_names.specs.NameTables.{entry_at, is_entry}
 use Rattle.mu_tree.specs.ModelTree.{equation}
 use Rattle.mu_names.proofs.Shapes.{equation-Der}
 use Rattle.mu_names.proofs.TableLemmas.{entry_added, name_of-reference}

@@ -1,8 +1,8 @@
 use Rattle.std.proofs.Common.{◌≡◌, ℕ, List, map, drop}
 use Rattle.std.specs.Prelude.{◌||◌}
 use Rattle.mu_tree.specs.ModelTree.{equation, equations_of}
-use Rattle.mu_names.specs.Stands.{derived_all, is_among}
-use Rattle.mu_names.specs.Tables.{is_entry}
+use Rattle.mu_names.specs.DeclaredRoles.{derived_all, is_among}
+use Rattle.mu_names.specs.NameTables.{is_entry}
 use Rattle.mu_names.proofs.declare.+deriving.Given as goal
 
 -- the names so far and those of what is left are all

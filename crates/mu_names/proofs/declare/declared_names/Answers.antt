@@ -5,11 +5,11 @@ use Rattle.mu_tree.specs.Expression.{expression}
 use Rattle.mu_tree.specs.ModelTree.{declaration, model, Declaration}
 use Rattle.mu_names.specs.declared.standing.Standing.{Standing}
 use Rattle.mu_names.specs.declared.standing.Standing.TheVariants.{Declared, Missing}
-use Rattle.mu_names.specs.Declarations.{repeated_faults}
-use Rattle.mu_names.specs.Least.{least_of}
+use Rattle.mu_names.specs.DeclarationFaults.{repeated_faults}
+use Rattle.mu_names.specs.LeastFaults.{least_of}
 use Rattle.mu_names.specs.Naming.{taken_faults}
-use Rattle.mu_names.specs.Stands.{derived_in, declared_as, declared_by, first_declared, role_by, role_of}
-use Rattle.mu_names.specs.Tables.{added_at, entry_at}
+use Rattle.mu_names.specs.DeclaredRoles.{derived_in, declared_as, declared_by, first_declared, role_by, role_of}
+use Rattle.mu_names.specs.NameTables.{added_at, entry_at}
 use Rattle.mu_names.proofs.LeastLemmas.{noted_first}
 use Rattle.mu_names.proofs.Shapes.{declarations_from, declarations_so_far}
 use Rattle.mu_names.proofs.TableLemmas.{first_declared-push, is_some-option_map}

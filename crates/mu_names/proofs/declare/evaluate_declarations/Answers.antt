@@ -1,8 +1,8 @@
 use Rattle.std.proofs.Common.{◌≡◌, ◌∙◌, ◌+◌, ◌++◌, ◌∷◌, [], map, drop, ap, sym, append_assoc}
 use Rattle.mu_tree.specs.ModelTree.{declaration, Declaration}
-use Rattle.mu_names.specs.Declarations.{all_valued, constants_after, constants_with, declaration_faults, declarations_faults, meaning_after, valued}
-use Rattle.mu_names.specs.Least.{least_of}
-use Rattle.mu_names.specs.Tables.{entry_at, standing_at}
+use Rattle.mu_names.specs.DeclarationFaults.{all_valued, constants_after, constants_with, declaration_faults, declarations_faults, meaning_after, valued}
+use Rattle.mu_names.specs.LeastFaults.{least_of}
+use Rattle.mu_names.specs.NameTables.{entry_at, standing_at}
 use Rattle.mu_names.proofs.LeastLemmas.{noted_first}
 use Rattle.mu_names.proofs.Shapes.{declarations_from}
 use Rattle.mu_names.proofs.declare.evaluate_declarations.Goals as goal

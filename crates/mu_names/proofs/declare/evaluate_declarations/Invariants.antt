@@ -1,8 +1,8 @@
 use Rattle.std.proofs.Common.{◌≡◌, ◌++◌, map, drop}
 use Rattle.mu_tree.specs.ModelTree.{declaration}
-use Rattle.mu_names.specs.Declarations.{all_valued, constants_after, declarations_faults}
-use Rattle.mu_names.specs.Least.{least_of}
-use Rattle.mu_names.specs.Tables.{entry_at, standing_at}
+use Rattle.mu_names.specs.DeclarationFaults.{all_valued, constants_after, declarations_faults}
+use Rattle.mu_names.specs.LeastFaults.{least_of}
+use Rattle.mu_names.specs.NameTables.{entry_at, standing_at}
 use Rattle.mu_names.proofs.declare.evaluate_declarations.Given as goal
 
 -- what there is so far and what is left are all

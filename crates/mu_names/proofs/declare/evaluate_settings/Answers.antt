@@ -6,7 +6,7 @@ use Rattle.mu_tree.specs.Expression.{expression}
 use Rattle.mu_tree.specs.ModelTree.{setting, Setting}
 use Rattle.mu_names.specs.declared.fault.NameErr.TheVariants.{Duplicate}
 use Rattle.mu_names.specs.Constant.{value, faults}
-use Rattle.mu_names.specs.Least.{least_of}
+use Rattle.mu_names.specs.LeastFaults.{least_of}
 use Rattle.mu_names.specs.Roles.{is_set, setting_number, settings_faults, settings_from, with_setting}
 use Rattle.mu_names.proofs.LeastLemmas.{noted_two_of_three}
 use Rattle.mu_names.proofs.Shapes.{settings_from_place, settings_so_far}

@@ -2,7 +2,7 @@ use Rattle.std.proofs.Common.{◌≡◌, map, take, drop, [], length, get_or}
 use Rattle.std.specs.Prelude.{false}
 use Rattle.mu_tree.specs.declared.tree.SettingName.{SettingName}
 use Rattle.mu_tree.specs.ModelTree.{setting}
-use Rattle.mu_names.specs.Least.{least_of}
+use Rattle.mu_names.specs.LeastFaults.{least_of}
 use Rattle.mu_names.specs.Roles.{default_settings, is_set, setting_number, settings_faults, settings_from}
 use Rattle.mu_names.proofs.declare.evaluate_settings.Given as goal
 

@@ -2,7 +2,7 @@ use Rattle.std.proofs.Common.{◌≡◌, ◌∙◌, ◌+◌, ◌<◌, ◌++◌, 
 use Rattle.std.proofs.lemmas.List.{length-map}
 use Rattle.mu_tree.specs.ModelTree.{declaration, model, Declaration}
 use Rattle.mu_names.specs.Roles.{all_known, known_as}
-use Rattle.mu_names.specs.Stands.{derived_in, role_by, role_of}
+use Rattle.mu_names.specs.DeclaredRoles.{derived_in, role_by, role_of}
 use Rattle.mu_names.proofs.Shapes.{declarations_from}
 use Rattle.mu_names.proofs.TableLemmas.{drop_at}
 use Rattle.mu_names.proofs.declare.known_names.Goals as goal

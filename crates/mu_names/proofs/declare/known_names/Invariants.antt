@@ -1,6 +1,6 @@
 use Rattle.std.proofs.Common.{◌≡◌, ◌++◌, map, drop}
 use Rattle.mu_tree.specs.ModelTree.{declaration, model}
-use Rattle.mu_names.specs.Stands.{derived_in}
+use Rattle.mu_names.specs.DeclaredRoles.{derived_in}
 use Rattle.mu_names.specs.Roles.{all_known}
 use Rattle.mu_names.proofs.declare.known_names.Given as goal
 

@@ -1,8 +1,8 @@
 use Rattle.std.proofs.Common.{◌≡◌, ◌∙◌, ◌+◌, map, drop, ap}
 use Rattle.mu_tree.specs.Expression.{expression, signed, scaled, terms_of, factors_of}
 use Rattle.mu_names.specs.Naming.{expression_faults, terms_faults, factors_faults}
-use Rattle.mu_names.specs.Stands.{standing_in}
-use Rattle.mu_names.specs.Tables.{standing_at}
+use Rattle.mu_names.specs.DeclaredRoles.{standing_in}
+use Rattle.mu_names.specs.NameTables.{standing_at}
 use Rattle.mu_names.proofs.LeastLemmas.{noted_first}
 use Rattle.mu_names.proofs.Shapes.{terms_from, factors_from}
 use Rattle.mu_names.proofs.naming.+naming.Goals as goal

@@ -1,9 +1,9 @@
 use Rattle.std.proofs.Common.{◌≡◌, map, drop}
 use Rattle.mu_tree.specs.Expression.{signed, scaled, terms_of, factors_of}
-use Rattle.mu_names.specs.Stands.{standing_in}
-use Rattle.mu_names.specs.Least.{least_of}
+use Rattle.mu_names.specs.DeclaredRoles.{standing_in}
+use Rattle.mu_names.specs.LeastFaults.{least_of}
 use Rattle.mu_names.specs.Naming.{terms_faults, factors_faults}
-use Rattle.mu_names.specs.Tables.{standing_at}
+use Rattle.mu_names.specs.NameTables.{standing_at}
 use Rattle.mu_names.proofs.naming.+naming.Given as goal
 
 -- what was noted and the faults of what is left are those of all

@@ -3,8 +3,8 @@ use Rattle.mu_tree.specs.Expression.{expression}
 use Rattle.std.proofs.lemmas.Result.{on_ok_weaker}
 use Rattle.mu_tree.specs.ModelTree.{Range, clause, clauses_of, range, EachClause}
 use Rattle.mu_names.specs.Naming.{clauses_faults, clause_faults, range_faults}
-use Rattle.mu_names.specs.Stands.{standing_in}
-use Rattle.mu_names.specs.Tables.{standing_at}
+use Rattle.mu_names.specs.DeclaredRoles.{standing_in}
+use Rattle.mu_names.specs.NameTables.{standing_at}
 use Rattle.mu_names.proofs.LeastLemmas.{noted_first, noted_both}
 use Rattle.mu_names.proofs.Shapes.{clauses_from, clause-For}
 use Rattle.mu_names.proofs.naming.+naming_clauses.Goals as goal

@@ -3,8 +3,8 @@ use Rattle.mu_tree.specs.Expression.{expression}
 use Rattle.std.proofs.lemmas.Result.{on_ok_weaker}
 use Rattle.mu_tree.specs.ModelTree.{Range, equation, equations_of, range, EachEquation}
 use Rattle.mu_names.specs.Naming.{equations_faults, equation_faults, range_faults}
-use Rattle.mu_names.specs.Stands.{standing_in}
-use Rattle.mu_names.specs.Tables.{standing_at}
+use Rattle.mu_names.specs.DeclaredRoles.{standing_in}
+use Rattle.mu_names.specs.NameTables.{standing_at}
 use Rattle.mu_names.proofs.LeastLemmas.{noted_first, noted_both}
 use Rattle.mu_names.proofs.Shapes.{equations_from, equation-For}
 use Rattle.mu_names.proofs.naming.+naming_equations.Goals as goal

@@ -1,8 +1,8 @@
 use Rattle.std.proofs.Common.{◌≡◌, map, drop}
 use Rattle.mu_tree.specs.ModelTree.{statement, statements_of}
-use Rattle.mu_names.specs.Least.{least_of}
+use Rattle.mu_names.specs.LeastFaults.{least_of}
 use Rattle.mu_names.specs.Naming.{starts_faults}
-use Rattle.mu_names.specs.Tables.{standing_at}
+use Rattle.mu_names.specs.NameTables.{standing_at}
 use Rattle.mu_names.proofs.naming.+naming_starts.Given as goal
 
 -- what was noted and the faults of what is left are those of all

@@ -1,7 +1,7 @@
 use Rattle.std.proofs.Common.{◌≡◌, ◌∙◌, ◌+◌, map, drop, ap}
 use Rattle.mu_tree.specs.ModelTree.{branch}
 use Rattle.mu_names.specs.Naming.{branch_faults, branches_faults}
-use Rattle.mu_names.specs.Tables.{standing_at}
+use Rattle.mu_names.specs.NameTables.{standing_at}
 use Rattle.mu_names.proofs.LeastLemmas.{noted_first}
 use Rattle.mu_names.proofs.Shapes.{branches_from}
 use Rattle.mu_names.proofs.naming.check_branches.Goals as goal

@@ -1,5 +1,5 @@
 use Rattle.std.proofs.Common.{◌≡◌, drop}
-use Rattle.mu_names.specs.Stands.{is_among}
+use Rattle.mu_names.specs.DeclaredRoles.{is_among}
 use Rattle.mu_names.proofs.naming.is_among.Given as goal
 
 abbrev pub invariant-loop-other : goal.invariant-loop-other

@@ -2,19 +2,19 @@ use Rattle.std.proofs.Common.{◌≡◌, ◌∙◌, ◌∷◌, [], List, ℕ, le
 use Rattle.std.specs.Prelude.{Option, bytes_eq, if◌then◌else◌}
 use Rattle.std.proofs.Math.Path.{fun_ext}
 use Rattle.mu_num.specs.Fraction.{Fraction}
-use Rattle.mu_flat.specs.declared.flat.Settings.{Settings}
+use Rattle.mu_tree.specs.declared.flat.Settings.{Settings}
 use Rattle.mu_tree.specs.ModelTree.{model, declaration, setting, statement, equation, clause, statements_of, equations_of, clauses_of}
 use Rattle.mu_names.specs.declared.fault.NameErr.TheVariants.{EndName}
 use Rattle.mu_names.specs.declared.scope.Known.{Known}
 use Rattle.mu_names.specs.declared.scope.Scope.{Scope}
 use Rattle.mu_names.specs.declared.scope.Valued.{Valued}
 use Rattle.mu_names.specs.declared.standing.Standing.{Standing}
-use Rattle.mu_names.specs.Declarations.{all_valued, constants_after, declarations_faults, meaning_after, no_constants, repeated_faults}
-use Rattle.mu_names.specs.Least.{least_of}
+use Rattle.mu_names.specs.DeclarationFaults.{all_valued, constants_after, declarations_faults, meaning_after, no_constants, repeated_faults}
+use Rattle.mu_names.specs.LeastFaults.{least_of}
 use Rattle.mu_names.specs.Naming.{starts_faults, equations_faults, clauses_faults}
 use Rattle.mu_names.specs.Roles.{all_known, default_settings, meaning_in, settings_faults, settings_from, settings_in, scope_of}
-use Rattle.mu_names.specs.Stands.{declared_in, derived_in}
-use Rattle.mu_names.specs.Tables.{entry_at, standing_at}
+use Rattle.mu_names.specs.DeclaredRoles.{declared_in, derived_in}
+use Rattle.mu_names.specs.NameTables.{entry_at, standing_at}
 use Rattle.mu_names.proofs.LeastLemmas.{noted_seven}
 use Rattle.mu_names.proofs.TableLemmas.{empty_table, length-all_valued}
 use Rattle.mu_names.proofs.role.scope_with_faults.Goals as goal

@@ -2,7 +2,7 @@ use Rattle.std.proofs.Common.{◌∙◌, sym, ap, refl}
 use Rattle.std.specs.Prelude.{Some, is_some}
 use Rattle.std.proofs.Math.Path.{fun_ext}
 use Rattle.std.proofs.lemmas.Map.Text.{btree_map_updates_str}
-use Rattle.mu_names.specs.Tables.{entry_at}
+use Rattle.mu_names.specs.NameTables.{entry_at}
 use Rattle.mu_names.proofs.TableLemmas.{update_added, added_kept}
 use Rattle.mu_names.proofs.table.add.Goals as goal
 

@@ -18,7 +18,7 @@ returns-then-has_minus c =
       power = c.number_of-power.ensures.value ∙ ap (λ bs. min (number_of bs) (2 ^ 64)) c.after-exponent.ensures;
     } in
     let short : length c.args.digits.now < 2 ^ 63 = search rules in
-    let few : c.digits_of-read.result.zeros + 20 ≤ 2 ^ 64 = omega (arith, c.digits_of-read.ensures.few, length-take c.exponent_place-mark.result c.args.digits.now, short) in
+    let few : c.digits_of-read.result.zeros + 20 ≤ 2 ^ 64 = omega (arith, c.digits_of-read.ensures.count_limit, length-take c.exponent_place-mark.result c.args.digits.now, short) in
     c.scaled_by.ensures ∙ decimal_down _ _ _ _ _ _ _ read (sym (ap (list_any is_minus) c.after-exponent.ensures) ∙ sym c.has_minus.ensures ∙ c.if-has_minus.true) few ∙ value_read_is c.args.digits.now
 
 pub returns-else-has_minus : goal.returns-else-has_minus

@@ -13,5 +13,5 @@ loop-byte-preserved c =
     record {
       number = rw (more, push) step.0;
       zeros = rw (more, push) step.1;
-      few = omega (arith, c.continued-digits.ensures.few, i.few);
+      few = omega (arith, c.continued-digits.ensures.count_limit, i.few);
     }

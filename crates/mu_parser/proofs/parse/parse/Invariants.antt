@@ -1,7 +1,7 @@
 use Rattle.std.proofs.Common.{◌≡◌, take}
-use Rattle.mu_grammar.specs.Machines.{after, go}
+use Rattle.mu_grammar.specs.ReaderMachines.{after, go}
 use Rattle.mu_grammar.specs.ModelMachine.{model_machine}
-use Rattle.mu_states.specs.SectionViews.{state_of}
+use Rattle.mu_parser.specs.SectionViews.{state_of}
 use Rattle.mu_grammar.specs.Symbols.{symbols}
 use Rattle.mu_parser.proofs.parse.parse.Given as goal
 

@@ -1,15 +1,15 @@
 use Rattle.std.proofs.Common.{◌≡◌, ◌∙◌, ◌++◌, ◌+◌, ◌∷◌, [], List, Bool, ℕ, Ok, map, drop, ap, sym}
 use Rattle.std.proofs.lemmas.List.{map-append}
 use Rattle.mu_tree.specs.Expression.{signed, scaled, terms_of, factors_of}
-use Rattle.mu_flat.specs.declared.flat.FlatExpr.{FlatExpr}
-use Rattle.mu_flat.specs.declared.flat.FlatTerm.{FlatTerm, roll-FlatTerm, fold-roll-FlatTerm}
-use Rattle.mu_flat.specs.declared.flat.FlatFactor.{FlatFactor, roll-FlatFactor, fold-roll-FlatFactor}
-use Rattle.mu_flat.specs.FlatExpression.{FlatExpression, FlatScaled, FlatSigned, flat_expression, flat_signed, flat_scaled, flat_expression_step, flat_scaled_step, flat_signed_step}
+use Rattle.mu_tree.specs.declared.flat.FlatExpr.{FlatExpr}
+use Rattle.mu_tree.specs.declared.flat.FlatTerm.{FlatTerm, roll-FlatTerm, fold-roll-FlatTerm}
+use Rattle.mu_tree.specs.declared.flat.FlatFactor.{FlatFactor, roll-FlatFactor, fold-roll-FlatFactor}
+use Rattle.mu_tree.specs.FlatExpression.{FlatExpression, FlatScaled, FlatSigned, flat_expression, flat_signed, flat_scaled, flat_expression_step, flat_scaled_step, flat_signed_step}
 use Rattle.mu_names.proofs.Shapes.{terms_from, factors_from}
-use Rattle.mu_unroll.specs.Values.{then_do}
+use Rattle.mu_unroll.specs.ConstantValues.{then_do}
 use Rattle.mu_unroll.specs.Flattening.{flattened_terms, flattened_factors}
-use Rattle.mu_unroll.specs.Places.{meant_in}
-use Rattle.mu_unroll.specs.Tables.{meant_at}
+use Rattle.mu_unroll.specs.VariablePlaces.{meant_in}
+use Rattle.mu_unroll.specs.VariableTables.{meant_at}
 use Rattle.mu_unroll.proofs.Prefixes.{prefixed, prefixed_more}
 use Rattle.mu_unroll.proofs.flatten.+flattening.Goals as goal
 

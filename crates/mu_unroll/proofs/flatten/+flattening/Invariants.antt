@@ -1,9 +1,9 @@
 use Rattle.std.proofs.Common.{◌≡◌, map, drop}
 use Rattle.mu_tree.specs.Expression.{signed, scaled, terms_of, factors_of}
-use Rattle.mu_flat.specs.FlatExpression.{flat_signed, flat_scaled}
+use Rattle.mu_tree.specs.FlatExpression.{flat_signed, flat_scaled}
 use Rattle.mu_unroll.specs.Flattening.{flattened_terms, flattened_factors}
-use Rattle.mu_unroll.specs.Places.{meant_in}
-use Rattle.mu_unroll.specs.Tables.{meant_at}
+use Rattle.mu_unroll.specs.VariablePlaces.{meant_in}
+use Rattle.mu_unroll.specs.VariableTables.{meant_at}
 use Rattle.mu_unroll.proofs.Prefixes.{prefixed}
 use Rattle.mu_unroll.proofs.flatten.+flattening.Given as goal
 

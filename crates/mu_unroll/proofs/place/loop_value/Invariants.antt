@@ -1,5 +1,5 @@
 use Rattle.std.proofs.Common.{◌≡◌, drop}
-use Rattle.mu_unroll.specs.Places.{loop_value}
+use Rattle.mu_unroll.specs.VariablePlaces.{loop_value}
 use Rattle.mu_unroll.proofs.place.loop_value.Given as goal
 
 abbrev pub invariant-loop-one : goal.invariant-loop-one

@@ -1,8 +1,8 @@
 use Rattle.std.proofs.Common.{◌≡◌, map, drop}
-use Rattle.mu_flat.specs.FlatExpression.{flat_clause}
+use Rattle.mu_tree.specs.FlatExpression.{flat_clause}
 use Rattle.mu_tree.specs.ModelTree.{clause, clauses_of}
-use Rattle.mu_unroll.specs.Bounds.{IsNear}
-use Rattle.mu_unroll.specs.Tables.{meant_at}
+use Rattle.mu_unroll.specs.LoopBounds.{AreRoundsBounded}
+use Rattle.mu_unroll.specs.VariableTables.{meant_at}
 use Rattle.mu_unroll.specs.Unrolling.{inside, progress, repeated, rounds_from, unrolled_clauses}
 use Rattle.mu_unroll.proofs.unroll.+unrolling_clauses.Given as goal
 
@@ -15,7 +15,7 @@ invariant-unroll_clauses-loop-one l =
 -- the rounds that are left after those that were made are all
 abbrev pub invariant-unroll_clause-loop-var : goal.invariant-unroll_clause-loop-var
 invariant-unroll_clause-loop-var l = record {
-  near : IsNear l.rounds;
+  near : AreRoundsBounded l.rounds;
   left : repeated (λ j q. unrolled_clauses (meant_at l.declared) (inside l.loops l.var j) (clauses_of (map clause l.body.items)) q) l.rounds.next (rounds_from l.rounds.next l.rounds.last) (progress (map flat_clause l.done.items) l.counts)
       ≡ repeated (λ j q. unrolled_clauses (meant_at l.declared) (inside l.loops l.var j) (clauses_of (map clause l.body.items)) q) l.initial.rounds.next (rounds_from l.initial.rounds.next l.initial.rounds.last) (progress (map flat_clause l.initial.done.items) l.initial.counts);
 }

@@ -1,13 +1,13 @@
 use Rattle.std.proofs.Common.{◌≡◌, ◌∙◌, ◌+◌, ◌++◌, ◌∷◌, [], List, ℕ, map, drop, ap, sym, subst, arith, rules}
 use Rattle.std.specs.Prelude.{Result, Ok, Err}
 use Rattle.mu_tree.specs.Expression.{expression}
-use Rattle.mu_flat.specs.FlatExpression.{flat_action}
+use Rattle.mu_tree.specs.FlatExpression.{flat_action}
 use Rattle.mu_tree.specs.ModelTree.{statement, statements_of, range, EachStatement, Range}
 use Rattle.mu_names.proofs.Shapes.{statements_from, statement-For}
-use Rattle.mu_unroll.specs.Places.{meant_in}
-use Rattle.mu_unroll.specs.Tables.{meant_at}
+use Rattle.mu_unroll.specs.VariablePlaces.{meant_in}
+use Rattle.mu_unroll.specs.VariableTables.{meant_at}
 use Rattle.mu_unroll.specs.Unrolling.{progress, unrolled_statement, unrolled_statements}
-use Rattle.mu_unroll.specs.Values.{then_do}
+use Rattle.mu_unroll.specs.ConstantValues.{then_do}
 use Rattle.mu_unroll.proofs.Faulty.{after, fault_same, fault_then}
 use Rattle.std.proofs.Common.{◌<◌, Box, Global, Vec}
 use Rattle.std.specs.Int.{w128}
@@ -16,12 +16,12 @@ use Rattle.std.specs.Prelude.{ℤ, ◌≤◌, ◌^◌, ◌≤ℤ◌, unsigned_ab
 use Rattle.mu_tree.specs.declared.expr.Expr.{Expr}
 use Rattle.mu_tree.specs.declared.tree.Statement.{Statement, the_lemmas}
 use Rattle.mu_tree.specs.declared.tree.Statement as trees
-use Rattle.mu_flat.specs.FlatExpression.{FlatEquationTree, FlatAction, FlatVariable, FlatBranchTree}
+use Rattle.mu_tree.specs.FlatExpression.{FlatEquationTree, FlatAction, FlatVariable, FlatBranchTree}
 use Rattle.mu_unroll.specs.declared.fault.UnrollErr.{UnrollErr}
 use Rattle.mu_unroll.specs.declared.place.LoopVar.{LoopVar}
 use Rattle.mu_unroll.specs.declared.place.Meant.{Meant}
 use Rattle.mu_unroll.specs.declared.value.Rounds.{Rounds}
-use Rattle.mu_unroll.specs.Bounds.{bounds_of}
+use Rattle.mu_unroll.specs.LoopBounds.{bounds_of}
 use Rattle.mu_unroll.specs.Unrolling.{Progress, inside, repeated, rounds_from}
 use Rattle.mu_unroll.proofs.Faulty.{is_fault}
 use Rattle.mu_unroll.proofs.Rounding.{le_of, loop_begins, lt_of, near_next, near_small, one_round, round_fault, round_limit, round_none, round_step}

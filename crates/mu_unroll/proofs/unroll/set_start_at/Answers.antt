@@ -1,6 +1,6 @@
 use Rattle.std.proofs.Common.{◌≡◌, ◌<◌, ◌≤◌, length, map, sym, arith}
 use Rattle.std.proofs.lemmas.List.{length-map}
-use Rattle.mu_flat.specs.FlatExpression.{flat_variable}
+use Rattle.mu_tree.specs.FlatExpression.{flat_variable}
 use Rattle.mu_unroll.proofs.Starts.{start_set, start_past}
 use Rattle.mu_unroll.proofs.unroll.set_start_at.Goals as goal
 

@@ -1,11 +1,11 @@
 use Rattle.std.proofs.Common.{◌≡◌, ◌∙◌, ◌^◌, List, ℕ, map, sym, ap}
 use Rattle.std.specs.Prelude.{nat_lt, false, Result}
-use Rattle.mu_flat.specs.FlatExpression.{FlatModelTree, flat_variable}
+use Rattle.mu_tree.specs.FlatExpression.{FlatModelTree, flat_variable}
 use Rattle.mu_tree.specs.ModelTree.{ModelTree, model}
 use Rattle.mu_names.specs.declared.scope.Known.{Known}
 use Rattle.mu_unroll.specs.declared.fault.UnrollErr.{UnrollErr}
-use Rattle.mu_unroll.specs.Places.{scalar_count, scalars_in}
-use Rattle.mu_unroll.specs.Tables.{meant_at}
+use Rattle.mu_unroll.specs.VariablePlaces.{scalar_count, scalars_in}
+use Rattle.mu_unroll.specs.VariableTables.{meant_at}
 use Rattle.mu_unroll.specs.Unrolling.{declared_in, unrolled, unrolled_with}
 use Rattle.mu_unroll.proofs.Whole.{flat_given, lists_given, numbered_given, ok_same, whole_is}
 use Rattle.mu_unroll.proofs.unroll.unroll.Goals as goal

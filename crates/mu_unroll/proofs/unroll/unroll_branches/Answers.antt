@@ -1,10 +1,10 @@
 use Rattle.std.proofs.Common.{◌≡◌, ◌∙◌, ◌+◌, map, drop, ap, sym}
-use Rattle.mu_flat.specs.FlatExpression.{flat_branch}
+use Rattle.mu_tree.specs.FlatExpression.{flat_branch}
 use Rattle.mu_tree.specs.ModelTree.{branch}
 use Rattle.mu_names.proofs.Shapes.{branches_from}
-use Rattle.mu_unroll.specs.Tables.{meant_at}
+use Rattle.mu_unroll.specs.VariableTables.{meant_at}
 use Rattle.mu_unroll.specs.Unrolling.{progress, unrolled_branch, unrolled_branches}
-use Rattle.mu_unroll.specs.Values.{then_do}
+use Rattle.mu_unroll.specs.ConstantValues.{then_do}
 use Rattle.mu_unroll.proofs.Faulty.{after, fault_same, fault_then}
 use Rattle.mu_unroll.proofs.unroll.unroll_branches.Goals as goal
 

@@ -1,7 +1,7 @@
 use Rattle.std.proofs.Common.{◌≡◌, map, drop}
-use Rattle.mu_flat.specs.FlatExpression.{flat_branch}
+use Rattle.mu_tree.specs.FlatExpression.{flat_branch}
 use Rattle.mu_tree.specs.ModelTree.{branch}
-use Rattle.mu_unroll.specs.Tables.{meant_at}
+use Rattle.mu_unroll.specs.VariableTables.{meant_at}
 use Rattle.mu_unroll.specs.Unrolling.{progress, unrolled_branches}
 use Rattle.mu_unroll.proofs.unroll.unroll_branches.Given as goal
 

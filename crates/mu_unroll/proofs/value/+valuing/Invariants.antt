@@ -2,9 +2,9 @@ use Rattle.std.proofs.Common.{◌≡◌, map, drop, pos}
 use Rattle.mu_num.specs.Fraction.{whole}
 use Rattle.mu_tree.specs.Expression.{signed, scaled, terms_of, factors_of}
 use Rattle.mu_unroll.specs.Flattening.{constants_in}
-use Rattle.mu_unroll.specs.Places.{meant_in}
-use Rattle.mu_unroll.specs.Tables.{meant_at}
-use Rattle.mu_unroll.specs.Values.{sum_value, product_value, zero_value}
+use Rattle.mu_unroll.specs.VariablePlaces.{meant_in}
+use Rattle.mu_unroll.specs.VariableTables.{meant_at}
+use Rattle.mu_unroll.specs.ConstantValues.{sum_value, product_value, zero_value}
 use Rattle.mu_unroll.proofs.value.+valuing.Given as goal
 
 -- the value of what is left is that of the whole

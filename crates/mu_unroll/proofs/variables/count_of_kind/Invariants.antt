@@ -1,5 +1,5 @@
 use Rattle.std.proofs.Common.{◌≡◌, ◌≤◌, ◌+◌, min, drop}
-use Rattle.mu_unroll.specs.Places.{count_of_kind}
+use Rattle.mu_unroll.specs.VariablePlaces.{count_of_kind}
 use Rattle.mu_unroll.proofs.variables.count_of_kind.Given as goal
 
 -- the count so far and that of what is left are all

@@ -2,11 +2,11 @@ use Rattle.std.proofs.Common.{◌≡◌, ◌∙◌, ◌+◌, ◌≤◌, ◌<◌,
 use Rattle.std.specs.Prelude.{Option, unwrap_or}
 use Rattle.std.proofs.lemmas.List.{take_all}
 use Rattle.mu_names.specs.declared.scope.Known.{Known}
-use Rattle.mu_names.specs.Tables.{added_at}
+use Rattle.mu_names.specs.NameTables.{added_at}
 use Rattle.mu_unroll.specs.declared.place.Meant.{Meant}
 use Rattle.mu_unroll.specs.declared.place.Meant.TheVariants.{Nothing}
 use Rattle.mu_unroll.specs.Nexts.{next_number}
-use Rattle.mu_unroll.specs.Places.{ArePlaced, count_of_kind, first_meant, first_of_kind, meant_after}
+use Rattle.mu_unroll.specs.VariablePlaces.{ArePlaced, count_of_kind, first_meant, first_of_kind, meant_after}
 use Rattle.mu_unroll.specs.Unrolling.{declared_in}
 use Rattle.mu_unroll.proofs.Placing.{after_is, all_placed, count-append, count-one, count-take, meant-push, meant_is, taken_more, width_of, within_all}
 use Rattle.mu_unroll.proofs.variables.declared_names.Goals as goal

@@ -1,8 +1,8 @@
 use Rattle.std.proofs.Common.{◌≡◌, ◌∙◌, ◌+◌, ◌-◌, ◌++◌, ◌∷◌, [], List, map, ap, sym, append_assoc}
 use Rattle.std.proofs.lemmas.List.{map-append}
-use Rattle.mu_flat.specs.declared.flat.FlatVar.{FlatVar}
-use Rattle.mu_flat.specs.FlatExpression.{flat_variable, FlatVariable}
-use Rattle.mu_unroll.specs.Places.{elements_from, scalar, element_name}
+use Rattle.mu_tree.specs.declared.flat.FlatVar.{FlatVar}
+use Rattle.mu_tree.specs.FlatExpression.{flat_variable, FlatVariable}
+use Rattle.mu_unroll.specs.VariablePlaces.{elements_from, scalar, element_name}
 use Rattle.mu_unroll.proofs.Placing.{elements_step}
 use Rattle.mu_unroll.proofs.variables.push_elements.Goals as goal
 

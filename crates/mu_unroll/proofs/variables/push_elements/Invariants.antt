@@ -1,6 +1,6 @@
 use Rattle.std.proofs.Common.{◌≡◌, ◌+◌, ◌-◌, ◌++◌, map}
-use Rattle.mu_flat.specs.FlatExpression.{flat_variable}
-use Rattle.mu_unroll.specs.Places.{elements_from}
+use Rattle.mu_tree.specs.FlatExpression.{flat_variable}
+use Rattle.mu_unroll.specs.VariablePlaces.{elements_from}
 use Rattle.mu_unroll.proofs.variables.push_elements.Given as goal
 
 -- the elements so far and those that are left are all

@@ -1,6 +1,6 @@
 use Rattle.std.proofs.Common.{◌≡◌, ◌++◌, map, drop}
-use Rattle.mu_flat.specs.FlatExpression.{flat_variable}
-use Rattle.mu_unroll.specs.Places.{scalars_of_kind}
+use Rattle.mu_tree.specs.FlatExpression.{flat_variable}
+use Rattle.mu_unroll.specs.VariablePlaces.{scalars_of_kind}
 use Rattle.mu_unroll.proofs.variables.push_kind.Given as goal
 
 -- the variables so far and those that are left are all

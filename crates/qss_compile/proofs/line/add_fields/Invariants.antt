@@ -1,6 +1,6 @@
 use Rattle.std.proofs.Common.{◌≡◌, ◌++◌, map, take}
 use Rattle.qss_compile.specs.Fields.{field_text}
-use Rattle.qss_compile.specs.Lines.{fields_text}
+use Rattle.qss_compile.specs.RefusalLines.{fields_text}
 use Rattle.qss_compile.proofs.line.add_fields.Given as goal
 
 -- the fields so far

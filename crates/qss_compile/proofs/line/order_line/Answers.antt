@@ -1,9 +1,9 @@
 use Rattle.std.proofs.Common.{◌≡◌, ◌∙◌, ap, sym, ℕ, List, map, codes}
 use Rattle.std.proofs.lemmas.Result.{IfOk-weaker}
 use Rattle.mu_causal.specs.declared.answer.CausalErr.{CausalErr}
-use Rattle.mu_machine.proofs.Turns.{map_twice}
+use Rattle.mu_affine.proofs.Turns.{map_twice}
 use Rattle.qss_compile.specs.Fields.{field_text}
-use Rattle.qss_compile.specs.Lines.{reason, reason_line, variable_text, order_reason}
+use Rattle.qss_compile.specs.RefusalLines.{reason, reason_line, variable_text, order_reason}
 use Rattle.qss_compile.specs.declared.line.Field.TheVariants.{Variable}
 use Rattle.qss_compile.proofs.line.order_line.Goals as goal
 

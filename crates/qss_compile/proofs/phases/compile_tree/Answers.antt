@@ -1,5 +1,5 @@
 use Rattle.std.proofs.Common.{sym, subst}
-use Rattle.mu_flat.specs.FlatExpression.{flat_model}
+use Rattle.mu_tree.specs.FlatExpression.{flat_model}
 use Rattle.mu_tree.specs.ModelTree.{model}
 use Rattle.qss_compile.specs.Causes.{without_names}
 use Rattle.qss_compile.specs.Flats.{flat_source}

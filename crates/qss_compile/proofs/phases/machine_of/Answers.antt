@@ -1,5 +1,5 @@
 use Rattle.std.proofs.lemmas.Result.{err_from_is_err_and}
-use Rattle.mu_flat.specs.FlatExpression.{flat_model}
+use Rattle.mu_tree.specs.FlatExpression.{flat_model}
 use Rattle.qss_compile.specs.Flats.{flat_source}
 use Rattle.qss_compile.proofs.Answering.{order_answer, forms_answer, rounding_answer}
 use Rattle.qss_compile.proofs.Bridge.{forms_for}

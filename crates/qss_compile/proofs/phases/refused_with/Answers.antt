@@ -1,7 +1,7 @@
 use Rattle.std.proofs.Common.{◌≡◌, ◌∙◌, ap, sym, inr, ℕ, List, map}
-use Rattle.mu_machine.proofs.Turns.{map_twice}
-use Rattle.mu_flat.specs.FlatExpression.{FlatVariable, flat_model, flat_variable}
-use Rattle.mu_flat.specs.declared.flat.FlatVar.{FlatVar}
+use Rattle.mu_affine.proofs.Turns.{map_twice}
+use Rattle.mu_tree.specs.FlatExpression.{FlatVariable, flat_model, flat_variable}
+use Rattle.mu_tree.specs.declared.flat.FlatVar.{FlatVar}
 use Rattle.qss_compile.specs.declared.fault.ModelErr.{ModelErr}
 use Rattle.qss_compile.specs.declared.fault.Refused.{Refused}
 use Rattle.qss_compile.proofs.phases.refused_with.Goals as goal

@@ -1,7 +1,7 @@
 use Rattle.std.proofs.Common.{◌≡◌, ◌≤◌, map, length}
 use Rattle.std.specs.Prelude.{vec_len, vec_capacity}
-use Rattle.qss_machine.specs.Numbers.{tabulate}
-use Rattle.qss_machine.specs.Uses.{reading_coefficients}
+use Rattle.qss_machine.specs.IndexedSums.{tabulate}
+use Rattle.qss_machine.specs.Readers.{reading_coefficients}
 use Rattle.qss_machine.proofs.coefficients.coefficients_by_variable.Given as goal
 
 -- the lists so far

@@ -3,7 +3,7 @@ use Rattle.std.proofs.Common.{◌≡◌, ℕ, ◌+◌, ◌<◌, ◌≤◌, false
 use Rattle.std.proofs.lemmas.Bool.{cases_lt}
 use Rattle.std.proofs.lemmas.Int.{to_z-of_z}
 use Rattle.std.specs.Int.RustNames.{FitsSigned}
-use Rattle.mu_num.specs.Sizes.{passes}
+use Rattle.mu_num.specs.Sizes.{exceeds}
 use Rattle.qss_machine.specs.declared.parts.Product.{Product}
 use Rattle.qss_machine.specs.Slopes.{mode_coefficient}
 use Rattle.qss_machine.proofs.ModeTests.{fits_false, fits_true}
@@ -11,8 +11,8 @@ use Rattle.qss_machine.proofs.ProductStates.{free_between, free_behind, below_on
 use Rattle.qss_machine.proofs.modes.modes_fit.Goals as goal
 use mir.Syntax.{w128}
 
-pub returns-then-passes : goal.returns-then-passes
-returns-then-passes c =
+pub returns-then-exceeds : goal.returns-then-exceeds
+returns-then-exceeds c =
     let none : Product = record { state = 0; discrete = 0; coef = pos 0 } in
     let products : List Product = c.args.row.now.products in
     let k : ℕ = c.loop-product.product-index in
@@ -21,9 +21,9 @@ returns-then-passes c =
     let own : state ≡ (get_or products k none).state = ap (λ ps. (get_or ps k none).state) is in
     let inside : k < length products = omega (arith, c.loop-product-test.true, ap length is) in
     let fits : FitsSigned w128 c.mode_coefficient_of-mode.result = record { sfits = c.mode_coefficient_of-mode.type_inv } in
-    let large = rw (to_z-of_z w128 c.mode_coefficient_of-mode.result fits, c.mode_coefficient_of-mode.ensures.value) at c.passes.ensures in
+    let large = rw (to_z-of_z w128 c.mode_coefficient_of-mode.result fits, c.mode_coefficient_of-mode.ensures.value) at c.exceeds.ensures in
     sym (fits_false c.args.state_count state (mode_coefficient c.args.level_bits c.args.state_count c.args.row.now c.args.discretes.now)
-    (omega (arith, own, c.requires.row.products.of_states k none inside)) (sym large ∙ c.if-passes.true))
+    (omega (arith, own, c.requires.row.products.of_states k none inside)) (sym large ∙ c.if-exceeds.true))
 
 pub loop-product-preserved : goal.loop-product-preserved
 loop-product-preserved c =
@@ -40,9 +40,9 @@ loop-product-preserved c =
     let from : past ≤ state = omega (arith, c.if-state-past.false) in
     let known : state < n = omega (arith, own, c.requires.row.products.of_states k none inside) in
     let fits : FitsSigned w128 c.mode_coefficient_of-mode.result = record { sfits = c.mode_coefficient_of-mode.type_inv } in
-    let large = rw (to_z-of_z w128 c.mode_coefficient_of-mode.result fits, c.mode_coefficient_of-mode.ensures.value) at c.passes.ensures in
-    let Fits : ℕ → Type 0 = λ i. passes 44 (mode_coefficient c.args.level_bits n c.args.row.now c.args.discretes.now i) ≡ false in
-    let here : Fits state = sym large ∙ c.if-passes.false in
+    let large = rw (to_z-of_z w128 c.mode_coefficient_of-mode.result fits, c.mode_coefficient_of-mode.ensures.value) at c.exceeds.ensures in
+    let Fits : ℕ → Type 0 = λ i. exceeds 44 (mode_coefficient c.args.level_bits n c.args.row.now c.args.discretes.now i) ≡ false in
+    let here : Fits state = sym large ∙ c.if-exceeds.false in
     record {
       fit = λ i h. elim (cases_lt i past) [
         | inl before ↦ c.loop-product.invariant.fit i before

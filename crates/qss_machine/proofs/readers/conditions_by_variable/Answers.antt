@@ -5,18 +5,18 @@ use Rattle.qss_machine.specs.declared.parts.Condition.{Condition}
 use Rattle.std.proofs.lemmas.List.{length-map, take_all}
 use Rattle.std.proofs.lemmas.List.Elements.{All-get_or}
 use Rattle.qss_machine.specs.declared.parts.ClauseInfo.{ClauseInfo}
-use Rattle.qss_machine.specs.Uses.{condition_reads}
+use Rattle.qss_machine.specs.Readers.{condition_reads}
 use Rattle.qss_machine.specs.Marks.{Collects, IsConditionOf}
 use Rattle.qss_machine.proofs.Places.{clauses_fit, count_more, conditions_in, conditions_more}
 use Rattle.qss_machine.proofs.Marking.{collected, items_of, condition_of}
 use Rattle.qss_machine.proofs.readers.conditions_by_variable.Goals as goal
 
-pub mark_branches-requires-clause-few : goal.mark_branches-requires-clause-few
-mark_branches-requires-clause-few c =
+pub mark_branches-requires-clause-count_limit : goal.mark_branches-requires-clause-count_limit
+mark_branches-requires-clause-count_limit c =
     let clause = c.clause-item.result in
     let fit = clauses_fit c.args.clauses.now c.loop-clause.clause-index clause c.loop-clause-test.true in
     let same = ap (λ (k : ClauseInfo). length k.branches) c.clause-item.is in
-    rw (c.as_slice.ensures) (omega (arith, fit, same, c.loop-clause.invariant.place, c.requires.few))
+    rw (c.as_slice.ensures) (omega (arith, fit, same, c.loop-clause.invariant.place, c.requires.count_limit))
 
 pub mark_branches-requires-clause-known : goal.mark_branches-requires-clause-known
 mark_branches-requires-clause-known c =

@@ -1,6 +1,6 @@
 use Rattle.std.proofs.Common.{◌≡◌, length, take}
 use Rattle.std.specs.Prelude.{map}
-use Rattle.qss_machine.specs.Uses.{condition_reads}
+use Rattle.qss_machine.specs.Readers.{condition_reads}
 use Rattle.qss_machine.specs.Marks.{Collects}
 use Rattle.qss_machine.proofs.Places.{conditions_in}
 use Rattle.qss_machine.proofs.readers.conditions_by_variable.Given as goal

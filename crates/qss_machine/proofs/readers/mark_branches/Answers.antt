@@ -4,7 +4,7 @@ use Rattle.std.proofs.lemmas.List.{length-map, take_all}
 use Rattle.std.proofs.lemmas.List.Elements.{All-get_or}
 use Rattle.qss_machine.specs.declared.parts.BranchInfo.{BranchInfo}
 use Rattle.qss_machine.specs.declared.parts.Entry.{Entry}
-use Rattle.qss_machine.specs.Uses.{condition_reads, has_entry}
+use Rattle.qss_machine.specs.Readers.{condition_reads, has_entry}
 use Rattle.qss_machine.specs.Marks.{MarksBy, Collects, IsConditionOf}
 use Rattle.qss_machine.proofs.Marking.{collect_branch, items_of, condition_of}
 use Rattle.qss_machine.proofs.readers.mark_branches.Goals as goal
@@ -30,7 +30,7 @@ loop-place-preserved c =
 pub returns : goal.returns
 returns c = record {
   next = refl;
-  as_many = c.loop-place.invariant.as_many;
+  same_length = c.loop-place.invariant.as_many;
   marks = λ before from start.
       subst (λ (branches : List BranchInfo). Collects condition_reads (before ++ map condition_of branches) (length c.args.lists.now.items) (map items_of c.loop-place.lists.items))
       (take_all c.loop-place.place c.args.branches.now c.loop-place-test.false) (c.loop-place.invariant.marks before from start);

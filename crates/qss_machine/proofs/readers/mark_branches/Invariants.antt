@@ -2,7 +2,7 @@ use Rattle.std.proofs.Common.{◌≡◌, List, length, take, ◌++◌}
 use Rattle.std.specs.Prelude.{map}
 use Rattle.qss_machine.specs.declared.parts.BranchInfo.{BranchInfo}
 use Rattle.qss_machine.specs.declared.parts.Condition.{Condition}
-use Rattle.qss_machine.specs.Uses.{condition_reads}
+use Rattle.qss_machine.specs.Readers.{condition_reads}
 use Rattle.qss_machine.specs.Marks.{Collects}
 use Rattle.qss_machine.proofs.readers.mark_branches.Given as goal
 

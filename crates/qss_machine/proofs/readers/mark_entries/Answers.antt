@@ -2,7 +2,7 @@ use Rattle.std.proofs.Common.{List, subst, pos, ◌==◌}
 use Rattle.std.specs.Prelude.{map}
 use Rattle.std.proofs.lemmas.List.Folds.{list_any_more}
 use Rattle.qss_machine.specs.declared.parts.Entry.{Entry}
-use Rattle.qss_machine.specs.Uses.{has_entry}
+use Rattle.qss_machine.specs.Readers.{has_entry}
 use Rattle.qss_machine.specs.Marks.{MarksBy}
 use Rattle.std.proofs.lemmas.List.{take_all}
 use Rattle.qss_machine.proofs.Marking.{marks_more, items_of}

@@ -1,5 +1,5 @@
 use Rattle.std.specs.Prelude.{map, take}
-use Rattle.qss_machine.specs.Uses.{has_entry}
+use Rattle.qss_machine.specs.Readers.{has_entry}
 use Rattle.qss_machine.specs.Marks.{MarksBy}
 use Rattle.qss_machine.proofs.readers.mark_entries.Given as goal
 

@@ -3,7 +3,7 @@ use Rattle.std.specs.Prelude.{◌||◌}
 use Rattle.std.specs.List.{list_any}
 use Rattle.qss_machine.specs.declared.parts.Entry.{Entry}
 use Rattle.qss_machine.specs.declared.parts.Product.{Product}
-use Rattle.qss_machine.specs.Uses.{has_entry}
+use Rattle.qss_machine.specs.Readers.{has_entry}
 use Rattle.qss_machine.proofs.Marking.{marks_more}
 use Rattle.qss_machine.proofs.readers.mark_row.Goals as goal
 

@@ -3,7 +3,7 @@ use Rattle.std.specs.Prelude.{map}
 use Rattle.std.proofs.lemmas.List.{length-map, take_all}
 use Rattle.std.proofs.lemmas.List.Elements.{All-get_or}
 use Rattle.qss_machine.specs.declared.parts.SlopeRow.{SlopeRow}
-use Rattle.qss_machine.specs.Uses.{row_reads}
+use Rattle.qss_machine.specs.Readers.{row_reads}
 use Rattle.qss_machine.specs.Marks.{MarksBy, Collects, IsRowOf}
 use Rattle.qss_machine.proofs.Marking.{collect_more, collected, items_of}
 use Rattle.qss_machine.proofs.readers.rows_by_variable.Goals as goal

@@ -1,5 +1,5 @@
 use Rattle.std.specs.Prelude.{map, take}
-use Rattle.qss_machine.specs.Uses.{row_reads}
+use Rattle.qss_machine.specs.Readers.{row_reads}
 use Rattle.qss_machine.specs.Marks.{Collects}
 use Rattle.qss_machine.proofs.readers.rows_by_variable.Given as goal
 

@@ -4,12 +4,12 @@ use Rattle.std.proofs.Common.{Vec, Global}
 use Rattle.std.specs.Prelude.{Option, None, vec_len, ◌==◌}
 use Rattle.mu_num.proofs.Tests.{eqb-true, eqb-false}
 use Rattle.qss_order2.specs.declared.rows.Row2.{Row2}
-use Rattle.qss_order2.specs.Calls.{standing_of}
+use Rattle.qss_order2.specs.Calls.{view_of}
 use Rattle.qss_order2.specs.Events.{IsVisit2}
-use Rattle.qss_order2.specs.Rules.{IsRuled2}
-use Rattle.qss_order2.specs.Runs.{end_rows}
-use Rattle.qss_order2.specs.Stores.{world_of}
-use Rattle.qss_order2.specs.Worlds.{World2, world2_unless}
+use Rattle.qss_order2.specs.SlopeRules.{IsRuled2}
+use Rattle.qss_order2.specs.SecondRuns.{end_rows}
+use Rattle.qss_order2.specs.Stores.{snapshot_of}
+use Rattle.qss_order2.specs.SecondSteps.{SecondSnapshot, second_snapshot_unless}
 use Rattle.qss_order2.proofs.Advances.{visit_on, rows_on, silent_visit, overflows_at_start, overflows_later}
 use Rattle.qss_order2.proofs.advance.advance.Goals as goal
 
@@ -30,14 +30,14 @@ loop-tick-init g c = record {
   stands = c.requires.stands;
   within = c.in_default.is;
   began = c.in_default.is;
-  in_time = c.requires.in_time;
+  in_time = c.requires.tick_limit;
   are_silent = ([], record { leads = tt; as_many = omega arith; reached = refl });
 }
 
 pub returns-in-Some-clause-next : goal.returns-in-Some-clause-next
 returns-in-Some-clause-next g c = (
   record {
-    overflows = overflows_at_start (IsRuled2 c.args.rule.now.nearest) (standing_of c.args.f.now.machine c.args.from c.args.s.now None) c.args.from c.in-Some.var refl
+    overflows = overflows_at_start (IsRuled2 c.args.rule.now.nearest) (view_of c.args.f.now.machine c.args.from c.args.s.now None) c.args.from c.in-Some.var refl
         (c.requires.stands.at_start c.in-Some.var c.in-Some.is) (c.requires.stands.over ∙ c.in-Some.is);
     own_rows = c.set_overflow_row.ensures;
     here = refl;
@@ -49,16 +49,16 @@ pub returns-in-Some-over-clause-next : goal.returns-in-Some-over-clause-next
 returns-in-Some-over-clause-next g c =
     let Rule = IsRuled2 c.args.rule.now.nearest in
     let m = c.args.f.now.machine in
-    let w0 : World2 = world_of c.args.s.now.motion in
-    let w : World2 = world_of c.loop-tick.s.motion in
+    let w0 : SecondSnapshot = snapshot_of c.args.s.now.motion in
+    let w : SecondSnapshot = snapshot_of c.loop-tick.s.motion in
     let before = c.loop-tick.invariant.are_silent in
     let visited = c.look-tick.ensures.visited in
     let t = c.look-tick.result in
-    let next : World2 = world_of c.look-tick.new.s.motion in
-    let all = visit_on Rule m c.args.from w0 before.0 c.loop-tick.tick w before.1 visited.0 t (world2_unless c.look-tick.new.s.over next) visited.1 in (
+    let next : SecondSnapshot = snapshot_of c.look-tick.new.s.motion in
+    let all = visit_on Rule m c.args.from w0 before.0 c.loop-tick.tick w before.1 visited.0 t (second_snapshot_unless c.look-tick.new.s.over next) visited.1 in (
       record {
-        overflows = overflows_later Rule (standing_of m c.args.from c.args.s.now None) (before.0 ++ visited.0) t c.in-Some-over.var (c.requires.stands.over ∙ c.loop-tick.invariant.began) c.look-tick.ensures.in_time
-            (subst (λ (o : Option ℕ). IsVisit2 Rule m c.args.from w0 (before.0 ++ visited.0) t (world2_unless o next)) c.in-Some-over.is all);
+        overflows = overflows_later Rule (view_of m c.args.from c.args.s.now None) (before.0 ++ visited.0) t c.in-Some-over.var (c.requires.stands.over ∙ c.loop-tick.invariant.began) c.look-tick.ensures.tick_limit
+            (subst (λ (o : Option ℕ). IsVisit2 Rule m c.args.from w0 (before.0 ++ visited.0) t (second_snapshot_unless o next)) c.in-Some-over.is all);
         own_rows = c.set_overflow_row-in-Some-over.ensures;
         here = refl;
       },
@@ -69,19 +69,19 @@ pub returns-then-not-is_empty-clause-next : goal.returns-then-not-is_empty-claus
 returns-then-not-is_empty-clause-next g c =
     let Rule = IsRuled2 c.args.rule.now.nearest in
     let m = c.args.f.now.machine in
-    let w0 : World2 = world_of c.args.s.now.motion in
-    let w : World2 = world_of c.loop-tick.s.motion in
+    let w0 : SecondSnapshot = snapshot_of c.args.s.now.motion in
+    let w : SecondSnapshot = snapshot_of c.loop-tick.s.motion in
     let before = c.loop-tick.invariant.are_silent in
     let visited = c.look-tick.ensures.visited in
     let t = c.look-tick.result in
-    let next : World2 = world_of c.look-tick.new.s.motion in
-    let all = visit_on Rule m c.args.from w0 before.0 c.loop-tick.tick w before.1 visited.0 t (world2_unless c.look-tick.new.s.over next) visited.1 in
-    let stepped = subst (λ (o : Option ℕ). IsVisit2 Rule m c.args.from w0 (before.0 ++ visited.0) t (world2_unless o next)) c.in_default-over.is all in (
+    let next : SecondSnapshot = snapshot_of c.look-tick.new.s.motion in
+    let all = visit_on Rule m c.args.from w0 before.0 c.loop-tick.tick w before.1 visited.0 t (second_snapshot_unless c.look-tick.new.s.over next) visited.1 in
+    let stepped = subst (λ (o : Option ℕ). IsVisit2 Rule m c.args.from w0 (before.0 ++ visited.0) t (second_snapshot_unless o next)) c.in_default-over.is all in (
       before.0 ++ visited.0,
       record {
         goes = record { within = c.requires.stands.over ∙ c.loop-tick.invariant.began; leads = stepped.leads };
         is_next = stepped.is_next;
-        in_time = c.look-tick.ensures.in_time;
+        in_time = c.look-tick.ensures.tick_limit;
         is_step = stepped.is_step;
         own_rows = visited.2 c.in_default-over.is ∙ rows_on Rule m c.args.from w0 before.0 c.loop-tick.tick w before.1 visited.0 t next;
         some_rows = some_rows c.look-tick.new.s.rows (sym c.is_empty.ensures ∙ c.if-not-is_empty.true);
@@ -97,21 +97,21 @@ pub loop-tick-preserved : goal.loop-tick-preserved
 loop-tick-preserved g c =
     let Rule = IsRuled2 c.args.rule.now.nearest in
     let m = c.args.f.now.machine in
-    let w0 : World2 = world_of c.args.s.now.motion in
-    let w : World2 = world_of c.loop-tick.s.motion in
+    let w0 : SecondSnapshot = snapshot_of c.args.s.now.motion in
+    let w : SecondSnapshot = snapshot_of c.loop-tick.s.motion in
     let before = c.loop-tick.invariant.are_silent in
     let visited = c.look-tick.ensures.visited in
     let t = c.look-tick.result in
-    let next : World2 = world_of c.look-tick.new.s.motion in
-    let all = visit_on Rule m c.args.from w0 before.0 c.loop-tick.tick w before.1 visited.0 t (world2_unless c.look-tick.new.s.over next) visited.1 in
-    let stepped = subst (λ (o : Option ℕ). IsVisit2 Rule m c.args.from w0 (before.0 ++ visited.0) t (world2_unless o next)) c.in_default-over.is all in
+    let next : SecondSnapshot = snapshot_of c.look-tick.new.s.motion in
+    let all = visit_on Rule m c.args.from w0 before.0 c.loop-tick.tick w before.1 visited.0 t (second_snapshot_unless c.look-tick.new.s.over next) visited.1 in
+    let stepped = subst (λ (o : Option ℕ). IsVisit2 Rule m c.args.from w0 (before.0 ++ visited.0) t (second_snapshot_unless o next)) c.in_default-over.is all in
     let none = sym (visited.2 c.in_default-over.is ∙ rows_on Rule m c.args.from w0 before.0 c.loop-tick.tick w before.1 visited.0 t next)
     ∙ no_rows c.look-tick.new.s.rows (sym c.is_empty.ensures ∙ c.if-not-is_empty.false) in
     record {
       stands = c.look-tick.ensures.stands c.in_default-over.is;
       within = c.in_default-over.is;
       began = c.loop-tick.invariant.began;
-      in_time = c.look-tick.ensures.in_time;
+      in_time = c.look-tick.ensures.tick_limit;
       are_silent = ((before.0 ++ visited.0) ++ next ∷ [], silent_visit Rule m c.args.from w0 (before.0 ++ visited.0) t next stepped none);
     }
 
@@ -119,13 +119,13 @@ pub returns-clause-next : goal.returns-clause-next
 returns-clause-next g c =
     let m = c.args.f.now.machine in
     let before = c.loop-tick.invariant.are_silent in
-    let w : World2 = world_of c.loop-tick.s.motion in
+    let w : SecondSnapshot = snapshot_of c.loop-tick.s.motion in
     let end : c.loop-tick.tick ≡ m.last = omega (arith, c.loop-tick.invariant.in_time, c.loop-tick-test.false) in (
       before.0,
       record {
         goes = record { within = c.requires.stands.over ∙ c.loop-tick.invariant.began; leads = before.1.leads };
         at_last = before.1.as_many ∙ end;
-        world = sym before.1.reached;
+        snapshot = sym before.1.reached;
         own_rows = c.set_end_rows.ensures ∙ ap (λ (t : ℕ). end_rows m t w) end;
         here = refl;
       },

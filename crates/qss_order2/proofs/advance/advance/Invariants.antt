@@ -1,9 +1,9 @@
 use Rattle.std.proofs.Common.{◌≡◌, ◌-◌, ◌≤◌, List}
 use Rattle.std.specs.Prelude.{None}
 use Rattle.qss_order2.specs.Calls.{AreSilent2}
-use Rattle.qss_order2.specs.Rules.{IsRuled2}
-use Rattle.qss_order2.specs.Stores.{world_of, Stands}
-use Rattle.qss_order2.specs.Worlds.{World2}
+use Rattle.qss_order2.specs.SlopeRules.{IsRuled2}
+use Rattle.qss_order2.specs.Stores.{snapshot_of, Stands}
+use Rattle.qss_order2.specs.SecondSteps.{SecondSnapshot}
 use Rattle.qss_order2.proofs.advance.advance.Given as goal
 
 -- the store stands at the tick, within its limits, and the ticks up to it had no rows
@@ -13,7 +13,7 @@ invariant-loop-tick g l = record {
   within : l.s.over ≡ None;
   began : l.fn.s.over ≡ None;
   in_time : l.tick ≤ l.f.machine.last;
-  are_silent : (silent : List World2) × AreSilent2 (IsRuled2 l.rule.nearest) l.f.machine l.fn.from (world_of l.fn.s.motion) silent l.tick (world_of l.s.motion);
+  are_silent : (silent : List SecondSnapshot) × AreSilent2 (IsRuled2 l.rule.nearest) l.f.machine l.fn.from (snapshot_of l.fn.s.motion) silent l.tick (snapshot_of l.s.motion);
 }
 
 abbrev pub decreases-loop-tick : goal.decreases-loop-tick

@@ -7,7 +7,7 @@ use Rattle.mu_num.specs.Sizes.{IsWithin}
 use Rattle.qss_machine.specs.declared.parts.SlopeRow.{SlopeRow}
 use Rattle.qss_machine.specs.Machines.{state_count, row_at, slope_at}
 use Rattle.qss_machine.specs.Slopes.{mode_fits}
-use Rattle.qss_machine.specs.Legitimate.{start_drive}
+use Rattle.qss_machine.specs.Legitimate.{start_constant_part}
 use Rattle.qss_order2.proofs.FixedRows.{discretes_start}
 use Rattle.qss_order2.proofs.Sizes.{slope_of_zeros}
 use Rattle.qss_order2.proofs.fixed_machine.drive_of.Goals as goal
@@ -27,7 +27,7 @@ pub returns : goal.returns
 returns c =
     let m = c.args.m.now in
     let fits : FitsSigned w128 c.slope.result = record { sfits = c.slope.type_inv } in
-    let own : c.slope.result ≡ start_drive m c.args.row =
+    let own : c.slope.result ≡ start_constant_part m c.args.row =
     c.slope.ensures.value ∙ ap (λ l. slope_at m c.args.row l c.args.discretes.now) c.requires.zeros
     ∙ ap (λ d. slope_at m c.args.row (replicate (state_count m) (pos 0)) d) c.requires.start ∙ slope_of_zeros m c.args.row in
     simp to_z-of_z own

@@ -1,13 +1,13 @@
 use Rattle.std.proofs.Common.{◌≡◌, ◌≤◌}
 use Rattle.std.specs.Prelude.{vec_len, vec_capacity}
-use Rattle.qss_machine.specs.Legitimate.{start_drive}
-use Rattle.qss_machine.specs.Numbers.{tabulate}
+use Rattle.qss_machine.specs.Legitimate.{start_constant_part}
+use Rattle.qss_machine.specs.IndexedSums.{tabulate}
 use Rattle.qss_order2.proofs.fixed_machine.drives_of.Given as goal
 
 -- the drives so far
 abbrev pub invariant-loop-row : goal.invariant-loop-row
 invariant-loop-row l = record {
-  so_far : l.drives.items ≡ tabulate l.row (start_drive l.m);
+  so_far : l.drives.items ≡ tabulate l.row (start_constant_part l.m);
   as_many : vec_len l.drives ≡ l.row;
   room : l.count ≤ vec_capacity l.drives;
 }

@@ -2,7 +2,7 @@
 use Rattle.std.proofs.Common.{arith, ◌∙◌}
 use Rattle.std.proofs.lemmas.Int.{to_z-of_z}
 use Rattle.std.specs.Int.RustNames.{FitsSigned}
-use Rattle.qss_order2.specs.Worlds.{reach_of}
+use Rattle.qss_order2.specs.SecondSteps.{reach_of}
 use Rattle.qss_order2.proofs.Tables.{table_more}
 use Rattle.qss_order2.proofs.fixed_machine.limits_of.Goals as goal
 use mir.Syntax.{w128}

@@ -6,11 +6,11 @@ use Rattle.std.specs.Int.RustNames.{FitsSigned}
 use Rattle.mu_num.specs.Curves.{curve_at, FirstUpTo}
 use Rattle.mu_num.specs.Sizes.{IsWithin, IsPositiveWithin}
 use Rattle.qss_machine.specs.declared.system.Machine.{Machine}
-use Rattle.qss_machine.specs.Numbers.{int_at}
+use Rattle.qss_machine.specs.IndexedSums.{int_at}
 use Rattle.qss_machine.specs.Machines.{state_count, level_unit}
 use Rattle.qss_order2.specs.declared.fixed_machine.FixedMachine.{FixedMachine}
-use Rattle.qss_order2.specs.Worlds.{rise_at, reach_of}
-use Rattle.qss_order2.specs.Laws.{bend_at}
+use Rattle.qss_order2.specs.SecondSteps.{rise_at, reach_of}
+use Rattle.qss_order2.specs.SecondRunLaws.{bend_at}
 use Rattle.qss_order2.proofs.Bounds.{at_index, level_within, state_small, rise_small, bend_small, change_small, rise_is, bend_is}
 use Rattle.qss_order2.proofs.Sizes.{unit_fits, reach_small, reach_low}
 use Rattle.qss_order2.proofs.Tables.{at_table}

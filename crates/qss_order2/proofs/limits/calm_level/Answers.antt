@@ -4,7 +4,7 @@ use Rattle.std.proofs.Math.Pow.{pow_mono}
 use Rattle.std.proofs.lemmas.Int.{ints, to_z-of_z}
 use Rattle.std.specs.Int.RustNames.{FitsSigned}
 use Rattle.mu_num.specs.Sizes.{IsWithin}
-use Rattle.qss_order2.specs.Limits.{IsCalmLevel}
+use Rattle.qss_order2.specs.SecondRunLimits.{IsCalmLevel}
 use Rattle.qss_order2.proofs.limits.calm_level.Goals as goal
 use mir.Syntax.{w128}
 use mir.Val.{to_z, of_z}

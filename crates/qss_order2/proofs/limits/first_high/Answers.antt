@@ -2,17 +2,17 @@
 use Rattle.std.proofs.Common.{◌≡◌, ◌∙◌, pos, true, sym, arith}
 use Rattle.std.proofs.lemmas.Int.{ints, to_z-of_z}
 use Rattle.std.specs.Int.RustNames.{FitsSigned}
-use Rattle.mu_num.specs.Sizes.{passes}
-use Rattle.qss_machine.specs.Numbers.{int_at}
+use Rattle.mu_num.specs.Sizes.{exceeds}
+use Rattle.qss_machine.specs.IndexedSums.{int_at}
 use Rattle.qss_order2.proofs.Tables.{first_is, none_is}
 use Rattle.qss_order2.proofs.limits.first_high.Goals as goal
 use mir.Syntax.{w128}
 
-pub returns-then-passes : goal.returns-then-passes
-returns-then-passes c =
+pub returns-then-exceeds : goal.returns-then-exceeds
+returns-then-exceeds c =
     let fits : FitsSigned w128 (int_at c.args.levels.now c.loop-j.j) = omega (arith, ints) in
-    let here : passes 49 (int_at c.args.levels.now c.loop-j.j) ≡ true = sym (rw (to_z-of_z w128 (int_at c.args.levels.now c.loop-j.j) fits) at c.passes.ensures) ∙ c.if-passes.true in
-    sym (first_is (passes 49) c.args.levels.now c.loop-j.j (pos 0) c.loop-j-test.true c.loop-j.invariant here)
+    let here : exceeds 49 (int_at c.args.levels.now c.loop-j.j) ≡ true = sym (rw (to_z-of_z w128 (int_at c.args.levels.now c.loop-j.j) fits) at c.exceeds.ensures) ∙ c.if-exceeds.true in
+    sym (first_is (exceeds 49) c.args.levels.now c.loop-j.j (pos 0) c.loop-j-test.true c.loop-j.invariant here)
 
 pub returns : goal.returns
-returns c = sym (none_is (passes 49) c.args.levels.now (pos 0) (λ k h. c.loop-j.invariant k (omega (arith, h, c.loop-j-test.false))))
+returns c = sym (none_is (exceeds 49) c.args.levels.now (pos 0) (λ k h. c.loop-j.invariant k (omega (arith, h, c.loop-j-test.false))))

@@ -1,17 +1,17 @@
 -- The first one is the least.
 use Rattle.std.proofs.Common.{◌∙◌, sym, arith}
-use Rattle.mu_num.specs.Sizes.{passes}
+use Rattle.mu_num.specs.Sizes.{exceeds}
 use Rattle.qss_machine.specs.Machines.{state_count}
-use Rattle.qss_order2.specs.Worlds.{bend_weight}
+use Rattle.qss_order2.specs.SecondSteps.{rise_change_weight}
 use Rattle.qss_order2.proofs.Tables.{first_of_table, none_of_table}
 use Rattle.qss_order2.proofs.limits.first_steep.Goals as goal
 
 pub returns-then-bends_past : goal.returns-then-bends_past
 returns-then-bends_past c =
     let m = c.args.f.now.machine in
-    sym (first_of_table (passes 94) (state_count m) (bend_weight m c.args.changes.now) c.loop-row.row (omega (arith, c.loop-row-test.true, c.requires.changes)) c.loop-row.invariant (sym c.bends_past.ensures ∙ c.if-bends_past.true))
+    sym (first_of_table (exceeds 94) (state_count m) (rise_change_weight m c.args.changes.now) c.loop-row.row (omega (arith, c.loop-row-test.true, c.requires.changes)) c.loop-row.invariant (sym c.bends_past.ensures ∙ c.if-bends_past.true))
 
 pub returns : goal.returns
 returns c =
     let m = c.args.f.now.machine in
-    sym (none_of_table (passes 94) (state_count m) (bend_weight m c.args.changes.now) (λ k h. c.loop-row.invariant k (omega (arith, h, c.loop-row-test.false, c.requires.changes))))
+    sym (none_of_table (exceeds 94) (state_count m) (rise_change_weight m c.args.changes.now) (λ k h. c.loop-row.invariant k (omega (arith, h, c.loop-row-test.false, c.requires.changes))))

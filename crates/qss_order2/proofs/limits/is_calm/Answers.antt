@@ -6,8 +6,8 @@ use Rattle.std.proofs.lemmas.List.FromFn.{length-map-range_with_len}
 use Rattle.std.specs.Int.RustNames.{FitsSigned}
 use Rattle.std.specs.Prelude.{replicate}
 use Rattle.qss_machine.specs.Machines.{state_count}
-use Rattle.qss_order2.specs.Limits.{past_levels}
-use Rattle.qss_order2.specs.Worlds.{reach_of}
+use Rattle.qss_order2.specs.SecondRunLimits.{past_levels}
+use Rattle.qss_order2.specs.SecondSteps.{reach_of}
 use Rattle.qss_order2.proofs.CalmLevels.{calm}
 use Rattle.qss_order2.proofs.limits.is_calm.Goals as goal
 use mir.Syntax.{w128}

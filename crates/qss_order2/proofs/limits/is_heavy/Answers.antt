@@ -2,9 +2,9 @@
 use Rattle.std.proofs.Common.{◌≡◌, ◌∙◌, ap, sym, subst, arith}
 use Rattle.std.proofs.lemmas.Int.{to_z-of_z}
 use Rattle.std.specs.Int.RustNames.{FitsSigned}
-use Rattle.mu_num.specs.Sizes.{IsWithin, passes}
+use Rattle.mu_num.specs.Sizes.{IsWithin, exceeds}
 use Rattle.qss_order2.specs.Fixed.{AreModes}
-use Rattle.qss_order2.specs.Worlds.{rise_weight}
+use Rattle.qss_order2.specs.SecondSteps.{rise_weight}
 use Rattle.qss_order2.proofs.FixedFacts.{wide, in_drives, drive_is, drive_within, row_is}
 use Rattle.qss_order2.proofs.FixedSums.{weight_is}
 use Rattle.qss_order2.proofs.limits.is_heavy.Goals as goal
@@ -30,4 +30,4 @@ returns c =
     let weight : c.weight_of.result ≡ rise_weight m c.args.levels.now c.args.row =
     own ∙ weight_is m c.args.row c.as_slice.result.now (subst (AreModes m c.args.row) (sym c.as_slice.ensures) modes) c.args.levels.now c.requires.levels c.index-2.result.now
     (drive_is c.args.f.now c.args.row c.requires.row c.index-2.result.now c.index-2.ensures) in
-    c.passes.ensures ∙ ap (passes 94) (to_z-of_z w128 c.weight_of.result of_weight ∙ weight)
+    c.exceeds.ensures ∙ ap (exceeds 94) (to_z-of_z w128 c.weight_of.result of_weight ∙ weight)

@@ -6,7 +6,7 @@ use Rattle.qss_machine.proofs.Ranges.{none_past}
 use Rattle.qss_order2.proofs.Tables.{all_of}
 use Rattle.qss_order2.proofs.limits.past_levels.Goals as goal
 
-pub first_heavy-requires-clause-small : goal.first_heavy-requires-clause-small
-first_heavy-requires-clause-small c =
+pub first_heavy-requires-clause-size_limit : goal.first_heavy-requires-clause-size_limit
+first_heavy-requires-clause-size_limit c =
     all_of (IsWithin 50) c.args.levels.now (state_count c.args.f.now.machine) c.requires
     (λ k h. omega (arith, none_past 49 c.args.levels.now (sym c.first_high.ensures ∙ c.in_default.is) k))

@@ -5,7 +5,7 @@ use Rattle.std.specs.Prelude.{vec_capacity}
 use Rattle.qss_machine.specs.Machines.{state_count, discrete_count}
 use Rattle.qss_order2.specs.declared.rows.Row2.{Row2}
 use Rattle.qss_order2.specs.declared.store.Store.{Store}
-use Rattle.qss_order2.specs.Limits.{IsCalmBy}
+use Rattle.qss_order2.specs.SecondRunLimits.{IsCalmBy}
 use Rattle.qss_order2.specs.Stores.{IsSized}
 use Rattle.qss_order2.proofs.looking.prepare.Goals as goal
 

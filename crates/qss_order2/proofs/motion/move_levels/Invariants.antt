@@ -3,7 +3,7 @@ use Rattle.std.specs.Prelude.{if◌then◌else◌}
 use Rattle.mu_num.specs.Rounding.{floor_of}
 use Rattle.qss_machine.specs.Firing.{flag_at}
 use Rattle.qss_machine.specs.Machines.{level_unit}
-use Rattle.qss_machine.specs.Numbers.{int_at}
+use Rattle.qss_machine.specs.IndexedSums.{int_at}
 use Rattle.qss_order2.proofs.Tables.{IsFilled}
 use Rattle.qss_order2.proofs.motion.move_levels.Given as goal
 

@@ -6,11 +6,11 @@ use Rattle.mu_num.specs.Curves.{curve_at}
 use Rattle.mu_num.specs.Rounding.{floor_of}
 use Rattle.mu_num.specs.Sizes.{IsWithin}
 use Rattle.qss_machine.specs.Firing.{flag_at}
-use Rattle.qss_machine.specs.Numbers.{int_at, tabulate}
+use Rattle.qss_machine.specs.IndexedSums.{int_at, tabulate}
 use Rattle.qss_machine.specs.Machines.{state_count, level_unit}
-use Rattle.qss_order2.specs.Worlds.{rise_at}
-use Rattle.qss_order2.specs.Laws.{bend_at, world2_after}
-use Rattle.qss_order2.specs.Stores.{world_of}
+use Rattle.qss_order2.specs.SecondSteps.{rise_at}
+use Rattle.qss_order2.specs.SecondRunLaws.{bend_at, second_snapshot_after}
+use Rattle.qss_order2.specs.Stores.{snapshot_of}
 use Rattle.qss_order2.proofs.Bounds.{small_states, small_rises, small_bends, small_levels, small_changes, rise_is, bend_is}
 use Rattle.qss_order2.proofs.Tables.{same_table, at_table}
 use Rattle.qss_order2.proofs.motion.move_on.Goals as goal
@@ -53,7 +53,7 @@ returns-clause-levels c =
     let q = c.args.q.now in
     let moves = c.requires.moves in
     let n = state_count m in
-    let v = world2_after m (world_of q) c.args.ticks in
+    let v = second_snapshot_after m (snapshot_of q) c.args.ticks in
     let there : c.as_slice-3.result.now ≡ v.states = c.as_slice-3.ensures.value ∙ returns-clause-states c in
     let many : length c.as_mut_slice-2.result.now ≡ n = ap length c.as_mut_slice-2.ensures.value ∙ moves.sized.levels in
     let f = λ (xs ls cs : List ℤ) (j : ℕ). if flag_at c.args.left.now j then floor_of (int_at xs j) (level_unit m) else int_at ls j +ℤ pos c.args.ticks *ℤ int_at cs j in

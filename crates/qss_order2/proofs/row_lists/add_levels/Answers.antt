@@ -2,7 +2,7 @@
 use Rattle.std.proofs.Common.{ℤ, ℕ, ◌∙◌, ap, arith, to_z, of_z}
 use Rattle.std.proofs.lemmas.Int.{ints, to_z-of_z}
 use Rattle.std.specs.Int.RustNames.{FitsSigned}
-use Rattle.qss_machine.specs.Numbers.{int_at}
+use Rattle.qss_machine.specs.IndexedSums.{int_at}
 use Rattle.qss_order2.specs.declared.rows.Row2.{Row2}
 use Rattle.qss_order2.specs.declared.rows.Kind2.TheVariants as kind
 use Rattle.qss_order2.proofs.RowLists.{row_more}

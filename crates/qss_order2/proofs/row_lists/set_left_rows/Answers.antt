@@ -5,10 +5,10 @@ use Rattle.std.specs.Int.RustNames.{FitsSigned}
 use Rattle.std.specs.Prelude.{vec_len, vec_capacity}
 use Rattle.mu_num.proofs.Tests.{if-true, if-false}
 use Rattle.qss_machine.specs.Firing.{flag_at}
-use Rattle.qss_machine.specs.Numbers.{int_at}
+use Rattle.qss_machine.specs.IndexedSums.{int_at}
 use Rattle.qss_order2.specs.declared.rows.Row2.{Row2}
-use Rattle.qss_order2.specs.Worlds.{World2}
-use Rattle.qss_order2.specs.Runs.{level_row, slope_row}
+use Rattle.qss_order2.specs.SecondSteps.{SecondSnapshot}
+use Rattle.qss_order2.specs.SecondRuns.{level_row, slope_row}
 use Rattle.qss_order2.specs.Stores.{rows_of_left}
 use Rattle.qss_order2.proofs.RowLists.{left_rows, left_more}
 use Rattle.qss_order2.proofs.row_lists.set_left_rows.Goals as goal
@@ -20,7 +20,7 @@ loop-j-preserved c =
     let a = c.args in
     let j = c.loop-j.j in
     let inv = c.loop-j.invariant in
-    let w : World2 = record { states = a.states.now; levels = a.levels.now; changes = a.changes.now } in
+    let w : SecondSnapshot = record { states = a.states.now; levels = a.levels.now; changes = a.changes.now } in
     let of_x : FitsSigned w128 (int_at a.states.now j) = omega (arith, ints) in
     let of_level : FitsSigned w128 (int_at a.levels.now j) = omega (arith, ints) in
     let of_change : FitsSigned w128 (int_at a.changes.now j) = omega (arith, ints) in

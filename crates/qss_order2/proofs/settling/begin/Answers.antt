@@ -7,26 +7,26 @@ use Rattle.std.specs.Vec.{with_items}
 use Rattle.mu_num.specs.Sizes.{IsWithin}
 use Rattle.qss_machine.specs.Firing.{flag_at}
 use Rattle.qss_machine.specs.Machines.{state_count, level_unit}
-use Rattle.qss_machine.specs.Numbers.{int_at, tabulate}
-use Rattle.qss_order2.specs.Laws.{bend_at}
-use Rattle.qss_order2.specs.Limits.{past_levels}
-use Rattle.qss_order2.specs.Rules.{IsAnswer, IsRuled2}
-use Rattle.qss_order2.specs.Worlds.{rise_at, fine_levels, AreChanges}
+use Rattle.qss_machine.specs.IndexedSums.{int_at, tabulate}
+use Rattle.qss_order2.specs.SecondRunLaws.{bend_at}
+use Rattle.qss_order2.specs.SecondRunLimits.{past_levels}
+use Rattle.qss_order2.specs.SlopeRules.{IsAnswer, IsRuled2}
+use Rattle.qss_order2.specs.SecondSteps.{rise_at, fine_levels, AreChanges}
 use Rattle.qss_order2.proofs.Bounds.{none_of, rise_by_weight}
 use Rattle.qss_order2.proofs.Settlings.{are_changes, held_after}
 use Rattle.qss_order2.proofs.Sizes.{start_level_small, start_rise_small}
 use Rattle.qss_order2.proofs.Tables.{at_table, all_of}
 use Rattle.qss_order2.proofs.settling.begin.Goals as goal
 
-pub set_rises-requires-clause-small : goal.set_rises-requires-clause-small
-set_rises-requires-clause-small g c =
+pub set_rises-requires-clause-size_limit : goal.set_rises-requires-clause-size_limit
+set_rises-requires-clause-size_limit g c =
     let m = c.args.f.now.machine in
     let q = c.args.q.now in
     subst (All (IsWithin 50)) (sym c.as_slice.ensures.value)
     (all_of (IsWithin 50) q.levels.items (state_count m) c.requires.sized.levels (λ k h. subst (λ (l : List ℤ). IsWithin 50 (int_at l k)) (sym c.requires.start) (start_level_small m k h)))
 
-pub set_changes-requires-clause-small : goal.set_changes-requires-clause-small
-set_changes-requires-clause-small g c =
+pub set_changes-requires-clause-size_limit : goal.set_changes-requires-clause-size_limit
+set_changes-requires-clause-size_limit g c =
     let m = c.args.f.now.machine in
     let q = c.args.q.now in
     let n = state_count m in

@@ -2,7 +2,7 @@
 use Rattle.std.proofs.Common.{◌∙◌, ap, sym, subst}
 use Rattle.std.proofs.lemmas.Int.{to_z-of_z}
 use Rattle.std.specs.Int.RustNames.{FitsSigned}
-use Rattle.mu_num.specs.Sizes.{passes}
+use Rattle.mu_num.specs.Sizes.{exceeds}
 use Rattle.qss_order2.specs.Fixed.{AreModes}
 use Rattle.qss_order2.proofs.FixedFacts.{row_is}
 use Rattle.qss_order2.proofs.FixedSums.{bend_is, bend_weight_is}
@@ -13,7 +13,7 @@ pub change_sum-requires-clause-within : goal.change_sum-requires-clause-within
 change_sum-requires-clause-within c =
     let m = c.args.f.now.machine in
     let modes : AreModes m c.args.row c.index.result.now = row_is c.args.f.now c.args.row c.requires.row c.index.result.now c.index.ensures in
-    ap (passes 94) (bend_weight_is m c.args.row c.as_slice.result.now (subst (AreModes m c.args.row) (sym c.as_slice.ensures) modes) c.args.changes.now c.requires.changes) ∙ c.requires.within
+    ap (exceeds 94) (bend_weight_is m c.args.row c.as_slice.result.now (subst (AreModes m c.args.row) (sym c.as_slice.ensures) modes) c.args.changes.now c.requires.changes) ∙ c.requires.within
 
 pub returns : goal.returns
 returns c =

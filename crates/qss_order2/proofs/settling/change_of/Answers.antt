@@ -3,7 +3,7 @@ use Rattle.std.proofs.Common.{sym, subst, arith}
 use Rattle.std.proofs.lemmas.Int.{to_z-of_z}
 use Rattle.std.specs.Int.RustNames.{FitsSigned}
 use Rattle.mu_num.specs.Sizes.{IsPositiveWithin}
-use Rattle.qss_order2.specs.Rules.{IsAsked}
+use Rattle.qss_order2.specs.SlopeRules.{IsAsked}
 use Rattle.qss_order2.proofs.FixedFacts.{wide}
 use Rattle.qss_order2.proofs.Sizes.{unit_fits}
 use Rattle.qss_order2.proofs.settling.change_of.Goals as goal

@@ -4,8 +4,8 @@ use Rattle.std.proofs.lemmas.Int.{ints, to_z-of_z}
 use Rattle.std.specs.Int.RustNames.{FitsSigned}
 use Rattle.std.specs.Prelude.{if◌then◌else◌}
 use Rattle.qss_machine.specs.Firing.{flag_at}
-use Rattle.qss_machine.specs.Numbers.{int_at, tabulate}
-use Rattle.qss_order2.specs.Worlds.{rise_at}
+use Rattle.qss_machine.specs.IndexedSums.{int_at, tabulate}
+use Rattle.qss_order2.specs.SecondSteps.{rise_at}
 use Rattle.qss_order2.proofs.Tables.{filled_more, filled_table}
 use Rattle.qss_order2.proofs.settling.renew_rises.Goals as goal
 use mir.Syntax.{w128}

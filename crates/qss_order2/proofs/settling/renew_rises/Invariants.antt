@@ -1,8 +1,8 @@
 use Rattle.std.proofs.Common.{◌≡◌, pos, ◌+ℤ◌, ◌*ℤ◌}
 use Rattle.std.specs.Prelude.{if◌then◌else◌}
 use Rattle.qss_machine.specs.Firing.{flag_at}
-use Rattle.qss_machine.specs.Numbers.{int_at}
-use Rattle.qss_order2.specs.Worlds.{rise_at}
+use Rattle.qss_machine.specs.IndexedSums.{int_at}
+use Rattle.qss_order2.specs.SecondSteps.{rise_at}
 use Rattle.qss_order2.proofs.Tables.{IsFilled}
 use Rattle.qss_order2.proofs.settling.renew_rises.Given as goal
 

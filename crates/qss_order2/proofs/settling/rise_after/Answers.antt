@@ -4,7 +4,7 @@ use Rattle.std.proofs.lemmas.Int.{ints, to_z-of_z}
 use Rattle.std.specs.Int.RustNames.{FitsSigned}
 use Rattle.std.specs.Prelude.{if◌then◌else◌}
 use Rattle.mu_num.proofs.Tests.{if-false}
-use Rattle.qss_order2.specs.Worlds.{rise_at}
+use Rattle.qss_order2.specs.SecondSteps.{rise_at}
 use Rattle.qss_order2.proofs.settling.rise_after.Goals as goal
 use mir.Syntax.{w128}
 

@@ -1,5 +1,5 @@
 use Rattle.std.proofs.Common.{◌≡◌, pos}
-use Rattle.qss_order2.specs.Laws.{bend_at}
+use Rattle.qss_order2.specs.SecondRunLaws.{bend_at}
 use Rattle.qss_order2.proofs.Tables.{IsFilled}
 use Rattle.qss_order2.proofs.settling.set_bends.Given as goal
 

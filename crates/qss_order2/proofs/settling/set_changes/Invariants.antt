@@ -2,8 +2,8 @@ use Rattle.std.proofs.Common.{◌≡◌, pos}
 use Rattle.std.specs.Prelude.{MatchBool}
 use Rattle.qss_machine.specs.Firing.{flag_at}
 use Rattle.qss_machine.specs.Machines.{level_unit}
-use Rattle.qss_machine.specs.Numbers.{int_at}
-use Rattle.qss_order2.specs.Rules.{IsAnswer}
+use Rattle.qss_machine.specs.IndexedSums.{int_at}
+use Rattle.qss_order2.specs.SlopeRules.{IsAnswer}
 use Rattle.qss_order2.proofs.Tables.{IsFilled}
 use Rattle.qss_order2.proofs.settling.set_changes.Given as goal
 

@@ -1,7 +1,7 @@
 -- All rises.
 use Rattle.std.proofs.Common.{ℕ, ◌≤◌, length, ◌∙◌, ap}
-use Rattle.qss_machine.specs.Numbers.{tabulate}
-use Rattle.qss_order2.specs.Worlds.{rise_at}
+use Rattle.qss_machine.specs.IndexedSums.{tabulate}
+use Rattle.qss_order2.specs.SecondSteps.{rise_at}
 use Rattle.qss_order2.proofs.Tables.{filled_table}
 use Rattle.qss_order2.proofs.settling.set_rises.Goals as goal
 

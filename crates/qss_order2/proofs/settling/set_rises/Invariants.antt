@@ -1,5 +1,5 @@
 use Rattle.std.proofs.Common.{◌≡◌, pos}
-use Rattle.qss_order2.specs.Worlds.{rise_at}
+use Rattle.qss_order2.specs.SecondSteps.{rise_at}
 use Rattle.qss_order2.proofs.Tables.{IsFilled}
 use Rattle.qss_order2.proofs.settling.set_rises.Given as goal
 

@@ -7,12 +7,12 @@ use Rattle.std.specs.Vec.{with_items}
 use Rattle.mu_num.specs.Sizes.{IsWithin}
 use Rattle.qss_machine.specs.Firing.{flag_at}
 use Rattle.qss_machine.specs.Machines.{state_count, level_unit}
-use Rattle.qss_machine.specs.Numbers.{int_at, tabulate}
+use Rattle.qss_machine.specs.IndexedSums.{int_at, tabulate}
 use Rattle.qss_machine.proofs.Ranges.{none_past}
-use Rattle.qss_order2.specs.Laws.{bend_at}
-use Rattle.qss_order2.specs.Limits.{past_levels}
-use Rattle.qss_order2.specs.Rules.{IsAnswer, IsRuled2}
-use Rattle.qss_order2.specs.Worlds.{rise_at, AreChanges}
+use Rattle.qss_order2.specs.SecondRunLaws.{bend_at}
+use Rattle.qss_order2.specs.SecondRunLimits.{past_levels}
+use Rattle.qss_order2.specs.SlopeRules.{IsAnswer, IsRuled2}
+use Rattle.qss_order2.specs.SecondSteps.{rise_at, AreChanges}
 use Rattle.qss_order2.proofs.Arrivals.{by_false, rises_are, rises_small, bends_small, flat, bend_stays}
 use Rattle.qss_order2.proofs.Bounds.{none_of, rise_by_weight}
 use Rattle.qss_order2.proofs.Settlings.{of_changes, past_first, past_then, are_changes, near_ones, near_are, held_after}
@@ -34,16 +34,16 @@ returns-in-Some-clause-settled g c =
       has_rises = λ e. absurd (cc);
     }
 
-pub renew_rises-requires-clause-small : goal.renew_rises-requires-clause-small
-renew_rises-requires-clause-small g c =
+pub renew_rises-requires-clause-size_limit : goal.renew_rises-requires-clause-size_limit
+renew_rises-requires-clause-size_limit g c =
     let m = c.args.f.now.machine in
     let q = c.args.q.now in
     let none : past_levels m q.levels.items ≡ None = ap (past_levels m) (sym c.as_slice.ensures.value) ∙ sym c.past_calm.ensures ∙ c.in_default.is in
     subst (All (IsWithin 50)) (sym c.as_slice-2.ensures.value)
     (all_of (IsWithin 50) q.levels.items (state_count m) c.requires.sized.levels (λ k h. omega (arith, none_past 49 q.levels.items (none_of _ _ none).0 k)))
 
-pub set_changes-requires-clause-small : goal.set_changes-requires-clause-small
-set_changes-requires-clause-small g c =
+pub set_changes-requires-clause-size_limit : goal.set_changes-requires-clause-size_limit
+set_changes-requires-clause-size_limit g c =
     let m = c.args.f.now.machine in
     let q = c.args.q.now in
     let n = state_count m in
@@ -86,7 +86,7 @@ returns-clause-settled g c =
     record {
       changes = new;
       are_changes = are;
-      is_over = c.bend.ensures.over ∙ ap (of_changes m) c.as_slice-5.ensures.value ∙ sym (past_then m q.levels.items new none);
+      is_over = c.bend.ensures.overflow ∙ ap (of_changes m) c.as_slice-5.ensures.value ∙ sym (past_then m q.levels.items new none);
       taken = λ e. refl;
       has_rises = λ e. record {
         rises = own_rises;

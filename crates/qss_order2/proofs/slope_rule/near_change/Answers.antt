@@ -3,8 +3,8 @@ use Rattle.std.proofs.Common.{◌≡◌, true, pos, ◌<ℤ◌, sym, subst, arit
 use Rattle.std.proofs.lemmas.Int.{ints, to_z-of_z}
 use Rattle.std.specs.Int.RustNames.{FitsSigned}
 use Rattle.mu_num.specs.Rounding.{nearest_of}
-use Rattle.qss_order2.specs.Rules.{IsAnswer}
-use Rattle.qss_order2.specs.Worlds.{FreeChange}
+use Rattle.qss_order2.specs.SlopeRules.{IsAnswer}
+use Rattle.qss_order2.specs.SecondSteps.{FreeChange}
 use Rattle.qss_order2.proofs.Legitimacy.{nearest_is_free}
 use Rattle.qss_order2.proofs.slope_rule.near_change.Goals as goal
 use mir.Syntax.{w128}

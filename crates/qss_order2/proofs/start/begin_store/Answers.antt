@@ -6,10 +6,10 @@ use Rattle.qss_machine.specs.Machines.{state_count}
 use Rattle.qss_order2.specs.declared.motion.Motion.{Motion}
 use Rattle.qss_order2.specs.declared.rows.Row2.{Row2}
 use Rattle.qss_order2.specs.declared.rows.Kind2.TheVariants as kind
-use Rattle.qss_order2.specs.Rules.{IsRuled2}
-use Rattle.qss_order2.specs.Runs.{discrete_rows2}
-use Rattle.qss_order2.specs.Stores.{world_of, rows_of_left}
-use Rattle.qss_order2.specs.Worlds.{past_limit, AreChanges}
+use Rattle.qss_order2.specs.SlopeRules.{IsRuled2}
+use Rattle.qss_order2.specs.SecondRuns.{discrete_rows2}
+use Rattle.qss_order2.specs.Stores.{snapshot_of, rows_of_left}
+use Rattle.qss_order2.specs.SecondSteps.{first_exceeding_limit, AreChanges}
 use Rattle.qss_order2.proofs.Starts.{start_near, flag_of_all, asked_all, rows_of_all}
 use Rattle.qss_order2.proofs.start.begin_store.Goals as goal
 
@@ -34,14 +34,14 @@ returns-clause-stands g c =
     let q2 : Motion = c.begin-s.new.q in
     let levels = ap (λ (v : Vec ℤ Global). v.items) c.begin-s.ensures.kept.1 in
     let start = returns-clause-start g c in
-    let over : past_limit m q2.levels.items q2.changes.items ≡ c.begin-s.result = ap (λ (ls : List ℤ). past_limit m ls q2.changes.items) levels ∙ sym c.begin-s.ensures.over in
+    let over : first_exceeding_limit m q2.levels.items q2.changes.items ≡ c.begin-s.result = ap (λ (ls : List ℤ). first_exceeding_limit m ls q2.changes.items) levels ∙ sym c.begin-s.ensures.overflow in
     record {
       fits = record { sized = c.begin-s.ensures.sized; dues = fits.dues; left = fits.left; touched = fits.touched; calm = fits.calm; room = omega (arith, c.set_left_rows.ensures.room, c.add_discretes.ensures.room, fits.room) };
       over = over;
       at_start = λ var e. omega arith;
       moves = λ e. record {
         sized = c.begin-s.ensures.sized;
-        near = start_near m (world_of q2) start.states start.levels;
+        near = start_near m (snapshot_of q2) start.states start.levels;
         within = over ∙ e;
         has_rises = c.begin-s.ensures.rises e;
       };
@@ -54,14 +54,14 @@ returns-clause-rows g c =
     let q2 : Motion = c.begin-s.new.q in
     let left = c.args.s.now.left.items in
     let many : length c.as_slice-5.result.now ≡ state_count m = ap length c.as_slice-5.ensures.value ∙ c.requires.fits.left in
-    let rows : c.set_left_rows.new.rows.items ≡ rows_of_left kind.Start 0 (world_of q2) left (state_count m) =
+    let rows : c.set_left_rows.new.rows.items ≡ rows_of_left kind.Start 0 (snapshot_of q2) left (state_count m) =
     c.set_left_rows.ensures.rows
     ∙ ap (λ (n : ℕ). rows_of_left kind.Start 0 (record { states = c.as_slice-2.result.now; levels = c.as_slice-3.result.now; changes = c.as_slice-4.result.now }) c.as_slice-5.result.now n) many
     ∙ ap (λ (l : List Bool). rows_of_left kind.Start 0 (record { states = c.as_slice-2.result.now; levels = c.as_slice-3.result.now; changes = c.as_slice-4.result.now }) l (state_count m)) c.as_slice-5.ensures.value
     ∙ ap (λ (xs : List ℤ). rows_of_left kind.Start 0 (record { states = xs; levels = c.as_slice-3.result.now; changes = c.as_slice-4.result.now }) left (state_count m)) c.as_slice-2.ensures.value
     ∙ ap (λ (ls : List ℤ). rows_of_left kind.Start 0 (record { states = q2.states.items; levels = ls; changes = c.as_slice-4.result.now }) left (state_count m)) c.as_slice-3.ensures.value
     ∙ ap (λ (cs : List ℤ). rows_of_left kind.Start 0 (record { states = q2.states.items; levels = q2.levels.items; changes = cs }) left (state_count m)) c.as_slice-4.ensures.value in
-    c.add_discretes.ensures.rows ∙ ap (λ (r : List Row2). r ++ discrete_rows2 kind.Start 0 m) (rows ∙ rows_of_all m (world_of q2) left c.requires.left)
+    c.add_discretes.ensures.rows ∙ ap (λ (r : List Row2). r ++ discrete_rows2 kind.Start 0 m) (rows ∙ rows_of_all m (snapshot_of q2) left c.requires.left)
 
 pub begin-s-requires-clause-all : goal.begin-s-requires-clause-all
 begin-s-requires-clause-all g c j h =

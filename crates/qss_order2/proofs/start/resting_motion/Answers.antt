@@ -3,7 +3,7 @@ use Rattle.std.proofs.Common.{◌≡◌, ℕ, length, ℤ, pos, replicate, ◌�
 use Rattle.std.proofs.lemmas.List.{length-map, length-replicate}
 use Rattle.mu_num.specs.Rounding.{floor_of}
 use Rattle.qss_machine.specs.Machines.{state_count, level_unit}
-use Rattle.qss_order2.specs.Worlds.{fine_states}
+use Rattle.qss_order2.specs.SecondSteps.{fine_states}
 use Rattle.qss_order2.proofs.Starts.{fine_count}
 use Rattle.qss_order2.proofs.start.resting_motion.Goals as goal
 

@@ -4,7 +4,7 @@ use Rattle.std.proofs.lemmas.Int.{ints}
 use Rattle.mu_num.specs.Sizes.{IsWithin}
 use Rattle.mu_num.proofs.SizeTests.{passes-within}
 use Rattle.qss_machine.specs.declared.parts.Entry.{Entry}
-use Rattle.qss_machine.specs.Numbers.{int_at, size, sum_over}
+use Rattle.qss_machine.specs.IndexedSums.{int_at, abs_of, sum_over}
 use Rattle.qss_machine.proofs.Loops.{sum_step, sum_done}
 use Rattle.qss_machine.proofs.SumLaws.{weighted_sum-is}
 use Rattle.qss_order2.proofs.SizeSums.{term_below, size_from_zero}
@@ -15,7 +15,7 @@ use mir.Val.{to_z}
 pub change_term-sum-requires-clause-within : goal.change_term-sum-requires-clause-within
 change_term-sum-requires-clause-within c =
     let changes = c.args.changes.now in
-    let f = λ (entry : Entry). size (entry.coef *ℤ int_at changes entry.var) in
+    let f = λ (entry : Entry). abs_of (entry.coef *ℤ int_at changes entry.var) in
     let all : IsWithin 94 (sum_over f c.args.entries.now) = passes-within 94 (sum_over f c.args.entries.now) c.requires.within in
     let below = term_below f (λ e. size_from_zero (e.coef *ℤ int_at changes e.var)) c.args.entries.now c.loop-entry.entry-index (record { var = 0; coef = pos 0 }) c.loop-entry-test.true in
     omega (arith, ints, all, below)
@@ -25,7 +25,7 @@ loop-entry-preserved c =
     let turn = sum_step (λ (entry : Entry). entry.coef *ℤ int_at c.args.changes.now entry.var) c.args.entries.now
     c.loop-entry.entry-index (record { var = 0; coef = pos 0 }) (to_z w128 c.loop-entry.sum-bits) c.change_term-sum.result (2 ^ 94)
     c.loop-entry.invariant.so_far c.loop-entry.invariant.bound c.change_term-sum.ensures.value c.change_term-sum.ensures.bound
-    c.loop-entry-test.true (omega (arith, c.requires.few)) in
+    c.loop-entry-test.true (omega (arith, c.requires.count_limit)) in
     record { so_far = turn.0; bound = turn.1 }
 
 pub returns : goal.returns

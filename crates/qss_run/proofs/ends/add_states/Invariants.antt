@@ -1,7 +1,7 @@
 use Rattle.std.proofs.Common.{◌≡◌, ◌+◌, ◌++◌, map}
 use Rattle.std.specs.List.{range_with_len}
 use Rattle.std.specs.Prelude.{vec_len, vec_capacity}
-use Rattle.qss_quiet.proofs.EndRows.{state_row}
+use Rattle.qss_events.proofs.EndRows.{state_row}
 use Rattle.qss_run.proofs.ends.add_states.Given as goal
 
 -- the rows so far

@@ -9,7 +9,7 @@ use Rattle.qss_machine.specs.Machines.{state_count, discrete_count}
 use Rattle.qss_machine.specs.Handlers.{conditions}
 use Rattle.qss_hand.specs.Values.{Values}
 use Rattle.qss_hand.proofs.Turns.{conditions_few}
-use Rattle.qss_quiet.proofs.Starts.{states_start, discretes_start, count_start}
+use Rattle.qss_events.proofs.Starts.{states_start, discretes_start, count_start}
 use Rattle.qss_run.proofs.start.blank_store.Goals as goal
 
 pub overflow_cast-states : goal.overflow_cast-states
@@ -43,10 +43,10 @@ returns c =
       fits = record {
         own_conditions = c.in_ok-watched.ensures;
         uses = c.in_ok-new.ensures;
-        lines = ap length c.in_ok-copies.ensures ∙ length-replicate _ _ ∙ states;
+        lines = ap length c.in_ok-list_of.ensures ∙ length-replicate _ _ ∙ states;
         levels = ap length c.in_ok-levels.ensures ∙ count_start m;
-        slopes = ap length c.in_ok-copies-2.ensures ∙ length-replicate _ _ ∙ states;
-        weights = ap length c.in_ok-copies-3.ensures ∙ length-replicate _ _ ∙ states;
+        slopes = ap length c.in_ok-list_of-2.ensures ∙ length-replicate _ _ ∙ states;
+        weights = ap length c.in_ok-list_of-3.ensures ∙ length-replicate _ _ ∙ states;
         places = omega (arith, c.in_ok-with_places.ensures.places, states, places);
         values = record {
           states = ap length of_x ∙ length-map m.states (λ (s : StateInfo). s.x0);

@@ -5,15 +5,15 @@ use Rattle.std.proofs.lemmas.List.{length-set}
 use Rattle.std.proofs.lemmas.List.FromFn.{fill_by_all}
 use Rattle.std.specs.Int.RustNames.{FitsSigned}
 use Rattle.mu_num.specs.Sizes.{IsWithin}
-use Rattle.qss_machine.specs.Numbers.{int_at}
+use Rattle.qss_machine.specs.IndexedSums.{int_at}
 use Rattle.qss_machine.specs.Machines.{state_count, slope_at}
-use Rattle.qss_quant.specs.Lines.{Line, state_at}
+use Rattle.qss_quant.specs.IntegratorLines.{Line, state_at}
 use Rattle.qss_sched.specs.Ranks.{due_at}
-use Rattle.qss_lines.specs.StateLines.{GoesOnFrom}
-use Rattle.qss_quiet.proofs.Firsts.{one_more}
-use Rattle.qss_quiet.proofs.Lines.{line_here}
-use Rattle.qss_quiet.proofs.LightRows.{row_is_light}
-use Rattle.qss_lines.proofs.GoingOn.{is_true, goes_on_more, near_along}
+use Rattle.qss_states.specs.StateLines.{IsRestartedFrom}
+use Rattle.qss_events.proofs.Firsts.{one_more}
+use Rattle.qss_events.proofs.Lines.{line_here}
+use Rattle.qss_events.proofs.LightRows.{row_is_light}
+use Rattle.qss_states.proofs.GoingOn.{is_true, goes_on_more, near_along}
 use Rattle.qss_run.proofs.start.start_lines.Goals as goal
 use mir.Syntax.{w64, w128}
 
@@ -58,7 +58,7 @@ loop-j-preserved c =
     ∙ ap (λ z. line_of (int_at c.args.x.now j) z (to_z w64 (of_z w64 (int_at c.args.levels.now j)))) is_slope
     ∙ ap (line_of (int_at c.args.x.now j) (slope_at m j c.args.levels.now c.args.d.now)) (to_z-of_z w64 (int_at c.args.levels.now j) level) in
     let own_tick : c.start_line.new.line.tick ≡ 0 = ap (λ (l : Line). l.tick) line in
-    let goes_on : GoesOnFrom m 0 (int_at c.args.x.now j) (int_at c.args.levels.now j) (slope_at m j c.args.levels.now c.args.d.now) j c.start_line.new.line (due_at c.start_line.new.agenda j) =
+    let goes_on : IsRestartedFrom m 0 (int_at c.args.x.now j) (int_at c.args.levels.now j) (slope_at m j c.args.levels.now c.args.d.now) j c.start_line.new.line (due_at c.start_line.new.agenda j) =
     record {
       not_later = omega (arith, own_tick);
       here = ap (λ (l : Line). state_at l 0) line ∙ line_here 0 (int_at c.args.x.now j) (slope_at m j c.args.levels.now c.args.d.now) (int_at c.args.levels.now j);
@@ -73,7 +73,7 @@ loop-j-preserved c =
       own_slopes = one_more (pos 0) (λ k. slope_at m k c.args.levels.now c.args.d.now) c.loop-j.slopes j _ within inv.own_slopes is_slope;
       line_count = length-set c.loop-j.lines j c.start_line.new.line ∙ inv.line_count;
       are_on = goes_on_more m 0 c.args.x.now c.args.levels.now c.args.d.now c.loop-j.lines c.loop-j.agenda c.start_line.new.agenda j c.start_line.new.line inside inv.are_on c.start_line.ensures.others goes_on;
-      place_count = c.start_line.ensures.as_many ∙ inv.place_count;
+      place_count = c.start_line.ensures.same_length ∙ inv.place_count;
       dues_kept = λ place above. let ne : place ≢ j = omega (arith, above) in c.start_line.ensures.others place ne ∙ inv.dues_kept place (omega (arith, above));
     }
 

@@ -77,7 +77,7 @@ loop-rest-preserved c =
     let least : IsLeast c.loop-rest.due c.args.base place = due_at_base c.loop-rest.due _ c.args.base _ inv.wheel first in
     record {
       wheel = bit_out c.loop-rest.due c.args.marks.now c.args.base c.args.group c.loop-rest.rest inside inv.wheel c.requires.group.within
-          c.lowest-bit.result c.lowest-bit.ensures inv.ahead c.put_tick.new.due place refl least.has c.put_tick.ensures.put c.put_tick.ensures.small;
+          c.lowest-bit.result c.lowest-bit.ensures inv.ahead c.put_tick.new.due place refl least.has c.put_tick.ensures.put c.put_tick.ensures.size_limit;
       ahead = λ other e. inv.ahead other (still_due c.loop-rest.due c.put_tick.new.due place other c.args.base c.put_tick.ensures.put
           (has_place c.loop-rest.due place c.args.base least.has) e);
       part = λ old h.

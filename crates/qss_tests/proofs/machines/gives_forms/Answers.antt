@@ -34,11 +34,11 @@ form_value-requires-clause-small_before g c = All-nil (IsWithin 43)
 pub form_speed-requires-clause-form : goal.form_speed-requires-clause-form
 form_speed-requires-clause-form g c = c.in_ok-form.ensures
 
-pub form_speed-requires-clause-as_many : goal.form_speed-requires-clause-as_many
-form_speed-requires-clause-as_many g c = sym c.in_ok-machine.ensures.states
+pub form_speed-requires-clause-same_length : goal.form_speed-requires-clause-same_length
+form_speed-requires-clause-same_length g c = sym c.in_ok-machine.ensures.states
 
-pub form_speed-requires-clause-small : goal.form_speed-requires-clause-small
-form_speed-requires-clause-small g c = slope_within_88
+pub form_speed-requires-clause-size_limit : goal.form_speed-requires-clause-size_limit
+form_speed-requires-clause-size_limit g c = slope_within_88
 
 pub unreachable-assert_eq : goal.unreachable-assert_eq
 unreachable-assert_eq g c = c.assert_eq-assert_failed.result

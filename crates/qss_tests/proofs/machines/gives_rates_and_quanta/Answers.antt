@@ -49,20 +49,20 @@ mode_coef-requires-clause-row g c = rw c.in_ok-machine.ensures.states (omega ari
 pub mode_coef-requires-clause-state : goal.mode_coef-requires-clause-state
 mode_coef-requires-clause-state g c = rw c.in_ok-machine.ensures.states (omega arith)
 
-pub mode_coef-requires-clause-as_many : goal.mode_coef-requires-clause-as_many
-mode_coef-requires-clause-as_many g c = sym (ap length c.in_ok-machine.ensures.discretes)
+pub mode_coef-requires-clause-same_length : goal.mode_coef-requires-clause-same_length
+mode_coef-requires-clause-same_length g c = sym (ap length c.in_ok-machine.ensures.discretes)
 
-pub mode_coef-requires-clause-small : goal.mode_coef-requires-clause-small
-mode_coef-requires-clause-small g c = All-nil (IsWithin 43)
+pub mode_coef-requires-clause-size_limit : goal.mode_coef-requires-clause-size_limit
+mode_coef-requires-clause-size_limit g c = All-nil (IsWithin 43)
 
 pub mode_fits-requires-clause-row : goal.mode_fits-requires-clause-row
 mode_fits-requires-clause-row g c = rw c.in_ok-machine.ensures.states (omega arith)
 
-pub mode_fits-requires-clause-as_many : goal.mode_fits-requires-clause-as_many
-mode_fits-requires-clause-as_many g c = sym (ap length c.in_ok-machine.ensures.discretes)
+pub mode_fits-requires-clause-same_length : goal.mode_fits-requires-clause-same_length
+mode_fits-requires-clause-same_length g c = sym (ap length c.in_ok-machine.ensures.discretes)
 
-pub mode_fits-requires-clause-small : goal.mode_fits-requires-clause-small
-mode_fits-requires-clause-small g c = All-nil (IsWithin 43)
+pub mode_fits-requires-clause-size_limit : goal.mode_fits-requires-clause-size_limit
+mode_fits-requires-clause-size_limit g c = All-nil (IsWithin 43)
 
 pub quantum_at-requires-clause-state : goal.quantum_at-requires-clause-state
 quantum_at-requires-clause-state g c = rw c.in_ok-machine.ensures.states (omega arith)

@@ -1,7 +1,7 @@
 use Rattle.std.proofs.Common.{ℕ, ℤ, ◌+◌, List, length, ap, arith}
 use Rattle.std.proofs.lemmas.List.FromFn.{length-map-range_with_len}
 use Rattle.qss_machine.specs.Machines.{state_count, discrete_count}
-use Rattle.qss_machine.specs.Uses.{reading_rows, reading_conditions, reading_coefficients}
+use Rattle.qss_machine.specs.Readers.{reading_rows, reading_conditions, reading_coefficients}
 use Rattle.qss_tests.proofs.machines.tells_readers.Goals as goal
 
 pub rows_of-requires : goal.rows_of-requires

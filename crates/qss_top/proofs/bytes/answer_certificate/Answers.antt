@@ -1,7 +1,7 @@
 use Rattle.std.proofs.Common.{subst}
 use Rattle.qss_compile.specs.Meanings.{IsRefused}
-use Rattle.qss_top.specs.Answers.{IsCertifyAnswer}
-use Rattle.qss_top.specs.Outcomes.{IsOutcome}
+use Rattle.qss_top.specs.ExpectedResults.{IsCertifyAnswer}
+use Rattle.qss_top.specs.CommandOutcomes.{IsOutcome}
 use Rattle.qss_top.specs.declared.outcome.Outcome.{Outcome}
 use Rattle.qss_top.proofs.ByBytes.{certified_bytes, long_machine}
 use Rattle.qss_top.proofs.Jobs.{machine_answered, source_refused}
@@ -41,5 +41,5 @@ returns-in-Err-clause-not_usage g c = not_usage (IsRefused c.args.source.now) c.
 pub returns-in-Err-clause-not_read : goal.returns-in-Err-clause-not_read
 returns-in-Err-clause-not_read g c = not_read (IsRefused c.args.source.now) c.in-Err.what c.in-Err.ensures.refused
 
-pub returns-in-Err-clause-last : goal.returns-in-Err-clause-last
-returns-in-Err-clause-last g c e = absurd (not_write (IsRefused c.args.source.now) c.in-Err.what c.in-Err.ensures.refused e)
+pub returns-in-Err-clause-fault_was_last : goal.returns-in-Err-clause-fault_was_last
+returns-in-Err-clause-fault_was_last g c e = absurd (not_write (IsRefused c.args.source.now) c.in-Err.what c.in-Err.ensures.refused e)

@@ -1,5 +1,5 @@
 use Rattle.qss_compile.specs.Meanings.{IsRefused}
-use Rattle.qss_top.specs.Answers.{IsCheckAnswer}
+use Rattle.qss_top.specs.ExpectedResults.{IsCheckAnswer}
 use Rattle.qss_top.proofs.ByBytes.{long_machine}
 use Rattle.qss_top.proofs.Jobs.{machine_answered, source_refused}
 use Rattle.qss_top.proofs.Refusals.{not_done, not_read, not_usage, not_write}
@@ -24,8 +24,8 @@ returns-in-Err-clause-not_usage g c = not_usage (IsRefused c.args.source.now) c.
 pub returns-in-Err-clause-not_read : goal.returns-in-Err-clause-not_read
 returns-in-Err-clause-not_read g c = not_read (IsRefused c.args.source.now) c.in-Err.what c.in-Err.ensures.refused
 
-pub returns-in-Err-clause-last : goal.returns-in-Err-clause-last
-returns-in-Err-clause-last g c e = absurd (not_write (IsRefused c.args.source.now) c.in-Err.what c.in-Err.ensures.refused e)
+pub returns-in-Err-clause-fault_was_last : goal.returns-in-Err-clause-fault_was_last
+returns-in-Err-clause-fault_was_last g c e = absurd (not_write (IsRefused c.args.source.now) c.in-Err.what c.in-Err.ensures.refused e)
 
 pub returns-in-Ok-clause-legitimate : goal.returns-in-Ok-clause-legitimate
 returns-in-Ok-clause-legitimate g c done = (c.in-Ok.m, c.in-Ok.ensures.machine, c.check_machine.ensures.legitimate done)

@@ -1,6 +1,6 @@
 use Rattle.std.proofs.Common.{false, sym, ap, ◌∙◌, subst}
-use Rattle.qss_top.specs.Certificates.{outcome_by}
-use Rattle.qss_top.specs.Outcomes.{IsOutcome, status_of}
+use Rattle.qss_top.specs.CertificateOutcomes.{outcome_by}
+use Rattle.qss_top.specs.CommandOutcomes.{IsOutcome, status_of}
 use Rattle.qss_top.specs.Statuses.{leaves_out}
 use Rattle.qss_top.specs.declared.outcome.Outcome.{Outcome}
 use Rattle.qss_top.proofs.TwoFiles.{certified_outcome, done_left, done_fault, done_read}
@@ -21,8 +21,8 @@ pub returns-clause-untouched : goal.returns-clause-untouched
 returns-clause-untouched g c e =
     c.certify.ensures.answered.untouched (done_left c.certify.result (sym (ap (λ (w : Outcome). leaves_out false (status_of w)) c.outcome_of.ensures) ∙ e))
 
-pub returns-clause-calm : goal.returns-clause-calm
-returns-clause-calm g c other = c.certify.ensures.answered.calm (λ e. other (c.outcome_of.ensures ∙ ap outcome_by e))
+pub returns-clause-no_new_fault : goal.returns-clause-no_new_fault
+returns-clause-no_new_fault g c other = c.certify.ensures.answered.calm (λ e. other (c.outcome_of.ensures ∙ ap outcome_by e))
 
-pub returns-clause-last : goal.returns-clause-last
-returns-clause-last g c e = c.certify.ensures.answered.last (done_fault c.certify.result (sym c.outcome_of.ensures ∙ e))
+pub returns-clause-fault_was_last : goal.returns-clause-fault_was_last
+returns-clause-fault_was_last g c e = c.certify.ensures.answered.last (done_fault c.certify.result (sym c.outcome_of.ensures ∙ e))

@@ -1,6 +1,6 @@
 use Rattle.std.proofs.Common.{false, sym, ap, ◌∙◌, subst}
-use Rattle.qss_top.specs.Certificates.{outcome_traced}
-use Rattle.qss_top.specs.Outcomes.{IsOutcome, status_of}
+use Rattle.qss_top.specs.CertificateOutcomes.{outcome_traced}
+use Rattle.qss_top.specs.CommandOutcomes.{IsOutcome, status_of}
 use Rattle.qss_top.specs.Statuses.{leaves_out}
 use Rattle.qss_top.specs.declared.outcome.Outcome.{Outcome}
 use Rattle.qss_top.proofs.TwoFiles.{checked_outcome, traced_done, traced_left, traced_fault, traced_read}
@@ -21,11 +21,11 @@ pub returns-clause-untouched : goal.returns-clause-untouched
 returns-clause-untouched g c e =
     c.check_trace_text.ensures.answered.untouched (traced_left c.check_trace_text.result (sym (ap (λ (w : Outcome). leaves_out false (status_of w)) c.traced_outcome.ensures) ∙ e))
 
-pub returns-clause-calm : goal.returns-clause-calm
-returns-clause-calm g c other = c.check_trace_text.ensures.answered.calm (λ e. other (c.traced_outcome.ensures ∙ ap outcome_traced e))
+pub returns-clause-no_new_fault : goal.returns-clause-no_new_fault
+returns-clause-no_new_fault g c other = c.check_trace_text.ensures.answered.calm (λ e. other (c.traced_outcome.ensures ∙ ap outcome_traced e))
 
-pub returns-clause-last : goal.returns-clause-last
-returns-clause-last g c e = c.check_trace_text.ensures.answered.last (traced_fault c.check_trace_text.result (sym c.traced_outcome.ensures ∙ e))
+pub returns-clause-fault_was_last : goal.returns-clause-fault_was_last
+returns-clause-fault_was_last g c e = c.check_trace_text.ensures.answered.last (traced_fault c.check_trace_text.result (sym c.traced_outcome.ensures ∙ e))
 
 pub returns-clause-legitimate : goal.returns-clause-legitimate
 returns-clause-legitimate g c e =

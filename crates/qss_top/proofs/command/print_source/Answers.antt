@@ -1,8 +1,8 @@
 use Rattle.std.proofs.Common.{subst}
 use Rattle.mu_tree.specs.ModelTree.{model}
 use Rattle.qss_compile.specs.Meanings.{IsUnspelled}
-use Rattle.qss_top.specs.Answers.{Answer}
-use Rattle.qss_top.specs.Outcomes.{IsOutcome}
+use Rattle.qss_top.specs.ExpectedResults.{Answer}
+use Rattle.qss_top.specs.CommandOutcomes.{IsOutcome}
 use Rattle.qss_top.proofs.Refusals.{not_usage, not_read, not_write}
 use Rattle.qss_top.proofs.Tellings.{print_is, print_refused}
 use Rattle.qss_top.proofs.command.print_source.Goals as goal
@@ -22,5 +22,5 @@ returns-in-Err-clause-not_usage g c = not_usage (IsUnspelled c.args.bytes.now) c
 pub returns-in-Err-clause-not_read : goal.returns-in-Err-clause-not_read
 returns-in-Err-clause-not_read g c = not_read (IsUnspelled c.args.bytes.now) c.in-Err.what c.in-Err.ensures.refused
 
-pub returns-in-Err-clause-last : goal.returns-in-Err-clause-last
-returns-in-Err-clause-last g c e = absurd (not_write (IsUnspelled c.args.bytes.now) c.in-Err.what c.in-Err.ensures.refused e)
+pub returns-in-Err-clause-fault_was_last : goal.returns-in-Err-clause-fault_was_last
+returns-in-Err-clause-fault_was_last g c e = absurd (not_write (IsUnspelled c.args.bytes.now) c.in-Err.what c.in-Err.ensures.refused e)

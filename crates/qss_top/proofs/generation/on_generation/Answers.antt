@@ -1,5 +1,5 @@
 use Rattle.std.proofs.Common.{◌∙◌, sym, subst, List, ℕ}
-use Rattle.qss_top.specs.Answers.{IsSummedAnswer}
+use Rattle.qss_top.specs.ExpectedResults.{IsSummedAnswer}
 use Rattle.qss_top.proofs.generation.on_generation.Goals as goal
 
 pub returns-in-Ok-clause-outcome : goal.returns-in-Ok-clause-outcome

@@ -1,7 +1,7 @@
 use Rattle.std.proofs.Common.{[]}
-use Rattle.trace_answer.proofs.Bases.{judged-basis}
-use Rattle.trace_answer.specs.Comparisons.{IsBasis, IsBaseless}
-use Rattle.qss_top.specs.Answers.{OnGiven}
+use Rattle.qss_answers.proofs.Bases.{judged-basis}
+use Rattle.qss_answers.specs.Comparisons.{IsUsableCertificate, IsUnusableCertificate}
+use Rattle.qss_top.specs.ExpectedResults.{ContinuesFromSources}
 use Rattle.qss_top.specs.Tasks.{given_in}
 use Rattle.qss_top.proofs.Comparing.{stage_served, stage_ended}
 use Rattle.qss_top.proofs.Existence.{comparing_reply}
@@ -10,18 +10,18 @@ use Rattle.qss_top.proofs.given.compare_by.Goals as goal
 pub with_one-requires : goal.with_one-requires
 with_one-requires g c = record { scope = c.requires; size = c.in-Ok.ensures.basis.accepted.read.text.2.size }
 
-pub returns-in-Ok-clause-serves : goal.returns-in-Ok-clause-serves
-returns-in-Ok-clause-serves g c files before =
+pub returns-in-Ok-clause-implements : goal.returns-in-Ok-clause-implements
+returns-in-Ok-clause-implements g c files before =
     let m = c.args.m.now in
     let text = c.args.text.now in
-    stage_served files [] m (IsBasis m text) (IsBaseless m text) (judged-basis m text) (λ x fs. OnGiven (given_in c.args.runs.one) (given_in c.args.runs.two) m x) c.in-Ok.c c.with_one.result
-    (g.O.Sink.written c.args.out.now) (g.O.Sink.written c.with_one.new.out) (g.O.Sink.faults c.args.out.now) (g.O.Sink.faults c.with_one.new.out) before before c.in-Ok.ensures.basis (c.with_one.ensures.serves files before)
+    stage_served files [] m (IsUsableCertificate m text) (IsUnusableCertificate m text) (judged-basis m text) (λ x fs. ContinuesFromSources (given_in c.args.runs.one) (given_in c.args.runs.two) m x) c.in-Ok.c c.with_one.result
+    (g.O.Sink.written c.args.out.now) (g.O.Sink.written c.with_one.new.out) (g.O.Sink.faults c.args.out.now) (g.O.Sink.faults c.with_one.new.out) before before c.in-Ok.ensures.basis (c.with_one.ensures.implements files before)
 
-pub returns-in-Err-clause-serves : goal.returns-in-Err-clause-serves
-returns-in-Err-clause-serves g c files before =
+pub returns-in-Err-clause-implements : goal.returns-in-Err-clause-implements
+returns-in-Err-clause-implements g c files before =
     let m = c.args.m.now in
     let text = c.args.text.now in
     let one = given_in c.args.runs.one in
     let two = given_in c.args.runs.two in
-    stage_ended files [] m (IsBasis m text) (IsBaseless m text) (judged-basis m text) (λ x fs. OnGiven one two m x) c.in-Err.stop c.stopped.result
+    stage_ended files [] m (IsUsableCertificate m text) (IsUnusableCertificate m text) (judged-basis m text) (λ x fs. ContinuesFromSources one two m x) c.in-Err.stop c.stopped.result
     (g.O.Sink.written c.args.out.now) (g.O.Sink.faults c.args.out.now) before c.in-Err.ensures.stopped c.stopped.ensures.told (comparing_reply one two m c.requires text)

@@ -1,6 +1,6 @@
 use Rattle.std.proofs.Common.{[]}
-use Rattle.trace_answer.proofs.Compared.{given-size}
-use Rattle.qss_top.specs.Answers.{OnBoth, OnRun}
+use Rattle.qss_answers.proofs.Compared.{given-size}
+use Rattle.qss_top.specs.ExpectedResults.{ComparesTraces, ContinuesFromRun}
 use Rattle.qss_top.specs.Tasks.{given_in}
 use Rattle.qss_top.proofs.Comparing.{run_served, run_ended}
 use Rattle.qss_top.proofs.Existence.{both_reply, run_reply}
@@ -13,17 +13,17 @@ with_two-requires g c = record {
   first = given-size c.args.m.now (given_in c.args.runs.one) c.in-Ok.t1 c.in-Ok.ensures.side.run;
 }
 
-pub returns-in-Ok-clause-serves : goal.returns-in-Ok-clause-serves
-returns-in-Ok-clause-serves g c files before =
+pub returns-in-Ok-clause-implements : goal.returns-in-Ok-clause-implements
+returns-in-Ok-clause-implements g c files before =
     let m = c.args.m.now in
     let x = c.args.c.now in
-    run_served m x 1 c.requires.scope files [] (λ t fs. OnRun m x 2 (given_in c.args.runs.two) (OnBoth m x t)) (given_in c.args.runs.one) c.in-Ok.t1 c.with_two.result
-    (g.O.Sink.written c.args.out.now) (g.O.Sink.written c.with_two.new.out) (g.O.Sink.faults c.args.out.now) (g.O.Sink.faults c.with_two.new.out) before before c.in-Ok.ensures.side (c.with_two.ensures.serves files before)
+    run_served m x 1 c.requires.scope files [] (λ t fs. ContinuesFromRun m x 2 (given_in c.args.runs.two) (ComparesTraces m x t)) (given_in c.args.runs.one) c.in-Ok.t1 c.with_two.result
+    (g.O.Sink.written c.args.out.now) (g.O.Sink.written c.with_two.new.out) (g.O.Sink.faults c.args.out.now) (g.O.Sink.faults c.with_two.new.out) before before c.in-Ok.ensures.side (c.with_two.ensures.implements files before)
 
-pub returns-in-Err-clause-serves : goal.returns-in-Err-clause-serves
-returns-in-Err-clause-serves g c files before =
+pub returns-in-Err-clause-implements : goal.returns-in-Err-clause-implements
+returns-in-Err-clause-implements g c files before =
     let m = c.args.m.now in
     let x = c.args.c.now in
     let two = given_in c.args.runs.two in
-    run_ended m x 1 c.requires.scope files [] (λ t fs. OnRun m x 2 two (OnBoth m x t)) (λ t. run_reply m x 2 two (OnBoth m x t) c.requires.scope (both_reply m x t))
+    run_ended m x 1 c.requires.scope files [] (λ t fs. ContinuesFromRun m x 2 two (ComparesTraces m x t)) (λ t. run_reply m x 2 two (ComparesTraces m x t) c.requires.scope (both_reply m x t))
     (given_in c.args.runs.one) c.in-Err.stop c.stopped.result (g.O.Sink.written c.args.out.now) (g.O.Sink.faults c.args.out.now) before c.in-Err.ensures.stopped c.stopped.ensures.told

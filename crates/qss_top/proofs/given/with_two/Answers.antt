@@ -1,6 +1,6 @@
 use Rattle.std.proofs.Common.{[]}
-use Rattle.trace_answer.proofs.Compared.{given-size}
-use Rattle.qss_top.specs.Answers.{OnBoth}
+use Rattle.qss_answers.proofs.Compared.{given-size}
+use Rattle.qss_top.specs.ExpectedResults.{ComparesTraces}
 use Rattle.qss_top.specs.Tasks.{given_in}
 use Rattle.qss_top.proofs.Comparing.{run_served, run_ended}
 use Rattle.qss_top.proofs.Existence.{both_reply}
@@ -14,18 +14,18 @@ with_both-requires g c = record {
   second = given-size c.args.m.now (given_in c.args.given) c.in-Ok.t2 c.in-Ok.ensures.side.run;
 }
 
-pub returns-in-Ok-clause-serves : goal.returns-in-Ok-clause-serves
-returns-in-Ok-clause-serves g c files before =
+pub returns-in-Ok-clause-implements : goal.returns-in-Ok-clause-implements
+returns-in-Ok-clause-implements g c files before =
     let m = c.args.m.now in
     let x = c.args.c.now in
     let t1 = c.args.t1.now in
-    run_served m x 2 c.requires.scope files [] (λ t fs. OnBoth m x t1 t) (given_in c.args.given) c.in-Ok.t2 c.with_both.result
-    (g.O.Sink.written c.args.out.now) (g.O.Sink.written c.with_both.new.out) (g.O.Sink.faults c.args.out.now) (g.O.Sink.faults c.with_both.new.out) before before c.in-Ok.ensures.side (c.with_both.ensures.serves files before)
+    run_served m x 2 c.requires.scope files [] (λ t fs. ComparesTraces m x t1 t) (given_in c.args.given) c.in-Ok.t2 c.with_both.result
+    (g.O.Sink.written c.args.out.now) (g.O.Sink.written c.with_both.new.out) (g.O.Sink.faults c.args.out.now) (g.O.Sink.faults c.with_both.new.out) before before c.in-Ok.ensures.side (c.with_both.ensures.implements files before)
 
-pub returns-in-Err-clause-serves : goal.returns-in-Err-clause-serves
-returns-in-Err-clause-serves g c files before =
+pub returns-in-Err-clause-implements : goal.returns-in-Err-clause-implements
+returns-in-Err-clause-implements g c files before =
     let m = c.args.m.now in
     let x = c.args.c.now in
     let t1 = c.args.t1.now in
-    run_ended m x 2 c.requires.scope files [] (λ t fs. OnBoth m x t1 t) (both_reply m x t1) (given_in c.args.given) c.in-Err.stop c.stopped.result
+    run_ended m x 2 c.requires.scope files [] (λ t fs. ComparesTraces m x t1 t) (both_reply m x t1) (given_in c.args.given) c.in-Err.stop c.stopped.result
     (g.O.Sink.written c.args.out.now) (g.O.Sink.faults c.args.out.now) before c.in-Err.ensures.stopped c.stopped.ensures.told

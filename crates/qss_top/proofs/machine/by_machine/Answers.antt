@@ -18,5 +18,5 @@ returns-in-Err-clause-not_usage g c = not_usage (IsRefused c.args.bytes.now) c.i
 pub returns-in-Err-clause-not_read : goal.returns-in-Err-clause-not_read
 returns-in-Err-clause-not_read g c = not_read (IsRefused c.args.bytes.now) c.in-Err.what c.in-Err.ensures.refused
 
-pub returns-in-Err-clause-last : goal.returns-in-Err-clause-last
-returns-in-Err-clause-last g c e = absurd (not_write (IsRefused c.args.bytes.now) c.in-Err.what c.in-Err.ensures.refused e)
+pub returns-in-Err-clause-fault_was_last : goal.returns-in-Err-clause-fault_was_last
+returns-in-Err-clause-fault_was_last g c e = absurd (not_write (IsRefused c.args.bytes.now) c.in-Err.what c.in-Err.ensures.refused e)

@@ -1,6 +1,6 @@
 use Rattle.std.proofs.Common.{sym, subst}
-use Rattle.qss_top.specs.Answers.{Answer}
-use Rattle.qss_top.specs.Outcomes.{IsOutcome}
+use Rattle.qss_top.specs.ExpectedResults.{Answer}
+use Rattle.qss_top.specs.CommandOutcomes.{IsOutcome}
 use Rattle.qss_top.proofs.machine.on_machine.Goals as goal
 
 pub returns-in-Run-clause-outcome : goal.returns-in-Run-clause-outcome

@@ -1,6 +1,6 @@
 use Rattle.std.proofs.Common.{false, sym, ap, ◌∙◌, subst}
-use Rattle.qss_top.specs.Certificates.{outcome_proposed as outcome_by}
-use Rattle.qss_top.specs.Outcomes.{IsOutcome, status_of}
+use Rattle.qss_top.specs.CertificateOutcomes.{outcome_proposed as outcome_by}
+use Rattle.qss_top.specs.CommandOutcomes.{IsOutcome, status_of}
 use Rattle.qss_top.specs.Statuses.{leaves_out}
 use Rattle.qss_top.specs.declared.outcome.Outcome.{Outcome}
 use Rattle.qss_top.proofs.TwoFiles.{proposed_outcome as made_outcome, proposed_left, proposed_fault, proposed_read}
@@ -21,8 +21,8 @@ pub returns-clause-untouched : goal.returns-clause-untouched
 returns-clause-untouched g c e =
     c.propose_text.ensures.answered.untouched (proposed_left c.propose_text.result (sym (ap (λ (w : Outcome). leaves_out false (status_of w)) c.proposed_outcome.ensures) ∙ e))
 
-pub returns-clause-calm : goal.returns-clause-calm
-returns-clause-calm g c other = c.propose_text.ensures.answered.calm (λ e. other (c.proposed_outcome.ensures ∙ ap outcome_by e))
+pub returns-clause-no_new_fault : goal.returns-clause-no_new_fault
+returns-clause-no_new_fault g c other = c.propose_text.ensures.answered.calm (λ e. other (c.proposed_outcome.ensures ∙ ap outcome_by e))
 
-pub returns-clause-last : goal.returns-clause-last
-returns-clause-last g c e = c.propose_text.ensures.answered.last (proposed_fault c.propose_text.result (sym c.proposed_outcome.ensures ∙ e))
+pub returns-clause-fault_was_last : goal.returns-clause-fault_was_last
+returns-clause-fault_was_last g c e = c.propose_text.ensures.answered.last (proposed_fault c.propose_text.result (sym c.proposed_outcome.ensures ∙ e))

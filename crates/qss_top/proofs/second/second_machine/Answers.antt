@@ -1,7 +1,7 @@
 use Rattle.std.proofs.Common.{◌≡◌, ◌∙◌, length, ap, sym, subst, arith}
 use Rattle.cert_check.proofs.Clauses.{clauses-few}
-use Rattle.qss_top.specs.Answers.{second_for}
-use Rattle.qss_top.specs.Outcomes.{IsOutcome}
+use Rattle.qss_top.specs.ExpectedResults.{run2_answer}
+use Rattle.qss_top.specs.CommandOutcomes.{IsOutcome}
 use Rattle.qss_top.proofs.second.second_machine.Goals as goal
 
 pub overflow_cast-result : goal.overflow_cast-result
@@ -11,4 +11,4 @@ pub returns-then-clauses-eq0-clause-outcome : goal.returns-then-clauses-eq0-clau
 returns-then-clauses-eq0-clause-outcome g c =
     let none : length c.args.m.clauses ≡ 0 = ap length (sym c.as_slice-clauses.ensures) ∙ c.if-clauses-eq0.true in
     subst (λ answer. IsOutcome answer c.run_second.result (g.O.Sink.written c.args.out.now) (g.O.Sink.written c.run_second.new.out) (g.O.Sink.faults c.args.out.now) (g.O.Sink.faults c.run_second.new.out))
-    (ap (second_for c.args.m) (sym none)) c.run_second.ensures.outcome
+    (ap (run2_answer c.args.m) (sym none)) c.run_second.ensures.outcome

@@ -1,28 +1,28 @@
 use Rattle.std.proofs.Common.{subst}
 use Rattle.std.specs.Prelude.{map}
-use Rattle.qss_words.specs.Commands.{command_of, writes_as_it_goes}
+use Rattle.qss_cli.specs.Commands.{command_of, writes_as_it_goes}
 use Rattle.qss_top.proofs.TopFacts.{replied, defined_of, leaves_of, read_of, write_of, done_of, usage_of, no_write, no_read, short_of, line_is, usage_or_memory}
 use Rattle.qss_top.proofs.Completeness.{whole_answer, rose_by, certified_end}
 use Rattle.qss_top.proofs.Proposed.{proposed_end}
-use Rattle.qss_top.specs.TopCall.{IsReplied}
+use Rattle.qss_top.specs.Replies.{IsReplyGiven}
 use Rattle.qss_top.specs.declared.status.Status.{Status}
 use Rattle.qss_top.proofs.top.qss_main.Goals as goal
 
 pub returns-clause-replied : goal.returns-clause-replied
-returns-clause-replied g c told h =
-    replied told.reply c.report.result c.answer-outcome.result (g.O.Sink.written c.args.out.now) (g.O.Sink.written c.answer-outcome.new.out) c.report.ensures.status (c.answer-outcome.ensures.meets told h).replied
+returns-clause-replied g c expected h =
+    replied expected.reply c.report.result c.answer-outcome.result (g.O.Sink.written c.args.out.now) (g.O.Sink.written c.answer-outcome.new.out) c.report.ensures.status (c.answer-outcome.ensures.meets expected h).replied
 
 pub returns-clause-prefix : goal.returns-clause-prefix
-returns-clause-prefix g c told h = (c.answer-outcome.ensures.meets told h).prefix
+returns-clause-prefix g c expected h = (c.answer-outcome.ensures.meets expected h).prefix
 
-pub returns-clause-short : goal.returns-clause-short
-returns-clause-short g c told h e =
-    let meets = c.answer-outcome.ensures.meets told h in
-    short_of (λ k. g.O.Sink.written k) told.reply (writes_as_it_goes (command_of (map (λ word. word.now) c.args.words.now))) c.answer-outcome.result c.args.out.now c.answer-outcome.new.out c.report.result
+pub returns-clause-out_of_memory_prefix : goal.returns-clause-out_of_memory_prefix
+returns-clause-out_of_memory_prefix g c expected h e =
+    let meets = c.answer-outcome.ensures.meets expected h in
+    short_of (λ k. g.O.Sink.written k) expected.reply (writes_as_it_goes (command_of (map (λ word. word.now) c.args.words.now))) c.answer-outcome.result c.args.out.now c.answer-outcome.new.out c.report.result
     c.report.ensures.status e meets.short meets.replied c.answer-outcome.ensures.untouched
 
-pub returns-clause-quiet : goal.returns-clause-quiet
-returns-clause-quiet g c told h = (c.answer-outcome.ensures.meets told h).quiet
+pub returns-clause-no_fault_without_text : goal.returns-clause-no_fault_without_text
+returns-clause-no_fault_without_text g c expected h = (c.answer-outcome.ensures.meets expected h).quiet
 
 pub returns-clause-usage : goal.returns-clause-usage
 returns-clause-usage g c e = c.answer-outcome.ensures.usage (usage_of c.report.result c.answer-outcome.result c.report.ensures.status e)
@@ -31,52 +31,52 @@ pub returns-clause-no_command : goal.returns-clause-no_command
 returns-clause-no_command g c none = usage_or_memory c.report.result c.answer-outcome.result c.report.ensures.status (c.answer-outcome.ensures.no_command none)
 
 pub returns-clause-read_fault : goal.returns-clause-read_fault
-returns-clause-read_fault g c told h e = (c.answer-outcome.ensures.meets told h).read_fault (read_of c.report.result c.answer-outcome.result c.report.ensures.status e)
+returns-clause-read_fault g c expected h e = (c.answer-outcome.ensures.meets expected h).read_fault (read_of c.report.result c.answer-outcome.result c.report.ensures.status e)
 
-pub returns-clause-others : goal.returns-clause-others
-returns-clause-others g c told h = (c.answer-outcome.ensures.meets told h).others
+pub returns-clause-other_counts_unchanged : goal.returns-clause-other_counts_unchanged
+returns-clause-other_counts_unchanged g c expected h = (c.answer-outcome.ensures.meets expected h).others
 
-pub returns-clause-last : goal.returns-clause-last
-returns-clause-last g c e = c.answer-outcome.ensures.last (write_of c.report.result c.answer-outcome.result c.report.ensures.status e)
+pub returns-clause-fault_was_last : goal.returns-clause-fault_was_last
+returns-clause-fault_was_last g c e = c.answer-outcome.ensures.fault_was_last (write_of c.report.result c.answer-outcome.result c.report.ensures.status e)
 
-pub returns-clause-calm : goal.returns-clause-calm
-returns-clause-calm g c e = c.answer-outcome.ensures.calm (no_write c.report.result c.answer-outcome.result c.report.ensures.status e)
+pub returns-clause-no_new_fault : goal.returns-clause-no_new_fault
+returns-clause-no_new_fault g c e = c.answer-outcome.ensures.no_new_fault (no_write c.report.result c.answer-outcome.result c.report.ensures.status e)
 
 pub returns-clause-untouched : goal.returns-clause-untouched
 returns-clause-untouched g c e =
     c.answer-outcome.ensures.untouched (leaves_of (writes_as_it_goes (command_of (map (λ word. word.now) c.args.words.now))) c.report.result c.answer-outcome.result c.report.ensures.status e)
 
-pub returns-clause-unharmed : goal.returns-clause-unharmed
-returns-clause-unharmed g c e = c.answer-outcome.ensures.unharmed (no_read c.report.result c.answer-outcome.result c.report.ensures.status e)
+pub returns-clause-no_read_fault : goal.returns-clause-no_read_fault
+returns-clause-no_read_fault g c e = c.answer-outcome.ensures.no_read_fault (no_read c.report.result c.answer-outcome.result c.report.ensures.status e)
 
 pub returns-clause-line : goal.returns-clause-line
-returns-clause-line g c told h =
+returns-clause-line g c expected h =
     let own = c.report.ensures.line in record {
       line = own.0;
-      own = line_is told.reply c.answer-outcome.result (g.O.Sink.written c.args.out.now) (g.O.Sink.written c.answer-outcome.new.out) own.0 c.report.result c.report.ensures.status
-          (λ d. (c.answer-outcome.ensures.meets told h).line (defined_of c.report.result c.answer-outcome.result c.report.ensures.status d)) own.1;
+      own = line_is expected.reply c.answer-outcome.result (g.O.Sink.written c.args.out.now) (g.O.Sink.written c.answer-outcome.new.out) own.0 c.report.result c.report.ensures.status
+          (λ d. (c.answer-outcome.ensures.meets expected h).line (defined_of c.report.result c.answer-outcome.result c.report.ensures.status d)) own.1;
       written = own.2;
     }
 
-pub returns-clause-silent : goal.returns-clause-silent
-returns-clause-silent g c e = c.report.ensures.silent (done_of c.report.result c.answer-outcome.result c.report.ensures.status e)
+pub returns-clause-err_unchanged : goal.returns-clause-err_unchanged
+returns-clause-err_unchanged g c e = c.report.ensures.err_unchanged (done_of c.report.result c.answer-outcome.result c.report.ensures.status e)
 
 pub returns-clause-complete : goal.returns-clause-complete
-returns-clause-complete g c told answer h is no_read_fault no_write_fault memory =
-    whole_answer c.report.result told.reply answer (g.O.Sink.written c.args.out.now) (g.O.Sink.written c.answer-outcome.new.out) (returns-clause-replied g c told h) is
-    (λ e. no_read_fault (returns-clause-read_fault g c told h e))
-    (λ e. no_write_fault (rose_by (λ k. g.O.Sink.faults k) (λ k. g.O.Sink.failed k) c.args.out.now c.answer-outcome.new.out (returns-clause-last g c e))) memory
+returns-clause-complete g c expected answer h is no_read_fault no_write_fault memory =
+    whole_answer c.report.result expected.reply answer (g.O.Sink.written c.args.out.now) (g.O.Sink.written c.answer-outcome.new.out) (returns-clause-replied g c expected h) is
+    (λ e. no_read_fault (returns-clause-read_fault g c expected h e))
+    (λ e. no_write_fault (rose_by (λ k. g.O.Sink.faults k) (λ k. g.O.Sink.failed k) c.args.out.now c.answer-outcome.new.out (returns-clause-fault_was_last g c e))) memory
 
 pub returns-clause-certified : goal.returns-clause-certified
 returns-clause-certified g c model certificate share is ok =
     let words = map (λ word. word.now) c.args.words.now in
     certified_end words (g.S.Shelf.files c.args.shelf.now) model certificate share (g.O.Sink.written c.args.out.now) (g.O.Sink.written c.answer-outcome.new.out) is
-    (λ told h. let P : Status → Type 0 = λ status. IsReplied told.reply status (g.O.Sink.written c.args.out.now) (g.O.Sink.written c.answer-outcome.new.out) in
-    subst P ok (returns-clause-replied g c told h))
+    (λ expected h. let P : Status → Type 0 = λ status. IsReplyGiven expected.reply status (g.O.Sink.written c.args.out.now) (g.O.Sink.written c.answer-outcome.new.out) in
+    subst P ok (returns-clause-replied g c expected h))
 
 pub returns-clause-proposed : goal.returns-clause-proposed
 returns-clause-proposed g c model is ok =
     let words = map (λ word. word.now) c.args.words.now in
     proposed_end words (g.S.Shelf.files c.args.shelf.now) model (g.O.Sink.written c.args.out.now) (g.O.Sink.written c.answer-outcome.new.out) is
-    (λ told h. let P : Status → Type 0 = λ status. IsReplied told.reply status (g.O.Sink.written c.args.out.now) (g.O.Sink.written c.answer-outcome.new.out) in
-    subst P ok (returns-clause-replied g c told h))
+    (λ expected h. let P : Status → Type 0 = λ status. IsReplyGiven expected.reply status (g.O.Sink.written c.args.out.now) (g.O.Sink.written c.answer-outcome.new.out) in
+    subst P ok (returns-clause-replied g c expected h))

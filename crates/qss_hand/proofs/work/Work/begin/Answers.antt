@@ -3,14 +3,14 @@ use Rattle.std.proofs.Common.{◌≡◌, ◌<◌, List, ℕ, ℤ, length, refl, 
 use Rattle.std.proofs.lemmas.List.{with_items_is}
 use Rattle.std.specs.Prelude.{All}
 use Rattle.std.specs.Vec.{with_items}
-use Rattle.qss_machine.specs.Numbers.{int_at}
+use Rattle.qss_machine.specs.IndexedSums.{int_at}
 use Rattle.qss_hand.specs.Assigned.{AreSameBut}
 use Rattle.qss_hand.specs.Values.{Values}
 use Rattle.qss_hand.proofs.Assigned.{same_values}
 use Rattle.qss_hand.proofs.work.Work.begin.Goals as goal
 
-pub restore-requires-clause-as_many : goal.restore-requires-clause-as_many
-restore-requires-clause-as_many c = ap length c.as_mut_slice-before.ensures.value ∙ c.self.invariant.as_many ∙ sym (ap length c.as_slice-2.ensures.value)
+pub restore-requires-clause-same_length : goal.restore-requires-clause-same_length
+restore-requires-clause-same_length c = ap length c.as_mut_slice-before.ensures.value ∙ c.self.invariant.as_many ∙ sym (ap length c.as_slice-2.ensures.value)
 
 pub restore-requires-clause-below : goal.restore-requires-clause-below
 restore-requires-clause-below c =

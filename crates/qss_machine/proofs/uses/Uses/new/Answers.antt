@@ -1,13 +1,13 @@
 use Rattle.std.proofs.Common.{◌≡◌, ◌+◌, ℕ, ℤ, List, map, ◌∙◌, ap, arith}
 use Rattle.qss_machine.specs.Machines.{state_count, discrete_count}
-use Rattle.qss_machine.specs.Numbers.{tabulate}
-use Rattle.qss_machine.specs.Uses.{reading_rows, reading_conditions}
+use Rattle.qss_machine.specs.IndexedSums.{tabulate}
+use Rattle.qss_machine.specs.Readers.{reading_rows, reading_conditions}
 use Rattle.qss_machine.proofs.Marking.{items_of}
 use Rattle.qss_machine.proofs.Places.{conditions_few}
 use Rattle.qss_machine.proofs.uses.Uses.new.Goals as goal
 
-pub conditions_by_variable-requires-clause-few : goal.conditions_by_variable-requires-clause-few
-conditions_by_variable-requires-clause-few c =
+pub conditions_by_variable-requires-clause-count_limit : goal.conditions_by_variable-requires-clause-count_limit
+conditions_by_variable-requires-clause-count_limit c =
     let m = c.args.m.now in
     rw (c.as_slice-4.ensures) (omega (arith, conditions_few m.clauses, m.has_clauses.few))
 

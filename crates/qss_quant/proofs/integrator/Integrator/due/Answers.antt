@@ -4,7 +4,7 @@ use Rattle.std.proofs.lemmas.Int.{ints, to_z-of_z}
 use Rattle.std.specs.Int.RustNames.{FitsSigned}
 use Rattle.mu_num.specs.Ticks.{FirstAfter, later_tick}
 use Rattle.mu_num.proofs.FirstTicks.{first_after-same, first_after-later}
-use Rattle.qss_quant.specs.Lines.{Line, state_at, IsAway}
+use Rattle.qss_quant.specs.IntegratorLines.{Line, state_at, IsAway}
 use Rattle.qss_quant.proofs.integrator.Integrator.due.Goals as goal
 use mir.Syntax.{w64, w128}
 
@@ -43,4 +43,4 @@ returns c =
     let of_quantum = c.ranges.quantum in
     let of_unit = c.ranges.unit in
     let i : Line = record { tick = c.self.inside.tick; x = c.self.inside.x; slope = c.self.inside.slope; level = c.self.inside.level } in
-    rw (← c.self.view_is, c.tick_later.ensures) (due_from i c.args.unit c.args.quantum c.first_leaving-ticks.result (simp to_z-of_z at c.first_leaving-ticks.ensures))
+    rw (← c.self.view_is, c.ticks_after.ensures) (due_from i c.args.unit c.args.quantum c.first_leaving-ticks.result (simp to_z-of_z at c.first_leaving-ticks.ensures))

@@ -2,7 +2,7 @@
 use Rattle.std.proofs.Common.{◌≡◌, pos, ◌-ℤ◌, ◌*ℤ◌, ◌<ℤ◌, ℤ, unsigned_abs, IsTrue, false, rules, arith}
 use Rattle.std.proofs.lemmas.Int.{ints, to_z-of_z}
 use Rattle.std.specs.Int.RustNames.{FitsSigned}
-use Rattle.qss_quant.specs.Lines.{IsAway}
+use Rattle.qss_quant.specs.IntegratorLines.{IsAway}
 use Rattle.qss_quant.proofs.quantizer.Quantizer.level.Goals as goal
 use mir.Syntax.{w128}
 

@@ -18,7 +18,7 @@ invariant_of-self c =
     let many_positions : length positions ≡ c.self.inside.positions.len = c.replace.auto.positions ∙ c.deref_mut-3.ensures.len in
     let heap : IsDueHeap due ranks positions =
     heap_after c.self.inside.due.items due c.self.inside.ranks.items c.self.inside.positions.items ranks positions
-    c.args.due c.args.place c.rank_of.result c.self.invariant.heap (rw c.self.view_is c.requires) (rw c.deref_mut.ensures.value at c.put_tick.ensures.put) c.put_tick.ensures.small
+    c.args.due c.args.place c.rank_of.result c.self.invariant.heap (rw c.self.view_is c.requires) (rw c.deref_mut.ensures.value at c.put_tick.ensures.put) c.put_tick.ensures.size_limit
     c.rank_of.ensures.rank c.rank_of.ensures.place (c.replace.auto.ranks ∙ ap length c.deref_mut-2.ensures.value) c.replace.ensures.indexed c.replace.ensures.ordered c.replace.ensures.takes
     (rw (c.deref_mut-2.ensures.value, c.deref_mut-3.ensures.value) at c.replace.ensures.others) in
     let place : c.args.place < length c.self.inside.due.items = rw c.self.view_is c.requires in

@@ -1,4 +1,0 @@
-pub mod Scopes
-pub mod Finished
-pub mod Sameness
-pub mod Bounds

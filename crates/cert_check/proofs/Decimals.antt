@@ -1,0 +1,38 @@
+-- A number's text spells it.
+use Rattle.std.proofs.Common.{◌≡◌, ◌≢◌, ℕ, zero, suc, ◌+◌, ◌<◌, ◌≤◌, ◌^◌, Bool, true, false, List, [], ◌∷◌, length, map, get_or, drop, ℤ, pos, negsuc, neg_ℤ, Option, Some, None, le-leb, refl, sym, ap, ap₂, ◌∙◌, arith}
+use Rattle.std.specs.Prelude.{All, unsigned_abs, decimal, ◌==◌}
+use Rattle.std.specs.Fmt.{signed_decimal}
+use Rattle.std.specs.Str.{all_ascii_digits}
+use Rattle.std.specs.Str.Parse.{IsNumeral, AllDigits, digits_value, starts_with_minus}
+use Rattle.std.proofs.lemmas.Bool.{ne_eqb}
+use Rattle.std.proofs.lemmas.Fmt.{decimal_is_IsNumeral_wide, length-decimal-le_wide}
+use Rattle.std.proofs.lemmas.Int.{ints}
+use Rattle.std.proofs.lemmas.Str.Parse.{numerals_by_value, tells_all_ascii_digits, digit_at}
+use Rattle.cert_check.specs.CertificateLimits.{IsNumber}
+use Rattle.cert_check.specs.FieldNumbers.{magnitude_in, number_in}
+
+magnitude-decimal : (n : ℕ) → n ≤ 2 ^ 126 → magnitude_in (decimal n) ≡ Some n
+magnitude-decimal n h =
+    let wide : n < 10 ^ 64 = omega arith in
+    let short : n < 10 ^ 39 = omega arith in
+    let numeral = decimal_is_IsNumeral_wide n wide in
+    let some : 1 ≤ length (decimal n) = numeral.0.0 in
+    let few = length-decimal-le_wide 39 n (omega arith) short wide in
+    let all = (numerals_by_value (λ ds. all_ascii_digits ds ≡ true) tells_all_ascii_digits).from (decimal n) numeral.0.1 in
+    let value : digits_value 10 (decimal n) ≡ n = numeral.1 in
+    rw (le-leb 1 (length (decimal n)) some, le-leb (length (decimal n)) 39 few, all, value, le-leb n (2 ^ 126) h) refl
+
+no-minus : (n : ℕ) → n ≤ 2 ^ 126 → starts_with_minus (decimal n) ≡ false
+no-minus n h =
+    let numeral = decimal_is_IsNumeral_wide n (omega arith) in
+    let digit = digit_at (decimal n) 0 numeral.0.1 numeral.0.0 in
+    ne_eqb (get_or (decimal n) 0 0) 45 (λ e. omega (arith, digit, e))
+
+pub number-decimal : (z : ℤ) → IsNumber z → number_in (signed_decimal z) ≡ Some z
+number-decimal (pos n) h = rw (no-minus n h, magnitude-decimal n h) refl
+number-decimal (negsuc n) h = rw (magnitude-decimal (suc n) (omega (arith, ints))) refl
+
+pub numbers-decimal : (zs : List ℤ) → All IsNumber zs → map number_in (map signed_decimal zs) ≡ map (λ z. Some z) zs
+numbers-decimal [] h = refl
+numbers-decimal (z ∷ zs) h =
+    ap₂ (λ (a : Option ℤ) (b : List (Option ℤ)). a ∷ b) (number-decimal z (h 0 (pos 0) (omega arith))) (numbers-decimal zs (λ k d l. h (suc k) d (omega arith)))

@@ -1,0 +1,73 @@
+-- What an accepted certificate promises of a machine's legitimate runs.
+use Rattle.std.specs.Prelude.{◌≡◌, ℕ, ◌*◌, ◌<◌, ◌⊎◌, List, [], length, ℤ, pos, ◌-ℤ◌, ◌*ℤ◌, ◌≤ℤ◌, slice_index_or}
+use Rattle.qss_machine.specs.declared.system.Machine.{Machine}
+use Rattle.qss_machine.specs.IndexedSums.{int_at}
+use Rattle.qss_machine.specs.Machines.{state_count, level_unit, start_states}
+use Rattle.qss_machine.specs.Ticks.{Snapshot, start_snapshot}
+use Rattle.qss_machine.specs.Runs.{IsFreeExecution}
+use Rattle.qss_machine.specs.RunLaws.{states_from, levels_from}
+use Rattle.qss_machine.specs.Legitimate.{IsLegitimate, entry_at, scaled_slope}
+use Rattle.cert_matrix.specs.Sums.{abs_of}
+use Rattle.cert_matrix.specs.Form.{Vector, form}
+use Rattle.cert_matrix.specs.Matrix.{table, vector}
+use Rattle.cert_check.specs.declared.certificate.Certificate.{Certificate}
+use Rattle.cert_check.specs.Inequalities.{Holds, slope_limit}
+use Rattle.cert_check.specs.CertificateData.{certificate_data}
+use Rattle.cert_check.specs.Systems.{system_of}
+
+-- a legitimate run from one of the certificate's two starts, with its quanta
+pub record IsCertifiedRun (m : Machine) (c : Certificate) (scale refinement : ℕ) (states levels : List (List ℤ)) : Type 0 where
+  pub start : List ℤ
+  pub certified : (start ≡ c.start1) ⊎ (start ≡ c.start2)
+  pub legitimate : IsLegitimate m start c.q scale refinement states levels
+
+-- how many units of a run's states a level has, where these are `scale` times finer
+abbrev pub scaled_unit : Machine → ℕ → ℤ
+scaled_unit m scale = pos scale *ℤ level_unit m
+
+-- a run's state less the centre, in the run's units
+abbrev pub from_centre : Machine → Certificate → ℕ → List (List ℤ) → ℕ → Vector
+from_centre m c scale states i j = entry_at states i j -ℤ scaled_unit m scale *ℤ vector c.c j
+
+-- a state of one run less a state of another, each in the units of both
+abbrev pub scaled_difference : ℕ → List (List ℤ) → ℕ → ℕ → List (List ℤ) → ℕ → Vector
+scaled_difference scale states i scale' states' i' j = pos scale' *ℤ entry_at states i j -ℤ pos scale *ℤ entry_at states' i' j
+
+-- how many of these units a level has
+abbrev pub common_unit : Machine → ℕ → ℕ → ℤ
+common_unit m scale scale' = pos scale *ℤ pos scale' *ℤ level_unit m
+
+-- what the certificate promises of the machine's runs, of any scales and refinements
+pub record BoundsAreGuaranteed (m : Machine) (c : Certificate) : Type 0 where
+  -- each state is in the basin: the form of its distance from the centre is at most R
+  pub basin : (s r : ℕ) (xs ms : List (List ℤ)) → IsCertifiedRun m c s r xs ms → (i : ℕ) → i < length xs →
+      form (state_count m) (table c.pm) (from_centre m c s xs i) ≤ℤ (scaled_unit m s *ℤ scaled_unit m s *ℤ c.r)
+  -- each slope is at most its bound
+  pub slopes : (s r : ℕ) (xs ms : List (List ℤ)) → IsCertifiedRun m c s r xs ms → (i j : ℕ) → i < length xs → j < state_count m →
+      abs_of (scaled_slope m s j (slice_index_or ms i [])) ≤ℤ (pos s *ℤ slope_limit (system_of m) (certificate_data c) j)
+  -- at each common tick the difference of two runs lies in the ellipsoid: its form is at most C
+  pub inside : (s r s' r' : ℕ) (xs ms xs' ms' : List (List ℤ)) → IsCertifiedRun m c s r xs ms → IsCertifiedRun m c s' r' xs' ms' →
+      (i i' : ℕ) → i < length xs → i' < length xs' → i * r' ≡ i' * r →
+      form (state_count m) (table c.pm) (scaled_difference s xs i s' xs' i') ≤ℤ (common_unit m s s' *ℤ common_unit m s s' *ℤ c.cc)
+  -- and each state differs by at most E
+  pub distances : (s r s' r' : ℕ) (xs ms xs' ms' : List (List ℤ)) → IsCertifiedRun m c s r xs ms → IsCertifiedRun m c s' r' xs' ms' →
+      (i i' j : ℕ) → i < length xs → i' < length xs' → i * r' ≡ i' * r → j < state_count m →
+      abs_of (scaled_difference s xs i s' xs' i' j) ≤ℤ (common_unit m s s' *ℤ vector c.e j)
+
+-- the machine's own runs, under whichever rule and with quanta relative to their levels, are legitimate with the certificate's quanta
+-- where one of its starts is the machine's
+abbrev pub CoversOwnRuns : Machine → Certificate → Type 0
+CoversOwnRuns m c =
+    (start_states m ≡ c.start1) ⊎ (start_states m ≡ c.start2) → (snapshots : List Snapshot) → IsFreeExecution m 0 (start_snapshot m) snapshots →
+    IsLegitimate m (start_states m) c.q 1 1 (states_from (start_snapshot m) snapshots) (levels_from (start_snapshot m) snapshots)
+
+-- where the thirteen inequalities hold of a machine without clauses, within whatever range, the certificate keeps what it promises
+pub record CertificatesAreSound : Type 0 where
+  pub promised : (m : Machine) (c : Certificate) → Holds (system_of m) (certificate_data c) → BoundsAreGuaranteed m c
+  pub admitted : (m : Machine) (c : Certificate) → m.clauses ≡ [] → Holds (system_of m) (certificate_data c) → CoversOwnRuns m c
+
+-- a run that is legitimate with some quanta is so with greater ones
+abbrev pub SmallerQuantaAreLegitimate : Type 0
+SmallerQuantaAreLegitimate =
+    (m : Machine) (start smaller greater : List ℤ) (s r : ℕ) (xs ms : List (List ℤ)) →
+    ((j : ℕ) → j < state_count m → int_at smaller j ≤ℤ int_at greater j) → IsLegitimate m start smaller s r xs ms → IsLegitimate m start greater s r xs ms

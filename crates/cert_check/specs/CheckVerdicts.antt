@@ -1,0 +1,14 @@
+-- The verdict on a certificate.
+use Rattle.std.specs.Prelude.{◌≡◌}
+use Rattle.cert_check.specs.Inequalities.{System, CertificateData}
+use Rattle.cert_check.specs.InequalityTable.{IsFirstFaultOf, inequalities, fault_of}
+use Rattle.cert_check.specs.declared.verdict.Verdict.{Verdict}
+
+-- the verdict tells the first fault of the inequalities, or that they have none
+abbrev pub IsVerdict : System → CertificateData → Verdict → Type 0
+IsVerdict m x verdict = IsFirstFaultOf m x inequalities (fault_of verdict)
+
+-- there is one verdict
+pub record VerdictsAreOne : Type 0 where
+  pub some : (m : System) (x : CertificateData) → (v : Verdict) × IsVerdict m x v
+  pub one : (m : System) (x : CertificateData) (v w : Verdict) → IsVerdict m x v → IsVerdict m x w → v ≡ w

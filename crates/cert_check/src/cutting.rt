@@ -1,0 +1,34 @@
+//! The records of a text.
+
+ghost use Rattle.std.specs.Prelude.{◌≡◌, true, IfOk, map};
+ghost use Rattle.csv.specs.Reading.{error_kind, stops_reader};
+ghost use Rattle.csv.specs.Records.{fields_of};
+ghost use Rattle.cert_check.specs.CertificateTexts.{IsCutInto};
+
+use csv::{ByteRecord, Error, ReaderBuilder};
+use std::alloc::{AllocError, Global};
+
+// What is told where a reader of bytes in memory stops: it wants memory, and nothing else is wrong.
+fn want_of_memory(_error: &Error) -> AllocError
+    requires { stops_reader (error_kind _error.now) ≡ true }
+{
+    AllocError
+}
+
+/// The records into which `csv` cuts a text. Its reader can fail at bytes in memory for want of memory alone.
+pub fn records_of(alloc: Global, bytes: &[u8]) -> Result<Vec<ByteRecord>, AllocError>
+    ensures { IfOk result (λ records. IsCutInto bytes.now (map fields_of records.items)) }
+{
+    let reader = ReaderBuilder::new()
+        .has_headers(false)
+        .flexible(true)
+        .from_reader(alloc, bytes);
+    let mut records = Vec::new(alloc);
+    for record in reader.into_byte_records() {
+        match record {
+            Ok(record) => records.push(record)?,
+            Err(error) => return Err(want_of_memory(&error)),
+        }
+    }
+    Ok(records)
+}

@@ -1,0 +1,28 @@
+-- Branches and clauses, field by field.
+use Rattle.std.proofs.Common.{◌≡◌, ℕ, ◌+◌, List, ◌∙◌, ap}
+use Rattle.mu_affine.specs.declared.form.ExactForm.{ExactForm}
+use Rattle.mu_tree.specs.FlatExpression.{FlatBranchTree}
+use Rattle.qss_machine.specs.declared.parts.Rel.{Rel}
+use Rattle.qss_machine.specs.declared.parts.Form.{Form}
+use Rattle.qss_machine.specs.declared.parts.Action.{Action}
+use Rattle.qss_machine.specs.declared.parts.BranchInfo.{BranchInfo}
+use Rattle.qss_machine.specs.declared.parts.ClauseInfo.{ClauseInfo}
+use Rattle.mu_affine.specs.Rounded.{rounded_form}
+use Rattle.mu_affine.specs.FormPlaces.{form_at, rel_of, actions_of, branch_of, branch_forms, clause_of, placed}
+
+abbrev branch_with : Form → Rel → List Action → BranchInfo
+branch_with form rel actions = record { condition = record { form = form; rel = rel }; actions = actions }
+
+pub branch_made : (p f : ℕ) (forms : List ExactForm) (first : ℕ) (b : FlatBranchTree) (form : Form) (rel : Rel) (actions : List Action) → form ≡ rounded_form p f (form_at forms first) → rel ≡ rel_of b.rel →
+    actions ≡ actions_of p f forms (first + 1) b.body → branch_with form rel actions ≡ branch_of p f forms first b
+branch_made p f forms first b form rel actions own same body =
+    ap (λ (x : Form). branch_with x rel actions) own
+    ∙ ap (λ (x : Rel). branch_with (rounded_form p f (form_at forms first)) x actions) same
+    ∙ ap (branch_with (rounded_form p f (form_at forms first)) (rel_of b.rel)) body
+
+abbrev clause_with : List BranchInfo → ClauseInfo
+clause_with branches = record { branches = branches }
+
+pub clause_made : (p f : ℕ) (forms : List ExactForm) (first : ℕ) (bs : List FlatBranchTree) (branches : List BranchInfo) → branches ≡ placed branch_forms (branch_of p f forms) first bs →
+    clause_with branches ≡ clause_of p f forms first bs
+clause_made p f forms first bs branches e = ap clause_with e

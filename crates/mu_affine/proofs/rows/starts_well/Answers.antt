@@ -1,0 +1,11 @@
+use Rattle.std.proofs.Common.{length, sym, subst}
+use Rattle.qss_machine.specs.MachineLimits.{IsRow}
+use Rattle.mu_affine.proofs.RowLaws.{row_is}
+use Rattle.mu_affine.proofs.rows.starts_well.Goals as goal
+
+pub is_light-requires-clause-row : goal.is_light-requires-clause-row
+is_light-requires-clause-row c =
+    let some = rw c.in-Some.is at c.in_ok-row.ensures.some in
+    let n = length c.args.levels.now in
+    let g = length c.args.values.now in
+    subst (IsRow n g) (sym some.0) (row_is n g c.args.units.p c.args.units.f c.args.form.now c.requires.form (rw some.0 at some.1))

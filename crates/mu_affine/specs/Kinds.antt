@@ -1,0 +1,32 @@
+-- Kinds of exact forms, as the lists show them.
+use Rattle.std.specs.Prelude.{◌≡◌, ◌<◌, ◌≤◌, ◌+◌, false, []}
+use Rattle.std.specs.List.{All}
+use Rattle.mu_affine.specs.declared.form.Sizes.{Sizes}
+use Rattle.mu_affine.specs.declared.form.ExactForm.{ExactForm}
+use Rattle.mu_affine.specs.declared.form.Place.{Place}
+use Rattle.mu_affine.specs.AffineForm.{is_nonzero}
+use Rattle.mu_affine.specs.FinishedForms.{IsFinished}
+
+-- a form without coefficients
+pub record IsConstant (f : ExactForm) : Type 0 where
+  pub names : f.entries ≡ []
+  pub pairs : f.products ≡ []
+  pub time : is_nonzero f.time ≡ false
+
+-- a form whose coefficients are those of states
+pub record IsOfStates (n : Sizes) (f : ExactForm) : Type 0 where
+  pub names : All (λ e. e.var < n.states) f.entries
+  pub pairs : f.products ≡ []
+  pub time : is_nonzero f.time ≡ false
+
+-- a form whose coefficients are those of discrete variables
+pub record IsOfDiscretes (n : Sizes) (f : ExactForm) : Type 0 where
+  pub names : All (λ e. (n.states ≤ e.var) × (e.var < n.states + n.discretes)) f.entries
+  pub pairs : f.products ≡ []
+  pub time : is_nonzero f.time ≡ false
+
+-- a finished form with a coefficient, and with a denominator above 0 under its constant
+pub record IsVariable (p : Place) (f : ExactForm) : Type 0 where
+  pub finished : IsFinished p f
+  pub variable : IsConstant f → ⊥
+  pub positive : 0 < f.constant.den

@@ -1,0 +1,278 @@
+// Right sides and forms in the units of a machine, where they are within their limits.
+
+ghost use Rattle.std.specs.Prelude.{◌≡◌, ◌+◌, ◌^◌, ◌<◌, ◌≤◌, ◌++◌, [], ◌∷◌, not, true, false, length, if◌then◌else◌, None, map, IfOk, IfErr, IfNone, IfSome, OnOk, sum_by, unsigned_abs, All};
+ghost use Rattle.std.specs.List.{list_all};
+ghost use Rattle.mu_num.specs.Sizes.{IsWithin, exceeds};
+ghost use Rattle.mu_affine.specs.Rounded.{is_some_number, rounded_entries, rounded_products, rounded_row, rounded_form};
+ghost use Rattle.mu_affine.specs.MachineChecks.{IsRefusal, checks, first_failed, form_fits, row_fits, row_starts};
+ghost use Rattle.mu_affine.specs.RoundedMachines.{IsRightSide};
+ghost use Rattle.mu_affine.specs.declared.machine_fault.MachineErr.TheVariants.{Start, Coefficient};
+
+use crate::form::{ExactEntry, ExactForm, ExactProduct};
+use crate::machine_fault::MachineErr;
+use crate::numbers::{is_some_number, rounded};
+use crate::units::Units;
+use mu_io::Items;
+use mu_num::exceeds;
+use qss_machine::{Entry, Form, Product, SlopeRow, is_light};
+use std::alloc::{AllocError, Global};
+
+// Adds an entry, unless its coefficient is 0.
+fn push_entry(entries: &mut Vec<Entry>, entry: Entry) -> Result<(), AllocError>
+    ensures { OnOk result
+        (entries.new.items
+        ≡ entries.old.items ++ (if is_some_number entry.coef then entry ∷ [] else [])) }
+{
+    if is_some_number(i128::from(entry.coef)) {
+        entries.push(entry)?;
+    }
+    Ok(())
+}
+
+// Adds a product, unless its coefficient is 0.
+fn push_product(products: &mut Vec<Product>, product: Product) -> Result<(), AllocError>
+    ensures { OnOk result
+        (products.new.items
+        ≡ products.old.items ++ (if is_some_number product.coef then product ∷ [] else [])) }
+{
+    if is_some_number(i128::from(product.coef)) {
+        products.push(product)?;
+    }
+    Ok(())
+}
+
+// The entries of coefficients, where none passes 2^44.
+fn rounded_entries(
+    alloc: Global,
+    exact: &[ExactEntry],
+    p: u8,
+) -> Result<Option<Vec<Entry>>, AllocError>
+    requires { p ≤ 64 }
+    ensures none { IfOk result
+        (λ entries. IfNone entries
+        (list_all (λ e. not (exceeds 44 e.coef)) (rounded_entries p exact.now) ≡ false)) }
+    ensures some { IfOk result
+        (λ entries. IfSome entries
+        (λ entries. (entries.items ≡ rounded_entries p exact.now)
+        × (list_all (λ e. not (exceeds 44 e.coef)) entries.items ≡ true))) }
+{
+    let mut entries = Vec::new(alloc);
+    for e in exact {
+        let coef = rounded(e.coef, p);
+        if exceeds(coef, 44) {
+            return Ok(None);
+        }
+        let entry = Entry {
+            var: e.var,
+            coef: coef as i64,
+        };
+        push_entry(&mut entries, entry)?;
+    }
+    Ok(Some(entries))
+}
+
+// The products of coefficients, where none passes 2^44.
+fn rounded_products(
+    alloc: Global,
+    exact: &[ExactProduct],
+    p: u8,
+) -> Result<Option<Vec<Product>>, AllocError>
+    requires { p ≤ 64 }
+    ensures none { IfOk result
+        (λ products. IfNone products
+        (list_all (λ e. not (exceeds 44 e.coef)) (rounded_products p exact.now) ≡ false)) }
+    ensures some { IfOk result
+        (λ products. IfSome products
+        (λ products. (products.items ≡ rounded_products p exact.now)
+        × (list_all (λ e. not (exceeds 44 e.coef)) products.items ≡ true))) }
+{
+    let mut products = Vec::new(alloc);
+    for e in exact {
+        let coef = rounded(e.coef, p);
+        if exceeds(coef, 44) {
+            return Ok(None);
+        }
+        let product = Product {
+            state: e.state,
+            discrete: e.discrete,
+            coef: coef as i64,
+        };
+        push_product(&mut products, product)?;
+    }
+    Ok(Some(products))
+}
+
+/// A right side, where its coefficients and its constant are within their limits.
+pub(crate) fn rounded_row(
+    alloc: Global,
+    form: &ExactForm,
+    units: Units,
+) -> Result<Option<SlopeRow>, AllocError>
+    ensures none { IfOk result
+        (λ row. IfNone row (row_fits (rounded_row units.p units.f form.now) ≡ false)) }
+    ensures some { IfOk result
+        (λ row. IfSome row
+        (λ row. (row ≡ rounded_row units.p units.f form.now) × (row_fits row ≡ true))) }
+{
+    let Some(entries) = rounded_entries(alloc, form.entries.as_slice(), units.p)? else {
+        return Ok(None);
+    };
+    let Some(products) = rounded_products(alloc, form.products.as_slice(), units.p)? else {
+        return Ok(None);
+    };
+    let beta = rounded(form.constant, units.f + units.p);
+    if exceeds(beta, 78) {
+        return Ok(None);
+    }
+    Ok(Some(SlopeRow {
+        entries: Items::new(entries),
+        products: Items::new(products),
+        beta,
+    }))
+}
+
+// A coefficient without its sign.
+fn entry_size(entry: &Entry) -> u128
+    ensures value { result ≡ unsigned_abs entry.now.coef }
+    ensures bound { result ≤ 2 ^ 63 }
+{
+    u128::from(entry.coef.unsigned_abs())
+}
+
+// The sizes of coefficients, added up.
+fn size_sum(entries: &[Entry]) -> u128
+    requires { length entries.now < 2 ^ 64 }
+    ensures value { result ≡ sum_by (λ e. unsigned_abs e.coef) entries.now }
+    ensures bound { result ≤ 2 ^ 127 }
+{
+    let mut sum: u128 = 0;
+    for entry in entries {
+        sum += entry_size(entry);
+    }
+    sum
+}
+
+// Whether coefficients with that of time, and a constant, are within the limits of a form.
+fn form_fits(entries: &[Entry], time: i128, gamma: i128) -> bool
+    requires count_limit { length entries.now < 2 ^ 64 }
+    ensures { result ≡ form_fits (record { entries = entries.now; time = time; gamma = gamma }) }
+{
+    let most = 1u128 << 38;
+    let sum = size_sum(entries);
+    let own = time.unsigned_abs();
+    sum <= most && own <= most && sum + own <= most && !exceeds(gamma, 78)
+}
+
+/// The form of a condition or a statement, where its coefficients and its constant are within their limits.
+pub(crate) fn rounded_form(
+    alloc: Global,
+    form: &ExactForm,
+    units: Units,
+) -> Result<Option<Form>, AllocError>
+    ensures none { IfOk result
+        (λ form'. IfNone form' (form_fits (rounded_form units.p units.f form.now) ≡ false)) }
+    ensures some { IfOk result
+        (λ form'. IfSome form'
+        (λ form'. (form' ≡ rounded_form units.p units.f form.now) × (form_fits form' ≡ true))) }
+{
+    let Some(entries) = rounded_entries(alloc, form.entries.as_slice(), units.p)? else {
+        return Ok(None);
+    };
+    let time = rounded(form.time, units.p);
+    let gamma = rounded(form.constant, units.f + units.p);
+    if !form_fits(entries.as_slice(), time, gamma) {
+        return Ok(None);
+    }
+    Ok(Some(Form {
+        entries: Items::new(entries),
+        time: time as i64,
+        gamma,
+    }))
+}
+
+/// Refuses the first right side that weighs too much at the start.
+pub(crate) fn check_starts(
+    alloc: Global,
+    forms: &[ExactForm],
+    levels: &[i64],
+    values: &[i64],
+    units: Units,
+) -> Result<(), MachineErr>
+    requires count_limit { length levels.now + length values.now ≤ 4096 }
+    requires one_each { length forms.now ≤ length levels.now }
+    requires forms { All (IsRightSide (length levels.now) (length values.now)) forms.now }
+    requires levels { All (IsWithin 43) levels.now }
+    requires values { All (IsWithin 43) values.now }
+    ensures ok { IfOk result
+        (λ _. first_failed
+        (checks
+        (λ form. row_starts units.f levels.now values.now
+        (rounded_row units.p units.f form))
+        Start 0 forms.now)
+        ≡ None) }
+    ensures err { IfErr result
+        (IsRefusal
+        (checks
+        (λ form. row_starts units.f levels.now values.now
+        (rounded_row units.p units.f form))
+        Start 0 forms.now)) }
+{
+    for (place, form) in forms.iter().enumerate() {
+        if !starts_well(alloc, form, levels, values, units)? {
+            return Err(MachineErr::Start { var: place as u32 });
+        }
+    }
+    Ok(())
+}
+
+// Whether a right side weighs little enough at the start; one that is past a limit of its own is left to its own check.
+fn starts_well(
+    alloc: Global,
+    form: &ExactForm,
+    levels: &[i64],
+    values: &[i64],
+    units: Units,
+) -> Result<bool, AllocError>
+    requires count_limit { length levels.now + length values.now ≤ 4096 }
+    requires form { IsRightSide (length levels.now) (length values.now) form.now }
+    requires levels { All (IsWithin 43) levels.now }
+    requires values { All (IsWithin 43) values.now }
+    ensures { IfOk result
+        (λ holds. holds
+        ≡ row_starts units.f levels.now values.now (rounded_row units.p units.f form.now)) }
+{
+    let Some(row) = rounded_row(alloc, form, units)? else {
+        return Ok(true);
+    };
+    Ok(is_light(&row, units.f, levels, values))
+}
+
+/// The right sides, or the first one that is past a limit of its own.
+pub(crate) fn rows_of(
+    alloc: Global,
+    forms: &[ExactForm],
+    units: Units,
+) -> Result<Vec<SlopeRow>, MachineErr>
+    requires count_limit { length forms.now ≤ 4096 }
+    ensures rows { IfOk result (λ rows. rows.items ≡ map (rounded_row units.p units.f) forms.now) }
+    ensures ok { IfOk result
+        (λ _. first_failed
+        (checks (λ form. row_fits (rounded_row units.p units.f form)) Coefficient 1
+        forms.now)
+        ≡ None) }
+    ensures err { IfErr result
+        (IsRefusal
+        (checks (λ form. row_fits (rounded_row units.p units.f form)) Coefficient 1
+        forms.now)) }
+{
+    let mut rows = Vec::new(alloc);
+    for (place, form) in forms.iter().enumerate() {
+        let Some(row) = rounded_row(alloc, form, units)? else {
+            return Err(MachineErr::Coefficient {
+                row: place as u32 + 1,
+            });
+        };
+        rows.push(row)?;
+    }
+    Ok(rows)
+}

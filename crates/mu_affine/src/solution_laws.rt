@@ -1,0 +1,31 @@
+// Laws of the forms of flat models.
+
+ghost use Rattle.std.specs.Prelude.{◌≡◌, ℕ, List, Ok};
+ghost use Rattle.mu_tree.specs.FlatExpression.{FlatModelTree};
+ghost use Rattle.mu_tree.specs.FlatModels.{IsFlatModel};
+ghost use Rattle.mu_causal.specs.Causality.{IsOrder};
+ghost use Rattle.mu_causal.specs.Dependencies.{AreCounted, IsAlgebraic, DependsOn};
+ghost use Rattle.mu_affine.specs.AffineForm.{AffineForm};
+ghost use Rattle.mu_affine.specs.Solution.{sizes_of, IsSolution};
+ghost use Rattle.mu_affine.specs.FormSequence.{Taken, forms_of};
+
+/// The forms that are solved along an order are a solution: each algebraic variable has the form of
+/// the right side of each of its equations.
+pub fn law_of_solution()
+    ensures { (m : FlatModelTree) (order : List ℕ) (taken : Taken) → IsFlatModel m
+        → AreCounted m
+        → IsOrder (IsAlgebraic m) (DependsOn m) order
+        → forms_of m order ≡ Ok taken
+        → IsSolution (sizes_of m) m.equations taken.solved }
+{}
+
+/// Two solutions agree on every algebraic variable of a flat model with an order.
+pub fn law_of_one_solution()
+    ensures { (m : FlatModelTree) (order : List ℕ) (first second : ℕ → AffineForm) → IsFlatModel m
+        → AreCounted m
+        → IsOrder (IsAlgebraic m) (DependsOn m) order
+        → IsSolution (sizes_of m) m.equations first
+        → IsSolution (sizes_of m) m.equations second
+        → (v : ℕ) → IsAlgebraic m v
+        → first v ≡ second v }
+{}

@@ -1,0 +1,34 @@
+-- What is answered for a graph, and why a flat model has no order.
+use Rattle.std.specs.Prelude.{ℕ, ◌≡◌, List, [], ◌∷◌}
+use Rattle.mu_tree.specs.FlatExpression.{FlatModelTree}
+use Rattle.mu_causal.specs.declared.graph.Causality.{Causality}
+use Rattle.mu_causal.specs.declared.graph.Causality.TheVariants.{Order as InOrder, Loop as InLoop}
+use Rattle.mu_causal.specs.declared.count.Given.{Given}
+use Rattle.mu_causal.specs.declared.count.Given.TheVariants.{Never, Once, Often}
+use Rattle.mu_causal.specs.declared.answer.CausalErr.{CausalErr}
+use Rattle.mu_causal.specs.declared.answer.CausalErr.TheVariants.{NoEquation, TwoEquations, Loop, Memory}
+use Rattle.mu_causal.specs.Causality.{IsOrder, IsCycle}
+use Rattle.mu_causal.specs.Graphs.{Graph}
+use Rattle.mu_causal.specs.VisitMarks.{IsOpen, Needs}
+use Rattle.mu_causal.specs.Dependencies.{DependsOn, WantsEquation, equation_numbers, AreCounted, AreCountedBelow}
+use Rattle.std.specs.Prelude.{Bool}
+
+-- an order of all variables of a graph, or a cycle
+abbrev pub IsCausality : Graph → List Bool → Causality → Type 0
+IsCausality g known (InOrder vars) = IsOrder (IsOpen g known) (Needs g known) vars.items
+IsCausality g known (InLoop vars) = IsCycle (Needs g known) vars.items
+
+-- which of these numbers are the first two
+abbrev pub IsGiven : List ℕ → Given → Type 0
+IsGiven numbers Never = numbers ≡ []
+IsGiven numbers (Once number) = numbers ≡ number ∷ []
+IsGiven numbers (Often first second) = (more : List ℕ) × (numbers ≡ first ∷ second ∷ more)
+
+-- Why a flat model has no order: the least variable that wants an equation and has none, or has two or more, of which the
+-- first two are named; or, where each has one, a cycle of what the algebraic variables depend on.
+abbrev pub IsCausalFault : FlatModelTree → CausalErr → Type 0
+IsCausalFault m (NoEquation var) = WantsEquation m var × AreCountedBelow m var × (equation_numbers m var ≡ [])
+IsCausalFault m (TwoEquations var first second) =
+    WantsEquation m var × AreCountedBelow m var × ((more : List ℕ) × (equation_numbers m var ≡ first ∷ second ∷ more))
+IsCausalFault m (Loop vars) = AreCounted m × IsCycle (DependsOn m) vars
+IsCausalFault m Memory = Unit {0}

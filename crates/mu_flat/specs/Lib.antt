@@ -1,2 +1,0 @@
-pub mod FlatExpression
-pub mod FlatModels

@@ -1,9 +1,0 @@
-use Rattle.std.proofs.Common.{◌≡◌, None, take}
-use Rattle.mu_machine.specs.declared.fault.MachineErr.TheVariants.{Start}
-use Rattle.mu_machine.specs.Rounded.{rounded_row}
-use Rattle.mu_machine.specs.Checks.{checks, first_failed, row_starts}
-use Rattle.mu_machine.proofs.rows.check_starts.Given as goal
-
--- no row so far weighs too much
-abbrev pub invariant-loop-place : goal.invariant-loop-place
-invariant-loop-place l = first_failed (checks (λ form. row_starts l.units.f l.levels l.values (rounded_row l.units.p l.units.f form)) Start 0 (take l.place l.forms)) ≡ None

@@ -1,0 +1,168 @@
+-- What the parser's values say, without where they lie in memory.
+use Rattle.std.specs.Prelude.{Bool, false, List, map, reverse}
+use Rattle.mu_tree.specs.Expression.{expression, reference}
+use Rattle.mu_parser.specs.declared.section.state.Draft.{Draft}
+use Rattle.mu_parser.specs.declared.section.state.Component.{Component}
+use Rattle.mu_parser.specs.declared.section.state.LoopRange.{LoopRange}
+use Rattle.mu_parser.specs.declared.section.state.EquationLoop.{EquationLoop}
+use Rattle.mu_parser.specs.declared.section.state.StatementLoop.{StatementLoop}
+use Rattle.mu_parser.specs.declared.section.state.ClauseLoop.{ClauseLoop}
+use Rattle.mu_parser.specs.declared.section.state.OpenWhen.{OpenWhen}
+use Rattle.mu_parser.specs.declared.section.state.OpenBranch.{OpenBranch}
+use Rattle.mu_parser.specs.declared.section.state.Body.{Body}
+use Rattle.mu_parser.specs.declared.section.state.Aim.{Aim}
+use Rattle.mu_parser.specs.declared.section.state.Owner.{Owner}
+use Rattle.mu_parser.specs.declared.section.state.Place.{Place}
+use Rattle.mu_parser.specs.declared.section.state.Waiting.{Waiting}
+use Rattle.mu_parser.specs.declared.section.state.Then.{Then}
+use Rattle.mu_parser.specs.declared.section.state.State.{State}
+use Rattle.mu_parser.specs.declared.section.state.Effect.{Effect}
+use Rattle.mu_parser.specs.declared.section.state.Body.TheVariants as bodies
+use Rattle.mu_parser.specs.declared.section.state.Aim.TheVariants as aims
+use Rattle.mu_parser.specs.declared.section.state.Owner.TheVariants as owners
+use Rattle.mu_parser.specs.declared.section.state.Place.TheVariants as places
+use Rattle.mu_parser.specs.declared.section.state.Waiting.TheVariants as waits
+use Rattle.mu_parser.specs.declared.section.state.Then.TheVariants as thens
+use Rattle.mu_parser.specs.declared.section.state.State.TheVariants as states
+use Rattle.mu_parser.specs.declared.section.state.Effect.TheVariants as effects
+use Rattle.mu_grammar.specs.ReaderMachines as machines
+use Rattle.mu_grammar.specs.ModelGrammar.{sections}
+use Rattle.mu_grammar.specs.DeclarationGrammar.{Settled}
+use Rattle.mu_grammar.specs.States as model
+use Rattle.mu_grammar.specs.declared.shape.Fixed.TheVariants as fixed
+use Rattle.mu_tree.specs.declared.tree.Prefix.TheVariants as prefixes
+use Rattle.mu_tree.specs.declared.tree.SettingItem.{SettingItem}
+use Rattle.mu_tree.specs.ModelTree as trees
+use Rattle.mu_tree.specs.ModelTree.{Range, range, EquationTree, StatementTree, ClauseTree, ModelTree}
+use Rattle.mu_parser.specs.ExpressionViews.{frames_of, position_of, stage_of}
+
+-- what a draft says
+abbrev pub draft_of : Draft → model.Draft
+draft_of d = record { name = d.name; decls = map trees.declaration d.decls.items; held = sections (map trees.statement d.starts.items) (map trees.equation d.equations.items) (map trees.clause d.clauses.items) }
+
+-- what an unfinished component says
+abbrev pub component_of : Component → model.Component
+component_of c = record { draft = draft_of c.draft.value; declared = trees.declaration c.declared.value }
+
+-- what the range of a loop says
+abbrev pub range_of : LoopRange → Range
+range_of r = range r.var r.at (expression r.from) (expression r.to)
+
+-- what an open loop says
+abbrev pub equation_loop : EquationLoop → model.Loop EquationTree
+equation_loop l = record { range = range_of l.range; items = map trees.equation l.items.items }
+
+abbrev pub statement_loop : StatementLoop → model.Loop StatementTree
+statement_loop l = record { range = range_of l.range; items = map trees.statement l.items.items }
+
+abbrev pub clause_loop : ClauseLoop → model.Loop ClauseTree
+clause_loop l = record { range = range_of l.range; items = map trees.clause l.items.items }
+
+-- what open loops say, the inner one first
+abbrev pub equation_loops : List EquationLoop → List (model.Loop EquationTree)
+equation_loops ls = map equation_loop (reverse ls)
+
+abbrev pub statement_loops : List StatementLoop → List (model.Loop StatementTree)
+statement_loops ls = map statement_loop (reverse ls)
+
+abbrev pub clause_loops : List ClauseLoop → List (model.Loop ClauseTree)
+clause_loops ls = map clause_loop (reverse ls)
+
+-- what an open clause says
+abbrev pub when_of : OpenWhen → model.OpenWhen
+when_of w = record { draft = draft_of w.draft.value; loops = clause_loops w.loops.items; branches = map trees.branch w.branches.items }
+
+-- what an open branch says
+abbrev pub branch_of : OpenBranch → model.OpenBranch
+branch_of b = record { clause = when_of b.clause; branch = trees.branch b.branch.value }
+
+-- what a body says
+abbrev pub body_of : Body → model.Body
+body_of (bodies.Equations d ls) = model.in_equations (draft_of d.value) (equation_loops ls.items)
+body_of (bodies.Starts d ls) = model.in_starts (draft_of d.value) (statement_loops ls.items)
+body_of (bodies.Clauses d ls) = model.in_clauses (draft_of d.value) (clause_loops ls.items)
+body_of (bodies.Branch b ls) = model.in_branch (branch_of b) (statement_loops ls.items)
+
+-- what an aim says
+abbrev pub aim_of : Aim → model.Aim
+aim_of (aims.Plain d ls) = model.plain (draft_of d.value) (equation_loops ls.items)
+aim_of (aims.Derivative d ls) = model.derivative (draft_of d.value) (equation_loops ls.items)
+aim_of (aims.Initial d ls) = model.initial (draft_of d.value) (statement_loops ls.items)
+aim_of (aims.Assigned b ls) = model.assigned (branch_of b) (statement_loops ls.items)
+aim_of (aims.Restarted b ls) = model.restarted (branch_of b) (statement_loops ls.items)
+
+-- what an owner says
+abbrev pub owner_of : Owner → model.Owner
+owner_of (owners.OfComponent c) = model.of_component (component_of c)
+owner_of (owners.OfModel d) = model.of_model (draft_of d.value)
+
+-- whether an experiment was read, and its settings
+abbrev pub settled_of : Bool → List SettingItem → Settled
+settled_of seen ss = record { seen = seen; settings = map trees.setting ss }
+
+-- what a place says
+abbrev pub place_of : Place → model.Place
+place_of (places.Modifications c) = model.modifications (component_of c)
+place_of (places.OwnArguments c) = model.own_arguments (component_of c)
+place_of (places.Arguments d seen ss) = model.arguments (draft_of d.value) (settled_of seen ss.items)
+place_of (places.Settings o ss) = model.settings (owner_of o) (map trees.setting ss.items)
+
+-- what a use of a sum says
+abbrev pub waiting_of : Waiting → model.Waiting
+waiting_of (waits.Size c) = model.for_size (component_of c)
+waiting_of (waits.Start c) = model.for_start (component_of c)
+waiting_of (waits.Value c) = model.for_value (component_of c)
+waiting_of (waits.Quantum c) = model.for_quantum (component_of c)
+waiting_of (waits.Setting o ss which at) = model.for_setting (owner_of o) (map trees.setting ss.items) which at
+waiting_of (waits.Index n at a) = model.for_index n at (aim_of a)
+waiting_of (waits.Side a r) = model.for_side (aim_of a) (reference r)
+waiting_of (waits.First b n at) = model.for_first (body_of b) n at
+waiting_of (waits.Last b n at e) = model.for_last (body_of b) n at (expression e)
+
+-- what comes behind a word or mark
+abbrev pub then_of : Then → model.State
+then_of thens.ModelName = model.at_model_name
+then_of (thens.Component d) = model.at_component (draft_of d.value) prefixes.Discrete false
+then_of (thens.Items p) = model.at_first_item (place_of p)
+then_of (thens.Sum w) = model.begin (waiting_of w)
+then_of (thens.End d ss) = model.expects fixed.EndWord (model.at_end_name (draft_of d.value) (map trees.setting ss.items))
+then_of (thens.EndName d ss) = model.at_end_name (draft_of d.value) (map trees.setting ss.items)
+then_of (thens.Semicolon b) = model.expects fixed.Semicolon (model.at_body (body_of b))
+then_of (thens.Body b) = model.at_body (body_of b)
+then_of (thens.Target a) = model.at_target (aim_of a)
+
+-- what a state says
+abbrev pub state_of : State → model.State
+state_of (states.Expects f t) = model.expects f (then_of t)
+state_of (states.Sum w p fs) = model.in_sum (waiting_of w) (position_of p) (frames_of fs.items)
+state_of (states.Condition w s) = model.in_condition (when_of w) (stage_of s)
+state_of states.ModelName = model.at_model_name
+state_of (states.BehindTitle d) = model.behind_title (draft_of d.value)
+state_of (states.Heads d) = model.at_heads (draft_of d.value)
+state_of (states.Importing d) = model.importing (draft_of d.value)
+state_of (states.Type d prefix) = model.at_type (draft_of d.value) prefix
+state_of (states.Component d prefix whole) = model.at_component (draft_of d.value) prefix whole
+state_of (states.BehindName c) = model.behind_name (component_of c)
+state_of (states.BehindSize c) = model.behind_size (component_of c)
+state_of (states.BehindModifications c) = model.behind_modifications (component_of c)
+state_of (states.BehindString c) = model.behind_string (component_of c)
+state_of (states.BehindAnnotation c) = model.behind_annotation (component_of c)
+state_of (states.FirstItem p) = model.at_first_item (place_of p)
+state_of (states.Item p) = model.at_item (place_of p)
+state_of (states.Each c) = model.at_each (component_of c)
+state_of (states.BehindItem p) = model.behind_item (place_of p)
+state_of (states.Skipping p bs) = model.skipping (place_of p) (reverse bs.items)
+state_of (states.Body b) = model.at_body (body_of b)
+state_of (states.Variable b) = model.at_variable (body_of b)
+state_of (states.Target a) = model.at_target (aim_of a)
+state_of (states.BehindTargetName n at a) = model.behind_target_name n at (aim_of a)
+state_of (states.BehindTarget r a) = model.behind_target (reference r) (aim_of a)
+state_of (states.EndName d ss) = model.at_end_name (draft_of d.value) (map trees.setting ss.items)
+state_of (states.Last m) = model.at_last (trees.model m)
+
+-- what an effect says
+abbrev pub effect_of : Effect → machines.Effect model.State ModelTree
+effect_of (effects.Advances s) = machines.advances (state_of s)
+effect_of (effects.Descends d s) = machines.descends d (state_of s)
+effect_of (effects.Finishes m) = machines.finishes (trees.model m)
+effect_of effects.Refuses = machines.refuses

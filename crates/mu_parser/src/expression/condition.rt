@@ -1,0 +1,247 @@
+// The machine that reads a condition token by token: a bracket may open a sum or a condition.
+
+ghost use Rattle.std.specs.Prelude.{◌≡◌, List, [], ℕ, IfOk, Option, reverse};
+ghost use Rattle.mu_tree.specs.Expression.{expression};
+ghost use Rattle.mu_tree.specs.ModelTree.{condition};
+ghost use Rattle.mu_grammar.specs.Conditions.{compared, relation_of};
+ghost use Rattle.mu_grammar.specs.ConditionMachine.{
+  after_left,
+  begin_condition,
+  compares,
+  complete,
+  depth_of,
+  left_move,
+  right_move,
+  turn,
+};
+ghost use Rattle.mu_grammar.specs.SumMachine.{begin_sum};
+ghost use Rattle.mu_parser.specs.ConditionViews.{turn_of};
+ghost use Rattle.mu_parser.specs.ExpressionViews.{move_of, stage_of};
+ghost use Rattle.mu_grammar.specs.SymbolViews.{symbol_view};
+
+use crate::expression::machine::{Frame, Move, Position, begin_sum, depth_at, first_part, step};
+use mu_grammar::symbol::Symbol;
+use mu_lexer::token::{Mark, Word};
+use mu_tree::expr::Expr;
+use mu_tree::tree::{Cond, Rel};
+use std::alloc::{AllocError, Global};
+
+/// Where the parser is in a condition: before it, with the places of the brackets that are open, in its left sum with the
+/// same, in its right sum, or behind it, with the number of brackets that are open.
+#[derive(Drop)]
+pub enum Stage {
+    Before(Vec<u32>),
+    Left(Vec<u32>, Position, Vec<Frame>),
+    Right(Expr, Rel, u32, usize, Position, Vec<Frame>),
+    Behind(Cond, usize),
+}
+
+/// What a token does in a condition: the machine goes on, goes on one level deeper, has the whole condition, or the token
+/// is wrong.
+#[derive(Drop)]
+pub enum Turn {
+    Goes(Stage),
+    Nests(Stage),
+    Holds(Cond),
+    Fails,
+}
+
+// The relation that a mark is.
+fn relation_of(mark: Mark) -> Option<Rel>
+    ensures { result ≡ relation_of mark }
+{
+    match mark {
+        Mark::Less => Some(Rel::Less),
+        Mark::LessEqual => Some(Rel::LessEq),
+        Mark::Greater => Some(Rel::Greater),
+        Mark::GreaterEqual => Some(Rel::GreaterEq),
+        _ => None,
+    }
+}
+
+// The condition is complete in this many brackets, and this token follows.
+fn complete(cond: Cond, brackets: usize, symbol: Symbol) -> Turn
+    ensures { turn_of result ≡ complete (condition cond) brackets (symbol_view symbol.entry) }
+{
+    match symbol {
+        Symbol::Mark(Mark::CloseRound, _) => {
+            if brackets == 0 {
+                drop(cond);
+                Turn::Fails
+            } else {
+                Turn::Goes(Stage::Behind(cond, brackets - 1))
+            }
+        }
+        Symbol::Word(Word::Then, _) => {
+            if brackets == 0 {
+                Turn::Holds(cond)
+            } else {
+                drop(cond);
+                Turn::Fails
+            }
+        }
+        _ => {
+            drop(cond);
+            Turn::Fails
+        }
+    }
+}
+
+// A relation or none follows a left sum.
+fn compares(alloc: Global, relation: Option<Rel>, left: Expr, places: &[u32], at: u32) -> Turn
+    ensures { turn_of result ≡ compares relation (expression left) (reverse places.now) at }
+{
+    match relation {
+        None => Turn::Fails,
+        Some(rel) => Turn::Goes(Stage::Right(
+            left,
+            rel,
+            at,
+            places.len(),
+            Position::Sum,
+            Vec::new(alloc),
+        )),
+    }
+}
+
+// The left sum is complete, or a sum in brackets at its front, and this token follows.
+fn after_left(alloc: Global, left: Expr, places: Vec<u32>, symbol: Symbol) -> Turn
+    ensures { turn_of result
+        ≡ after_left (expression left) (reverse places.items) (symbol_view symbol.entry) }
+{
+    let mut places = places;
+    match symbol {
+        Symbol::Mark(Mark::CloseRound, _) => match places.pop() {
+            None => {
+                drop(left);
+                Turn::Fails
+            }
+            Some(i) => {
+                let part = first_part(alloc, Vec::new(alloc), false, i, i);
+                let position = Position::AfterPrimary(left, part);
+                Turn::Goes(Stage::Left(places, position, Vec::new(alloc)))
+            }
+        },
+        Symbol::Mark(mark, at) => compares(alloc, relation_of(mark), left, &places, at),
+        _ => {
+            drop(left);
+            Turn::Fails
+        }
+    }
+}
+
+// A move in the left sum.
+fn left_move(
+    alloc: Global,
+    places: Vec<u32>,
+    next: Move,
+    frames: Vec<Frame>,
+    symbol: Symbol,
+) -> Turn
+    ensures { turn_of result
+        ≡ left_move (reverse places.items) (move_of next frames.items) (symbol_view symbol.entry) }
+{
+    match next {
+        Move::Moves(position) => Turn::Goes(Stage::Left(places, position, frames)),
+        Move::Opens(position) => Turn::Nests(Stage::Left(places, position, frames)),
+        Move::Ends(left) => after_left(alloc, left, places, symbol),
+        Move::Wrong => Turn::Fails,
+    }
+}
+
+// A move in the right sum.
+fn right_move(
+    left: Expr,
+    rel: Rel,
+    place: u32,
+    brackets: usize,
+    next: Move,
+    frames: Vec<Frame>,
+    symbol: Symbol,
+) -> Turn
+    ensures { turn_of result
+        ≡ right_move (expression left) rel place brackets (move_of next frames.items)
+        (symbol_view symbol.entry) }
+{
+    match next {
+        Move::Moves(position) => {
+            Turn::Goes(Stage::Right(left, rel, place, brackets, position, frames))
+        }
+        Move::Opens(position) => {
+            Turn::Nests(Stage::Right(left, rel, place, brackets, position, frames))
+        }
+        Move::Ends(right) => {
+            let cond = Cond {
+                left,
+                rel,
+                right,
+                at: place,
+            };
+            complete(cond, brackets, symbol)
+        }
+        Move::Wrong => Turn::Fails,
+    }
+}
+
+// A condition without brackets at its front begins with this token.
+fn begin_left(alloc: Global, places: Vec<u32>, symbol: Symbol) -> Result<Turn, AllocError>
+    ensures { IfOk result
+        (λ t. let x = symbol_view symbol.entry in turn_of t
+        ≡ left_move (reverse places.items) (begin_sum [] x) x) }
+{
+    let mut frames = Vec::new(alloc);
+    let next = begin_sum(alloc, &mut frames, symbol)?;
+    Ok(left_move(alloc, places, next, frames, symbol))
+}
+
+// A condition begins with this token.
+fn begin_condition(alloc: Global, places: Vec<u32>, symbol: Symbol) -> Result<Turn, AllocError>
+    ensures { IfOk result
+        (λ t. turn_of t ≡ begin_condition (reverse places.items) (symbol_view symbol.entry)) }
+{
+    match symbol {
+        Symbol::Mark(Mark::OpenRound, at) => {
+            let mut places = places;
+            places.push(at)?;
+            Ok(Turn::Nests(Stage::Before(places)))
+        }
+        _ => begin_left(alloc, places, symbol),
+    }
+}
+
+/// What a token does at a stage of a condition. `Err` is want of memory.
+pub fn read_token(alloc: Global, stage: Stage, symbol: Symbol) -> Result<Turn, AllocError>
+    ensures { IfOk result (λ t. turn_of t ≡ turn (stage_of stage) (symbol_view symbol.entry)) }
+{
+    match stage {
+        Stage::Before(places) => begin_condition(alloc, places, symbol),
+        Stage::Left(places, position, frames) => {
+            let mut frames = frames;
+            let next = step(alloc, position, &mut frames, symbol)?;
+            Ok(left_move(alloc, places, next, frames, symbol))
+        }
+        Stage::Right(left, rel, place, brackets, position, frames) => {
+            let mut frames = frames;
+            let next = step(alloc, position, &mut frames, symbol)?;
+            Ok(right_move(left, rel, place, brackets, next, frames, symbol))
+        }
+        Stage::Behind(cond, brackets) => Ok(complete(cond, brackets, symbol)),
+    }
+}
+
+/// The levels that are open at a stage, where this many are open outside the condition.
+pub fn depth_of(outside: usize, stage: &Stage) -> u128
+    ensures { result ≡ depth_of outside (stage_of stage.now) }
+{
+    let outside = outside as u128;
+    match stage {
+        Stage::Before(places) => outside + places.len() as u128,
+        Stage::Left(places, position, frames) => {
+            outside + places.len() as u128 + depth_at(position, frames) as u128
+        }
+        Stage::Right(_, _, _, brackets, position, frames) => {
+            outside + *brackets as u128 + depth_at(position, frames) as u128
+        }
+        Stage::Behind(_, brackets) => outside + *brackets as u128,
+    }
+}

@@ -1,0 +1,168 @@
+// What stands in a section, a branch or a loop: its items, and the loops that begin there.
+
+ghost use Rattle.std.specs.Prelude.{◌≡◌, ◌<◌, ◌^◌, List, ℕ, IfOk};
+ghost use Rattle.mu_tree.specs.Expression.{expression};
+ghost use Rattle.mu_grammar.specs.BodyMachine.{
+  begin_bare,
+  body_token,
+  close_first,
+  close_last,
+  enter,
+  variable_token,
+};
+ghost use Rattle.mu_grammar.specs.States.{body_level};
+ghost use Rattle.mu_parser.specs.SectionViews.{body_of, effect_of, range_of};
+ghost use Rattle.mu_grammar.specs.SymbolViews.{symbol_view};
+
+use crate::expression::machine::Position;
+use crate::kept::with_kept;
+use crate::section::clause::{begin_clause, clause_level};
+use crate::section::equation::{begin_equation, equation_level};
+use crate::section::state::{
+    Body, ClauseLoop, Effect, EquationLoop, LoopRange, State, StatementLoop, Then, Waiting,
+};
+use crate::section::statement::{begin_start, begin_statement, start_level, statement_level};
+use mu_grammar::shape::Fixed;
+use mu_grammar::symbol::Symbol;
+use mu_io::Name;
+use mu_lexer::token::{Mark, Word};
+use mu_tree::expr::Expr;
+use std::alloc::{AllocError, Global};
+
+// An item without a loop begins with this token, or none.
+fn begin_bare(alloc: Global, body: Body, symbol: Symbol) -> Result<Effect, AllocError>
+    ensures { IfOk result
+        (λ e. effect_of e ≡ begin_bare (body_of body) (symbol_view symbol.entry)) }
+{
+    match body {
+        Body::Equations(draft, loops) => begin_equation(alloc, draft, loops, symbol),
+        Body::Starts(draft, loops) => begin_start(alloc, draft, loops, symbol),
+        Body::Clauses(draft, loops) => begin_clause(alloc, draft, loops, symbol),
+        Body::Branch(branch, loops) => begin_statement(alloc, branch, loops, symbol),
+    }
+}
+
+/// An item begins with this token, or none. `Err` is want of memory.
+pub fn body_token(alloc: Global, body: Body, symbol: Symbol) -> Result<Effect, AllocError>
+    ensures { IfOk result
+        (λ e. effect_of e ≡ body_token (body_of body) (symbol_view symbol.entry)) }
+{
+    match symbol {
+        Symbol::Word(Word::For, _) => {
+            let level = body_level(&body);
+            Ok(Effect::Descends(level, State::Variable(body)))
+        }
+        _ => begin_bare(alloc, body, symbol),
+    }
+}
+
+/// The levels that are open where the items of a body stand.
+pub fn body_level(body: &Body) -> u128
+    ensures value { result ≡ body_level (body_of body.now) }
+    ensures count_limit { result < 2 ^ 66 }
+{
+    match body {
+        Body::Equations(_, loops) => equation_level(loops),
+        Body::Starts(_, loops) => start_level(loops),
+        Body::Clauses(_, loops) => clause_level(loops),
+        Body::Branch(branch, loops) => statement_level(branch, loops),
+    }
+}
+
+/// Where the variable of a loop must come. `Err` is want of memory.
+pub fn variable_token(alloc: Global, body: Body, symbol: Symbol) -> Result<Effect, AllocError>
+    ensures { IfOk result
+        (λ e. effect_of e ≡ variable_token (body_of body) (symbol_view symbol.entry)) }
+{
+    match symbol {
+        Symbol::Name(text, at) => {
+            let (name, body) = with_kept(Name::new(alloc, text), body)?;
+            let first = Waiting::First(body, name, at);
+            Ok(Effect::Advances(State::Expects(Fixed::InWord, Then::Sum(first))))
+        }
+        _ => {
+            drop(body);
+            Ok(Effect::Refuses)
+        }
+    }
+}
+
+/// Behind the first value of a loop.
+pub fn close_first(
+    alloc: Global,
+    body: Body,
+    name: Name,
+    place: u32,
+    from: Expr,
+    symbol: Symbol,
+) -> Effect
+    ensures { effect_of result
+        ≡ close_first (body_of body) name place (expression from) (symbol_view symbol.entry) }
+{
+    match symbol {
+        Symbol::Mark(Mark::Colon, _) => {
+            let last = Waiting::Last(body, name, place, from);
+            Effect::Advances(State::Sum(last, Position::Sum, Vec::new(alloc)))
+        }
+        _ => {
+            drop(body);
+            drop(from);
+            Effect::Refuses
+        }
+    }
+}
+
+// A loop of this range begins.
+fn enter(alloc: Global, body: Body, range: LoopRange) -> Result<Body, AllocError>
+    ensures { IfOk result (λ b. body_of b ≡ enter (body_of body) (range_of range)) }
+{
+    match body {
+        Body::Equations(draft, loops) => {
+            let items = Vec::new(alloc);
+            let mut loops = loops;
+            loops.push(EquationLoop { range, items })?;
+            Ok(Body::Equations(draft, loops))
+        }
+        Body::Starts(draft, loops) => {
+            let items = Vec::new(alloc);
+            let mut loops = loops;
+            loops.push(StatementLoop { range, items })?;
+            Ok(Body::Starts(draft, loops))
+        }
+        Body::Clauses(draft, loops) => {
+            let items = Vec::new(alloc);
+            let mut loops = loops;
+            loops.push(ClauseLoop { range, items })?;
+            Ok(Body::Clauses(draft, loops))
+        }
+        Body::Branch(branch, loops) => {
+            let items = Vec::new(alloc);
+            let mut loops = loops;
+            loops.push(StatementLoop { range, items })?;
+            Ok(Body::Branch(branch, loops))
+        }
+    }
+}
+
+/// Behind the last value of a loop. `Err` is want of memory.
+pub fn close_last(
+    alloc: Global,
+    body: Body,
+    range: LoopRange,
+    symbol: Symbol,
+) -> Result<Effect, AllocError>
+    ensures { IfOk result
+        (λ e. effect_of e ≡ close_last (body_of body) (range_of range) (symbol_view symbol.entry)) }
+{
+    match symbol {
+        Symbol::Word(Word::Loop, _) => {
+            let body = enter(alloc, body, range)?;
+            Ok(Effect::Advances(State::Body(body)))
+        }
+        _ => {
+            drop(body);
+            drop(range);
+            Ok(Effect::Refuses)
+        }
+    }
+}

@@ -1,0 +1,231 @@
+// Clauses and their branches, and loops over clauses.
+
+ghost use Rattle.std.specs.Prelude.{◌≡◌, ◌<◌, ◌^◌, List, [], ℕ, suc, IfOk};
+ghost use Rattle.mu_tree.specs.ModelTree.{Branches, EachClause, clause, clauses_of, condition};
+ghost use Rattle.mu_grammar.specs.BodyMachine.{
+  begin_clause,
+  branches_of,
+  condition_turn,
+  end_branch,
+  leave,
+  new_branch,
+  next_branch,
+  put_clause,
+};
+ghost use Rattle.mu_grammar.specs.ConditionMachine.{depth_of, turn};
+ghost use Rattle.mu_parser.specs.ConditionViews.{turn_of};
+ghost use Rattle.mu_grammar.specs.States.{in_branch, in_clauses, level};
+ghost use Rattle.mu_parser.specs.ExpressionViews.{stage_of};
+ghost use Rattle.mu_parser.specs.SectionViews.{body_of, branch_of, clause_loop, clause_loops, draft_of, effect_of, when_of};
+ghost use Rattle.mu_grammar.specs.SymbolViews.{symbol_view};
+
+use crate::expression::condition::{Stage, Turn, depth_of, read_token};
+use crate::kept::with_kept;
+use crate::section::between::{between, end_loop};
+use crate::section::state::{
+    Body, ClauseLoop, Draft, Effect, LoopRange, OpenBranch, OpenWhen, State, Then,
+};
+use mu_grammar::shape::Fixed;
+use mu_grammar::symbol::Symbol;
+use mu_lexer::token::Word;
+use mu_tree::tree::{Branch, Clause, Cond};
+use std::alloc::{AllocError, Global};
+
+// One more clause, in the inner loop or outside all of them.
+fn put_clause(draft: Box<Draft>, loops: Vec<ClauseLoop>, item: Clause) -> Result<Body, AllocError>
+    ensures { IfOk result
+        (λ b. body_of b
+        ≡ put_clause (draft_of draft.value) (clause_loops loops.items) (clause item)) }
+{
+    let mut draft = draft;
+    let mut loops = loops;
+    match loops.pop() {
+        None => {
+            draft.clauses.push(item)?;
+            Ok(Body::Clauses(draft, loops))
+        }
+        Some(inner) => {
+            let ClauseLoop { range, items } = inner;
+            let mut items = items;
+            let (_, range) = with_kept(items.push(item), range)?;
+            loops.push(ClauseLoop { range, items })?;
+            Ok(Body::Clauses(draft, loops))
+        }
+    }
+}
+
+// The loop, as a clause.
+fn each_clause(whole: ClauseLoop) -> Clause
+    ensures { let l = clause_loop whole in clause result ≡ EachClause l.range (clauses_of l.items) }
+{
+    let ClauseLoop { range, items } = whole;
+    let LoopRange { var, at, from, to } = range;
+    Clause::For {
+        var,
+        at,
+        from,
+        to,
+        body: items,
+    }
+}
+
+// Behind the last of some clauses.
+fn leave_clauses(
+    alloc: Global,
+    draft: Box<Draft>,
+    loops: Vec<ClauseLoop>,
+    symbol: Symbol,
+) -> Result<Effect, AllocError>
+    ensures { IfOk result
+        (λ e. effect_of e
+        ≡ leave (in_clauses (draft_of draft.value) (clause_loops loops.items))
+        (symbol_view symbol.entry)) }
+{
+    let mut loops = loops;
+    match loops.pop() {
+        None => Ok(between(alloc, draft, symbol)),
+        Some(inner) => {
+            let body = put_clause(draft, loops, each_clause(inner))?;
+            Ok(end_loop(body, symbol))
+        }
+    }
+}
+
+/// A clause begins with this token, or none. `Err` is want of memory.
+pub fn begin_clause(
+    alloc: Global,
+    draft: Box<Draft>,
+    loops: Vec<ClauseLoop>,
+    symbol: Symbol,
+) -> Result<Effect, AllocError>
+    ensures { IfOk result
+        (λ e. effect_of e
+        ≡ begin_clause (draft_of draft.value) (clause_loops loops.items)
+        (symbol_view symbol.entry)) }
+{
+    match symbol {
+        Symbol::Word(Word::When, _) => {
+            let level = clause_level(&loops);
+            let clause = OpenWhen {
+                draft,
+                loops,
+                branches: Vec::new(alloc),
+            };
+            Ok(Effect::Descends(
+                level,
+                State::Condition(clause, Stage::Before(Vec::new(alloc))),
+            ))
+        }
+        _ => leave_clauses(alloc, draft, loops, symbol),
+    }
+}
+
+/// The levels that are open in these loops.
+pub fn clause_level(loops: &Vec<ClauseLoop>) -> u128
+    ensures value { result ≡ level 0 (clause_loops loops.now.items) }
+    ensures count_limit { result < 2 ^ 64 }
+{
+    loops.len() as u128
+}
+
+// The clause, with this branch complete.
+fn next_branch(branch: OpenBranch) -> Result<OpenWhen, AllocError>
+    ensures { IfOk result (λ w. when_of w ≡ next_branch (branch_of branch)) }
+{
+    let OpenBranch { clause, branch } = branch;
+    let mut clause = clause;
+    clause.branches.push(Box::into_inner(branch))?;
+    Ok(clause)
+}
+
+// Behind the clause, of which this branch is the last one.
+fn close_when(branch: OpenBranch) -> Result<Body, AllocError>
+    ensures { IfOk result
+        (λ b. let o = branch_of branch in body_of b
+        ≡ put_clause o.clause.draft o.clause.loops (Branches (branches_of o))) }
+{
+    let whole = next_branch(branch)?;
+    let OpenWhen {
+        draft,
+        loops,
+        branches,
+    } = whole;
+    put_clause(draft, loops, Clause::When { branches })
+}
+
+/// Behind the last statement of a branch. `Err` is want of memory.
+pub fn end_branch(alloc: Global, branch: OpenBranch, symbol: Symbol) -> Result<Effect, AllocError>
+    ensures { IfOk result
+        (λ e. effect_of e ≡ end_branch (branch_of branch) (symbol_view symbol.entry)) }
+{
+    match symbol {
+        Symbol::Word(Word::Elsewhen, _) => {
+            let clause = next_branch(branch)?;
+            Ok(Effect::Advances(State::Condition(clause, Stage::Before(Vec::new(alloc)))))
+        }
+        Symbol::Word(Word::End, _) => {
+            let body = close_when(branch)?;
+            Ok(Effect::Advances(State::Expects(Fixed::WhenWord, Then::Semicolon(body))))
+        }
+        _ => Ok(Effect::Refuses),
+    }
+}
+
+// A branch with this condition begins.
+fn new_branch(alloc: Global, clause: OpenWhen, cond: Cond) -> Result<Body, AllocError>
+    ensures { IfOk result
+        (λ b. body_of b ≡ in_branch (new_branch (when_of clause) (condition cond)) []) }
+{
+    let branch = Branch {
+        cond,
+        body: Vec::new(alloc),
+    };
+    let branch = Box::new(alloc, branch)?;
+    Ok(Body::Branch(OpenBranch { clause, branch }, Vec::new(alloc)))
+}
+
+// What a turn in a condition does, where this many levels are open.
+fn condition_turn(
+    alloc: Global,
+    clause: OpenWhen,
+    level: u128,
+    turn: Turn,
+) -> Result<Effect, AllocError>
+    ensures { IfOk result
+        (λ e. effect_of e ≡ condition_turn (when_of clause) level (turn_of turn)) }
+{
+    match turn {
+        Turn::Goes(stage) => Ok(Effect::Advances(State::Condition(clause, stage))),
+        Turn::Nests(stage) => Ok(Effect::Descends(level, State::Condition(clause, stage))),
+        Turn::Holds(cond) => {
+            let body = new_branch(alloc, clause, cond)?;
+            Ok(Effect::Advances(State::Body(body)))
+        }
+        Turn::Fails => Ok(Effect::Refuses),
+    }
+}
+
+// The levels that are open in the condition of a clause.
+fn condition_level(clause: &OpenWhen, stage: &Stage) -> u128
+    ensures { let w = when_of clause.now in
+        result ≡ depth_of (suc (level 0 w.loops)) (stage_of stage.now) }
+{
+    depth_of(clause.loops.len() + 1, stage)
+}
+
+/// What a token does in the condition of a clause. `Err` is want of memory.
+pub fn condition_token(
+    alloc: Global,
+    clause: OpenWhen,
+    stage: Stage,
+    symbol: Symbol,
+) -> Result<Effect, AllocError>
+    ensures { IfOk result
+        (λ e. let w = when_of clause in let s = stage_of stage in effect_of e
+        ≡ condition_turn w (depth_of (suc (level 0 w.loops)) s)
+        (turn s (symbol_view symbol.entry))) }
+{
+    let level = condition_level(&clause, &stage);
+    let turn = read_token(alloc, stage, symbol)?;
+    condition_turn(alloc, clause, level, turn)
+}

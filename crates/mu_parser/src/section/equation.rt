@@ -1,0 +1,117 @@
+// Equations, and loops over them.
+
+ghost use Rattle.std.specs.Prelude.{◌≡◌, ◌<◌, ◌^◌, List, ℕ, IfOk};
+ghost use Rattle.mu_tree.specs.ModelTree.{EachEquation, equation, equations_of};
+ghost use Rattle.mu_grammar.specs.BodyMachine.{begin_equation, leave, put_equation};
+ghost use Rattle.mu_grammar.specs.States.{in_equations, level};
+ghost use Rattle.mu_parser.specs.SectionViews.{body_of, draft_of, effect_of, equation_loop, equation_loops};
+ghost use Rattle.mu_grammar.specs.SymbolViews.{symbol_view};
+
+use crate::kept::with_kept;
+use crate::section::between::{between, end_loop};
+use crate::section::state::{Aim, Body, Draft, Effect, EquationLoop, LoopRange, State, Then};
+use mu_grammar::shape::Fixed;
+use mu_grammar::symbol::Symbol;
+use mu_io::Name;
+use mu_lexer::token::Word;
+use mu_tree::tree::Equation;
+use std::alloc::{AllocError, Global};
+
+/// One more equation, in the inner loop or outside all of them. `Err` is want of memory.
+pub fn put_equation(
+    draft: Box<Draft>,
+    loops: Vec<EquationLoop>,
+    item: Equation,
+) -> Result<Body, AllocError>
+    ensures { IfOk result
+        (λ b. body_of b
+        ≡ put_equation (draft_of draft.value) (equation_loops loops.items) (equation item)) }
+{
+    let mut draft = draft;
+    let mut loops = loops;
+    match loops.pop() {
+        None => {
+            draft.equations.push(item)?;
+            Ok(Body::Equations(draft, loops))
+        }
+        Some(inner) => {
+            let EquationLoop { range, items } = inner;
+            let mut items = items;
+            let (_, range) = with_kept(items.push(item), range)?;
+            loops.push(EquationLoop { range, items })?;
+            Ok(Body::Equations(draft, loops))
+        }
+    }
+}
+
+// The loop, as an equation.
+fn each_equation(whole: EquationLoop) -> Equation
+    ensures { let l = equation_loop whole in
+        equation result ≡ EachEquation l.range (equations_of l.items) }
+{
+    let EquationLoop { range, items } = whole;
+    let LoopRange { var, at, from, to } = range;
+    Equation::For {
+        var,
+        at,
+        from,
+        to,
+        body: items,
+    }
+}
+
+// Behind the last of some equations.
+fn leave_equations(
+    alloc: Global,
+    draft: Box<Draft>,
+    loops: Vec<EquationLoop>,
+    symbol: Symbol,
+) -> Result<Effect, AllocError>
+    ensures { IfOk result
+        (λ e. effect_of e
+        ≡ leave (in_equations (draft_of draft.value) (equation_loops loops.items))
+        (symbol_view symbol.entry)) }
+{
+    let mut loops = loops;
+    match loops.pop() {
+        None => Ok(between(alloc, draft, symbol)),
+        Some(inner) => {
+            let body = put_equation(draft, loops, each_equation(inner))?;
+            Ok(end_loop(body, symbol))
+        }
+    }
+}
+
+/// An equation begins with this token, or none. `Err` is want of memory.
+pub fn begin_equation(
+    alloc: Global,
+    draft: Box<Draft>,
+    loops: Vec<EquationLoop>,
+    symbol: Symbol,
+) -> Result<Effect, AllocError>
+    ensures { IfOk result
+        (λ e. effect_of e
+        ≡ begin_equation (draft_of draft.value) (equation_loops loops.items)
+        (symbol_view symbol.entry)) }
+{
+    match symbol {
+        Symbol::Word(Word::Der, _) => {
+            let level = equation_level(&loops);
+            let next = Then::Target(Aim::Derivative(draft, loops));
+            Ok(Effect::Descends(level, State::Expects(Fixed::OpenBracket, next)))
+        }
+        Symbol::Name(text, at) => {
+            let name = Name::new(alloc, text)?;
+            Ok(Effect::Advances(State::BehindTargetName(name, at, Aim::Plain(draft, loops))))
+        }
+        _ => leave_equations(alloc, draft, loops, symbol),
+    }
+}
+
+/// The levels that are open in these loops.
+pub fn equation_level(loops: &Vec<EquationLoop>) -> u128
+    ensures value { result ≡ level 0 (equation_loops loops.now.items) }
+    ensures count_limit { result < 2 ^ 64 }
+{
+    loops.len() as u128
+}

@@ -1,0 +1,213 @@
+// Statements and starts, and loops over them.
+
+ghost use Rattle.std.specs.Prelude.{◌≡◌, ◌≤◌, ◌<◌, ◌^◌, List, ℕ, IfOk};
+ghost use Rattle.mu_tree.specs.ModelTree.{EachStatement, statement, statements_of};
+ghost use Rattle.mu_grammar.specs.BodyMachine.{
+  begin_start,
+  begin_statement,
+  leave,
+  put_start,
+  put_statement,
+};
+ghost use Rattle.mu_grammar.specs.States.{branch_level, in_branch, in_starts, level};
+ghost use Rattle.mu_parser.specs.SectionViews.{body_of, branch_of, draft_of, effect_of, statement_loop, statement_loops};
+ghost use Rattle.mu_grammar.specs.SymbolViews.{symbol_view};
+
+use crate::kept::with_kept;
+use crate::section::between::{between, end_loop};
+use crate::section::clause::{clause_level, end_branch};
+use crate::section::state::{
+    Aim, Body, Draft, Effect, LoopRange, OpenBranch, State, StatementLoop, Then,
+};
+use mu_grammar::shape::Fixed;
+use mu_grammar::symbol::Symbol;
+use mu_io::Name;
+use mu_lexer::token::Word;
+use mu_tree::tree::Statement;
+use std::alloc::{AllocError, Global};
+
+/// One more start, in the inner loop or outside all of them. `Err` is want of memory.
+pub fn put_start(
+    draft: Box<Draft>,
+    loops: Vec<StatementLoop>,
+    item: Statement,
+) -> Result<Body, AllocError>
+    ensures { IfOk result
+        (λ b. body_of b
+        ≡ put_start (draft_of draft.value) (statement_loops loops.items) (statement item)) }
+{
+    let mut draft = draft;
+    let mut loops = loops;
+    match loops.pop() {
+        None => {
+            draft.starts.push(item)?;
+            Ok(Body::Starts(draft, loops))
+        }
+        Some(inner) => {
+            let StatementLoop { range, items } = inner;
+            let mut items = items;
+            let (_, range) = with_kept(items.push(item), range)?;
+            loops.push(StatementLoop { range, items })?;
+            Ok(Body::Starts(draft, loops))
+        }
+    }
+}
+
+/// One more statement of a branch, in the inner loop or outside all of them. `Err` is want of memory.
+pub fn put_statement(
+    branch: OpenBranch,
+    loops: Vec<StatementLoop>,
+    item: Statement,
+) -> Result<Body, AllocError>
+    ensures { IfOk result
+        (λ b. body_of b
+        ≡ put_statement (branch_of branch) (statement_loops loops.items) (statement item)) }
+{
+    let mut branch = branch;
+    let mut loops = loops;
+    match loops.pop() {
+        None => {
+            branch.branch.body.push(item)?;
+            Ok(Body::Branch(branch, loops))
+        }
+        Some(inner) => {
+            let StatementLoop { range, items } = inner;
+            let mut items = items;
+            let (_, range) = with_kept(items.push(item), range)?;
+            loops.push(StatementLoop { range, items })?;
+            Ok(Body::Branch(branch, loops))
+        }
+    }
+}
+
+// The loop, as a statement.
+fn each_statement(whole: StatementLoop) -> Statement
+    ensures { let l = statement_loop whole in
+        statement result ≡ EachStatement l.range (statements_of l.items) }
+{
+    let StatementLoop { range, items } = whole;
+    let LoopRange { var, at, from, to } = range;
+    Statement::For {
+        var,
+        at,
+        from,
+        to,
+        body: items,
+    }
+}
+
+// Behind the last of some starts.
+fn leave_starts(
+    alloc: Global,
+    draft: Box<Draft>,
+    loops: Vec<StatementLoop>,
+    symbol: Symbol,
+) -> Result<Effect, AllocError>
+    ensures { IfOk result
+        (λ e. effect_of e
+        ≡ leave (in_starts (draft_of draft.value) (statement_loops loops.items))
+        (symbol_view symbol.entry)) }
+{
+    let mut loops = loops;
+    match loops.pop() {
+        None => Ok(between(alloc, draft, symbol)),
+        Some(inner) => {
+            let body = put_start(draft, loops, each_statement(inner))?;
+            Ok(end_loop(body, symbol))
+        }
+    }
+}
+
+// Behind the last of some statements.
+fn leave_statements(
+    alloc: Global,
+    branch: OpenBranch,
+    loops: Vec<StatementLoop>,
+    symbol: Symbol,
+) -> Result<Effect, AllocError>
+    ensures { IfOk result
+        (λ e. effect_of e
+        ≡ leave (in_branch (branch_of branch) (statement_loops loops.items))
+        (symbol_view symbol.entry)) }
+{
+    let mut loops = loops;
+    match loops.pop() {
+        None => end_branch(alloc, branch, symbol),
+        Some(inner) => {
+            let body = put_statement(branch, loops, each_statement(inner))?;
+            Ok(end_loop(body, symbol))
+        }
+    }
+}
+
+/// A start begins with this token, or none. `Err` is want of memory.
+pub fn begin_start(
+    alloc: Global,
+    draft: Box<Draft>,
+    loops: Vec<StatementLoop>,
+    symbol: Symbol,
+) -> Result<Effect, AllocError>
+    ensures { IfOk result
+        (λ e. effect_of e
+        ≡ begin_start (draft_of draft.value) (statement_loops loops.items)
+        (symbol_view symbol.entry)) }
+{
+    match symbol {
+        Symbol::Name(text, at) => {
+            let name = Name::new(alloc, text)?;
+            Ok(Effect::Advances(State::BehindTargetName(name, at, Aim::Initial(draft, loops))))
+        }
+        _ => leave_starts(alloc, draft, loops, symbol),
+    }
+}
+
+/// A statement begins with this token, or none. `Err` is want of memory.
+pub fn begin_statement(
+    alloc: Global,
+    branch: OpenBranch,
+    loops: Vec<StatementLoop>,
+    symbol: Symbol,
+) -> Result<Effect, AllocError>
+    ensures { IfOk result
+        (λ e. effect_of e
+        ≡ begin_statement (branch_of branch) (statement_loops loops.items)
+        (symbol_view symbol.entry)) }
+{
+    match symbol {
+        Symbol::Name(text, at) => {
+            let name = Name::new(alloc, text)?;
+            Ok(Effect::Advances(State::BehindTargetName(name, at, Aim::Assigned(branch, loops))))
+        }
+        Symbol::Word(Word::Reinit, _) => {
+            let level = statement_level(&branch, &loops);
+            let next = Then::Target(Aim::Restarted(branch, loops));
+            Ok(Effect::Descends(level, State::Expects(Fixed::OpenBracket, next)))
+        }
+        _ => leave_statements(alloc, branch, loops, symbol),
+    }
+}
+
+/// The levels that are open in these loops over starts.
+pub fn start_level(loops: &Vec<StatementLoop>) -> u128
+    ensures value { result ≡ level 0 (statement_loops loops.now.items) }
+    ensures count_limit { result < 2 ^ 64 }
+{
+    loops.len() as u128
+}
+
+// The levels that are open in a branch.
+fn branch_level(branch: &OpenBranch) -> u128
+    ensures value { result ≡ branch_level (branch_of branch.now) }
+    ensures count_limit { result ≤ 2 ^ 64 }
+{
+    clause_level(&branch.clause.loops) + 1
+}
+
+/// The levels that are open in these loops of a branch.
+pub fn statement_level(branch: &OpenBranch, loops: &Vec<StatementLoop>) -> u128
+    ensures value { result
+        ≡ level (branch_level (branch_of branch.now)) (statement_loops loops.now.items) }
+    ensures count_limit { result < 2 ^ 65 }
+{
+    branch_level(branch) + loops.len() as u128
+}

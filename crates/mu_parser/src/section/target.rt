@@ -1,0 +1,298 @@
+// References outside sums, and what they are set to.
+
+ghost use Rattle.std.specs.Prelude.{◌≡◌, ◌<◌, ◌^◌, List, ℕ, IfOk};
+ghost use Rattle.mu_tree.specs.Expression.{expression, reference};
+ghost use Rattle.mu_tree.specs.ModelTree.{Algebraic, Assign, Derivative, Restart, equation, statement};
+ghost use Rattle.mu_grammar.specs.BodyMachine.{
+  close_assignment,
+  close_equation,
+  close_index,
+  close_restart,
+  close_side,
+  follow_target,
+  follow_target_name,
+  put_equation,
+  put_start,
+  put_statement,
+  target_token,
+};
+ghost use Rattle.mu_grammar.specs.ReaderMachines.{advances};
+ghost use Rattle.mu_grammar.specs.States.{aim_level, begin, for_side};
+ghost use Rattle.mu_parser.specs.SectionViews.{aim_of, body_of, branch_of, draft_of, effect_of, equation_loops, statement_loops};
+ghost use Rattle.mu_grammar.specs.SymbolViews.{symbol_view};
+
+use crate::expression::machine::{Position, whole};
+use crate::kept::with_kept;
+use crate::section::equation::{equation_level, put_equation};
+use crate::section::state::{
+    Aim, Body, Draft, Effect, EquationLoop, OpenBranch, State, StatementLoop, Then, Waiting,
+};
+use crate::section::statement::{put_start, put_statement, start_level, statement_level};
+use mu_grammar::shape::Fixed;
+use mu_grammar::symbol::Symbol;
+use mu_io::Name;
+use mu_lexer::token::Mark;
+use mu_tree::expr::{Expr, Ref};
+use mu_tree::tree::{Equation, Statement};
+use std::alloc::{AllocError, Global};
+
+/// Where a reference outside sums must come. `Err` is want of memory.
+pub fn target_token(alloc: Global, aim: Aim, symbol: Symbol) -> Result<Effect, AllocError>
+    ensures { IfOk result
+        (λ e. effect_of e ≡ target_token (aim_of aim) (symbol_view symbol.entry)) }
+{
+    match symbol {
+        Symbol::Name(text, at) => {
+            let (name, aim) = with_kept(Name::new(alloc, text), aim)?;
+            Ok(Effect::Advances(State::BehindTargetName(name, at, aim)))
+        }
+        _ => {
+            drop(aim);
+            Ok(Effect::Refuses)
+        }
+    }
+}
+
+// What the reference is set to begins.
+fn begin_side(alloc: Global, aim: Aim, target: Ref) -> Effect
+    ensures { effect_of result ≡ advances (begin (for_side (aim_of aim) (reference target))) }
+{
+    let side = Waiting::Side(aim, target);
+    Effect::Advances(State::Sum(side, Position::Sum, Vec::new(alloc)))
+}
+
+/// Behind a reference outside sums.
+pub fn follow_target(alloc: Global, target: Ref, aim: Aim, symbol: Symbol) -> Effect
+    ensures { effect_of result
+        ≡ follow_target (reference target) (aim_of aim) (symbol_view symbol.entry) }
+{
+    match (&aim, symbol) {
+        (Aim::Plain(_, _), Symbol::Mark(Mark::Equal, _)) => begin_side(alloc, aim, target),
+        (Aim::Derivative(_, _), Symbol::Mark(Mark::CloseRound, _)) => {
+            let side = Then::Sum(Waiting::Side(aim, target));
+            Effect::Advances(State::Expects(Fixed::EqualSign, side))
+        }
+        (Aim::Initial(_, _), Symbol::Mark(Mark::Assign, _)) => begin_side(alloc, aim, target),
+        (Aim::Assigned(_, _), Symbol::Mark(Mark::Assign, _)) => begin_side(alloc, aim, target),
+        (Aim::Restarted(_, _), Symbol::Mark(Mark::Comma, _)) => begin_side(alloc, aim, target),
+        _ => {
+            drop(aim);
+            Effect::Refuses
+        }
+    }
+}
+
+/// Behind the name of a reference outside sums.
+pub fn follow_target_name(alloc: Global, name: Name, place: u32, aim: Aim, symbol: Symbol) -> Effect
+    ensures { effect_of result
+        ≡ follow_target_name name place (aim_of aim) (symbol_view symbol.entry) }
+{
+    match symbol {
+        Symbol::Mark(Mark::OpenSquare, _) => {
+            let level = aim_level(&aim);
+            let index = Waiting::Index(name, place, aim);
+            Effect::Descends(level, State::Sum(index, Position::Sum, Vec::new(alloc)))
+        }
+        _ => {
+            let target = whole(name, place);
+            follow_target(alloc, target, aim, symbol)
+        }
+    }
+}
+
+/// The levels that are open at a reference outside sums.
+pub fn aim_level(aim: &Aim) -> u128
+    ensures value { result ≡ aim_level (aim_of aim.now) }
+    ensures count_limit { result < 2 ^ 66 }
+{
+    match aim {
+        Aim::Plain(_, loops) => equation_level(loops),
+        Aim::Derivative(_, loops) => equation_level(loops) + 1,
+        Aim::Initial(_, loops) => start_level(loops),
+        Aim::Assigned(branch, loops) => statement_level(branch, loops),
+        Aim::Restarted(branch, loops) => statement_level(branch, loops) + 1,
+    }
+}
+
+/// Behind the index of a reference outside sums.
+pub fn close_index(target: Ref, aim: Aim, symbol: Symbol) -> Effect
+    ensures { effect_of result
+        ≡ close_index (reference target) (aim_of aim) (symbol_view symbol.entry) }
+{
+    match symbol {
+        Symbol::Mark(Mark::CloseSquare, _) => Effect::Advances(State::BehindTarget(target, aim)),
+        _ => {
+            drop(aim);
+            Effect::Refuses
+        }
+    }
+}
+
+// Behind the right side of an equation, where the body is this one behind it.
+fn close_equation(body: Body, symbol: Symbol) -> Effect
+    ensures { effect_of result ≡ close_equation (body_of body) (symbol_view symbol.entry) }
+{
+    match symbol {
+        Symbol::Quoted(_) => Effect::Advances(State::Expects(Fixed::Semicolon, Then::Body(body))),
+        Symbol::Mark(Mark::Semicolon, _) => Effect::Advances(State::Body(body)),
+        _ => {
+            drop(body);
+            Effect::Refuses
+        }
+    }
+}
+
+// Behind the right side of an assignment.
+fn close_assignment(body: Body, symbol: Symbol) -> Effect
+    ensures { effect_of result ≡ close_assignment (body_of body) (symbol_view symbol.entry) }
+{
+    match symbol {
+        Symbol::Mark(Mark::Semicolon, _) => Effect::Advances(State::Body(body)),
+        _ => {
+            drop(body);
+            Effect::Refuses
+        }
+    }
+}
+
+// Behind the value of a reinit.
+fn close_restart(body: Body, symbol: Symbol) -> Effect
+    ensures { effect_of result ≡ close_restart (body_of body) (symbol_view symbol.entry) }
+{
+    match symbol {
+        Symbol::Mark(Mark::CloseRound, _) => {
+            Effect::Advances(State::Expects(Fixed::Semicolon, Then::Body(body)))
+        }
+        _ => {
+            drop(body);
+            Effect::Refuses
+        }
+    }
+}
+
+// An equation for a name.
+fn algebraic(target: Ref, value: Expr) -> Equation
+    ensures { equation result ≡ Algebraic (reference target) (expression value) }
+{
+    Equation::Plain { target, value }
+}
+
+// An equation for a derivative.
+fn derivative(target: Ref, value: Expr) -> Equation
+    ensures { equation result ≡ Derivative (reference target) (expression value) }
+{
+    Equation::Der { target, value }
+}
+
+// An assignment.
+fn assignment(target: Ref, value: Expr) -> Statement
+    ensures { statement result ≡ Assign (reference target) (expression value) }
+{
+    Statement::Set { target, value }
+}
+
+// A reinit.
+fn restart(target: Ref, value: Expr) -> Statement
+    ensures { statement result ≡ Restart (reference target) (expression value) }
+{
+    Statement::Reinit { target, value }
+}
+
+// Behind the right side of this equation.
+fn add_equation(
+    draft: Box<Draft>,
+    loops: Vec<EquationLoop>,
+    item: Equation,
+    symbol: Symbol,
+) -> Result<Effect, AllocError>
+    ensures { IfOk result
+        (λ e. effect_of e
+        ≡ close_equation
+        (put_equation (draft_of draft.value) (equation_loops loops.items) (equation item))
+        (symbol_view symbol.entry)) }
+{
+    let body = put_equation(draft, loops, item)?;
+    Ok(close_equation(body, symbol))
+}
+
+// Behind the right side of this start.
+fn add_start(
+    draft: Box<Draft>,
+    loops: Vec<StatementLoop>,
+    item: Statement,
+    symbol: Symbol,
+) -> Result<Effect, AllocError>
+    ensures { IfOk result
+        (λ e. effect_of e
+        ≡ close_assignment
+        (put_start (draft_of draft.value) (statement_loops loops.items) (statement item))
+        (symbol_view symbol.entry)) }
+{
+    let body = put_start(draft, loops, item)?;
+    Ok(close_assignment(body, symbol))
+}
+
+// Behind the right side of this assignment.
+fn add_assignment(
+    branch: OpenBranch,
+    loops: Vec<StatementLoop>,
+    item: Statement,
+    symbol: Symbol,
+) -> Result<Effect, AllocError>
+    ensures { IfOk result
+        (λ e. effect_of e
+        ≡ close_assignment
+        (put_statement (branch_of branch) (statement_loops loops.items) (statement item))
+        (symbol_view symbol.entry)) }
+{
+    let body = put_statement(branch, loops, item)?;
+    Ok(close_assignment(body, symbol))
+}
+
+// Behind the value of this reinit.
+fn add_restart(
+    branch: OpenBranch,
+    loops: Vec<StatementLoop>,
+    item: Statement,
+    symbol: Symbol,
+) -> Result<Effect, AllocError>
+    ensures { IfOk result
+        (λ e. effect_of e
+        ≡ close_restart
+        (put_statement (branch_of branch) (statement_loops loops.items) (statement item))
+        (symbol_view symbol.entry)) }
+{
+    let body = put_statement(branch, loops, item)?;
+    Ok(close_restart(body, symbol))
+}
+
+/// Behind what a reference is set to. `Err` is want of memory.
+pub fn close_side(aim: Aim, target: Ref, value: Expr, symbol: Symbol) -> Result<Effect, AllocError>
+    ensures { IfOk result
+        (λ e. effect_of e
+        ≡ close_side (aim_of aim) (reference target) (expression value)
+        (symbol_view symbol.entry)) }
+{
+    match aim {
+        Aim::Plain(draft, loops) => {
+            let item = algebraic(target, value);
+            add_equation(draft, loops, item, symbol)
+        }
+        Aim::Derivative(draft, loops) => {
+            let item = derivative(target, value);
+            add_equation(draft, loops, item, symbol)
+        }
+        Aim::Initial(draft, loops) => {
+            let item = assignment(target, value);
+            add_start(draft, loops, item, symbol)
+        }
+        Aim::Assigned(branch, loops) => {
+            let item = assignment(target, value);
+            add_assignment(branch, loops, item, symbol)
+        }
+        Aim::Restarted(branch, loops) => {
+            let item = restart(target, value);
+            add_restart(branch, loops, item, symbol)
+        }
+    }
+}

@@ -1,0 +1,17 @@
+-- The rounds of a loop.
+use Rattle.std.specs.Prelude.{ℕ, ℤ, pos, neg_ℤ, ◌^◌, ◌≤ℤ◌, List, Result, Ok, Err}
+use Rattle.mu_tree.specs.Expression.{Expression}
+use Rattle.mu_unroll.specs.declared.fault.UnrollErr.{UnrollErr}
+use Rattle.mu_unroll.specs.declared.place.Meant.{Meant}
+use Rattle.mu_unroll.specs.declared.value.Rounds.{Rounds}
+use Rattle.mu_unroll.specs.Flattening.{bound_of}
+use Rattle.mu_unroll.specs.ConstantValues.{then_do}
+
+-- the first and the last value of the variable at a place: the first bound is finished before the last one
+abbrev pub bounds_of : (List ℕ → Meant) → ℕ → Expression → Expression → Result Rounds UnrollErr
+bounds_of known at from to = then_do (bound_of known at from) (λ a. then_do (bound_of known at to) (λ b. Ok (record { next = a; last = b })))
+
+-- the next value is not far below 0, and the last one not far above
+pub record AreRoundsBounded (r : Rounds) : Type 0 where
+  pub low : (neg_ℤ (pos (2 ^ 62))) ≤ℤ r.next
+  pub high : r.last ≤ℤ pos (2 ^ 62)

@@ -1,3 +1,0 @@
-pub mod Sameness
-pub mod Kept
-pub mod Finished

@@ -1,9 +1,0 @@
-use Rattle.std.proofs.Common.{◌≡◌, refl}
-use Rattle.propose_answer.specs.Answers.{Answer, answer_of}
-use Rattle.propose_answer.specs.declared.ending.ProposalRefusal.TheVariants.{NoCandidate}
-use Rattle.propose_answer.proofs.Finished.{refusal_told}
-use Rattle.propose_answer.proofs.proposing.tell_proposal.Goals as goal
-
-pub returns-in-NoCandidate : goal.returns-in-NoCandidate
-returns-in-NoCandidate g c =
-    refusal_told (λ k. g.O.Sink.written k) (λ k. g.O.Sink.faults k) (λ k. g.O.Sink.failed k) (λ (a : Answer). a ≡ answer_of c.args.proposal.now) (NoCandidate c.in-NoCandidate.step) (rw c.in-NoCandidate.is refl) c.args.out.now

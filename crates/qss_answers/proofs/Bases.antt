@@ -1,0 +1,129 @@
+-- Bytes spell one certificate by which runs are compared, or none for one reason.
+use Rattle.std.proofs.Common.{◌≡◌, ℕ, ◌⊎◌, inl, inr, Bool, true, false, List, [], ◌∷◌, ℤ, refl, sym, ap, ap₂, subst, ◌∙◌}
+use Rattle.std.proofs.lemmas.Bool.Decides.{Decides-int_eq}
+use Rattle.std.specs.Ordering.{int_eq}
+use Rattle.std.specs.Prelude.{Result, Ok, Err, IfOk, IfErr}
+use Rattle.qss_machine.specs.Machines.{start_states}
+use Rattle.qss_machine.specs.declared.system.Machine.{Machine}
+use Rattle.cert_check.specs.CertificateData.{certificate_data}
+use Rattle.cert_check.specs.Systems.{system_of}
+use Rattle.cert_check.specs.declared.certificate.Certificate.{Certificate}
+use Rattle.cert_check.specs.declared.verdict.Verdict.TheVariants.{Accepted}
+use Rattle.qss_answers.specs.BoundTexts.{bounds_text}
+use Rattle.cert_check.proofs.Judged.{judged_texts}
+use Rattle.qss_answers.specs.CertificateAnswers.{Answer, refused, written, IsAccepted, IsCertification}
+use Rattle.qss_answers.specs.CertificateEndings.{RejectsBy}
+use Rattle.qss_answers.specs.declared.certificate_ending.CertificateRefusal.{CertificateRefusal}
+use Rattle.qss_answers.specs.declared.certificate_ending.CertificateResult.{CertificateResult}
+use Rattle.qss_answers.specs.declared.certificate_ending.CertificateResult.TheVariants as ending
+use Rattle.qss_answers.proofs.BoundsHold.{accepted_text}
+use Rattle.qss_answers.proofs.OneCertificateAnswer.{one_each}
+use Rattle.qss_answers.specs.Comparisons.{HasStart, IsUsableCertificate, IsUnusableCertificate, MayStop}
+use Rattle.qss_answers.specs.TraceLaws.{IsJudged}
+use Rattle.qss_answers.specs.declared.stop.ComparisonRefusal.TheVariants as why
+use Rattle.qss_answers.specs.declared.stop.ComparisonStop.{ComparisonStop}
+use Rattle.qss_answers.specs.declared.stop.ComparisonStop.TheVariants as stops
+
+-- lists of numbers are the same, or not
+same-or-not : (xs ys : List ℤ) → (xs ≡ ys) ⊎ (xs ≡ ys → ⊥)
+same-or-not [] [] = inl refl
+same-or-not [] (y ∷ ys) = inr (λ e. absurd (cc))
+same-or-not (x ∷ xs) [] = inr (λ e. absurd (cc))
+same-or-not (x ∷ xs) (y ∷ ys) = by (int_eq x y) refl (same-or-not xs ys)
+  where
+    by : (t : Bool) → int_eq x y ≡ t → (xs ≡ ys) ⊎ (xs ≡ ys → ⊥) → (x ∷ xs ≡ y ∷ ys) ⊎ (x ∷ xs ≡ y ∷ ys → ⊥)
+    by true e (inl rest) = inl (ap₂ (λ (z : ℤ) (zs : List ℤ). z ∷ zs) ((Decides-int_eq x y).0 e) rest)
+    by true e (inr fails) = inr (λ same. fails (cc))
+    by false e rest = inr (λ same. let first : x ≡ y = cc in let holds = (Decides-int_eq x y).1 first in absurd (cc))
+
+start-or-not : (m : Machine) (c : Certificate) → HasStart m c ⊎ (HasStart m c → ⊥)
+start-or-not m c = by (same-or-not (start_states m) c.start1) (same-or-not (start_states m) c.start2)
+  where
+    by : (start_states m ≡ c.start1) ⊎ (start_states m ≡ c.start1 → ⊥) → (start_states m ≡ c.start2) ⊎ (start_states m ≡ c.start2 → ⊥) → HasStart m c ⊎ (HasStart m c → ⊥)
+    by (inl e) other = inl (inl e)
+    by (inr fails) (inl e) = inl (inr e)
+    by (inr fails) (inr neither) = inr none
+      where
+        none : HasStart m c → ⊥
+        none (inl e) = fails e
+        none (inr e) = neither e
+
+module _ (m : Machine) (bytes : List ℕ) where
+  -- a certificate that is accepted is answered with its bounds
+  answer-of : (c : Certificate) → IsAccepted m bytes c → IsCertification m bytes (written (bounds_text m c))
+  answer-of c is = inr (c, is.read, (Accepted, is.verdict, refl))
+
+  accepted-of : (text : List ℕ) → IsCertification m bytes (written text) → (c : Certificate) × IsAccepted m bytes c
+  accepted-of text (inl (cause, h, e)) = absurd (cc)
+  accepted-of text (inr (c, read, (v, h, e))) = (c, record { read = read; verdict = (accepted_text m c text v h e).0 })
+
+  accepted-fine : (cause : CertificateRefusal) (c : Certificate) → IsCertification m bytes (refused cause) → IsAccepted m bytes c → ⊥
+  accepted-fine cause c p is = absurd (let e = one_each.one_certification m bytes (refused cause) (written (bounds_text m c)) p (answer-of c is) in cc)
+
+  one-accepted : (a b : Certificate) → IsAccepted m bytes a → IsAccepted m bytes b → a ≡ b
+  one-accepted a b p q = judged_texts.one_certificate m bytes a b p.read.text q.read.text
+
+  -- why there is no certificate
+  abbrev Other : Type 0
+  Other = (c : Certificate) × IsAccepted m bytes c × (HasStart m c → ⊥)
+
+  abbrev Cause : ComparisonStop → Type 0
+  Cause stop = ((cause : CertificateRefusal) × (stop ≡ stops.Refused (why.Certificate cause)) × IsCertification m bytes (refused cause)) ⊎ ((stop ≡ stops.Refused why.Start) × Other)
+
+  cause-of : (stop : ComparisonStop) → IsUnusableCertificate m bytes stop → Cause stop
+  cause-of (stops.Refused (why.Certificate cause)) p = inl (cause, refl, p)
+  cause-of (stops.Refused why.Start) p = inr (refl, p)
+  cause-of (stops.Refused (why.Trace cause)) p = absurd p
+  cause-of (stops.Refused (why.Quantum run state)) p = absurd p
+  cause-of (stops.Refused (why.Long last)) p = absurd p
+  cause-of (stops.Refused (why.Range place1 place2)) p = absurd p
+  cause-of (stops.Over tick var) p = absurd p
+  cause-of stops.Memory p = absurd p
+
+  same-cause : (a b : ComparisonStop) → Cause a → Cause b → a ≡ b
+  same-cause a b (inl (x, e, p)) (inl (y, f, q)) =
+      let same : x ≡ y = (let g = one_each.one_certification m bytes (refused x) (refused y) p q in cc) in
+      e ∙ ap (λ (cause : CertificateRefusal). stops.Refused (why.Certificate cause)) same ∙ sym f
+  same-cause a b (inl (x, e, p)) (inr (f, (c, q, fails))) = absurd (accepted-fine x c p q)
+  same-cause a b (inr (e, (c, p, fails))) (inl (y, f, q)) = absurd (accepted-fine y c q p)
+  same-cause a b (inr (e, p)) (inr (f, q)) = e ∙ sym f
+
+  no-cause : (c : Certificate) (stop : ComparisonStop) → IsUsableCertificate m bytes c → Cause stop → ⊥
+  no-cause c stop is (inl (x, e, p)) = accepted-fine x c p is.accepted
+  no-cause c stop is (inr (e, (d, p, fails))) = fails (subst (HasStart m) (one-accepted c d is.accepted p) is.start)
+
+  some-basis : ((c : Certificate) × IsUsableCertificate m bytes c) ⊎ ((stop : ComparisonStop) × IsUnusableCertificate m bytes stop)
+  some-basis = let answer = one_each.some_certification m bytes in by answer.0 answer.1
+    where
+      started : (c : Certificate) → IsAccepted m bytes c → HasStart m c ⊎ (HasStart m c → ⊥) → ((c : Certificate) × IsUsableCertificate m bytes c) ⊎ ((stop : ComparisonStop) × IsUnusableCertificate m bytes stop)
+      started c is (inl start) = inl (c, record { accepted = is; start = start })
+      started c is (inr fails) = inr (stops.Refused why.Start, (c, is, fails))
+
+      by : (answer : Answer) → IsCertification m bytes answer → ((c : Certificate) × IsUsableCertificate m bytes c) ⊎ ((stop : ComparisonStop) × IsUnusableCertificate m bytes stop)
+      by (refused cause) p = inr (stops.Refused (why.Certificate cause), p)
+      by (written text) p = let found = accepted-of text p in started found.0 found.1 (start-or-not m found.0)
+
+  pub judged-basis : IsJudged (IsUsableCertificate m bytes) (IsUnusableCertificate m bytes)
+  judged-basis = record {
+    some = some-basis;
+    one = λ a b p q. one-accepted a b p.accepted q.accepted;
+    one_stop = λ a b p q. same-cause a b (cause-of a p) (cause-of b q);
+    apart = λ c stop is p. no-cause c stop is (cause-of stop p);
+  }
+
+-- ---- what the code finds
+
+module _ (m : Machine) (bytes : List ℕ) where
+  pub started-basis : (c : Certificate) (result : Result Certificate ComparisonStop) → IsAccepted m bytes c → IfOk result (λ same. (same ≡ c) × HasStart m c) → IfOk result (IsUsableCertificate m bytes)
+  started-basis c (Ok d) is (same, start) = subst (IsUsableCertificate m bytes) (sym same) (record { accepted = is; start = start })
+  started-basis c (Err stop) is h = tt
+
+  pub started-stopped : (c : Certificate) (result : Result Certificate ComparisonStop) → IsAccepted m bytes c → IfErr result (λ stop. (stop ≡ stops.Refused why.Start) × (HasStart m c → ⊥)) → IfErr result (MayStop (IsUnusableCertificate m bytes))
+  started-stopped c (Ok d) is h = tt
+  started-stopped c (Err stop) is (told, other) = inr (subst (IsUnusableCertificate m bytes) (sym told) (c, is, other))
+
+  pub rejected-stopped : (end : CertificateResult) (cause : CertificateRefusal) → end ≡ ending.Refused cause → RejectsBy m bytes end → MayStop (IsUnusableCertificate m bytes) (stops.Refused (why.Certificate cause))
+  rejected-stopped end cause is (inl memory) = absurd (let e : ending.Memory ≡ ending.Refused cause = sym memory ∙ is in cc)
+  rejected-stopped end cause is (inr (other, p, told)) =
+      let same : other ≡ cause = (let e : ending.Refused other ≡ ending.Refused cause = sym told ∙ is in cc) in
+      inr (subst (λ (x : CertificateRefusal). IsCertification m bytes (refused x)) same p)

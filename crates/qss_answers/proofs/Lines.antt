@@ -1,0 +1,19 @@
+-- Lines of states with their bounds, one after another.
+use Rattle.std.proofs.Common.{◌≡◌, ℕ, ◌⊎◌, inl, inr, List, [], ◌∷◌, ◌++◌, ℤ, refl, sym, ap, ap₂, ◌∙◌, append_assoc}
+use Rattle.qss_machine.specs.declared.parts.StateInfo.{StateInfo}
+use Rattle.qss_answers.specs.BoundTexts.{bound_line, bound_lines}
+
+-- one more line
+pub line_more : (done : List ℕ) (ss rest : List StateInfo) (s : StateInfo) (bs later : List ℤ) (b : ℤ) → ss ≡ s ∷ rest → bs ≡ b ∷ later
+    → (done ++ bound_line s.name b) ++ bound_lines rest later ≡ done ++ bound_lines ss bs
+line_more done ss rest s bs later b states bounds =
+    append_assoc done (bound_line s.name b) (bound_lines rest later) ∙ ap (λ (x : List ℕ). done ++ x) (sym (ap₂ bound_lines states bounds))
+
+no_bounds : (ss : List StateInfo) → bound_lines ss [] ≡ []
+no_bounds [] = refl
+no_bounds (s ∷ ss) = refl
+
+-- no line is left
+pub lines_done : (ss : List StateInfo) (bs : List ℤ) → (ss ≡ []) ⊎ (bs ≡ []) → bound_lines ss bs ≡ []
+lines_done ss bs (inl none) = ap (λ (x : List StateInfo). bound_lines x bs) none
+lines_done ss bs (inr none) = ap (bound_lines ss) none ∙ no_bounds ss

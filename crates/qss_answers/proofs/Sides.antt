@@ -1,0 +1,204 @@
+-- A run that is given has one trace that a certificate allows, or none for one reason.
+use Rattle.std.proofs.Common.{◌≡◌, ℕ, length, zero, suc, ◌+◌, ◌<◌, ◌≤◌, ◌⊎◌, inl, inr, Bool, true, false, List, ◌≤ℤ◌, refl, sym, ap, ap₂, subst, ◌∙◌, arith, below_more}
+use Rattle.std.proofs.lemmas.Bool.{cases_lt}
+use Rattle.std.proofs.lemmas.Int.{ints}
+use Rattle.std.specs.Prelude.{int_lt, Result, Ok, Err, IfErr}
+use Rattle.mu_num.proofs.Tests.{int_lt-true, int_lt-false}
+use Rattle.qss_machine.specs.Machines.{state_count}
+use Rattle.qss_machine.specs.IndexedSums.{int_at}
+use Rattle.qss_machine.specs.declared.system.Machine.{Machine}
+use Rattle.cert_check.specs.Scope.{IsInScope}
+use Rattle.cert_check.specs.declared.certificate.Certificate.{Certificate}
+use Rattle.qss_trace.specs.declared.trace.Trace.{Trace}
+use Rattle.qss_trace.proofs.OneTrace.{one-trace}
+use Rattle.qss_own_traces.specs.FirstRuns.{IsFirstTrace, IsFirstRefusal}
+use Rattle.qss_own_traces.specs.SecondRuns.{IsSecondTrace, IsSecondRefusal}
+use Rattle.qss_own_traces.specs.declared.trace_over.TraceOver.TheVariants as overs
+use Rattle.qss_own_traces.proofs.OwnTraces.{some-first, one-first, first-apart, one-first-over, some-second, one-second, second-apart, one-second-over}
+use Rattle.qss_answers.specs.TraceAnswers.{Answer, limit, IsChecked}
+use Rattle.qss_answers.specs.Comparisons.{RunSource, first_order, second_order, traced, longest, IsGivenRun, HasQuanta, IsFirstAbove, IsRunTrace, IsOwn, Overflows, IsTextRefused, HasNoRunTrace, MayStop, IfMemory}
+use Rattle.qss_answers.specs.TraceEndings.{RefusesBy}
+use Rattle.qss_answers.specs.TraceLaws.{IsJudged}
+use Rattle.qss_answers.specs.declared.trace_ending.TraceResult.{TraceResult}
+use Rattle.qss_answers.specs.declared.trace_ending.TraceResult.TheVariants as ending
+use Rattle.qss_answers.specs.declared.trace_ending.TraceRefusal.{TraceRefusal}
+use Rattle.qss_answers.specs.declared.stop.ComparisonRefusal.TheVariants as why
+use Rattle.qss_answers.specs.declared.stop.ComparisonStop.{ComparisonStop}
+use Rattle.qss_answers.specs.declared.stop.ComparisonStop.TheVariants as stops
+use Rattle.qss_answers.proofs.OneTraceAnswer.{one_each, one_refusal, accepted-fine}
+
+-- ---- quanta
+
+module _ (c : Certificate) (t : Trace) where
+  quanta-below : (n : ℕ) → n ≤ t.n → ((j : ℕ) → j < n → int_at t.q j ≤ℤ int_at c.q j) ⊎ ((state : ℕ) × IsFirstAbove c t state)
+  quanta-below zero h = inl (λ j l. absurd (omega arith))
+  quanta-below (suc n) h = by (quanta-below n (omega arith)) (int_lt (int_at c.q n) (int_at t.q n)) refl
+    where
+      by : ((j : ℕ) → j < n → int_at t.q j ≤ℤ int_at c.q j) ⊎ ((state : ℕ) × IsFirstAbove c t state) → (b : Bool) → int_lt (int_at c.q n) (int_at t.q n) ≡ b
+          → ((j : ℕ) → j < suc n → int_at t.q j ≤ℤ int_at c.q j) ⊎ ((state : ℕ) × IsFirstAbove c t state)
+      by (inr found) b e = inr found
+      by (inl before) true e = inr (n + 1, record { place = n; number = refl; inside = omega arith; above = int_lt-true (int_at c.q n) (int_at t.q n) e; before = before })
+      by (inl before) false e = inl (λ j l. below_more (λ k. int_at t.q k ≤ℤ int_at c.q k) n before (int_lt-false (int_at c.q n) (int_at t.q n) e) j (omega arith))
+
+  same-above : (a b : ℕ) → IsFirstAbove c t a → IsFirstAbove c t b → a ≡ b
+  same-above a b p q = by (cases_lt p.place q.place) (cases_lt q.place p.place)
+    where
+      by : (p.place < q.place) ⊎ (q.place ≤ p.place) → (q.place < p.place) ⊎ (p.place ≤ q.place) → a ≡ b
+      by (inl l) h = let most = q.before p.place l in let above = p.above in absurd (omega (arith, ints, most, above))
+      by (inr l) (inl h) = let most = p.before q.place h in let above = q.above in absurd (omega (arith, ints, most, above))
+      by (inr l) (inr h) = omega (arith, p.number, q.number)
+
+  not-above : (a : ℕ) → HasQuanta c t → IsFirstAbove c t a → ⊥
+  not-above a has p = let most = has p.place p.inside in let above = p.above in absurd (omega (arith, ints, most, above))
+
+-- ---- one trace
+
+pub one-given : (m : Machine) (given : RunSource) (a b : Trace) → IsGivenRun m given a → IsGivenRun m given b → a ≡ b
+one-given m first_order a b p q = one-first m a b p.1 q.1
+one-given m second_order a b p q = one-second m a b p.1 q.1
+one-given m (traced bytes) a b p q = one-trace (state_count m) bytes a b p.read.text q.read.text
+
+-- a run that is given has a trace, where it is not refused, not too long and does not overflow
+given-refused : (m : Machine) (given : RunSource) (t : Trace) (cause : TraceRefusal) → IsGivenRun m given t → IsTextRefused m given cause → ⊥
+given-refused m first_order t cause p q = q
+given-refused m second_order t cause p q = q
+given-refused m (traced bytes) t cause p q = accepted-fine m bytes cause t q p
+
+given-short : (m : Machine) (given : RunSource) (t : Trace) → IsGivenRun m given t → IsOwn given → longest < m.last → ⊥
+given-short m first_order t p own long = omega (arith, p.0, long)
+given-short m second_order t p own long = omega (arith, p.0, long)
+given-short m (traced bytes) t p own long = own
+
+given-ends : (m : Machine) (given : RunSource) (t : Trace) (tick var : ℕ) → IsGivenRun m given t → Overflows m given tick var → ⊥
+given-ends m first_order t tick var p q = first-apart m t tick var p.1 q
+given-ends m second_order t tick var p q = second-apart m t tick var p.1 q
+given-ends m (traced bytes) t tick var p q = q
+
+-- ---- one reason
+
+same-refusal : (m : Machine) (given : RunSource) (a b : TraceRefusal) → IsTextRefused m given a → IsTextRefused m given b → a ≡ b
+same-refusal m first_order a b p q = absurd p
+same-refusal m second_order a b p q = absurd p
+same-refusal m (traced bytes) a b p q = one_refusal m bytes a b p q
+
+text-own : (m : Machine) (given : RunSource) (cause : TraceRefusal) → IsTextRefused m given cause → IsOwn given → ⊥
+text-own m first_order cause p own = p
+text-own m second_order cause p own = p
+text-own m (traced bytes) cause p own = own
+
+text-over : (m : Machine) (given : RunSource) (cause : TraceRefusal) (tick var : ℕ) → IsTextRefused m given cause → Overflows m given tick var → ⊥
+text-over m first_order cause tick var p q = p
+text-over m second_order cause tick var p q = p
+text-over m (traced bytes) cause tick var p q = q
+
+same-over : (m : Machine) (given : RunSource) (tick var tick' var' : ℕ) → Overflows m given tick var → Overflows m given tick' var' → (tick ≡ tick') × (var ≡ var')
+same-over m first_order tick var tick' var' p q = one-first-over m tick var tick' var' p q
+same-over m second_order tick var tick' var' p q = one-second-over m tick var tick' var' p q
+same-over m (traced bytes) tick var tick' var' p q = absurd p
+
+module _ (m : Machine) (c : Certificate) (run : ℕ) (given : RunSource) where
+  -- why there is no trace
+  data Cause (stop : ComparisonStop) : Type 0 where
+    refusing : (cause : TraceRefusal) → stop ≡ stops.Refused (why.Trace cause) → IsTextRefused m given cause → Cause stop
+    coarse : (state : ℕ) (t : Trace) → stop ≡ stops.Refused (why.Quantum run state) → IsGivenRun m given t → IsFirstAbove c t state → Cause stop
+    lasting : stop ≡ stops.Refused (why.Long m.last) → IsOwn given → longest < m.last → Cause stop
+    over : (tick var : ℕ) → stop ≡ stops.Over tick var → m.last ≤ longest → Overflows m given tick var → Cause stop
+
+  cause-of : (stop : ComparisonStop) → HasNoRunTrace m c run given stop → Cause stop
+  cause-of (stops.Refused (why.Certificate cause)) p = absurd p
+  cause-of (stops.Refused why.Start) p = absurd p
+  cause-of (stops.Refused (why.Trace cause)) p = refusing cause refl p
+  cause-of (stops.Refused (why.Quantum number state)) p = coarse state p.0 (ap (λ k. stops.Refused (why.Quantum k state)) p.1) p.2 p.3
+  cause-of (stops.Refused (why.Long last)) p = lasting (ap (λ k. stops.Refused (why.Long k)) p.1) p.0 p.2
+  cause-of (stops.Refused (why.Range place1 place2)) p = absurd p
+  cause-of (stops.Over tick var) p = over tick var refl p.0 p.1
+  cause-of stops.Memory p = absurd p
+
+  same-cause : (a b : ComparisonStop) → Cause a → Cause b → a ≡ b
+  same-cause a b (refusing x e p) (refusing y f q) = e ∙ ap (λ (cause : TraceRefusal). stops.Refused (why.Trace cause)) (same-refusal m given x y p q) ∙ sym f
+  same-cause a b (refusing x e p) (coarse state t f is q) = absurd (given-refused m given t x is p)
+  same-cause a b (refusing x e p) (lasting f own long) = absurd (text-own m given x p own)
+  same-cause a b (refusing x e p) (over tick var f short q) = absurd (text-over m given x tick var p q)
+  same-cause a b (coarse state t e is p) (refusing y f q) = absurd (given-refused m given t y is q)
+  same-cause a b (coarse state t e is p) (coarse state' t' f is' q) =
+      let same = one-given m given t t' is is' in
+      e ∙ ap (λ k. stops.Refused (why.Quantum run k)) (same-above c t' state state' (subst (λ (u : Trace). IsFirstAbove c u state) same p) q) ∙ sym f
+  same-cause a b (coarse state t e is p) (lasting f own long) = absurd (given-short m given t is own long)
+  same-cause a b (coarse state t e is p) (over tick var f short q) = absurd (given-ends m given t tick var is q)
+  same-cause a b (lasting e own long) (refusing y f q) = absurd (text-own m given y q own)
+  same-cause a b (lasting e own long) (coarse state t f is q) = absurd (given-short m given t is own long)
+  same-cause a b (lasting e own long) (lasting f own' long') = e ∙ sym f
+  same-cause a b (lasting e own long) (over tick var f short q) = absurd (omega (arith, long, short))
+  same-cause a b (over tick var e short p) (refusing y f q) = absurd (text-over m given y tick var q p)
+  same-cause a b (over tick var e short p) (coarse state t f is q) = absurd (given-ends m given t tick var is p)
+  same-cause a b (over tick var e short p) (lasting f own long) = absurd (omega (arith, long, short))
+  same-cause a b (over tick var e short p) (over tick' var' f short' q) =
+      let same = same-over m given tick var tick' var' p q in
+      e ∙ ap₂ (λ (k l : ℕ). stops.Over k l) same.0 same.1 ∙ sym f
+
+  no-cause : (t : Trace) (stop : ComparisonStop) → IsRunTrace m c given t → Cause stop → ⊥
+  no-cause t stop side (refusing x e p) = given-refused m given t x side.run p
+  no-cause t stop side (coarse state u e is p) = not-above c t state side.quanta (subst (λ (v : Trace). IsFirstAbove c v state) (one-given m given u t is side.run) p)
+  no-cause t stop side (lasting e own long) = given-short m given t side.run own long
+  no-cause t stop side (over tick var e short p) = given-ends m given t tick var side.run p
+
+-- ---- some trace, or some reason
+
+abbrev IsSome : Machine → Certificate → ℕ → RunSource → Type 0
+IsSome m c run given = ((t : Trace) × IsRunTrace m c given t) ⊎ ((stop : ComparisonStop) × HasNoRunTrace m c run given stop)
+
+some-allowed : (m : Machine) (c : Certificate) (run : ℕ) (given : RunSource) (t : Trace) → IsGivenRun m given t → IsSome m c run given
+some-allowed m c run given t is = by (quanta-below c t t.n (omega arith))
+  where
+    by : HasQuanta c t ⊎ ((state : ℕ) × IsFirstAbove c t state) → IsSome m c run given
+    by (inl has) = inl (t, record { run = is; quanta = has })
+    by (inr (state, above)) = inr (stops.Refused (why.Quantum run state), (t, refl, is, above))
+
+some-side : (m : Machine) (c : Certificate) (run : ℕ) (given : RunSource) → IsInScope m → IsSome m c run given
+some-side m c run first_order scope = by (cases_lt longest m.last)
+  where
+    of : m.last ≤ longest → ((t : Trace) × IsFirstTrace m t) ⊎ ((tick : ℕ) × (var : ℕ) × IsFirstRefusal m (overs.Over tick var)) → IsSome m c run first_order
+    of short (inl (t, is)) = some-allowed m c run first_order t (short, is)
+    of short (inr (tick, var, past)) = inr (stops.Over tick var, (short, past))
+
+    by : (longest < m.last) ⊎ (m.last ≤ longest) → IsSome m c run first_order
+    by (inl long) = inr (stops.Refused (why.Long m.last), (tt, refl, long))
+    by (inr short) = of short (some-first m scope.plain (record { some = scope.some; few = scope.few }) short)
+some-side m c run second_order scope = by (cases_lt longest m.last)
+  where
+    of : m.last ≤ longest → ((t : Trace) × IsSecondTrace m t) ⊎ ((tick : ℕ) × (var : ℕ) × IsSecondRefusal m (overs.Over tick var)) → IsSome m c run second_order
+    of short (inl (t, is)) = some-allowed m c run second_order t (short, is)
+    of short (inr (tick, var, past)) = inr (stops.Over tick var, (short, past))
+
+    by : (longest < m.last) ⊎ (m.last ≤ longest) → IsSome m c run second_order
+    by (inl long) = inr (stops.Refused (why.Long m.last), (tt, refl, long))
+    by (inr short) = of short (some-second m (record { some = scope.some; few = scope.few }) short)
+some-side m c run (traced bytes) scope = let answer = one_each.some_answer m bytes in by answer.0 answer.1
+  where
+    by : (answer : Answer) → IsChecked m bytes answer → IsSome m c run (traced bytes)
+    by answer (inl (cause, p, e)) = inr (stops.Refused (why.Trace cause), p)
+    by answer (inr (t, is, e)) = some-allowed m c run (traced bytes) t is
+
+pub judged-side : (m : Machine) (c : Certificate) (run : ℕ) (given : RunSource) → IsInScope m → IsJudged (IsRunTrace m c given) (HasNoRunTrace m c run given)
+judged-side m c run given scope = record {
+  some = some-side m c run given scope;
+  one = λ a b p q. one-given m given a b p.run q.run;
+  one_stop = λ a b p q. same-cause m c run given a b (cause-of m c run given a p) (cause-of m c run given b q);
+  apart = λ t stop side p. no-cause m c run given t stop side (cause-of m c run given stop p);
+}
+
+-- what the code finds of the quanta
+pub allowed-stopped : (m : Machine) (c : Certificate) (run : ℕ) (given : RunSource) (t : Trace) (result : Result Trace ComparisonStop) → IsGivenRun m given t
+    → IfErr result (λ stop. (state : ℕ) × IsFirstAbove c t state × (stop ≡ stops.Refused (why.Quantum run state))) → IfErr result (MayStop (HasNoRunTrace m c run given))
+allowed-stopped m c run given t (Ok u) is h = tt
+allowed-stopped m c run given t (Err stop) is (state, above, told) = inr (subst (HasNoRunTrace m c run given) (sym told) (t, refl, is, above))
+
+-- where this holds, it holds where memory is wanted
+pub taken-so : {T : Type 0} (Holds : Type 0) (result : Result T ComparisonStop) → Holds → IfErr result (IfMemory Holds)
+taken-so Holds (Ok t) h = tt
+taken-so Holds (Err stop) h = λ told. h
+
+-- a reading that ends for want of memory has begun
+pub reading-begun : (m : Machine) (bytes : List ℕ) (end : TraceResult) → end ≡ ending.Memory → RefusesBy m bytes end → IsInScope m × (length bytes ≤ limit)
+reading-begun m bytes end is (inl (told, scope, short)) = (scope, short)
+reading-begun m bytes end is (inr (cause, p, told)) = absurd (let e : ending.Refused cause ≡ ending.Memory = sym told ∙ is in cc)

@@ -1,0 +1,60 @@
+//! The certificate by which runs are compared.
+
+ghost use Rattle.std.specs.Prelude.{◌≡◌, ◌↔◌, IsTrue, IfOk, IfErr, length};
+ghost use Rattle.qss_machine.specs.Machines.{state_count, start_states};
+ghost use Rattle.qss_answers.specs.CertificateEndings.{RejectsBy};
+ghost use Rattle.qss_answers.specs.Comparisons.{HasStart, IsUsableCertificate, IsUnusableCertificate, MayStop};
+
+use crate::certificate_ending::CertificateResult as CertificateEnding;
+use crate::certificate_reading::read_accepted;
+use crate::stop::{ComparisonRefusal, ComparisonStop};
+use cert_check::Certificate;
+use qss_machine::Machine;
+use std::alloc::Global;
+
+/// The certificate that bytes spell, where it is accepted and has the machine's start; or what stops a comparison by it.
+pub fn usable_certificate(
+    alloc: Global,
+    m: &Machine,
+    bytes: &[u8],
+) -> Result<Certificate, ComparisonStop>
+    ensures basis { IfOk result (IsUsableCertificate m.now bytes.now) }
+    ensures stopped { IfErr result (MayStop (IsUnusableCertificate m.now bytes.now)) }
+{
+    match read_accepted(alloc, m, bytes) {
+        Ok(c) => started(m, c),
+        Err(CertificateEnding::Refused(why)) => {
+            Err(ComparisonStop::Refused(ComparisonRefusal::Certificate(why)))
+        }
+        Err(CertificateEnding::Memory) => Err(ComparisonStop::Memory),
+        Err(CertificateEnding::Written | CertificateEnding::Fault) => unreachable!(),
+    }
+}
+
+// The certificate, where it has the machine's start.
+fn started(m: &Machine, c: Certificate) -> Result<Certificate, ComparisonStop>
+    requires { c.n ≡ state_count m.now }
+    ensures start { IfOk result (λ same. (same ≡ c) × HasStart m.now c) }
+    ensures other { IfErr result
+        (λ stop. (stop ≡ ComparisonStop.Refused ComparisonRefusal.Start) × (HasStart m.now c → ⊥)) }
+{
+    if is_start(m, c.start1.as_slice()) || is_start(m, c.start2.as_slice()) {
+        Ok(c)
+    } else {
+        Err(ComparisonStop::Refused(ComparisonRefusal::Start))
+    }
+}
+
+// Whether the machine starts with these states.
+fn is_start(m: &Machine, start: &[i128]) -> bool
+    requires { length start.now ≡ state_count m.now }
+    ensures { IsTrue result ↔ (start_states m.now ≡ start.now) }
+{
+    let states = m.states.as_slice();
+    for j in 0..states.len() {
+        if states[j].x0 != start[j] {
+            return false;
+        }
+    }
+    true
+}

@@ -1,0 +1,76 @@
+//! The reading of a certificate of a machine.
+
+ghost use Rattle.std.specs.Prelude.{◌≡◌, ◌≢◌, ◌≤◌, ℕ, List, length, IfOk, IfErr};
+ghost use Rattle.qss_machine.specs.declared.system.Machine.{Machine};
+ghost use Rattle.cert_check.specs.Scope.{IsInScope};
+ghost use Rattle.cert_check.specs.CertificateTexts.{IsRefusedFor};
+ghost use Rattle.qss_answers.specs.CertificateAnswers.{limit, IsRead, IsAccepted};
+ghost use Rattle.qss_answers.specs.CertificateEndings.{RefusesBy, RejectsBy};
+
+use crate::certificate_ending::{CertificateRefusal, CertificateResult};
+use cert_check::{CertErr, Certificate, Verdict, check, read_certificate, scope};
+use qss_machine::Machine;
+use std::alloc::Global;
+
+// The most bytes that a certificate has.
+const LIMIT: usize = 1 << 18;
+
+/// The certificate of a machine that bytes spell, where it is accepted; or how a call ends that cannot have it.
+pub fn read_accepted(
+    alloc: Global,
+    m: &Machine,
+    bytes: &[u8],
+) -> Result<Certificate, CertificateResult>
+    ensures accepted { IfOk result (IsAccepted m.now bytes.now) }
+    ensures rejected { IfErr result (RejectsBy m.now bytes.now) }
+{
+    let c = read_for(alloc, m, bytes)?;
+    match check(m, &c) {
+        Verdict::Accepted => Ok(c),
+        verdict => Err(CertificateResult::Refused(CertificateRefusal::Rejected(verdict))),
+    }
+}
+
+/// The certificate of a machine that bytes spell, or how a call ends that cannot have it.
+pub(crate) fn read_for(
+    alloc: Global,
+    m: &Machine,
+    bytes: &[u8],
+) -> Result<Certificate, CertificateResult>
+    ensures read { IfOk result (IsRead m.now bytes.now) }
+    ensures refused { IfErr result (RefusesBy m.now bytes.now) }
+{
+    match scope(m) {
+        Ok(_states) => read_short(alloc, m, bytes),
+        Err(why) => Err(CertificateResult::Refused(CertificateRefusal::Outside(why))),
+    }
+}
+
+// The certificate, where it is not too long.
+fn read_short(alloc: Global, m: &Machine, bytes: &[u8]) -> Result<Certificate, CertificateResult>
+    requires { IsInScope m.now }
+    ensures read { IfOk result (IsRead m.now bytes.now) }
+    ensures refused { IfErr result (RefusesBy m.now bytes.now) }
+{
+    if bytes.len() > LIMIT {
+        return Err(CertificateResult::Refused(CertificateRefusal::TooLong));
+    }
+    match read_certificate(alloc, bytes, m) {
+        Ok(c) => Ok(c),
+        Err(why) => Err(unread(why)),
+    }
+}
+
+// How a call ends that cannot read a certificate for this.
+fn unread(why: CertErr) -> CertificateResult
+    ensures refused { (m : Machine) (bytes : List ℕ) → IsInScope m
+        → length bytes ≤ limit
+        → IsRefusedFor m bytes why
+        → RefusesBy m bytes result }
+    ensures told { why ≢ CertErr.Memory → result ≡ CertificateResult.Refused (CertificateRefusal.Unread why) }
+{
+    match why {
+        CertErr::Memory => CertificateResult::Memory,
+        why => CertificateResult::Refused(CertificateRefusal::Unread(why)),
+    }
+}

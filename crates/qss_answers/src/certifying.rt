@@ -1,0 +1,79 @@
+//! The check of a certificate, with the bounds that it gives.
+
+ghost use Rattle.std.specs.Prelude.{◌≡◌};
+ghost use Rattle.std.specs.Io.KnownBytes.{Appends};
+ghost use Rattle.qss_machine.specs.Machines.{state_count};
+ghost use Rattle.cert_check.specs.Inequalities.{Holds};
+ghost use Rattle.cert_check.specs.InequalityTable.{AreSumsInRange};
+ghost use Rattle.cert_check.specs.Bounds.{BoundsAreGuaranteed, CoversOwnRuns};
+ghost use Rattle.cert_check.specs.CertificateData.{certificate_data};
+ghost use Rattle.cert_check.specs.Scope.{IsInScope};
+ghost use Rattle.cert_check.specs.Systems.{system_of};
+ghost use Rattle.cert_check.specs.declared.certificate.Certificate.{Certificate};
+ghost use Rattle.qss_answers.specs.BoundTexts as Bounds;
+ghost use Rattle.cert_check.specs.CertificateTexts.{IsTextOf};
+ghost use Rattle.qss_answers.specs.CertificateAnswers.{written, IsCertified, IsCertification};
+ghost use Rattle.qss_answers.specs.CertificateEndings.{Ends};
+
+use crate::bounds::bounds_text;
+use crate::certificate_ending::{CertificateRefusal, CertificateResult};
+use crate::certificate_reading::read_for;
+use crate::certificate_writing::write_text;
+use cert_check::{Certificate, Verdict, check};
+use mu_io::Sink;
+use qss_machine::Machine;
+use std::alloc::Global;
+
+/// Checks a certificate of a machine from its bytes, and writes the bounds that it gives where it is accepted: a header,
+/// and for each state its name and how many levels two runs may lie apart in it.
+pub fn certify<O: Sink>(alloc: Global, m: &Machine, bytes: &[u8], out: &mut O) -> CertificateResult
+    ensures answered { Ends O.written O.faults O.failed (IsCertification m.now bytes.now) result
+        out.old out.new }
+
+    // Where bounds are written, any two legitimate runs from the certificate's starts lie within them, and the machine's own
+    // runs are among these.
+    ensures promised { result ≡ CertificateResult.Written
+        → (c : Certificate)
+        × IsTextOf m.now bytes.now c
+        × Appends (O.written out.old) (O.written out.new) (Bounds.bounds_text m.now c)
+        × BoundsAreGuaranteed m.now c
+        × CoversOwnRuns m.now c }
+{
+    match read_for(alloc, m, bytes) {
+        Ok(c) => judge(alloc, m, &c, out),
+        Err(ending) => ending,
+    }
+}
+
+// Checks a certificate, and writes its bounds where it is accepted.
+fn judge<O: Sink>(alloc: Global, m: &Machine, c: &Certificate, out: &mut O) -> CertificateResult
+    requires scope { IsInScope m.now }
+    requires size { c.now.n ≡ state_count m.now }
+    ensures answered { Ends O.written O.faults O.failed (IsCertified m.now c.now) result out.old
+        out.new }
+
+    // The check takes no memory: only the bounds do.
+    ensures accepted { result ≡ CertificateResult.Memory
+        → Holds (system_of m.now) (certificate_data c.now) × AreSumsInRange (system_of m.now) (certificate_data c.now) }
+{
+    match check(m, c) {
+        Verdict::Accepted => write_bounds(alloc, m, c, out),
+        verdict => CertificateResult::Refused(CertificateRefusal::Rejected(verdict)),
+    }
+}
+
+// Writes the bounds of a certificate.
+fn write_bounds<O: Sink>(
+    alloc: Global,
+    m: &Machine,
+    c: &Certificate,
+    out: &mut O,
+) -> CertificateResult
+    ensures { Ends O.written O.faults O.failed
+        (λ answer. answer ≡ written (Bounds.bounds_text m.now c.now)) result out.old out.new }
+{
+    match bounds_text(alloc, m, c) {
+        Ok(text) => write_text(&text, out),
+        Err(_) => CertificateResult::Memory,
+    }
+}

@@ -1,0 +1,71 @@
+//! The check of a trace from its bytes.
+
+ghost use Rattle.std.specs.Prelude.{◌≡◌, IfOk};
+ghost use Rattle.std.specs.Io.KnownBytes.{Appends};
+ghost use Rattle.qss_machine.specs.Machines.{state_count};
+ghost use Rattle.qss_trace.specs.TraceTexts.{IsTextOf};
+ghost use Rattle.qss_trace.specs.Trace.{IsRunOf};
+ghost use Rattle.qss_trace.specs.declared.trace.Trace.{Trace};
+ghost use Rattle.qss_answers.specs.TraceAnswers as Answers;
+ghost use Rattle.qss_answers.specs.TraceAnswers.{written, IsRead, IsChecked};
+ghost use Rattle.qss_answers.specs.TraceEndings.{Ends};
+
+use crate::trace_ending::{TraceRefusal, TraceResult};
+use crate::trace_reading::read_run;
+use crate::trace_writing::write_text;
+use mu_io::Sink;
+use qss_machine::Machine;
+use qss_trace::Trace;
+use std::alloc::{AllocError, Global};
+
+/// Checks a trace of a machine from its bytes, and writes its summary where it is a legitimate run: a header, and the number of places, the
+/// scale and the refinement.
+pub fn check_trace_text<O: Sink>(
+    alloc: Global,
+    m: &Machine,
+    bytes: &[u8],
+    out: &mut O,
+) -> TraceResult
+    ensures answered { Ends O.written O.faults O.failed (IsChecked m.now bytes.now) result out.old
+        out.new }
+
+    // Where a summary is written, the bytes spell a trace that is a legitimate run of the machine from its start.
+    ensures accepted { result ≡ TraceResult.Written
+        → (t : Trace)
+        × IsTextOf (state_count m.now) bytes.now t
+        × IsRunOf m.now t
+        × Appends (O.written out.old) (O.written out.new) (Answers.summary t) }
+
+    // Where the trace is refused, they spell none.
+    ensures rejected { (why : TraceRefusal) → result ≡ TraceResult.Refused why
+        → (t : Trace) → IsRead m.now bytes.now t
+        → IsRunOf m.now t
+        → ⊥ }
+{
+    match read_run(alloc, m, bytes) {
+        Ok(t) => write_summary(alloc, &t, out),
+        Err(ending) => ending,
+    }
+}
+
+// Writes the summary of a trace.
+fn write_summary<O: Sink>(alloc: Global, t: &Trace, out: &mut O) -> TraceResult
+    ensures { Ends O.written O.faults O.failed (λ answer. answer ≡ written (Answers.summary t.now))
+        result out.old out.new }
+{
+    match summary(alloc, t) {
+        Ok(text) => write_text(&text, out),
+        Err(_) => TraceResult::Memory,
+    }
+}
+
+// The summary of a trace.
+fn summary(alloc: Global, t: &Trace) -> Result<Vec<u8>, AllocError>
+    ensures { IfOk result (λ text. text.items ≡ Answers.summary t.now) }
+{
+    let places = t.places();
+    let scale = t.scale;
+    let refine = t.refine;
+    let text = format!(in alloc; "places,scale,refine\n{places},{scale},{refine}\n")?;
+    Ok(text.into_bytes())
+}

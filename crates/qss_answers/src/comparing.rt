@@ -1,0 +1,66 @@
+//! Two runs side by side.
+
+ghost use Rattle.std.specs.Prelude.{◌≡◌, IfOk, IfErr, List, ℕ, ℤ};
+ghost use Rattle.qss_machine.specs.Machines.{state_count};
+ghost use Rattle.cert_check.specs.Scope.{IsInScope};
+ghost use Rattle.qss_answers.specs.Comparisons as Spec;
+ghost use Rattle.qss_answers.specs.Comparisons.{IfMemory, IsCompared, IsComparisonRefused, MayStop};
+
+use crate::stop::{ComparisonRefusal, ComparisonStop};
+use cert_check::{Certificate, affine_system};
+use qss_machine::Machine;
+use qss_trace::{Greatest, Trace, compare};
+use std::alloc::{AllocError, Global};
+
+/// The text of two runs side by side, by a certificate: a header, and a line with how many ticks both have, the first places at which
+/// the form of their difference is greatest, the form there, and the certificate's bound. Or what stops their comparison.
+pub fn comparison_text(
+    alloc: Global,
+    m: &Machine,
+    c: &Certificate,
+    t1: &Trace,
+    t2: &Trace,
+) -> Result<Vec<u8>, ComparisonStop>
+    requires scope { IsInScope m.now }
+    requires size { c.now.n ≡ state_count m.now }
+    requires first { t1.now.n ≡ state_count m.now }
+    requires second { t2.now.n ≡ state_count m.now }
+    ensures compared { IfOk result (λ text. IsCompared m.now c.now t1.now t2.now text.items) }
+    ensures stopped { IfErr result (MayStop (IsComparisonRefused m.now c.now t1.now t2.now)) }
+
+    // Memory is wanted for a text alone.
+    ensures memory { IfErr result
+        (IfMemory ((text : List ℕ) × IsCompared m.now c.now t1.now t2.now text)) }
+{
+    let unit = affine_system(m).unit;
+    match compare(&c.pm, c.cc, unit, t1, t2) {
+        Greatest::Found {
+            common,
+            place1,
+            place2,
+            value,
+            bound,
+        } => Ok(found_text(alloc, common, place1, place2, value, bound)?),
+        Greatest::Range { place1, place2 } => {
+            Err(ComparisonStop::Refused(ComparisonRefusal::Range { place1, place2 }))
+        }
+    }
+}
+
+// The header, and the line of these numbers.
+fn found_text(
+    alloc: Global,
+    common: u64,
+    place1: u32,
+    place2: u32,
+    value: i128,
+    bound: i128,
+) -> Result<Vec<u8>, AllocError>
+    ensures { IfOk result
+        (λ text. text.items ≡ Spec.comparison_text common place1 place2 value bound) }
+{
+    let text = format!(in alloc;
+        "common,place1,place2,greatest,bound\n{common},{place1},{place2},{value},{bound}\n"
+    )?;
+    Ok(text.into_bytes())
+}

@@ -1,0 +1,116 @@
+//! The runs that are compared.
+
+ghost use Rattle.std.specs.Prelude.{◌≡◌, ℕ, IfOk, IfErr};
+ghost use Rattle.qss_machine.specs.Machines.{state_count};
+ghost use Rattle.cert_check.specs.Scope.{IsInScope};
+ghost use Rattle.qss_answers.specs.Comparisons.{first_order, second_order, traced, HasQuanta, IfMemory, IsFirstAbove, IsRunTrace, HasNoRunTrace, MayStop, TakesMemory};
+
+use crate::stop::{ComparisonRefusal, ComparisonStop};
+use crate::trace_ending::TraceResult;
+use crate::trace_reading::read_run;
+use cert_check::Certificate;
+use qss_machine::Machine;
+use qss_own_traces::{TraceOver, first_trace, second_trace};
+use qss_trace::Trace;
+use std::alloc::Global;
+
+// The last tick up to which a machine's own runs are compared.
+const LONGEST: u64 = 65535;
+
+/// The run of a machine by the rule `floor`, for a comparison by a certificate in which it is run 1 or run 2; or what stops it.
+pub fn first_side(
+    alloc: Global,
+    m: &Machine,
+    c: &Certificate,
+    run: u32,
+) -> Result<Trace, ComparisonStop>
+    requires scope { IsInScope m.now }
+    requires size { c.now.n ≡ state_count m.now }
+    ensures side { IfOk result (IsRunTrace m.now c.now first_order) }
+    ensures stopped { IfErr result (MayStop (HasNoRunTrace m.now c.now run first_order)) }
+    ensures memory { IfErr result (IfMemory (TakesMemory m.now first_order)) }
+{
+    if m.last > LONGEST {
+        return Err(ComparisonStop::Refused(ComparisonRefusal::Long { last: m.last }));
+    }
+    match first_trace(alloc, m) {
+        Ok(t) => allowed(c, t, run),
+        Err(over) => Err(stop_of(over)),
+    }
+}
+
+/// The second-order run of a machine, for a comparison by a certificate in which it is run 1 or run 2; or what stops it.
+pub fn second_side(
+    alloc: Global,
+    m: &Machine,
+    c: &Certificate,
+    run: u32,
+) -> Result<Trace, ComparisonStop>
+    requires scope { IsInScope m.now }
+    requires size { c.now.n ≡ state_count m.now }
+    ensures side { IfOk result (IsRunTrace m.now c.now second_order) }
+    ensures stopped { IfErr result (MayStop (HasNoRunTrace m.now c.now run second_order)) }
+    ensures memory { IfErr result (IfMemory (TakesMemory m.now second_order)) }
+{
+    if m.last > LONGEST {
+        return Err(ComparisonStop::Refused(ComparisonRefusal::Long { last: m.last }));
+    }
+    match second_trace(alloc, m) {
+        Ok(t) => allowed(c, t, run),
+        Err(over) => Err(stop_of(over)),
+    }
+}
+
+/// The run of which bytes are the trace, for a comparison by a certificate in which it is run 1 or run 2; or what stops it.
+pub fn traced_side(
+    alloc: Global,
+    m: &Machine,
+    c: &Certificate,
+    run: u32,
+    bytes: &[u8],
+) -> Result<Trace, ComparisonStop>
+    requires { c.now.n ≡ state_count m.now }
+    ensures side { IfOk result (IsRunTrace m.now c.now (traced bytes.now)) }
+    ensures stopped { IfErr result (MayStop (HasNoRunTrace m.now c.now run (traced bytes.now))) }
+    ensures memory { IfErr result (IfMemory (TakesMemory m.now (traced bytes.now))) }
+{
+    match read_run(alloc, m, bytes) {
+        Ok(t) => allowed(c, t, run),
+        Err(TraceResult::Refused(why)) => Err(ComparisonStop::Refused(ComparisonRefusal::Trace(
+            why,
+        ))),
+        Err(TraceResult::Memory) => Err(ComparisonStop::Memory),
+        Err(TraceResult::Written | TraceResult::Fault) => unreachable!(),
+    }
+}
+
+// What stops a comparison for which a run has no trace.
+fn stop_of(over: TraceOver) -> ComparisonStop
+    ensures overflow { (tick var : ℕ) → over ≡ TraceOver.Over tick var → result ≡ ComparisonStop.Over tick var }
+    ensures memory { over ≡ TraceOver.Memory → result ≡ ComparisonStop.Memory }
+{
+    match over {
+        TraceOver::Over { tick, var } => ComparisonStop::Over { tick, var },
+        TraceOver::Memory => ComparisonStop::Memory,
+    }
+}
+
+// The trace, where the certificate allows its quanta.
+fn allowed(c: &Certificate, t: Trace, run: u32) -> Result<Trace, ComparisonStop>
+    requires { t.n ≡ c.now.n }
+    ensures quanta { IfOk result (λ same. (same ≡ t) × HasQuanta c.now t) }
+    ensures above { IfErr result
+        (λ stop. (state : ℕ)
+        × IsFirstAbove c.now t state
+        × (stop ≡ ComparisonStop.Refused (ComparisonRefusal.Quantum run state))) }
+{
+    for j in 0..t.n {
+        if t.q.as_slice()[j as usize] > c.q.as_slice()[j as usize] {
+            return Err(ComparisonStop::Refused(ComparisonRefusal::Quantum {
+                run,
+                state: u32::from(j) + 1,
+            }));
+        }
+    }
+    Ok(t)
+}

@@ -1,0 +1,86 @@
+//! The line that tells how a call ended.
+
+ghost use Rattle.std.specs.Prelude.{◌≡◌, IsOk, IfOk};
+ghost use Rattle.qss_answers.specs.Comparisons as Comparisons;
+ghost use Rattle.qss_answers.specs.TraceEndings as Spec;
+
+use crate::certificate_line::certificate_refusal_line as certificate_line;
+use crate::refusals::outside_line;
+use crate::stop::ComparisonRefusal;
+use crate::trace_ending::{TraceRefusal, TraceResult};
+use qss_trace::TraceErr;
+use std::alloc::{AllocError, Global};
+
+/// The line that tells why a trace is refused, with its line feed.
+pub fn trace_refusal_line(alloc: Global, why: TraceRefusal) -> Result<Vec<u8>, AllocError>
+    ensures { IfOk result (λ line. line.items ≡ Spec.refusal_line why) }
+{
+    match why {
+        TraceRefusal::Outside(why) => outside_line(alloc, why),
+        TraceRefusal::TooLong => b"trace refused: top 1\n".to_vec(alloc),
+        TraceRefusal::Unread(why) => cause_line(alloc, why),
+        TraceRefusal::Broken {
+            place,
+            fact,
+            state,
+            left,
+            right,
+        } => {
+            let line = format!(in alloc;
+                "rejected: trace place {place} fact {fact} state {state} left {left} right {right}\n"
+            )?;
+            Ok(line.into_bytes())
+        }
+    }
+}
+
+// The line that tells why bytes are no trace.
+fn cause_line(alloc: Global, why: TraceErr) -> Result<Vec<u8>, AllocError>
+    ensures { IfOk result (λ line. line.items ≡ Spec.cause_line why) }
+{
+    let line = match why {
+        TraceErr::Keyword { line } => format!(in alloc; "trace refused: 1 {line}\n")?,
+        TraceErr::Shape { line, want, got } => {
+            format!(in alloc; "trace refused: 2 {line} {want} {got}\n")?
+        }
+        TraceErr::Number { line, field } => format!(in alloc; "trace refused: 3 {line} {field}\n")?,
+        TraceErr::Missing { line } => format!(in alloc; "trace refused: 4 {line}\n")?,
+        TraceErr::Form { got } => format!(in alloc; "trace refused: 5 {got}\n")?,
+        TraceErr::Memory => String::new(alloc),
+    };
+    Ok(line.into_bytes())
+}
+
+/// The line that tells how a call ended, with its line feed; nothing where all is written.
+pub fn trace_result_line(alloc: Global, ending: TraceResult) -> Result<Vec<u8>, AllocError>
+    ensures line { IfOk result (λ line. line.items ≡ Spec.ending_line ending) }
+
+    // Where all is written, no memory is wanted.
+    ensures silent { ending ≡ TraceResult.Written → IsOk result }
+{
+    match ending {
+        TraceResult::Written => Ok(Vec::new(alloc)),
+        TraceResult::Refused(why) => trace_refusal_line(alloc, why),
+        TraceResult::Fault => b"write fault\n".to_vec(alloc),
+        TraceResult::Memory => b"out of memory\n".to_vec(alloc),
+    }
+}
+
+/// The line that tells why two runs are not compared, with its line feed.
+pub fn comparison_line(alloc: Global, why: ComparisonRefusal) -> Result<Vec<u8>, AllocError>
+    ensures { IfOk result (λ line. line.items ≡ Comparisons.comparison_line why) }
+{
+    let line = match why {
+        ComparisonRefusal::Certificate(cause) => return certificate_line(alloc, cause),
+        ComparisonRefusal::Trace(cause) => return trace_refusal_line(alloc, cause),
+        ComparisonRefusal::Start => return b"rejected: start\n".to_vec(alloc),
+        ComparisonRefusal::Quantum { run, state } => {
+            format!(in alloc; "rejected: quantum trace {run} state {state}\n")?
+        }
+        ComparisonRefusal::Long { last } => format!(in alloc; "rejected: long {last}\n")?,
+        ComparisonRefusal::Range { place1, place2 } => {
+            format!(in alloc; "rejected: range places {place1} {place2}\n")?
+        }
+    };
+    Ok(line.into_bytes())
+}

@@ -1,0 +1,83 @@
+//! The reading of a trace of a machine.
+
+ghost use Rattle.std.specs.Prelude.{◌≡◌, ◌≢◌, ◌≤◌, ◌⊎◌, ℕ, List, length, IfOk, IfErr};
+ghost use Rattle.qss_machine.specs.Machines.{state_count};
+ghost use Rattle.qss_machine.specs.declared.system.Machine.{Machine};
+ghost use Rattle.cert_check.specs.Scope.{IsInScope};
+ghost use Rattle.qss_trace.specs.TraceTexts.{IsRefusedFor};
+ghost use Rattle.qss_answers.specs.TraceAnswers.{limit, IsRead, IsAccepted, IsRefusal};
+ghost use Rattle.qss_answers.specs.TraceEndings.{RefusesBy};
+
+use crate::trace_ending::{TraceRefusal, TraceResult};
+use cert_check::scope;
+use qss_machine::Machine;
+use qss_trace::{Trace, TraceErr, TraceVerdict, check_trace, read_trace};
+use std::alloc::Global;
+
+// The most bytes that a trace has.
+const LIMIT: usize = 1 << 24;
+
+/// The trace that bytes spell, where it is a legitimate run of the machine; or how a call ends that cannot have it.
+pub fn read_run(alloc: Global, m: &Machine, bytes: &[u8]) -> Result<Trace, TraceResult>
+    ensures read { IfOk result (IsAccepted m.now bytes.now) }
+    ensures refused { IfErr result (RefusesBy m.now bytes.now) }
+{
+    let t = read_for(alloc, m, bytes)?;
+    match check_trace(m, &t) {
+        TraceVerdict::Legitimate => Ok(t),
+        TraceVerdict::Broken {
+            place,
+            fact,
+            state,
+            left,
+            right,
+        } => Err(TraceResult::Refused(TraceRefusal::Broken {
+            place,
+            fact,
+            state,
+            left,
+            right,
+        })),
+    }
+}
+
+// The trace that bytes spell for the states of a machine, or how a call ends that cannot have it.
+fn read_for(alloc: Global, m: &Machine, bytes: &[u8]) -> Result<Trace, TraceResult>
+    ensures read { IfOk result (IsRead m.now bytes.now) }
+    ensures refused { IfErr result (RefusesBy m.now bytes.now) }
+{
+    match scope(m) {
+        Ok(states) => read_short(alloc, m, bytes, states),
+        Err(why) => Err(TraceResult::Refused(TraceRefusal::Outside(why))),
+    }
+}
+
+// The trace, where it is not too long.
+fn read_short(alloc: Global, m: &Machine, bytes: &[u8], states: u8) -> Result<Trace, TraceResult>
+    requires scope { IsInScope m.now }
+    requires states { states ≡ state_count m.now }
+    ensures read { IfOk result (IsRead m.now bytes.now) }
+    ensures refused { IfErr result (RefusesBy m.now bytes.now) }
+{
+    if bytes.len() > LIMIT {
+        return Err(TraceResult::Refused(TraceRefusal::TooLong));
+    }
+    match read_trace(alloc, bytes, states) {
+        Ok(t) => Ok(t),
+        Err(why) => Err(unread(why)),
+    }
+}
+
+// How a call ends that cannot read a trace for this.
+fn unread(why: TraceErr) -> TraceResult
+    ensures refused { (m : Machine) (bytes : List ℕ) → IsInScope m
+        → length bytes ≤ limit
+        → IsRefusedFor (state_count m) bytes why
+        → RefusesBy m bytes result }
+    ensures told { why ≢ TraceErr.Memory → result ≡ TraceResult.Refused (TraceRefusal.Unread why) }
+{
+    match why {
+        TraceErr::Memory => TraceResult::Memory,
+        why => TraceResult::Refused(TraceRefusal::Unread(why)),
+    }
+}

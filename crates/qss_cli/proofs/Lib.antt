@@ -1,0 +1,4 @@
+mod Taking
+mod Worked
+mod Found
+pub mod CommandShares

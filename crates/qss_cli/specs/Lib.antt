@@ -1,0 +1,6 @@
+pub mod CommandLine
+pub mod NumberWords
+pub mod Verbs
+pub mod Commands
+pub mod Requests
+pub mod CommandLineLaws

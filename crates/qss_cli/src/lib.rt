@@ -1,0 +1,14 @@
+//! The command line: what its words ask for.
+#![tactic(auto)]
+
+mod laws;
+mod line;
+mod matched;
+mod numbers;
+mod reading;
+mod request;
+mod verb;
+
+pub use laws::{words_are_read, words_stand_behind};
+pub use reading::read_words;
+pub use request::{Generation, Options, Request, Share, Side, Sides, Task, TwoFileTask};

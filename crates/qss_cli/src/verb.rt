@@ -1,0 +1,62 @@
+// The verbs of the command line.
+ghost use Rattle.std.specs.Prelude.{◌≡◌};
+ghost use Rattle.clap.specs.Words.{found_of, rows_of};
+ghost use Rattle.qss_cli.specs.Verbs as Spec;
+
+use crate::matched::{has_run_options, is_bare};
+use clap::ArgMatches;
+
+/// A verb: what the first word asks for.
+#[derive(Clone, Copy, Debug)]
+pub enum Verb {
+    Run,
+    Print,
+    Certify,
+    Upgrade,
+    Generate,
+    Check,
+    Propose,
+    Second,
+    Compare,
+    Devs,
+}
+
+/// The verb of this name.
+pub(crate) fn verb_named(name: &str) -> Option<Verb>
+    ensures { result ≡ Spec.verb_named name.now }
+{
+    if name == "run" {
+        Some(Verb::Run)
+    } else if name == "print" {
+        Some(Verb::Print)
+    } else if name == "certify" {
+        Some(Verb::Certify)
+    } else if name == "upgrade" {
+        Some(Verb::Upgrade)
+    } else if name == "gen" {
+        Some(Verb::Generate)
+    } else if name == "check" {
+        Some(Verb::Check)
+    } else if name == "propose" {
+        Some(Verb::Propose)
+    } else if name == "run2" {
+        Some(Verb::Second)
+    } else if name == "compare" {
+        Some(Verb::Compare)
+    } else if name == "devs" {
+        Some(Verb::Devs)
+    } else {
+        None
+    }
+}
+
+/// Whether all options that were written go with the verb.
+pub(crate) fn goes_with(verb: Verb, matches: &ArgMatches<'_>) -> bool
+    ensures { result ≡ Spec.goes_with verb (rows_of (found_of matches.now)) }
+{
+    match verb {
+        Verb::Run => true,
+        Verb::Certify => !has_run_options(matches),
+        _ => is_bare(matches),
+    }
+}

@@ -1,0 +1,54 @@
+-- The laws on what sources mean.
+use Rattle.std.specs.Prelude.{◌≡◌, ◌⊎◌, ℕ, List}
+use Rattle.mu_causal.specs.declared.answer.CausalErr.TheVariants.{Loop}
+use Rattle.mu_grammar.specs.Grammar.{Symbol}
+use Rattle.mu_grammar.specs.ModelGrammar.{SpellsModel}
+use Rattle.mu_names.specs.LeastFaults.{place, number}
+use Rattle.mu_names.specs.declared.fault.NameErr.{NameErr}
+use Rattle.mu_tree.specs.ModelTree.{ModelTree}
+use Rattle.mu_unroll.specs.WellFormed.{IsWellFormed}
+use Rattle.qss_compile.specs.Meanings.{Means, IsRefused}
+use Rattle.qss_compile.specs.declared.fault.ModelErr.TheVariants.{Names, Causal}
+use Rattle.qss_compile.specs.declared.fault.Refused.{Refused}
+use Rattle.qss_machine.specs.declared.system.Machine.{Machine}
+
+-- two refusals that name cycles of one flat model
+pub record AreLoops (r s : Refused) : Type 0 where
+  pub first : List ℕ
+  pub second : List ℕ
+  pub is_first : r.error ≡ Causal (Loop first)
+  pub is_second : s.error ≡ Causal (Loop second)
+  pub same_names : r.names ≡ s.names
+
+-- two refusals of names with one number at one place
+pub record AreAtOnePlace (r s : Refused) : Type 0 where
+  pub first : NameErr
+  pub second : NameErr
+  pub is_first : r.error ≡ Names first
+  pub is_second : s.error ≡ Names second
+  pub same_place : place first ≡ place second
+  pub same_number : number first ≡ number second
+
+-- two refusals are one, but for the cycle that they name
+abbrev pub AreAlike : Refused → Refused → Type 0
+AreAlike r s = (r ≡ s) ⊎ (AreLoops r s ⊎ AreAtOnePlace r s)
+
+-- a source means at most one machine
+abbrev pub MeaningsAreUnique : Type 0
+MeaningsAreUnique = (bytes : List ℕ) (m n : Machine) → Means bytes m → Means bytes n → m ≡ n
+
+-- a source that means a machine is not refused
+abbrev pub MeaningsAreNotRefused : Type 0
+MeaningsAreNotRefused = (bytes : List ℕ) (m : Machine) (r : Refused) → Means bytes m → IsRefused bytes r → ⊥
+
+-- a source is refused for one cause
+abbrev pub CausesAreUnique : Type 0
+CausesAreUnique = (bytes : List ℕ) (r s : Refused) → IsRefused bytes r → IsRefused bytes s → AreAlike r s
+
+-- each source means a machine or is refused
+abbrev pub SourcesAreDecided : Type 0
+SourcesAreDecided = (bytes : List ℕ) → ((m : Machine) × Means bytes m) ⊎ ((r : Refused) × IsRefused bytes r)
+
+-- a model that tokens spell is well formed
+abbrev pub SpelledModelsAreWellFormed : Type 0
+SpelledModelsAreWellFormed = (limit : ℕ) (ts : List Symbol) (m : ModelTree) → SpellsModel limit ts m → IsWellFormed m

@@ -1,0 +1,20 @@
+mod Ticks
+pub mod Places
+pub mod Leaving
+mod Filled
+pub mod Inputs
+mod InputsTold
+pub mod Lines
+mod LinesTold
+mod FunctionsTold
+mod Across
+pub mod Moving
+mod Agreement
+pub mod Variables
+mod ExpectedResult
+pub mod Keeping
+pub mod Standing
+pub mod Sent
+pub mod RowsTold
+mod NamedSends
+pub mod Passing

@@ -1,0 +1,14 @@
+-- The line moves to the message's tick, and is told.
+use Rattle.std.proofs.Common.{refl, ◌∙◌, ap}
+use Rattle.qss_quant.specs.IntegratorLines.{Line}
+use Rattle.qss_components.specs.Integrators.{line_told}
+use Rattle.qss_components.proofs.integrator_model.IntegratorModelAtomic.external.Goals as goal
+
+pub returns : goal.returns
+returns g c = (refl, refl, refl, c.told-self.ensures ∙ ap (λ (l : Line). line_told c.args.self.now.var l c.args.msg) c.moved-line.ensures)
+
+pub moved-line-requires : goal.moved-line-requires
+moved-line-requires g c = c.requires.timely
+
+pub told-self-requires : goal.told-self-requires
+told-self-requires g c = c.requires.message

@@ -1,0 +1,24 @@
+-- Components as their meanings speak of them: functions and crossings as records, and integrators that were given messages.
+use Rattle.std.specs.Prelude.{◌≡◌, ℕ}
+use Rattle.qss_components.specs.declared.crossing_model.CrossingModel.{CrossingModel}
+use Rattle.qss_components.specs.declared.function_model.FunctionModel.{FunctionModel}
+use Rattle.qss_components.specs.declared.integrator_model.IntegratorModel.{IntegratorModel}
+use Rattle.qss_components.specs.declared.message.Message.{Message}
+use Rattle.qss_components.specs.Integrators.{line_given}
+use Rattle.qss_components.specs.Functions.{Summing}
+use Rattle.qss_components.specs.Crossings.{Crossing}
+
+-- a function without the machine that it shares
+abbrev pub summing_of : FunctionModel → Summing
+summing_of s = record { row = s.row; tick = s.tick; levels = s.levels.items; discretes = s.discretes.items; changed = s.changed }
+
+-- a crossing without the machine that it shares
+abbrev pub crossing_of : CrossingModel → Crossing
+crossing_of c = record { place = c.place; watch = c.watch; inputs = c.inputs.items; time = c.time; gamma = c.gamma }
+
+-- an integrator that was given a message
+pub record IsGivenLine {X : Type 0} {g : _} (s : IntegratorModel X g) (tick : ℕ) (message : Message) (t : IntegratorModel X g) : Type 0 where
+  pub machine : t.machine.value ≡ s.machine.value
+  pub rule : t.quantizer.value ≡ s.quantizer.value
+  pub own : t.var ≡ s.var
+  pub line : t.line ≡ line_given s.var s.line tick message

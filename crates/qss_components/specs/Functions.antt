@@ -1,0 +1,61 @@
+-- A static function: the right side of a state at levels and discrete values.
+use Rattle.std.specs.Prelude.{ℕ, ◌+◌, ◌-◌, ◌^◌, List, ℤ, pos, slice_set, Option, Some, None, if◌then◌else◌}
+use Rattle.std.specs.Option.{option_or}
+use Rattle.std.specs.Ordering.{int_eq}
+use Rattle.qss_machine.specs.declared.system.Machine.{Machine}
+use Rattle.qss_machine.specs.Machines.{state_count, row_at, slope_at}
+use Rattle.qss_machine.specs.Ticks.{exceeds_row_limits}
+use Rattle.qss_components.specs.declared.message.Message.{Message}
+use Rattle.qss_components.specs.declared.message.Message.TheVariants.{Slope, State, Level, Discrete, Truth}
+
+-- the number of the row, its tick, its inputs, and the tick of the first change of its sum since it last sent one
+pub record Summing : Type 0 where
+  pub row : ℕ
+  pub tick : ℕ
+  pub levels : List ℤ
+  pub discretes : List ℤ
+  pub changed : Option ℕ
+
+-- its sum: the slope of its row, and one more than the limit of slopes where the row is past its limits
+abbrev pub sum_at : Machine → ℕ → List ℤ → List ℤ → ℤ
+sum_at m row levels discretes = if exceeds_row_limits m levels discretes (row_at m row) then pos (2 ^ 88 + 1) else slope_at m row levels discretes
+
+abbrev pub sum_of : Machine → Summing → ℤ
+sum_of m s = sum_at m s.row s.levels s.discretes
+
+-- it sends its sum at that tick, and has no change to send then
+abbrev pub summing_sent : Summing → ℕ → Summing
+summing_sent s tick = record s { tick = tick; changed = None }
+
+-- the tick of the change that was noted already, else this tick where the sum becomes another
+abbrev pub change_by : Option ℕ → ℕ → ℤ → ℤ → Option ℕ
+change_by changed tick before after = option_or changed (if int_eq before after then None else Some tick)
+
+-- it has these inputs from a tick on
+abbrev pub summing_with : Machine → Summing → ℕ → List ℤ → List ℤ → Summing
+summing_with m s tick levels discretes = record s {
+  tick = tick;
+  levels = levels;
+  discretes = discretes;
+  changed = change_by s.changed tick (sum_of m s) (sum_at m s.row levels discretes);
+}
+
+-- a message sets a level
+abbrev pub levels_told : List ℤ → Message → List ℤ
+levels_told levels (Level var level) = slice_set levels var level
+levels_told levels (Discrete var value) = levels
+levels_told levels (Slope var slope) = levels
+levels_told levels (State var state) = levels
+levels_told levels (Truth condition now) = levels
+
+-- or a discrete value, which are numbered behind the states
+abbrev pub discretes_told : Machine → List ℤ → Message → List ℤ
+discretes_told m discretes (Discrete var value) = slice_set discretes (var - state_count m) value
+discretes_told m discretes (Level var level) = discretes
+discretes_told m discretes (Slope var slope) = discretes
+discretes_told m discretes (State var state) = discretes
+discretes_told m discretes (Truth condition now) = discretes
+
+-- it is given a message at a tick
+abbrev pub summing_given : Machine → Summing → ℕ → Message → Summing
+summing_given m s tick message = summing_with m s tick (levels_told s.levels message) (discretes_told m s.discretes message)

@@ -1,0 +1,9 @@
+pub mod Messages
+pub mod Integrators
+pub mod Functions
+pub mod Crossings
+pub mod ComponentModels
+pub mod ComponentPlaces
+pub mod Transitions
+pub mod Agreement
+pub mod ComponentLaws

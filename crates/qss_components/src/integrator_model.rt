@@ -1,0 +1,232 @@
+//! Quantized integrators.
+
+ghost use Rattle.std.specs.Prelude.{◌≡◌, ◌<◌, ◌≤◌, ℕ, Option, Some, pos, ◌-ℤ◌, ◌*ℤ◌, unsigned_abs, int_lt};
+ghost use Rattle.mu_num.specs.Sizes.{IsWithin, IsPositiveWithin};
+ghost use Rattle.mu_num.specs.Levels.{IsWithinOneLevel};
+ghost use Rattle.qss_machine.specs.Machines.{state_count, level_unit};
+ghost use Rattle.qss_machine.specs.Ticks.{is_within_quantum};
+ghost use Rattle.qss_quant.specs.IntegratorLines.{state_at};
+ghost use Rattle.qss_quant.specs.LevelRules.{IsAnswer};
+ghost use Rattle.qss_components.specs.Messages.{IsMessage, IsTimely};
+ghost use Rattle.qss_components.specs.Integrators.{IsLineNext, line_moved, line_told};
+
+use crate::atomic::Atomic;
+use crate::message::Message;
+use qss_events::{first_tick_leaving, next_level};
+use qss_machine::Machine;
+use qss_quant::{Integrator, LevelRule, Quantizer, in_units};
+use std::rc::Rc;
+
+/// A state of a machine as a component: it moves along a line, and sends a new level where it is a quantum away from its
+/// level.
+#[derive(Drop)]
+pub struct IntegratorModel {
+    pub machine: Rc<Machine>,
+    pub quantizer: Rc<Quantizer>,
+    /// The state's number.
+    pub var: u32,
+    pub line: Integrator,
+    pub ghost known: { var < state_count machine.value },
+}
+
+// How far a state is from its level.
+fn distance(x: i128, level: i128) -> i128
+    requires state { IsWithin 89 x }
+    requires level { IsWithin 87 level }
+    ensures { result ≡ pos (unsigned_abs (x -ℤ level)) }
+{
+    (x - level).abs()
+}
+
+// Whether a number is less than another.
+fn is_less(a: i128, b: i128) -> bool
+    ensures { result ≡ int_lt a b }
+{
+    a < b
+}
+
+// Whether a state differs from a level by less than so many levels.
+fn is_inside(x: i128, level: i64, quantum: i64, unit: i128) -> bool
+    requires state { IsWithin 89 x }
+    requires level { IsWithin 43 level }
+    requires quantum { IsPositiveWithin 43 quantum }
+    requires unit { IsPositiveWithin 44 unit }
+    ensures { result ≡ int_lt (pos (unsigned_abs (x -ℤ unit *ℤ level))) (unit *ℤ quantum) }
+{
+    let place = in_units(level, unit);
+    let limit = in_units(quantum, unit);
+    is_less(distance(x, place), limit)
+}
+
+// Whether a state differs from its level by less than the quantum at that level.
+fn is_near(m: &Machine, var: u32, x: i128, level: i64) -> bool
+    requires known { var < state_count m.now }
+    requires state { IsWithin 89 x }
+    requires level { IsWithin 43 level }
+    ensures { result ≡ is_within_quantum m.now var x level }
+{
+    is_inside(x, level, m.quantum_at(var, level), m.level_unit())
+}
+
+// The tick of the next transition of a state's line.
+fn next_of(m: &Machine, var: u32, line: &Integrator) -> Option<u64>
+    requires { var < state_count m.now }
+    ensures next { IsLineNext m.now var line.now result }
+    ensures only { (next : Option ℕ) → IsLineNext m.now var line.now next → next ≡ result }
+{
+    if is_near(m, var, line.x, line.level) {
+        first_tick_leaving(m, var, line)
+    } else {
+        Some(line.tick)
+    }
+}
+
+// A level that the rule gives for a state where its line leaves the quantum of its level.
+fn level_at(m: &Machine, q: &Quantizer, var: u32, line: &Integrator, tick: u64) -> i128
+    requires known { var < state_count m.now }
+    requires next { IsLineNext m.now var line.now (Some tick) }
+    ensures allowed { IsAnswer q.now.name (state_at line.now tick) line.now.level
+        (level_unit m.now) result }
+    ensures ruled { LevelRule.post q.now.rule (state_at line.now tick) line.now.level
+        (level_unit m.now) result }
+{
+    let level = line.level;
+    let x = line.value_at(tick);
+    next_level(m, q, var, x, level, m.level_unit())
+}
+
+// A line that goes on at another slope.
+fn with_slope(line: Integrator, slope: i128) -> Integrator
+    requires { IsWithin 88 slope }
+    ensures { result ≡ record line { slope = slope } }
+{
+    Integrator { slope, ..line }
+}
+
+// A line that goes on from another state.
+fn with_state(line: Integrator, state: i128) -> Integrator
+    requires { IsWithin 88 state }
+    ensures { result ≡ record line { x = state } }
+{
+    Integrator { x: state, ..line }
+}
+
+impl IntegratorModel {
+    // Its line at a tick that is not past its next transition.
+    fn moved(&self, tick: u64) -> Integrator
+        requires { IsTimely self.now.line.tick
+            (IsLineNext self.now.machine.value self.now.var self.now.line) tick }
+        ensures { result ≡ line_moved self.now.line tick }
+    {
+        let line = &self.line;
+        let slope = line.slope;
+        let x = line.value_at(tick);
+        Integrator {
+            tick,
+            x,
+            slope,
+            level: line.level,
+        }
+    }
+
+    // A line that is told a message.
+    fn told(&self, line: Integrator, msg: Message) -> Integrator
+        requires { IsMessage self.now.machine.value msg }
+        ensures { result ≡ line_told self.now.var line msg }
+    {
+        match msg {
+            Message::Slope { var, slope } => {
+                if var == self.var {
+                    with_slope(line, slope)
+                } else {
+                    line
+                }
+            }
+            Message::State { var, state } => {
+                if var == self.var {
+                    with_state(line, state)
+                } else {
+                    line
+                }
+            }
+            Message::Level { .. } | Message::Discrete { .. } | Message::Truth { .. } => line,
+        }
+    }
+
+    // Its line where it takes a level at the tick of its next transition. It then leaves the new one later.
+    fn taken(&self, tick: u64, level: i128) -> Integrator
+        requires next { IsLineNext self.now.machine.value self.now.var self.now.line (Some tick) }
+        requires close { IsWithinOneLevel (level_unit self.now.machine.value) (state_at self.now.line tick)
+            self.now.line.level level }
+        requires size_limit { IsWithin 43 level }
+        ensures taken { result ≡ record {
+          tick = tick;
+          x = state_at self.now.line tick;
+          slope = self.now.line.slope;
+          level = level;
+        } }
+        ensures later { (next : ℕ)
+            → IsLineNext self.now.machine.value self.now.var result (Some next) → tick < next }
+    {
+        let line = &self.line;
+        let slope = line.slope;
+        let state = line.value_at(tick);
+        Integrator {
+            tick,
+            x: state,
+            slope,
+            level: level as i64,
+        }
+    }
+}
+
+impl Atomic for IntegratorModel {
+    ghost use Rattle.std.specs.Prelude.{◌≡◌, ℕ, ◌<◌, Option, Some};
+    ghost use Rattle.qss_components.specs.Integrators.{IsLineNext, SendsLevel, TakesLevel, line_given};
+
+    ghost part_of = { λ i. i.machine.value };
+
+    ghost own_tick = { λ i. i.line.tick };
+
+    ghost is_next = { λ i next. IsLineNext i.machine.value i.var i.line next };
+
+    ghost sends = { λ i tick sent.
+        SendsLevel i.machine.value i.quantizer.value.name
+        (λ state old unit new. LevelRule.post i.quantizer.value.rule state old unit new)
+        i.var i.line tick sent };
+
+    ghost turns = { λ i tick sent j. (j.machine.value ≡ i.machine.value)
+        × (j.quantizer.value ≡ i.quantizer.value) × (j.var ≡ i.var)
+        × TakesLevel i.var i.line tick sent j.line };
+
+    ghost has_small = { λ i tick. Unit {0} };
+
+    ghost given = { λ i tick message j. (j.machine.value ≡ i.machine.value)
+        × (j.quantizer.value ≡ i.quantizer.value) × (j.var ≡ i.var)
+        × (j.line ≡ line_given i.var i.line tick message) };
+
+    fn advance(&self) -> Option<u64> {
+        next_of(&self.machine, self.var, &self.line)
+    }
+
+    fn output(&self) -> Option<Message> {
+        let tick = self.advance()?;
+        let level = level_at(&self.machine, &self.quantizer, self.var, &self.line, tick);
+        Some(Message::Level {
+            var: self.var,
+            level,
+        })
+    }
+
+    fn internal(&mut self) {
+        if let Some(tick) = self.advance() {
+            let level = level_at(&self.machine, &self.quantizer, self.var, &self.line, tick);
+            self.line = self.taken(tick, level);
+        }
+    }
+
+    fn external(&mut self, tick: u64, msg: Message) {
+        let line = self.moved(tick);
+        self.line = self.told(line, msg);
+    }
+}

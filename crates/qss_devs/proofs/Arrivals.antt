@@ -1,0 +1,206 @@
+-- A coupled model on arrival at the next tick, and what its handlers leave.
+use Rattle.std.proofs.Common.{◌≡◌, ℕ, ◌+◌, ◌<◌, ◌≤◌, ◌^◌, Bool, true, false, List, [], length, get_or, ℤ, pos, ◌+ℤ◌, refl, sym, ◌∙◌, ap, subst, arith}
+use Rattle.std.proofs.lemmas.List.{length-map, get_or-map}
+use Rattle.std.proofs.lemmas.List.FromFn.{length-map-range_with_len}
+use Rattle.std.specs.Option.{option_or}
+use Rattle.std.specs.Prelude.{Option, Some, None, is_some, position}
+use Rattle.mu_num.specs.Sizes.{IsWithin}
+use Rattle.qss_machine.specs.declared.parts.Condition.{Condition}
+use Rattle.qss_machine.specs.declared.parts.Rel.TheVariants.{Less}
+use Rattle.qss_machine.specs.declared.system.Machine.{Machine}
+use Rattle.qss_machine.specs.Firing.{flag_at}
+use Rattle.qss_machine.specs.Handlers.{HandlerState, conditions, truths, firing_flags, run_clauses}
+use Rattle.qss_machine.specs.Machines.{state_count, discrete_count, slope_at, compares, truth}
+use Rattle.qss_machine.specs.IndexedSums.{int_at, first_exceeding}
+use Rattle.qss_machine.specs.Ticks.{Snapshot, moved_states, handlers_at, exceeds_row_limits, snapshot_unless, IsStep}
+use Rattle.qss_quant.specs.IntegratorLines.{Line, state_at}
+use Rattle.qss_quant.specs.declared.rule.Rule.{Rule}
+use Rattle.qss_cross.specs.Crossing.{holds_at}
+use Rattle.qss_hand.specs.Values.{Values as Kept}
+use Rattle.qss_hand.specs.Works.{AreValuesOf, handling_of}
+use Rattle.qss_hand.proofs.Turns.{clauses_stay}
+use Rattle.qss_events.specs.AllowedLevels.{IsAllowedLevel}
+use Rattle.qss_events.specs.Schedules.{slopes_of, condition_at}
+use Rattle.qss_events.specs.EventFreeTicks.{snapshot_after}
+use Rattle.qss_events.proofs.Firsts.{same_lists}
+use Rattle.qss_events.proofs.Quiet.{moved_is}
+use Rattle.qss_events.proofs.Overs.{all_within}
+use Rattle.qss_components.specs.declared.input.Input.{Input}
+use Rattle.qss_components.specs.Messages.{IsTimely}
+use Rattle.qss_components.specs.Integrators.{IsLineNext}
+use Rattle.qss_components.specs.Crossings.{IsCrossingNext, input_at, AreSmallAt}
+use Rattle.qss_components.specs.Agreement.{HasEach, Moving, ComponentsStandFor}
+use Rattle.qss_components.proofs.Standing.{components_move, crossings_tell}
+use Rattle.qss_components.proofs.Variables.{moving_state}
+use Rattle.qss_devs.specs.declared.components.Components.{Components}
+use Rattle.qss_devs.specs.declared.store.Store.{Store}
+use Rattle.qss_devs.specs.Coupling.{line_at, summing_at, crossing_at, AreComponents, IsSummingReady, AreReady}
+use Rattle.qss_devs.specs.CoupledSteps.{Agrees}
+use Rattle.qss_devs.specs.CoupledEvents.{states_at, snapshot_of, Stands, arrived_values, CrossingsLater}
+use Rattle.qss_devs.proofs.Followed.{states_are}
+use Rattle.qss_devs.proofs.Stays.{holds_still}
+
+-- where a state overflowed on arrival no branch fires
+pub stays_over : (m : Machine) (tick : ℕ) (w : Snapshot) (o : Option ℕ) → o ≡ first_exceeding 88 (moved_states m w) → (o ≡ None → ⊥) → o ≡ (handlers_at m tick w).overflow
+stays_over m tick w None is some = absurd (some refl)
+stays_over m tick w (Some var) is some =
+    is
+    ∙ sym (ap (λ (h : HandlerState). h.overflow)
+    (clauses_stay m tick w.discretes 0 (record { states = moved_states m w; discretes = w.discretes; rows = []; overflow = first_exceeding 88 (moved_states m w) }) var m.clauses
+    (firing_flags (truths m (moved_states m w) w.discretes tick) w.at_arrival w.after_handlers) (sym is)))
+
+-- the handlers, from what they work on
+pub handling_is : (m : Machine) (tick : ℕ) (w : Snapshot) (x d pre : List ℤ) (now at_arrival after_handlers : List Bool) →
+    x ≡ moved_states m w → d ≡ w.discretes → pre ≡ w.discretes → first_exceeding 88 (moved_states m w) ≡ None →
+    now ≡ truths m (moved_states m w) w.discretes tick → at_arrival ≡ w.at_arrival → after_handlers ≡ w.after_handlers →
+    run_clauses m tick pre 0 (record { states = x; discretes = d; rows = []; overflow = None }) m.clauses (firing_flags now at_arrival after_handlers) ≡ handlers_at m tick w
+handling_is m tick w x d pre now at_arrival after_handlers of_x of_d of_pre none of_now of_arrived of_settled =
+    ap (λ (zs : List ℤ). run_clauses m tick pre 0 (record { states = zs; discretes = d; rows = []; overflow = None }) m.clauses (firing_flags now at_arrival after_handlers)) of_x
+    ∙ ap (λ (zs : List ℤ). run_clauses m tick pre 0 (record { states = moved_states m w; discretes = zs; rows = []; overflow = None }) m.clauses (firing_flags now at_arrival after_handlers)) of_d
+    ∙ ap (λ (zs : List ℤ). run_clauses m tick zs 0 (record { states = moved_states m w; discretes = w.discretes; rows = []; overflow = None }) m.clauses (firing_flags now at_arrival after_handlers)) of_pre
+    ∙ ap (λ (o : Option ℕ). run_clauses m tick w.discretes 0 (record { states = moved_states m w; discretes = w.discretes; rows = []; overflow = o }) m.clauses (firing_flags now at_arrival after_handlers)) (sym none)
+    ∙ ap (λ (flags : List Bool). run_clauses m tick w.discretes 0 (record { states = moved_states m w; discretes = w.discretes; rows = []; overflow = first_exceeding 88 (moved_states m w) }) m.clauses (firing_flags flags at_arrival after_handlers)) of_now
+    ∙ ap (λ (flags : List Bool). run_clauses m tick w.discretes 0 (record { states = moved_states m w; discretes = w.discretes; rows = []; overflow = first_exceeding 88 (moved_states m w) }) m.clauses (firing_flags (truths m (moved_states m w) w.discretes tick) flags after_handlers)) of_arrived
+    ∙ ap (λ (flags : List Bool). run_clauses m tick w.discretes 0 (record { states = moved_states m w; discretes = w.discretes; rows = []; overflow = first_exceeding 88 (moved_states m w) }) m.clauses (firing_flags (truths m (moved_states m w) w.discretes tick) w.at_arrival flags)) of_settled
+
+module _ {X : Type 0} {g : _} (m : Machine) (name : Option Rule) (tick : ℕ) (s : Store X g) (stands : Stands m name tick s) (before : tick < m.last) where
+  abbrev w : Snapshot
+  w = snapshot_of tick s
+
+  are : AreComponents m s.parts
+  are = stands.fits.parts
+
+  last : m.last < 2 ^ 32
+  last = m.has_units.last_tick
+
+  states_many : length w.states ≡ state_count m
+  states_many = length-map s.parts.integrators.items (λ i. state_at i.line tick) ∙ are.integrators
+
+  pub discretes_many : length w.discretes ≡ discrete_count m
+  discretes_many = stands.fits.values.discretes
+
+  moved_stand : ComponentsStandFor m (tick + 1) (snapshot_after m w 1) (line_at s.parts) (summing_at s.parts) (crossing_at s.parts)
+  moved_stand = components_move m tick 1 w (line_at s.parts) (summing_at s.parts) (crossing_at s.parts) stands.stand
+
+  moved_many : length (moved_states m w) ≡ state_count m
+  moved_many = length-map-range_with_len (λ j. int_at w.states j +ℤ slope_at m j w.levels w.discretes) 0 (state_count m)
+
+  -- the components agree with the values on arrival
+  pub arrived_agree : Agrees m (tick + 1) (arrived_values m w) s.parts
+  arrived_agree =
+      subst (λ (xs : List ℤ). Agrees m (tick + 1) (record { states = xs; slopes = slopes_of m w; levels = w.levels; discretes = w.discretes }) s.parts) (sym (moved_is m w)) moved_stand.agree
+
+  pub arrived_each : HasEach m (arrived_values m w)
+  arrived_each = record {
+    states = moved_many;
+    slopes = length-map-range_with_len (λ j. slope_at m j w.levels w.discretes) 0 (state_count m);
+    levels = stands.left.one_each;
+    discretes = discretes_many;
+  }
+
+  -- the lines lead to the states on arrival
+  pub arrived_states : states_at (tick + 1) s.parts ≡ moved_states m w
+  arrived_states = states_are m (tick + 1) (arrived_values m w) s.parts are arrived_agree moved_many
+
+  pub lines_early : (j : ℕ) → j < state_count m → (line_at s.parts j).tick ≤ tick
+  lines_early j h = (stands.stand.agree.integrators j h).not_later
+
+  -- crossings may be read
+  pub crossing_timely : (place : ℕ) → place < length (conditions m) → IsTimely (crossing_at s.parts place).watch.tick (IsCrossingNext (crossing_at s.parts place).watch) (tick + 1)
+  crossing_timely place h = record {
+    not_before = omega (arith, (stands.stand.agree.crossings place h).not_later);
+    in_time = omega (arith, before, last);
+    not_past = λ next found. omega (arith, stands.crossings place next h found);
+  }
+
+  pub crossing_held : (place : ℕ) → place < length (conditions m) → flag_at s.truths.after_handlers.items place ≡ compares (crossing_at s.parts place).watch.rel (crossing_at s.parts place).watch.value
+  crossing_held place h =
+      let none : Condition = record { form = record { entries = []; time = pos 0; gamma = pos 0 }; rel = Less } in
+      ap (λ (flags : List Bool). flag_at flags place) stands.after_handlers
+      ∙ get_or-map (λ (condition : Condition). truth m condition w.states w.discretes tick) (conditions m) place none false h
+      ∙ sym (crossings_tell m tick place w (line_at s.parts) (summing_at s.parts) (crossing_at s.parts) states_many discretes_many h stands.stand)
+      ∙ holds_still (crossing_at s.parts place).watch tick (stands.stand.agree.crossings place h).not_later (omega (arith, before, last)) (λ next found. stands.crossings place next h found)
+
+  -- the truths that they tell are those of the conditions on arrival
+  pub arrived_truths : (now : List Bool) → length now ≡ length (conditions m) →
+      ((place : ℕ) → place < length (conditions m) → flag_at now place ≡ holds_at (crossing_at s.parts place).watch (tick + 1)) → now ≡ truths m (moved_states m w) w.discretes (tick + 1)
+  arrived_truths now many told =
+      same_lists false now (truths m (moved_states m w) w.discretes (tick + 1)) (many ∙ sym all) each
+    where
+      all : length (truths m (moved_states m w) w.discretes (tick + 1)) ≡ length (conditions m)
+      all = length-map (conditions m) (λ (condition : Condition). truth m condition (moved_states m w) w.discretes (tick + 1))
+
+      each : (k : ℕ) → k < length (truths m (moved_states m w) w.discretes (tick + 1)) → get_or now k false ≡ get_or (truths m (moved_states m w) w.discretes (tick + 1)) k false
+      each k h =
+          let none : Condition = record { form = record { entries = []; time = pos 0; gamma = pos 0 }; rel = Less } in
+          let here : k < length (conditions m) = omega (arith, h, all) in
+          told k here
+          ∙ crossings_tell m (tick + 1) k (snapshot_after m w 1) (line_at s.parts) (summing_at s.parts) (crossing_at s.parts) (ap length (sym (moved_is m w)) ∙ moved_many) discretes_many here moved_stand
+          ∙ ap (λ (xs : List ℤ). truth m (condition_at m k) xs w.discretes (tick + 1)) (sym (moved_is m w))
+          ∙ sym (get_or-map (λ (condition : Condition). truth m condition (moved_states m w) w.discretes (tick + 1)) (conditions m) k none false here)
+
+  -- what handlers work on
+  abbrev pub begun : Kept
+  begun = record s.work { x = moved_states m w; pre = s.work.d; tick = tick + 1; log = [] }
+
+  pub begun_fits : (v : Kept) → v ≡ begun → first_exceeding 88 (moved_states m w) ≡ None → AreValuesOf m v
+  begun_fits v is within = subst (AreValuesOf m) (sym is) (record {
+    states = moved_many;
+    discretes = stands.fits.values.discretes;
+    before = stands.fits.values.discretes;
+    small_states = all_within 88 (moved_states m w) within;
+    small_discretes = stands.fits.values.small_discretes;
+    small_before = stands.fits.values.small_discretes;
+    in_time = omega (arith, before, last);
+  })
+
+  pub handled_is : (v : Kept) (now at_arrival after_handlers : List Bool) → v ≡ begun → first_exceeding 88 (moved_states m w) ≡ None → now ≡ truths m (moved_states m w) w.discretes (tick + 1) → at_arrival ≡ w.at_arrival → after_handlers ≡ w.after_handlers →
+      run_clauses m v.tick v.pre 0 (handling_of v) m.clauses (firing_flags now at_arrival after_handlers) ≡ handlers_at m (tick + 1) w
+  handled_is v now at_arrival after_handlers is within of_now of_arrived of_settled =
+      ap (λ (u : Kept). run_clauses m u.tick u.pre 0 (handling_of u) m.clauses (firing_flags now at_arrival after_handlers)) is
+      ∙ handling_is m (tick + 1) w (moved_states m w) w.discretes w.discretes now at_arrival after_handlers refl refl refl within of_now of_arrived of_settled
+
+  -- where no state overflows on arrival, what the crossings read is within the limits
+  module _ (within : first_exceeding 88 (moved_states m w) ≡ None) (new : Components X g) (same_lines : (j : ℕ) → j < state_count m → line_at new j ≡ line_at s.parts j)
+      (same_summings : (j : ℕ) → j < state_count m → summing_at new j ≡ summing_at s.parts j) (agree : Agrees m (tick + 1) (arrived_values m w) new) (later : CrossingsLater m (tick + 1) (crossing_at new)) where
+    small_inputs : (place : ℕ) → place < length (conditions m) → AreSmallAt m (crossing_at new place).inputs (tick + 1)
+    small_inputs place h k d inside var =
+        let i : Input = get_or (crossing_at new place).inputs k d in
+        let own = (agree.crossings place h).lines k d inside in
+        let here : input_at (tick + 1) i ≡ int_at (moved_states m w) i.var = ap (λ (moving : Moving). moving.at) (own.here ∙ moving_state m (arrived_values m w) i.var var) in
+        subst (IsWithin 88) (sym here) (all_within 88 (moved_states m w) within i.var (pos 0) (omega (arith, var, moved_many)))
+
+    pub arrived_ready : AreReady m (tick + 1) (line_at new) (summing_at new) (crossing_at new)
+    arrived_ready = record {
+      in_time = omega (arith, before, last);
+      integrators = λ j h. subst (λ (l : Line). IsTimely l.tick (IsLineNext m j l) (tick + 1)) (sym (same_lines j h)) (record {
+        not_before = omega (arith, lines_early j h);
+        in_time = omega (arith, before, last);
+        not_past = λ next found. omega (arith, stands.lines j next h found);
+      });
+      functions = λ j h. subst (IsSummingReady (tick + 1)) (sym (same_summings j h)) (record {
+        not_later = omega (arith, (stands.stand.agree.functions j h).not_later);
+        now = λ next found. let none : (summing_at s.parts j).changed ≡ None = stands.stand.sent j h in absurd (cc);
+      });
+      crossings = λ place h. record {
+        not_later = (agree.crossings place h).not_later;
+        later = λ next found. later place next h found;
+        small = small_inputs place h;
+      };
+    }
+
+-- the step of a tick whose handlers overflow
+pub over_step : (m : Machine) (name : Option Rule) (tick : ℕ) (w next : Snapshot) (over : Option ℕ) → is_some over ≡ true → over ≡ (handlers_at m tick w).overflow →
+    IsStep (IsAllowedLevel name) m tick w (snapshot_unless over next)
+over_step m name tick w next None some is = absurd (cc)
+over_step m name tick w next (Some var) some is = (
+  [],
+  (λ none. absurd (cc)),
+  ap (λ o. snapshot_unless (option_or o (option_or (first_exceeding 43 []) (position (exceeds_row_limits m [] (handlers_at m tick w).discretes) m.rows))) (record {
+    states = (handlers_at m tick w).states;
+    levels = [];
+    discretes = (handlers_at m tick w).discretes;
+    at_arrival = truths m (moved_states m w) w.discretes tick;
+    after_handlers = truths m (handlers_at m tick w).states (handlers_at m tick w).discretes tick;
+  })) is,
+)

@@ -1,0 +1,69 @@
+-- The flags of due branches, and those of one clause among all.
+use Rattle.std.proofs.Common.{◌≡◌, ℕ, ◌+◌, ◌-◌, ◌<◌, ◌≤◌, Bool, false, ◌&&◌, List, [], length, take, drop, refl, sym, ◌∙◌, ap, arith, inl, inr}
+use Rattle.std.proofs.lemmas.Bool.{cases_lt}
+use Rattle.std.proofs.lemmas.List.{get_or-take, get_or-drop, get_or_past, length-take, length-drop}
+use Rattle.std.proofs.lemmas.List.Sums.{sum_by_more_le}
+use Rattle.std.specs.List.{position, sum_by}
+use Rattle.std.specs.Prelude.{None, Some, not}
+use Rattle.qss_machine.specs.declared.system.Machine.{Machine}
+use Rattle.qss_machine.specs.Firing.{flag_at}
+use Rattle.qss_machine.specs.Handlers.{HandlerState, conditions, firing_flags, run_first_due, run_clauses}
+use Rattle.qss_hand.specs.Values.{Values}
+use Rattle.qss_hand.specs.Works.{handling_of, values_after, clause_at}
+use Rattle.qss_hand.proofs.AfterStatements.{whole}
+use Rattle.qss_hand.proofs.Turns.{length-conditions, next_turn, clauses_stay}
+use Rattle.qss_hand.proofs.Branches.{width_of}
+use Rattle.qss_events.proofs.Ranges.{none_passes}
+use Rattle.qss_events.proofs.Flags.{flag_at-due_flags}
+use Rattle.qss_devs.specs.Flags.{flags_from}
+
+-- as these truths say
+pub due_of : (now at_arrival after_handlers : List Bool) (k : ℕ) → length at_arrival ≡ length now → length after_handlers ≡ length now → k < length now →
+    (n a s : Bool) → flag_at now k ≡ n → flag_at at_arrival k ≡ a → flag_at after_handlers k ≡ s → flag_at (firing_flags now at_arrival after_handlers) k ≡ (n && not (a && s))
+due_of now at_arrival after_handlers k e f h n a s is_now is_arrived is_settled =
+    flag_at-due_flags now at_arrival after_handlers k e f h
+    ∙ ap (λ x. x && not (flag_at at_arrival k && flag_at after_handlers k)) is_now
+    ∙ ap (λ x. n && not (x && flag_at after_handlers k)) is_arrived
+    ∙ ap (λ x. n && not (a && x)) is_settled
+
+-- no flag is set, also past the end
+pub none_set : (flags : List Bool) → position (λ flag. flag) flags ≡ None → (k : ℕ) → flag_at flags k ≡ false
+none_set flags e k = elim (cases_lt k (length flags)) [ inl below ↦ none_passes false (λ flag. flag) flags e k below | inr past ↦ get_or_past flags k false past ]
+
+pub length-flags : (due : List Bool) (first width : ℕ) → first + width ≤ length due → length (flags_from first width due) ≡ width
+length-flags due first width h =
+    let e : (first + width) - first ≡ width = omega arith in
+    ap (λ n. length (take n (drop first due))) e ∙ omega (arith, length-take width (drop first due), length-drop first due)
+
+-- a flag of a clause by its branch
+pub flag_from : (due : List Bool) (first width k : ℕ) → k < width → flag_at (flags_from first width due) k ≡ flag_at due (first + k)
+flag_from due first width k h =
+    let inside : k < (first + width) - first = omega (arith, h) in
+    get_or-take ((first + width) - first) (drop first due) k false inside ∙ get_or-drop first due k false
+
+-- the flags of a clause are among all
+pub turn_within : (m : Machine) (i first : ℕ) → i < length m.clauses → first ≡ sum_by width_of (take i m.clauses) → first + width_of (clause_at m i) ≤ length (conditions m)
+turn_within m i first h so_far = omega (arith, sum_by_more_le width_of m.clauses i (record { branches = [] }) h, length-conditions m.clauses, so_far)
+
+module _ (m : Machine) (w0 w : Values) (due : List Bool) (i first : ℕ) (h : i < length m.clauses) (tick : w.tick ≡ w0.tick) (before : w.pre ≡ w0.pre) where
+  abbrev pub turn : HandlerState
+  turn = run_first_due m w.tick w.pre i 0 (handling_of w) (clause_at m i).branches (flags_from first (width_of (clause_at m i)) due)
+
+  turn_is : turn ≡ run_first_due m w0.tick w0.pre i 0 (handling_of w) (clause_at m i).branches (take (width_of (clause_at m i)) (drop first due))
+  turn_is =
+      let e : (first + width_of (clause_at m i)) - first ≡ width_of (clause_at m i) = omega arith in
+      ap (λ t. run_first_due m t w.pre i 0 (handling_of w) (clause_at m i).branches (flags_from first (width_of (clause_at m i)) due)) tick
+      ∙ ap (λ p. run_first_due m w0.tick p i 0 (handling_of w) (clause_at m i).branches (flags_from first (width_of (clause_at m i)) due)) before
+      ∙ ap (λ n. run_first_due m w0.tick w0.pre i 0 (handling_of w) (clause_at m i).branches (take n (drop first due))) e
+
+  pub turn_done : (next : Values) → next ≡ values_after w turn → None ≡ turn.overflow →
+      run_clauses m w0.tick w0.pre i (handling_of w) (drop i m.clauses) (drop first due)
+      ≡ run_clauses m w0.tick w0.pre (i + 1) (handling_of next) (drop (i + 1) m.clauses) (drop (first + width_of (clause_at m i)) due)
+  turn_done next values calm =
+      let after : handling_of next ≡ turn = ap handling_of values ∙ whole turn (sym calm) in
+      next_turn m w0.tick w0.pre i first (handling_of w) (handling_of next) m.clauses due (record { branches = [] }) h refl (after ∙ turn_is)
+
+  pub turn_over : (var : ℕ) → Some var ≡ turn.overflow → turn ≡ run_clauses m w0.tick w0.pre i (handling_of w) (drop i m.clauses) (drop first due)
+  turn_over var over =
+      sym (next_turn m w0.tick w0.pre i first (handling_of w) turn m.clauses due (record { branches = [] }) h refl turn_is
+      ∙ clauses_stay m w0.tick w0.pre (i + 1) turn var (drop (i + 1) m.clauses) (drop (first + width_of (clause_at m i)) due) (sym over))

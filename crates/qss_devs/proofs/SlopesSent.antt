@@ -1,0 +1,103 @@
+-- Functions that send their sums one after another.
+use Rattle.std.proofs.Common.{◌≡◌, ◌≢◌, ℕ, zero, suc, ◌+◌, ◌≤◌, ◌<◌, true, false, List, length, ℤ, pos, inl, inr, refl, sym, ◌∙◌, ap, subst, arith}
+use Rattle.std.proofs.lemmas.Bool.{cases_eq, cases_lt}
+use Rattle.std.proofs.lemmas.List.{length-set}
+use Rattle.std.proofs.lemmas.List.FromFn.{length-map-range_with_len}
+use Rattle.std.specs.Prelude.{Some, None}
+use Rattle.mu_num.specs.Sizes.{IsWithin}
+use Rattle.qss_machine.specs.declared.system.Machine.{Machine}
+use Rattle.qss_machine.specs.Machines.{state_count, row_at, slope_at}
+use Rattle.qss_machine.specs.IndexedSums.{int_at, tabulate}
+use Rattle.qss_machine.specs.Ticks.{exceeds_row_limits}
+use Rattle.qss_events.specs.Schedules.{no_row}
+use Rattle.qss_events.proofs.Firsts.{first_is, same_lists}
+use Rattle.qss_events.proofs.Quiet.{int_at-tabulate}
+use Rattle.qss_events.proofs.Ranges.{position-none}
+use Rattle.qss_events.proofs.LightRows.{light_row}
+use Rattle.qss_components.specs.Functions.{Summing}
+use Rattle.qss_components.specs.Agreement.{Values, HasEach}
+use Rattle.qss_components.proofs.Variables.{set_same, set_other}
+use Rattle.qss_devs.specs.declared.components.Components.{Components}
+use Rattle.qss_devs.specs.Coupling.{summing_at}
+use Rattle.qss_devs.specs.CoupledSteps.{Agrees, AreValues, slopes_upto, sloped, IsSlopeSent, AreSentUpTo, AreSent}
+use Rattle.qss_devs.proofs.Overs.{not_past, is_past}
+
+module _ (m : Machine) (v : Values) where
+  upto_many : (n : ℕ) → length (slopes_upto m v n) ≡ length v.slopes
+  upto_many zero = refl
+  upto_many (suc n) = length-set (slopes_upto m v n) n (slope_at m n v.levels v.discretes) ∙ upto_many n
+
+  upto_kept : (n i : ℕ) → n ≤ i → int_at (slopes_upto m v n) i ≡ int_at v.slopes i
+  upto_kept zero i le = refl
+  upto_kept (suc n) i le =
+      set_other (slopes_upto m v n) n i (slope_at m n v.levels v.discretes) (λ e. absurd (omega (arith, e, le))) ∙ upto_kept n i (omega (arith, le))
+
+  upto_sent : (n i : ℕ) → n ≤ length v.slopes → i < n → int_at (slopes_upto m v n) i ≡ slope_at m i v.levels v.discretes
+  upto_sent zero i le h = absurd (omega (arith, h))
+  upto_sent (suc n) i le h = elim (cases_eq i n) [
+    | inl e ↦
+        set_same (slopes_upto m v n) n i (slope_at m n v.levels v.discretes) e (omega (arith, le, upto_many n))
+        ∙ ap (λ (k : ℕ). slope_at m k v.levels v.discretes) (sym e)
+    | inr ne ↦ set_other (slopes_upto m v n) n i (slope_at m n v.levels v.discretes) ne ∙ upto_sent n i (omega (arith, le)) (omega (arith, h, ne))
+  ]
+
+  -- the next one has its own slope yet
+  pub next_slope : (n : ℕ) → int_at (slopes_upto m v n) n ≡ int_at v.slopes n
+  next_slope n = upto_kept n n (omega arith)
+
+  all_slopes : length v.slopes ≡ state_count m → slopes_upto m v (state_count m) ≡ tabulate (state_count m) (λ j. slope_at m j v.levels v.discretes)
+  all_slopes many =
+      let as_many : length (tabulate (state_count m) (λ j. slope_at m j v.levels v.discretes)) ≡ state_count m =
+      length-map-range_with_len (λ j. slope_at m j v.levels v.discretes) 0 (state_count m) in
+      same_lists (pos 0) (slopes_upto m v (state_count m)) (tabulate (state_count m) (λ j. slope_at m j v.levels v.discretes)) (upto_many (state_count m) ∙ many ∙ sym as_many)
+      (λ k inside.
+      let h : k < state_count m = omega (arith, inside, as_many) in
+      upto_sent (state_count m) k (omega (arith, many)) h ∙ sym (int_at-tabulate (state_count m) (λ j. slope_at m j v.levels v.discretes) k h))
+
+pub sent_none : {X : Type 0} {g : _} (m : Machine) (tick : ℕ) (v : Values) (parts : Components X g) → Agrees m tick v parts → AreSentUpTo m tick v 0 parts
+sent_none {X} {g} m tick v parts a = record { agree = a; light = λ i h. absurd (omega (arith, h)); sent = λ i h. absurd (omega (arith, h)) }
+
+pub sent_more : {X : Type 0} {g : _} (m : Machine) (tick : ℕ) (v : Values) (n : ℕ) (parts next : Components X g) → n < state_count m → AreSentUpTo m tick v n parts →
+    IsSlopeSent m tick (sloped m v n) n next None → ((i : ℕ) → i < state_count m → i ≢ n → summing_at next i ≡ summing_at parts i) → AreSentUpTo m tick v (n + 1) next
+sent_more {X} {g} m tick v n parts next inside before step others =
+    let light : exceeds_row_limits m v.levels v.discretes (row_at m n) ≡ false = not_past (exceeds_row_limits m v.levels v.discretes (row_at m n)) n step.own_over in
+    let e : suc n ≡ n + 1 = omega arith in
+    subst (λ (k : ℕ). AreSentUpTo m tick v k next) e (record {
+      agree = step.agree refl;
+      light = λ i h. elim (cases_eq i n) [
+        | inl same ↦ subst (λ (k : ℕ). exceeds_row_limits m v.levels v.discretes (row_at m k) ≡ false) (sym same) light
+        | inr ne ↦ before.light i (omega (arith, h, ne))
+      ];
+      sent = λ i h. elim (cases_eq i n) [
+        | inl same ↦ subst (λ (k : ℕ). (summing_at next k).changed ≡ None) (sym same) (step.sent refl)
+        | inr ne ↦ ap (λ (s : Summing). s.changed) (others i (omega (arith, h, inside)) ne) ∙ before.sent i (omega (arith, h, ne))
+      ];
+    })
+
+module _ {X : Type 0} {g : _} (m : Machine) (tick : ℕ) (v : Values) (each : HasEach m v) (parts : Components X g) where
+  pub sent_all : AreSentUpTo m tick v (state_count m) parts → AreSent m tick v parts None
+  sent_all done = record {
+    own_over = sym (position-none no_row (exceeds_row_limits m v.levels v.discretes) m.rows (λ j inside. done.light j (omega (arith, inside, m.has_rows.one_each))));
+    agree = λ e. subst (λ (slopes : List ℤ). Agrees m tick (record v { slopes = slopes }) parts) (all_slopes m v each.slopes) done.agree;
+    sent = λ e. done.sent;
+  }
+
+  pub sent_over : (n : ℕ) (before : Components X g) → n < state_count m → AreSentUpTo m tick v n before → IsSlopeSent m tick (sloped m v n) n parts (Some n) → AreSent m tick v parts (Some n)
+  sent_over n before inside done step =
+      let heavy : exceeds_row_limits m v.levels v.discretes (row_at m n) ≡ true = is_past (exceeds_row_limits m v.levels v.discretes (row_at m n)) n n step.own_over in
+      record {
+        own_over = sym (first_is no_row (exceeds_row_limits m v.levels v.discretes) m.rows n (omega (arith, inside, m.has_rows.one_each)) (λ k less. done.light k less) heavy);
+        agree = λ e. absurd (cc);
+        sent = λ e. absurd (cc);
+      }
+
+-- the values after some functions had their turns are within the limits
+pub sloped_values : {X : Type 0} {g : _} (m : Machine) (tick : ℕ) (v : Values) (n : ℕ) (parts : Components X g) → n ≤ state_count m → AreValues m v → AreSentUpTo m tick v n parts → AreValues m (sloped m v n)
+sloped_values {X} {g} m tick v n parts le values done = record {
+  each = record { states = values.each.states; slopes = upto_many m v n ∙ values.each.slopes; levels = values.each.levels; discretes = values.each.discretes };
+  small = values.small;
+  slow = λ i h. elim (cases_lt i n) [
+    | inl less ↦ subst (IsWithin 88) (sym (upto_sent m v n i (omega (arith, le, values.each.slopes)) less)) (light_row m v.levels v.discretes i (done.light i less)).slope
+    | inr past ↦ subst (IsWithin 88) (sym (upto_kept m v n i past)) (values.slow i h)
+  ];
+}

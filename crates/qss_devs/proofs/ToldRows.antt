@@ -1,0 +1,42 @@
+-- The rows of handlers tell what may be sent as messages.
+use Rattle.std.proofs.Common.{ℕ, ◌+◌, Bool, List, [], ◌∷◌, ◌++◌, ℤ, pos, set, ◌-◌}
+use Rattle.std.proofs.lemmas.List.Elements.{All-push}
+use Rattle.std.specs.Prelude.{All, Some}
+use Rattle.mu_num.proofs.SizeTests.{passes-within}
+use Rattle.mu_num.proofs.Tests.{if_cases}
+use Rattle.mu_num.specs.Sizes.{exceeds}
+use Rattle.qss_machine.specs.declared.parts.Action.{Action}
+use Rattle.qss_machine.specs.declared.parts.Action.TheVariants.{Set, Reinit}
+use Rattle.qss_machine.specs.declared.rows.Row.{Row}
+use Rattle.qss_machine.specs.declared.rows.RowKind.TheVariants as kind
+use Rattle.qss_machine.specs.declared.system.Machine.{Machine}
+use Rattle.qss_machine.specs.Handlers.{HandlerState, assign, fire_row, run_clauses}
+use Rattle.qss_machine.specs.MachineLimits.{IsAction}
+use Rattle.qss_machine.specs.Machines.{state_count, discrete_count}
+use Rattle.qss_hand.proofs.Targets.{target_set, target_reinit}
+use Rattle.qss_events.proofs.Kept.{after_clauses}
+use Rattle.qss_devs.specs.CoupledSteps.{IsToldMessage}
+
+module _ (m : Machine) (tick : ℕ) where
+  abbrev set_row : ℕ → ℤ → Row
+  set_row var z = record { tick = tick; kind = kind.Set; var = var; level = z; state = pos 0 }
+
+  abbrev reinit_row : ℕ → ℤ → Row
+  reinit_row var z = record { tick = tick; kind = kind.Reinit; var = var; level = pos 0; state = z }
+
+  told_fire : (h : HandlerState) (clause branch : ℕ) → All (IsToldMessage m) h.rows → All (IsToldMessage m) (h.rows ++ fire_row tick clause branch ∷ [])
+  told_fire h clause branch told = All-push (IsToldMessage m) h.rows (fire_row tick clause branch) told tt
+
+  told_assign : (h : HandlerState) (action : Action) (z : ℤ) → IsAction (state_count m) (discrete_count m) action → All (IsToldMessage m) h.rows → All (IsToldMessage m) (assign m tick h action z).rows
+  told_assign h (Set var form) z known told =
+      let next : HandlerState = record h { discretes = set h.discretes (var - state_count m) z; rows = h.rows ++ set_row var z ∷ [] } in
+      let inside = target_set (state_count m) (discrete_count m) var form known.target in
+      if_cases (λ (g : HandlerState). All (IsToldMessage m) g.rows) (exceeds 43 z) (record h { overflow = Some var }) next (λ e. told)
+      (λ e. All-push (IsToldMessage m) h.rows (set_row var z) told (inside.0, inside.1, passes-within 43 z e))
+  told_assign h (Reinit var form) z known told =
+      let next : HandlerState = record h { states = set h.states var z; rows = h.rows ++ reinit_row var z ∷ [] } in
+      if_cases (λ (g : HandlerState). All (IsToldMessage m) g.rows) (exceeds 88 z) (record h { overflow = Some var }) next (λ e. told)
+      (λ e. All-push (IsToldMessage m) h.rows (reinit_row var z) told (target_reinit (state_count m) (discrete_count m) var form known.target, passes-within 88 z e))
+
+  pub rows_are_told : (before : List ℤ) (h : HandlerState) (due : List Bool) → All (IsToldMessage m) h.rows → All (IsToldMessage m) (run_clauses m tick before 0 h m.clauses due).rows
+  rows_are_told before h due told = after_clauses m tick before (λ (g : HandlerState). All (IsToldMessage m) g.rows) told_fire told_assign 0 h m.clauses due m.has_clauses.each told

@@ -1,0 +1,38 @@
+-- One row more is told.
+use Rattle.std.proofs.Common.{get_or, take, pos, subst}
+use Rattle.std.proofs.lemmas.List.{get_or_default}
+use Rattle.qss_machine.specs.declared.rows.Row.{Row}
+use Rattle.qss_machine.specs.declared.rows.RowKind.TheVariants as kind
+use Rattle.qss_components.specs.Agreement.{Values}
+use Rattle.qss_components.specs.ComponentLaws.{rows_told}
+use Rattle.qss_devs.specs.CoupledSteps.{Agrees}
+use Rattle.qss_devs.proofs.AgreeTold.{rows_each, told_more}
+use Rattle.qss_devs.proofs.assigned.send_assigned.Goals as goal
+
+pub loop-row-init : goal.loop-row-init
+loop-row-init g c = record {
+  parts = c.requires.parts;
+  ruled = λ name ruled. ruled;
+  ready = c.requires.ready;
+  agree = λ v each a. a;
+}
+
+pub send_row-requires-clause-parts : goal.send_row-requires-clause-parts
+send_row-requires-clause-parts g c = c.loop-row.invariant.parts
+
+pub send_row-requires-clause-ready : goal.send_row-requires-clause-ready
+send_row-requires-clause-ready g c = c.loop-row.invariant.ready
+
+pub loop-row-preserved : goal.loop-row-preserved
+loop-row-preserved g c = record {
+  parts = c.send_row.ensures.parts;
+  ruled = λ name ruled. c.send_row.ensures.ruled name (c.loop-row.invariant.ruled name ruled);
+  ready = c.send_row.ensures.ready;
+  agree = λ v each a.
+      let items = c.as_slice-row-items.result.now in
+      let i = c.loop-row.row-index in
+      let row : Row = get_or items i (record { tick = 0; kind = kind.Start; var = 0; level = pos 0; state = pos 0 }) in
+      subst (λ (u : Values). Agrees c.args.m.now c.args.tick u c.send_row.new.parts)
+      (told_more c.args.m.now v items i row c.loop-row-test.true (get_or_default items i (record { tick = 0; kind = kind.Start; var = 0; level = pos 0; state = pos 0 }) row c.loop-row-test.true))
+      (c.send_row.ensures.agree (rows_told c.args.m.now v (take i items)) (rows_each c.args.m.now v (take i items) each) (c.loop-row.invariant.agree v each a));
+}

@@ -1,0 +1,117 @@
+-- What the steps of a tick leave.
+use Rattle.std.specs.Prelude.{◌≡◌, ℕ, zero, suc, ◌<◌, ◌++◌, true, false, List, [], ◌∷◌, ℤ, slice_set, flat_map, Option, Some, None, position, if◌then◌else◌}
+use Rattle.std.specs.List.{range_with_len}
+use Rattle.std.specs.Ordering.{int_eq}
+use Rattle.mu_num.specs.Sizes.{IsWithin, exceeds}
+use Rattle.qss_machine.specs.declared.rows.Row.{Row}
+use Rattle.qss_machine.specs.declared.rows.RowKind.{RowKind}
+use Rattle.qss_machine.specs.declared.rows.RowKind.TheVariants as kind
+use Rattle.qss_machine.specs.declared.system.Machine.{Machine}
+use Rattle.qss_machine.specs.IndexedSums.{int_at, tabulate, first_exceeding}
+use Rattle.qss_machine.specs.Machines.{state_count, level_unit, row_at, slope_at}
+use Rattle.qss_machine.specs.Ticks.{AreNextLevels, is_within_quantum, exceeds_row_limits}
+use Rattle.qss_machine.specs.Runs.{level_rows}
+use Rattle.qss_quant.specs.declared.rule.Rule.{Rule}
+use Rattle.qss_quant.specs.LevelRules.{level_by}
+use Rattle.qss_events.specs.AllowedLevels.{IsAllowedLevel}
+use Rattle.qss_components.specs.declared.message.Message.TheVariants.{State, Discrete}
+use Rattle.qss_components.specs.Messages.{IsMessage}
+use Rattle.qss_components.specs.Agreement.{Values, HasEach, Agree}
+use Rattle.qss_devs.specs.declared.components.Components.{Components}
+use Rattle.qss_devs.specs.Coupling.{line_at, summing_at, crossing_at}
+
+-- what the row of a handler tells may be sent as a message
+abbrev pub IsToldKind : Machine → RowKind → Row → Type 0
+IsToldKind m kind.Start row = Unit {0}
+IsToldKind m (kind.When clause branch) row = Unit {0}
+IsToldKind m kind.Set row = IsMessage m (Discrete row.var row.level)
+IsToldKind m kind.Reinit row = IsMessage m (State row.var row.state)
+IsToldKind m kind.Level row = Unit {0}
+IsToldKind m kind.End row = Unit {0}
+IsToldKind m kind.Overflow row = Unit {0}
+
+abbrev pub IsToldMessage : Machine → Row → Type 0
+IsToldMessage m row = IsToldKind m row.kind row
+
+-- a quantizer with a name gives one level for a state and its old level
+abbrev pub IsNamed : Option Rule → Type 0
+IsNamed name = (rule : Rule) × (name ≡ Some rule)
+
+-- components that agree with values at a tick
+abbrev pub Agrees : {X : Type 0} {g : _} → Machine → ℕ → Values → Components X g → Type 0
+Agrees {X} {g} m tick v parts = Agree m tick v (line_at parts) (summing_at parts) (crossing_at parts)
+
+-- values of each variable, with levels and slopes within their limits
+pub record AreValues (m : Machine) (v : Values) : Type 0 where
+  pub each : HasEach m v
+  pub small : (j : ℕ) → j < state_count m → IsWithin 43 (int_at v.levels j)
+  pub slow : (j : ℕ) → j < state_count m → IsWithin 88 (int_at v.slopes j)
+
+-- the level of a state after the tick, under a named rule
+abbrev pub level_after : Machine → Rule → Values → ℕ → ℤ
+level_after m rule v j =
+    if is_within_quantum m j (int_at v.states j) (int_at v.levels j) then int_at v.levels j else level_by rule (level_unit m) (int_at v.states j) (int_at v.levels j)
+
+-- the row of a state whose level changed
+abbrev pub row_after : Machine → Rule → ℕ → Values → ℕ → List Row
+row_after m rule tick v j =
+    if int_eq (int_at v.levels j) (level_after m rule v j) then []
+    else record { tick = tick; kind = kind.Level; var = j; level = level_after m rule v j; state = int_at v.states j } ∷ []
+
+-- the levels where the first so many integrators had their turns, and those values
+abbrev pub levels_upto : Machine → Rule → Values → ℕ → List ℤ
+levels_upto m rule v zero = v.levels
+levels_upto m rule v (suc n) = slice_set (levels_upto m rule v n) n (level_after m rule v n)
+
+abbrev pub leveled : Machine → Rule → Values → ℕ → Values
+leveled m rule v n = record v { levels = levels_upto m rule v n }
+
+-- the first so many integrators had their turns, and none passes its limit
+pub record AreTakenUpTo {X : Type 0} {g : _} (m : Machine) (rule : Rule) (tick : ℕ) (v : Values) (n : ℕ) (parts : Components X g) (old new : List Row) : Type 0 where
+  pub agree : Agrees m tick (leveled m rule v n) parts
+  pub small : (i : ℕ) → i < n → IsWithin 43 (level_after m rule v i)
+  pub rows : new ≡ old ++ flat_map (row_after m rule tick v) (range_with_len 0 n)
+
+-- the slopes where the first so many functions had their turns, and those values
+abbrev pub slopes_upto : Machine → Values → ℕ → List ℤ
+slopes_upto m v zero = v.slopes
+slopes_upto m v (suc n) = slice_set (slopes_upto m v n) n (slope_at m n v.levels v.discretes)
+
+abbrev pub sloped : Machine → Values → ℕ → Values
+sloped m v n = record v { slopes = slopes_upto m v n }
+
+-- the first so many functions had their turns, and no row of them is past its limits
+pub record AreSentUpTo {X : Type 0} {g : _} (m : Machine) (tick : ℕ) (v : Values) (n : ℕ) (parts : Components X g) : Type 0 where
+  pub agree : Agrees m tick (sloped m v n) parts
+  pub light : (i : ℕ) → i < n → exceeds_row_limits m v.levels v.discretes (row_at m i) ≡ false
+  pub sent : (i : ℕ) → i < n → (summing_at parts i).changed ≡ None
+
+-- an integrator took its level, and all were told, with a row if it changed, unless it passes its limit
+pub record IsLevelTaken {X : Type 0} {g : _} (m : Machine) (rule : Rule) (tick : ℕ) (v : Values) (j : ℕ) (parts : Components X g) (old new : List Row) (over : Option ℕ) : Type 0 where
+  pub own_over : over ≡ (if exceeds 43 (level_after m rule v j) then Some j else None)
+  pub agree : over ≡ None → Agrees m tick (record v { levels = slice_set v.levels j (level_after m rule v j) }) parts
+  pub rows : over ≡ None → new ≡ old ++ row_after m rule tick v j
+
+-- a function sent the slope of its row, and all were told, unless the row passes its limits
+pub record IsSlopeSent {X : Type 0} {g : _} (m : Machine) (tick : ℕ) (v : Values) (j : ℕ) (parts : Components X g) (over : Option ℕ) : Type 0 where
+  pub own_over : over ≡ (if exceeds_row_limits m v.levels v.discretes (row_at m j) then Some j else None)
+  pub agree : over ≡ None → Agrees m tick (record v { slopes = slice_set v.slopes j (slope_at m j v.levels v.discretes) }) parts
+  pub sent : over ≡ None → (summing_at parts j).changed ≡ None
+
+-- each state is within a quantum of its level
+abbrev pub AreWithinQuanta : Machine → Values → Type 0
+AreWithinQuanta m v = (j : ℕ) → j < state_count m → is_within_quantum m j (int_at v.states j) (int_at v.levels j) ≡ true
+
+-- integrators took levels that their rule allows, and all were told, with a row for each that changed, unless one passes its limit
+pub record AreTaken {X : Type 0} {g : _} (m : Machine) (name : Option Rule) (tick : ℕ) (v : Values) (parts : Components X g) (old new : List Row) (over : Option ℕ) : Type 0 where
+  pub levels : List ℤ
+  pub allowed : AreNextLevels (IsAllowedLevel name) m v.states v.levels levels
+  pub own_over : over ≡ first_exceeding 43 levels
+  pub agree : over ≡ None → Agrees m tick (record v { levels = levels }) parts
+  pub rows : over ≡ None → new ≡ old ++ level_rows tick v.levels levels v.states
+
+-- functions sent the slopes at levels and discrete values, and all were told, unless a row passes its limits
+pub record AreSent {X : Type 0} {g : _} (m : Machine) (tick : ℕ) (v : Values) (parts : Components X g) (over : Option ℕ) : Type 0 where
+  pub own_over : over ≡ position (exceeds_row_limits m v.levels v.discretes) m.rows
+  pub agree : over ≡ None → Agrees m tick (record v { slopes = tabulate (state_count m) (λ j. slope_at m j v.levels v.discretes) }) parts
+  pub sent : over ≡ None → (j : ℕ) → j < state_count m → (summing_at parts j).changed ≡ None

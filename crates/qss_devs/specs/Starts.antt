@@ -1,0 +1,81 @@
+-- The components at the start.
+use Rattle.std.specs.Prelude.{◌≡◌, ℕ, List, map, pos, slice_index_or, None}
+use Rattle.qss_machine.specs.declared.parts.Condition.{Condition}
+use Rattle.qss_machine.specs.declared.parts.Entry.{Entry}
+use Rattle.qss_machine.specs.declared.system.Machine.{Machine}
+use Rattle.qss_machine.specs.IndexedSums.{int_at}
+use Rattle.qss_machine.specs.Ticks.{start_snapshot}
+use Rattle.qss_quant.specs.declared.quantizer.Quantizer.{Quantizer}
+use Rattle.qss_quant.specs.IntegratorLines.{Line}
+use Rattle.qss_events.specs.Schedules.{condition_at}
+use Rattle.qss_components.specs.declared.crossing_model.CrossingModel.{CrossingModel}
+use Rattle.qss_components.specs.declared.function_model.FunctionModel.{FunctionModel}
+use Rattle.qss_components.specs.declared.input.Input.{Input}
+use Rattle.qss_components.specs.declared.integrator_model.IntegratorModel.{IntegratorModel}
+use Rattle.qss_components.specs.Functions.{Summing}
+use Rattle.qss_components.specs.Crossings.{Crossing, form_at, speed_by}
+use Rattle.qss_components.specs.ComponentModels.{summing_of, crossing_of}
+use Rattle.qss_components.specs.Agreement.{Values, Moving, values_of, moving_of}
+use Rattle.qss_devs.specs.declared.start_values.StartValues.{StartValues}
+
+-- the values of a machine's variables at the start
+abbrev pub start_values : Machine → Values
+start_values m = values_of m (start_snapshot m)
+
+-- the values that lists hold
+abbrev pub values_in : StartValues → Values
+values_in v = record { states = v.states.items; slopes = v.slopes.items; levels = v.levels.items; discretes = v.discretes.items }
+
+-- an entry of a condition's form
+abbrev pub entry_at : Condition → ℕ → Entry
+entry_at condition k = slice_index_or condition.form.entries k (record { var = 0; coef = pos 0 })
+
+-- the line of a state that begins at tick 0
+abbrev pub first_line : Values → ℕ → Line
+first_line v j = record { tick = 0; x = int_at v.states j; slope = int_at v.slopes j; level = int_at v.levels j }
+
+-- a function that knows all levels and discrete values, with nothing to send
+abbrev pub first_summing : Values → ℕ → Summing
+first_summing v j = record { row = j; tick = 0; levels = v.levels; discretes = v.discretes; changed = None }
+
+-- an entry with the line of its variable from tick 0
+abbrev pub first_input : Machine → Values → Entry → Input
+first_input m v entry = let moving : Moving = moving_of m v entry.var in record { var = entry.var; coef = entry.coef; tick = 0; at = moving.at; speed = moving.speed }
+
+-- the crossing of a condition from tick 0
+abbrev pub first_crossing : Machine → Values → ℕ → Condition → Crossing
+first_crossing m v place condition =
+    let inputs : List Input = map (first_input m v) condition.form.entries in
+    record {
+      place = place;
+      watch = record {
+        rel = condition.rel;
+        tick = 0;
+        value = form_at m inputs condition.form.time condition.form.gamma 0;
+        speed = speed_by m inputs condition.form.time;
+      };
+      inputs = inputs;
+      time = condition.form.time;
+      gamma = condition.form.gamma;
+    }
+
+-- the integrator of a state at the start
+pub record IsFirstIntegrator {X : Type 0} {g : _} (m : Machine) (q : Quantizer X g) (j : ℕ) (i : IntegratorModel X g) : Type 0 where
+  pub machine : i.machine.value ≡ m
+  pub quantizer : i.quantizer.value ≡ q
+  pub own : i.var ≡ j
+  pub line : i.line ≡ first_line (start_values m) j
+
+-- the function of a row at the start
+pub record IsFirstFunction (m : Machine) (j : ℕ) (s : FunctionModel) : Type 0 where
+  pub machine : s.machine.value ≡ m
+  pub summing : summing_of s ≡ first_summing (start_values m) j
+
+-- the crossing of a condition at the start
+pub record IsFirstCrossing (m : Machine) (place : ℕ) (condition : Condition) (c : CrossingModel) : Type 0 where
+  pub machine : c.machine.value ≡ m
+  pub crossing : crossing_of c ≡ first_crossing m (start_values m) place condition
+
+-- that of the condition at a place
+abbrev pub IsFirstAt : Machine → ℕ → CrossingModel → Type 0
+IsFirstAt m place c = IsFirstCrossing m place (condition_at m place) c

@@ -1,0 +1,132 @@
+//! States and conditions on arrival at a tick.
+
+ghost use Rattle.std.specs.Prelude.{◌≡◌, ℕ, ◌<◌, ◌≤◌, ◌^◌, Bool, length, map, All, Some, slice_index_or};
+ghost use Rattle.qss_machine.specs.Machines.{compares};
+ghost use Rattle.qss_machine.specs.IndexedSums.{int_at, first_exceeding};
+ghost use Rattle.qss_machine.specs.Handlers.{conditions};
+ghost use Rattle.qss_machine.specs.Firing.{flag_at};
+ghost use Rattle.qss_quant.specs.IntegratorLines.{state_at};
+ghost use Rattle.qss_cross.specs.Crossing.{holds_at};
+ghost use Rattle.qss_components.specs.Messages.{IsTimely};
+ghost use Rattle.qss_components.specs.declared.crossing_model.CrossingModel.{CrossingModel};
+ghost use Rattle.qss_components.specs.declared.message.Message.TheVariants.{Truth};
+ghost use Rattle.qss_components.specs.Crossings.{IsCrossingNext, IsRead};
+ghost use Rattle.qss_components.specs.ComponentModels.{crossing_of};
+ghost use Rattle.qss_components.specs.Agreement.{Values};
+ghost use Rattle.qss_devs.specs.Coupling.{crossing_at, AreComponents};
+ghost use Rattle.qss_devs.specs.CoupledSteps.{Agrees};
+ghost use Rattle.qss_devs.specs.CoupledEvents.{CrossingsLater};
+
+use crate::components::Components;
+use crate::limits::first_exceeding;
+use qss_components::{Atomic, CrossingModel, IntegratorModel, Message, is_due};
+use qss_machine::Machine;
+
+// The state to which the line of an integrator leads at a tick.
+fn state_of(integrators: &[IntegratorModel], j: usize, tick: u64) -> i128
+    requires known { j < length integrators.now }
+    requires not_later { All (λ i. i.line.tick ≤ tick) integrators.now }
+    requires tick_limit { tick < 2 ^ 32 }
+    ensures { result ≡ int_at (map (λ i. state_at i.line tick) integrators.now) j }
+{
+    integrators[j].line.value_at(tick)
+}
+
+// The states to which the lines lead at a tick.
+fn fill_states(integrators: &[IntegratorModel], tick: u64, x: &mut [i128])
+    requires same_length { length x.old ≡ length integrators.now }
+    requires not_later { All (λ i. i.line.tick ≤ tick) integrators.now }
+    requires tick_limit { tick < 2 ^ 32 }
+    ensures { x.new ≡ map (λ i. state_at i.line tick) integrators.now }
+{
+    for j in 0..integrators.len() {
+        x[j] = state_of(integrators, j, tick);
+    }
+}
+
+/// The states to which the lines lead at a tick. It gives the first that passes its limit.
+pub(crate) fn arrive(integrators: &[IntegratorModel], tick: u64, x: &mut [i128]) -> Option<u32>
+    requires count_limit { length integrators.now ≤ 4096 }
+    requires same_length { length x.old ≡ length integrators.now }
+    requires not_later { All (λ i. i.line.tick ≤ tick) integrators.now }
+    requires tick_limit { tick < 2 ^ 32 }
+    ensures states { x.new ≡ map (λ i. state_at i.line tick) integrators.now }
+    ensures overflow { result ≡ first_exceeding 88 (map (λ i. state_at i.line tick) integrators.now) }
+{
+    fill_states(integrators, tick, x);
+    first_exceeding(x, 88)
+}
+
+// What a crossing says of its condition, where it says something.
+fn told_truth(msg: Option<Message>, held: bool) -> bool
+    ensures { (condition : ℕ) (now : Bool) → msg ≡ Some (Truth condition now) → result ≡ now }
+{
+    match msg {
+        Some(Message::Truth { now, .. }) => now,
+        _ => held,
+    }
+}
+
+// Whether a condition holds on arrival: a crossing that changes at the tick makes its transition and says so, and another
+// holds as it did.
+fn read_crossing(crossing: &mut CrossingModel, tick: u64, held: bool) -> bool
+    requires timely { IsTimely crossing.old.watch.tick (IsCrossingNext crossing.old.watch) tick }
+    requires held { held ≡ compares crossing.old.watch.rel crossing.old.watch.value }
+    ensures now { result ≡ holds_at crossing.old.watch tick }
+    ensures machine { crossing.new.machine.value ≡ crossing.old.machine.value }
+    ensures read { IsRead tick (crossing_of crossing.old) (crossing_of crossing.new) }
+    ensures later { (next : ℕ) → IsCrossingNext crossing.new.watch (Some next) → tick < next }
+{
+    if !is_due(crossing, tick) {
+        return held;
+    }
+    let now = told_truth(crossing.output(), held);
+    crossing.internal();
+    now
+}
+
+// Which conditions hold on arrival.
+fn read_all(crossings: &mut [CrossingModel], tick: u64, now: &mut [bool])
+    requires same_length { length now.old ≡ length crossings.old }
+    requires timely { All (λ c. IsTimely c.watch.tick (IsCrossingNext c.watch) tick) crossings.old }
+    requires held { now.old ≡ map (λ c. compares c.watch.rel c.watch.value) crossings.old }
+    ensures now { now.new ≡ map (λ c. holds_at c.watch tick) crossings.old }
+    ensures machines { (place : ℕ) (d : CrossingModel) → place < length crossings.old
+        → (slice_index_or crossings.new place d).machine.value
+        ≡ (slice_index_or crossings.old place d).machine.value }
+    ensures read { (place : ℕ) (d : CrossingModel) → place < length crossings.old
+        → IsRead tick (crossing_of (slice_index_or crossings.old place d))
+        (crossing_of (slice_index_or crossings.new place d)) }
+    ensures later { All (λ c. (next : ℕ) → IsCrossingNext c.watch (Some next) → tick < next)
+        crossings.new }
+{
+    for place in 0..crossings.len() {
+        let held = now[place];
+        now[place] = read_crossing(&mut crossings[place], tick, held);
+    }
+}
+
+#[tactic(none)]
+/// Which conditions hold on arrival: those that change at the tick say so, and the others hold as they did.
+pub(crate) fn read_crossings(m: &Machine, parts: &mut Components, tick: u64, now: &mut [bool])
+    requires parts { AreComponents m.now parts.old }
+    requires flags { length now.old ≡ length (conditions m.now) }
+    requires tick_limit { tick < 2 ^ 32 }
+    requires timely { (place : ℕ) → place < length (conditions m.now)
+        → IsTimely (crossing_at parts.old place).watch.tick
+        (IsCrossingNext (crossing_at parts.old place).watch) tick }
+    requires own { (place : ℕ) → place < length (conditions m.now)
+        → (crossing_at parts.old place).place ≡ place }
+    requires held { (place : ℕ) → place < length (conditions m.now)
+        → flag_at now.old place
+        ≡ compares (crossing_at parts.old place).watch.rel
+        (crossing_at parts.old place).watch.value }
+    ensures kept { parts.new ≡ record parts.old { crossings = parts.new.crossings } }
+    ensures parts { AreComponents m.now parts.new }
+    ensures now { (place : ℕ) → place < length (conditions m.now)
+        → flag_at now.new place ≡ holds_at (crossing_at parts.old place).watch tick }
+    ensures agree { (v : Values) → Agrees m.now tick v parts.old → Agrees m.now tick v parts.new }
+    ensures later { CrossingsLater m.now tick (crossing_at parts.new) }
+{
+    read_all(parts.crossings.as_mut_slice(), tick, now);
+}

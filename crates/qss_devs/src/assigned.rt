@@ -1,0 +1,67 @@
+//! What handlers assigned is told to the components.
+
+ghost use Rattle.std.specs.Prelude.{◌≡◌, All, Option};
+ghost use Rattle.qss_quant.specs.declared.rule.Rule.{Rule};
+ghost use Rattle.qss_components.specs.Agreement.{Values, HasEach};
+ghost use Rattle.qss_components.specs.ComponentLaws.{kind_told, rows_told};
+ghost use Rattle.qss_devs.specs.Coupling.{line_at, summing_at, crossing_at, AreComponents, AreRuled, AreReady};
+ghost use Rattle.qss_devs.specs.CoupledSteps.{IsToldMessage, Agrees};
+
+use crate::components::{Components, tell};
+use qss_components::Message;
+use qss_hand::Work;
+use qss_machine::{Machine, Row, RowKind};
+
+// Tells what a row says.
+fn send_row(m: &Machine, parts: &mut Components, tick: u64, row: &Row)
+    requires parts { AreComponents m.now parts.old }
+    requires ready { AreReady m.now tick
+        (line_at parts.old) (summing_at parts.old) (crossing_at parts.old) }
+    requires told { IsToldMessage m.now row.now }
+    ensures parts { AreComponents m.now parts.new }
+    ensures ruled { (name : Option Rule) → AreRuled name parts.old → AreRuled name parts.new }
+    ensures ready { AreReady m.now tick
+        (line_at parts.new) (summing_at parts.new) (crossing_at parts.new) }
+    ensures agree { (v : Values) → HasEach m.now v → Agrees m.now tick v parts.old
+        → Agrees m.now tick (kind_told m.now v row.now.kind row.now) parts.new }
+{
+    match row.kind {
+        RowKind::Reinit => tell(
+            m,
+            parts,
+            tick,
+            Message::State {
+                var: row.var,
+                state: row.state,
+            },
+        ),
+        RowKind::Set => tell(
+            m,
+            parts,
+            tick,
+            Message::Discrete {
+                var: row.var,
+                value: row.level,
+            },
+        ),
+        _ => {}
+    }
+}
+
+/// Tells what rows say that handlers assigned.
+pub(crate) fn send_assigned(m: &Machine, parts: &mut Components, tick: u64, work: &Work)
+    requires parts { AreComponents m.now parts.old }
+    requires ready { AreReady m.now tick
+        (line_at parts.old) (summing_at parts.old) (crossing_at parts.old) }
+    requires told { All (IsToldMessage m.now) work.now.log }
+    ensures parts { AreComponents m.now parts.new }
+    ensures ruled { (name : Option Rule) → AreRuled name parts.old → AreRuled name parts.new }
+    ensures ready { AreReady m.now tick
+        (line_at parts.new) (summing_at parts.new) (crossing_at parts.new) }
+    ensures agree { (v : Values) → HasEach m.now v → Agrees m.now tick v parts.old
+        → Agrees m.now tick (rows_told m.now v work.now.log) parts.new }
+{
+    for row in work.log.as_slice() {
+        send_row(m, parts, tick, row);
+    }
+}

@@ -1,0 +1,139 @@
+//! The handlers of a tick.
+
+ghost use Rattle.std.specs.Prelude.{◌≡◌, ◌+◌, ◌<◌, ◌≤◌, [], length, All, position};
+ghost use Rattle.qss_machine.specs.Firing.{flag_at};
+ghost use Rattle.qss_machine.specs.Handlers.{conditions, firing_flags, run_first_due, run_clauses};
+ghost use Rattle.qss_hand.specs.Rooms.{clause_room};
+ghost use Rattle.qss_hand.specs.Works.{AreValuesOf, handling_of, values_after, overflow_of, clause_at, row_room};
+ghost use Rattle.qss_devs.specs.Flags.{flags_from};
+ghost use Rattle.qss_devs.specs.CoupledSteps.{IsToldMessage};
+
+use crate::clauses::branch_count;
+use qss_hand::{Over, Work, fire};
+use qss_machine::Machine;
+
+// Whether the branch at a place is due: its condition holds on arrival, and was false on the last arrival, or after the
+// last handlers, or at both.
+fn is_branch_due(now: &[bool], at_arrival: &[bool], after_handlers: &[bool], place: usize) -> bool
+    requires place { place < length now.now }
+    requires at_arrival { length at_arrival.now ≡ length now.now }
+    requires after_handlers { length after_handlers.now ≡ length now.now }
+    ensures { result ≡ flag_at (firing_flags now.now at_arrival.now after_handlers.now) place }
+{
+    now[place] && !(at_arrival[place] && after_handlers[place])
+}
+
+// The first due branch of a clause that has so many from a place on.
+fn first_due(
+    now: &[bool],
+    at_arrival: &[bool],
+    after_handlers: &[bool],
+    first: usize,
+    count: usize,
+) -> Option<u32>
+    requires inside { first + count ≤ length now.now }
+    requires count_limit { length now.now ≤ 16384 }
+    requires at_arrival { length at_arrival.now ≡ length now.now }
+    requires after_handlers { length after_handlers.now ≡ length now.now }
+    ensures { result ≡ position (λ flag. flag)
+        (flags_from first count (firing_flags now.now at_arrival.now after_handlers.now)) }
+{
+    for branch in 0..count {
+        if is_branch_due(now, at_arrival, after_handlers, first + branch) {
+            return Some(branch as u32);
+        }
+    }
+    None
+}
+
+// A clause, whose branches begin at a place, has its turn: its first due branch fires, if one is due.
+fn fire_clause(
+    m: &Machine,
+    clause: u32,
+    first: usize,
+    now: &[bool],
+    at_arrival: &[bool],
+    after_handlers: &[bool],
+    w: &mut Work,
+) -> Result<(), Over>
+    requires clause { clause < length m.now.clauses }
+    requires inside { first + length (clause_at m.now clause).branches ≤ length now.now }
+    requires count_limit { length now.now ≤ 16384 }
+    requires at_arrival { length at_arrival.now ≡ length now.now }
+    requires after_handlers { length after_handlers.now ≡ length now.now }
+    requires fits { AreValuesOf m.now w.old }
+    requires room { length w.old.log + clause_room (clause_at m.now clause) ≤ w.old.room }
+    ensures values { w.new ≡ values_after w.old (run_first_due m.now w.old.tick w.old.pre clause 0
+        (handling_of w.old) (clause_at m.now clause).branches
+        (flags_from first (length (clause_at m.now clause).branches)
+        (firing_flags now.now at_arrival.now after_handlers.now))) }
+    ensures overflow { overflow_of result ≡ (run_first_due m.now w.old.tick w.old.pre clause 0
+        (handling_of w.old) (clause_at m.now clause).branches
+        (flags_from first (length (clause_at m.now clause).branches)
+        (firing_flags now.now at_arrival.now after_handlers.now))).overflow }
+    ensures fits { AreValuesOf m.now w.new }
+{
+    let count = branch_count(m, clause as usize);
+    match first_due(now, at_arrival, after_handlers, first, count) {
+        Some(branch) => fire(m, clause, branch, w),
+        None => Ok(()),
+    }
+}
+
+// The clauses in order, each by its first due branch.
+fn fire_clauses(
+    m: &Machine,
+    now: &[bool],
+    at_arrival: &[bool],
+    after_handlers: &[bool],
+    w: &mut Work,
+) -> Result<(), Over>
+    requires now { length now.now ≡ length (conditions m.now) }
+    requires at_arrival { length at_arrival.now ≡ length now.now }
+    requires after_handlers { length after_handlers.now ≡ length now.now }
+    requires fits { AreValuesOf m.now w.old }
+    requires room { length w.old.log + row_room m.now.clauses ≤ w.old.room }
+    ensures values { w.new ≡ values_after w.old
+        (run_clauses m.now w.old.tick w.old.pre 0 (handling_of w.old) m.now.clauses
+        (firing_flags now.now at_arrival.now after_handlers.now)) }
+    ensures overflow { overflow_of result ≡
+        (run_clauses m.now w.old.tick w.old.pre 0 (handling_of w.old) m.now.clauses
+        (firing_flags now.now at_arrival.now after_handlers.now)).overflow }
+    ensures fits { AreValuesOf m.now w.new }
+{
+    let mut first = 0;
+    for clause in 0..m.clauses.as_slice().len() {
+        let count = branch_count(m, clause);
+        fire_clause(m, clause as u32, first, now, at_arrival, after_handlers, w)?;
+        first += count;
+    }
+    Ok(())
+}
+
+/// The clauses in order, each by its first due branch: which conditions hold on arrival now, held on the last arrival, and
+/// held after the last handlers.
+pub(crate) fn fire_due(
+    m: &Machine,
+    now: &[bool],
+    at_arrival: &[bool],
+    after_handlers: &[bool],
+    work: &mut Work,
+) -> Result<(), Over>
+    requires now { length now.now ≡ length (conditions m.now) }
+    requires at_arrival { length at_arrival.now ≡ length (conditions m.now) }
+    requires after_handlers { length after_handlers.now ≡ length (conditions m.now) }
+    requires fits { AreValuesOf m.now work.old }
+    requires fresh { work.old.log ≡ [] }
+    requires room { row_room m.now.clauses ≤ work.old.room }
+    ensures values { work.new ≡ values_after work.old
+        (run_clauses m.now work.old.tick work.old.pre 0 (handling_of work.old) m.now.clauses
+        (firing_flags now.now at_arrival.now after_handlers.now)) }
+    ensures overflow { overflow_of result ≡
+        (run_clauses m.now work.old.tick work.old.pre 0 (handling_of work.old) m.now.clauses
+        (firing_flags now.now at_arrival.now after_handlers.now)).overflow }
+    ensures fits { AreValuesOf m.now work.new }
+    ensures told { All (IsToldMessage m.now) work.new.log }
+    ensures count { length work.new.log ≤ row_room m.now.clauses }
+{
+    fire_clauses(m, now, at_arrival, after_handlers, work)
+}

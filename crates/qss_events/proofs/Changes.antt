@@ -1,0 +1,81 @@
+-- Sums in which one term changes.
+use Rattle.std.proofs.Common.{◌≡◌, ◌≢◌, ℕ, zero, suc, ◌+◌, ◌^◌, ◌<◌, List, length, ℤ, pos, negsuc, ◌+ℤ◌, ◌-ℤ◌, ◌*ℤ◌, ◌≤ℤ◌, ◌<ℤ◌, sym, ◌∙◌, ap, subst, arith, inl, inr}
+use Rattle.std.proofs.lemmas.Int.{ints}
+use Rattle.std.proofs.lemmas.Bool.Decides.{eqb_tells}
+use Rattle.std.proofs.lemmas.List.{get_or-set_same, get_or-set_other}
+use Rattle.std.proofs.Math.ListN.{length-set}
+use Rattle.std.specs.Prelude.{slice_set}
+use Rattle.std.specs.Int.RustNames.{unsigned_abs}
+use Rattle.mu_num.proofs.Integers.{mul-sub}
+use Rattle.mu_num.proofs.Tests.{int_lt-false}
+use Rattle.qss_machine.specs.declared.parts.SlopeRow.{SlopeRow}
+use Rattle.qss_machine.specs.IndexedSums.{int_at, sum_below, abs_of}
+use Rattle.qss_machine.specs.Slopes.{mode_coefficient, slope_of, weight_of, constant_part, coefficient_of}
+use Rattle.qss_machine.specs.Machines.{level_unit, quantum_of}
+use Rattle.qss_machine.proofs.SumLaws.{sum_below-same}
+use Rattle.qss_machine.proofs.Near.{quantum_positive}
+use Rattle.qss_events.specs.SlopeChanges.{SlopesFollowLevels, LeavingChangesLevel}
+
+by_equal : {P : Type 0} (a b : ℕ) → (a ≡ b → P) → (a ≢ b → P) → P
+by_equal a b same other = elim (eqb_tells a b) [ inl e ↦ same e.1 | inr n ↦ other n.1 ]
+
+-- a sum of whole numbers in which the term k changes
+pub sum_changed : (n k : ℕ) (f g : ℕ → ℤ) → k < n → ((i : ℕ) → i < n → i ≢ k → g i ≡ f i) → sum_below n g ≡ sum_below n f +ℤ (g k -ℤ f k)
+sum_changed zero k f g h same = absurd (omega (arith, h))
+sum_changed (suc n) k f g h same =
+    by_equal k n
+    (λ e.
+    let rest = sum_below-same n g f (λ i below. same i (omega (arith, below)) (λ q. omega (arith, q, e, below))) in
+    let at_f : f n ≡ f k = ap f (sym e) in
+    let at_g : g n ≡ g k = ap g (sym e) in
+    omega (arith, ints, rest, at_f, at_g))
+    (λ ne.
+    let rest = sum_changed n k f g (omega (arith, h, ne)) (λ i below far. same i (omega (arith, below)) far) in
+    let last : g n ≡ f n = same n (omega arith) (λ q. ne (sym q)) in
+    omega (arith, ints, rest, last))
+
+slope_follows : (bits : ℕ) (row : SlopeRow) (levels discretes : List ℤ) (i : ℕ) (level : ℤ) → i < length levels →
+    slope_of bits row (slice_set levels i level) discretes
+    ≡ slope_of bits row levels discretes +ℤ mode_coefficient bits (length levels) row discretes i *ℤ (level -ℤ int_at levels i)
+slope_follows bits row levels discretes i level h =
+    let many : length (slice_set levels i level) ≡ length levels = length-set levels i level in
+    let c : ℕ → ℤ = mode_coefficient bits (length levels) row discretes in
+    let new = λ (k : ℕ). c k *ℤ int_at (slice_set levels i level) k in
+    let old = λ (k : ℕ). c k *ℤ int_at levels k in
+    let here : new i ≡ c i *ℤ level = ap (λ z. c i *ℤ z) (get_or-set_same levels i level (pos 0) h) in
+    let sum : sum_below (length levels) new ≡ sum_below (length levels) old +ℤ (new i -ℤ old i) =
+    sum_changed (length levels) i old new h (λ k below far. ap (λ z. c k *ℤ z) (get_or-set_other levels i k level (pos 0) far)) in
+    ap (λ (n : ℕ). sum_below n (λ k. mode_coefficient bits n row discretes k *ℤ int_at (slice_set levels i level) k) +ℤ constant_part n row discretes) many
+    ∙ omega (arith, ints, sum, here, mul-sub (c i) level (int_at levels i))
+
+weight_follows : (bits : ℕ) (row : SlopeRow) (levels discretes : List ℤ) (i : ℕ) (level : ℤ) → i < length levels →
+    weight_of bits row (slice_set levels i level) discretes
+    ≡ weight_of bits row levels discretes +ℤ abs_of (mode_coefficient bits (length levels) row discretes i) *ℤ (abs_of level -ℤ abs_of (int_at levels i))
+weight_follows bits row levels discretes i level h =
+    let many : length (slice_set levels i level) ≡ length levels = length-set levels i level in
+    let c : ℕ → ℤ = λ k. abs_of (mode_coefficient bits (length levels) row discretes k) in
+    let rest : ℕ → ℤ = λ n. sum_below (length discretes) (λ g. abs_of (coefficient_of row.entries (n + g)) *ℤ abs_of (int_at discretes g)) +ℤ abs_of row.beta in
+    let new = λ (k : ℕ). c k *ℤ abs_of (int_at (slice_set levels i level) k) in
+    let old = λ (k : ℕ). c k *ℤ abs_of (int_at levels k) in
+    let here : new i ≡ c i *ℤ abs_of level = ap (λ z. c i *ℤ abs_of z) (get_or-set_same levels i level (pos 0) h) in
+    let sum : sum_below (length levels) new ≡ sum_below (length levels) old +ℤ (new i -ℤ old i) =
+    sum_changed (length levels) i old new h (λ k below far. ap (λ z. c k *ℤ abs_of z) (get_or-set_other levels i k level (pos 0) far)) in
+    ap (λ (n : ℕ). sum_below n (λ k. abs_of (mode_coefficient bits n row discretes k) *ℤ abs_of (int_at (slice_set levels i level) k)) +ℤ rest n) many
+    ∙ with_rest (sum_below (length levels) new) (sum_below (length levels) old) (new i) (c i) (abs_of level) (abs_of (int_at levels i)) (rest (length levels)) sum here
+  where
+    with_rest : (s s' n c a b r : ℤ) → s ≡ s' +ℤ (n -ℤ c *ℤ b) → n ≡ c *ℤ a → s +ℤ r ≡ (s' +ℤ r) +ℤ c *ℤ (a -ℤ b)
+    with_rest s s' n c a b r e f = omega (arith, ints, e, f, mul-sub c a b)
+
+pub slopes_follow_levels : SlopesFollowLevels
+slopes_follow_levels = record { slope = slope_follows; weight = weight_follows }
+
+scale_le : (k : ℕ) (q : ℤ) → pos 1 ≤ℤ q → pos k ≤ℤ (pos k *ℤ q)
+scale_le k (pos zero) h = absurd (omega (arith, ints))
+scale_le k (pos (suc b)) h = omega (arith, ints)
+scale_le k (negsuc b) h = absurd (omega (arith, ints))
+
+pub leaving_changes_level : LeavingChangesLevel
+leaving_changes_level m j state old new h away free e =
+    let far : (level_unit m *ℤ quantum_of m j old) ≤ℤ pos (unsigned_abs (state -ℤ level_unit m *ℤ old)) = int_lt-false _ _ away in
+    let close = subst (λ level. pos (unsigned_abs (state -ℤ level_unit m *ℤ level)) <ℤ level_unit m) e free in
+    omega (arith, ints, far, close, scale_le (2 ^ (m.p + m.k)) (quantum_of m j old) (quantum_positive m j old h))

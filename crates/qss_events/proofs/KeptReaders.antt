@@ -1,0 +1,64 @@
+-- The rows and the conditions that read each variable.
+use Rattle.std.proofs.Common.{◌≡◌, ℕ, ◌+◌, ◌<◌, ◌≤◌, Bool, true, false, List, [], ◌∷◌, ◌++◌, length, get_or, flat_map, ℤ, refl, sym, ◌∙◌, ap, subst, arith}
+use Rattle.std.proofs.lemmas.List.Elements.{All-nil, All-cons, All-head, All-tail}
+use Rattle.std.proofs.lemmas.List.FromFn.{length-map-range_with_len, get_or-map-range_with_len}
+use Rattle.std.specs.Prelude.{All, if◌then◌else◌}
+use Rattle.qss_machine.specs.declared.system.Machine.{Machine}
+use Rattle.qss_machine.specs.Handlers.{conditions}
+use Rattle.qss_machine.specs.Machines.{state_count, discrete_count}
+use Rattle.qss_machine.specs.Readers.{row_reads, condition_reads, places_from, reading_rows, reading_conditions, reading_coefficients, uses_of}
+
+if_below : (n : ℕ) (b : Bool) (first : ℕ) (rest : List ℕ) → first < n → All (λ k. k < n) rest → All (λ k. k < n) (if b then first ∷ rest else rest)
+if_below n true first rest h all = All-cons (λ k. k < n) first rest h all
+if_below n false first rest h all = all
+
+pub places_below : {X : Type 0} (test : X → Bool) (first n : ℕ) (xs : List X) → first + length xs ≤ n → All (λ k. k < n) (places_from test first xs)
+places_below test first n [] h = All-nil (λ k. k < n)
+places_below test first n (x ∷ xs) h =
+    if_below n (test x) first (places_from test (first + 1) xs) (omega (arith, h)) (places_below test (first + 1) n xs (omega (arith, h)))
+
+pub rows_known : (m : Machine) (var : ℕ) → All (λ row. row < state_count m) (reading_rows m var)
+rows_known m var = places_below (row_reads var) 0 (state_count m) m.rows (omega (arith, m.has_rows.one_each))
+
+-- those that are kept for a variable are those that read it
+module _ (m : Machine) (uses : List (List ℕ) × List (List ℕ) × List (List ℤ)) (are : uses ≡ uses_of m) where
+  pub rows_many : length uses.0 ≡ state_count m + discrete_count m
+  rows_many =
+      ap (λ (u : List (List ℕ) × List (List ℕ) × List (List ℤ)). length u.0) are ∙ length-map-range_with_len (reading_rows m) 0 (state_count m + discrete_count m)
+
+  pub conditions_many : length uses.1 ≡ state_count m + discrete_count m + discrete_count m
+  conditions_many =
+      ap (λ (u : List (List ℕ) × List (List ℕ) × List (List ℤ)). length u.1) are ∙ length-map-range_with_len (reading_conditions m) 0 (state_count m + discrete_count m + discrete_count m)
+
+  pub rows_kept : (var : ℕ) → var < state_count m + discrete_count m → get_or uses.0 var [] ≡ reading_rows m var
+  rows_kept var h =
+      ap (λ (u : List (List ℕ) × List (List ℕ) × List (List ℤ)). get_or u.0 var []) are
+      ∙ get_or-map-range_with_len (reading_rows m) 0 (state_count m + discrete_count m) var var [] h (omega arith)
+
+  pub conditions_kept : (var : ℕ) → var < state_count m + discrete_count m + discrete_count m → get_or uses.1 var [] ≡ reading_conditions m var
+  conditions_kept var h =
+      ap (λ (u : List (List ℕ) × List (List ℕ) × List (List ℤ)). get_or u.1 var []) are
+      ∙ get_or-map-range_with_len (reading_conditions m) 0 (state_count m + discrete_count m + discrete_count m) var var [] h (omega arith)
+
+  -- the coefficients that are kept
+  pub coefficients_many : length uses.2 ≡ state_count m + discrete_count m
+  coefficients_many =
+      ap (λ (u : List (List ℕ) × List (List ℕ) × List (List ℤ)). length u.2) are ∙ length-map-range_with_len (reading_coefficients m) 0 (state_count m + discrete_count m)
+
+  pub coefficients_kept : (var : ℕ) → var < state_count m + discrete_count m → get_or uses.2 var [] ≡ reading_coefficients m var
+  coefficients_kept var h =
+      ap (λ (u : List (List ℕ) × List (List ℕ) × List (List ℤ)). get_or u.2 var []) are
+      ∙ get_or-map-range_with_len (reading_coefficients m) 0 (state_count m + discrete_count m) var var [] h (omega arith)
+
+  pub rows_below : (var : ℕ) → var < state_count m + discrete_count m → (n : ℕ) → state_count m ≤ n → All (λ row. row < n) (get_or uses.0 var [])
+  rows_below var h n many = subst (All (λ row. row < n)) (sym (rows_kept var h)) (places_below (row_reads var) 0 n m.rows (omega (arith, many, m.has_rows.one_each)))
+
+  pub conditions_below : (var : ℕ) → var < state_count m + discrete_count m + discrete_count m → (n : ℕ) → length (conditions m) ≤ n → All (λ place. place < n) (get_or uses.1 var [])
+  conditions_below var h n many = subst (All (λ place. place < n)) (sym (conditions_kept var h)) (places_below (condition_reads var) 0 n (conditions m) (omega (arith, many)))
+
+  -- the rows that are kept for some variables
+  pub rows_kept_all : (variables : List ℕ) → All (λ var. var < state_count m + discrete_count m) variables → flat_map (λ var. get_or uses.0 var []) variables ≡ flat_map (reading_rows m) variables
+  rows_kept_all [] all = refl
+  rows_kept_all (var ∷ variables) all =
+      ap (λ rows. rows ++ flat_map (λ (v : ℕ). get_or uses.0 v []) variables) (rows_kept var (All-head (λ v. v < state_count m + discrete_count m) var variables all))
+      ∙ ap (λ rows. reading_rows m var ++ rows) (rows_kept_all variables (All-tail (λ v. v < state_count m + discrete_count m) var variables all))

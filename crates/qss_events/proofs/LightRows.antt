@@ -1,0 +1,36 @@
+-- Rows within their limits.
+use Rattle.std.proofs.Common.{◌≡◌, ℕ, ◌<◌, Bool, true, false, not, List, ℤ, length, refl, arith}
+use Rattle.std.proofs.lemmas.Int.{ints}
+use Rattle.std.specs.Prelude.{◌||◌, None, position}
+use Rattle.mu_num.specs.Sizes.{IsWithin}
+use Rattle.mu_num.proofs.SizeTests.{passes-within}
+use Rattle.qss_machine.specs.declared.system.Machine.{Machine}
+use Rattle.qss_machine.specs.Slopes.{mode_fits, weight_of}
+use Rattle.qss_machine.specs.Machines.{state_count, row_at, slope_at, weight_at}
+use Rattle.qss_machine.specs.Ticks.{exceeds_row_limits}
+use Rattle.qss_events.specs.Schedules.{no_row}
+use Rattle.qss_events.proofs.SlopeSizes.{slope-size}
+use Rattle.qss_events.proofs.Ranges.{none_passes}
+
+-- the mode coefficients, the weight and the slope of a row are within their limits
+pub record IsLight (m : Machine) (levels discretes : List ℤ) (j : ℕ) : Type 0 where
+  pub modes : mode_fits m.f (state_count m) (row_at m j) discretes ≡ true
+  pub weight : IsWithin 88 (weight_at m j levels discretes)
+  pub slope : IsWithin 88 (slope_at m j levels discretes)
+
+neither : (a b : Bool) → (not a || b) ≡ false → (a ≡ true) × (b ≡ false)
+neither true true e = absurd (cc)
+neither true false e = (refl, refl)
+neither false b e = absurd (cc)
+
+pub light_row : (m : Machine) (levels discretes : List ℤ) (j : ℕ) → exceeds_row_limits m levels discretes (row_at m j) ≡ false → IsLight m levels discretes j
+light_row m levels discretes j light =
+    let parts = neither _ _ light in
+    let small : IsWithin 88 (weight_of m.f (row_at m j) levels discretes) = passes-within 88 (weight_of m.f (row_at m j) levels discretes) parts.1 in
+    record { modes = parts.0; weight = small; slope = omega (arith, ints, slope-size m.f (row_at m j) levels discretes, small) }
+
+-- where no row passes its limits each is within them
+pub row_is_light : (m : Machine) (levels discretes : List ℤ) → position (exceeds_row_limits m levels discretes) m.rows ≡ None → (j : ℕ) → j < state_count m → IsLight m levels discretes j
+row_is_light m levels discretes light j h =
+    let inside : j < length m.rows = omega (arith, h, m.has_rows.one_each) in
+    light_row m levels discretes j (none_passes no_row (exceeds_row_limits m levels discretes) m.rows light j inside)

@@ -1,0 +1,92 @@
+-- The values at the start are within the limits.
+use Rattle.std.proofs.Common.{◌≡◌, ℕ, ◌+◌, ◌≤◌, ◌<◌, Bool, true, false, List, [], ◌∷◌, ◌++◌, length, get_or, map, take, ℤ, pos, refl, sym, ◌∙◌, ap, subst, rules}
+use Rattle.std.proofs.lemmas.List.{get_or-map, length-map, take_more, take_all, map-append}
+use Rattle.std.specs.Bool.{IsTrue}
+use Rattle.std.specs.Prelude.{None, All, not, position, ◌||◌}
+use Rattle.mu_num.specs.Sizes.{IsWithin, exceeds}
+use Rattle.mu_num.proofs.SizeTests.{within-passes}
+use Rattle.qss_machine.specs.declared.parts.DiscreteInfo.{DiscreteInfo}
+use Rattle.qss_machine.specs.declared.parts.StateInfo.{StateInfo}
+use Rattle.qss_machine.specs.declared.system.Machine.{Machine}
+use Rattle.qss_machine.specs.Slopes.{mode_fits, weight_of}
+use Rattle.qss_machine.specs.MachineLimits.{level_below}
+use Rattle.qss_machine.specs.Machines.{state_count, level_unit, start_states, start_discretes}
+use Rattle.qss_machine.specs.Ticks.{exceeds_row_limits}
+use Rattle.qss_events.specs.Schedules.{no_row}
+use Rattle.qss_events.proofs.Ranges.{position-none}
+
+-- what holds of each element's image
+all_map : {X Y : Type 0} (P : Y → Type 0) (f : X → Y) (xs : List X) (d : X) → ((k : ℕ) → k < length xs → P (f (get_or xs k d))) → All P (map f xs)
+all_map P f xs d each k e h =
+    let inside : k < length xs = subst (λ n. k < n) (length-map xs f) h in
+    subst P (sym (get_or-map f xs k d e inside)) (each k inside)
+
+no_state : StateInfo
+no_state = record { name = []; x0 = pos 0; quantum = pos 0 }
+
+pub states_start : (m : Machine) → All (IsWithin 88) (start_states m)
+unfolding no_state
+states_start m = all_map (IsWithin 88) (λ (s : StateInfo). s.x0) m.states no_state (λ k h. (m.has_variables.each_state k no_state h).start)
+
+pub discretes_start : (m : Machine) → All (IsWithin 43) (start_discretes m)
+discretes_start m =
+    let none : DiscreteInfo = record { name = []; d0 = pos 0 } in
+    all_map (IsWithin 43) (λ (d : DiscreteInfo). d.d0) m.discretes none (λ k h. m.has_variables.each_discrete k none h)
+
+abbrev pub levels_at_start : Machine → List ℤ
+levels_at_start m = map (level_below (level_unit m)) (start_states m)
+
+map_twice : {X Y Z : Type 0} (f : Y → Z) (g : X → Y) (xs : List X) → map f (map g xs) ≡ map (λ x. f (g x)) xs
+map_twice f g [] = refl
+map_twice f g (x ∷ xs) = ap (λ ys. f (g x) ∷ ys) (map_twice f g xs)
+
+pub levels_are : (m : Machine) → map (level_below (level_unit m)) (start_states m) ≡ map (λ (s : StateInfo). level_below (level_unit m) s.x0) m.states
+levels_are m = map_twice (level_below (level_unit m)) (λ (s : StateInfo). s.x0) m.states
+
+pub levels_start : (m : Machine) → All (IsWithin 43) (levels_at_start m)
+unfolding no_state
+levels_start m =
+    subst (All (IsWithin 43)) (sym (levels_are m))
+    (all_map (IsWithin 43) (λ (s : StateInfo). level_below (level_unit m) s.x0) m.states no_state (λ k h. (m.has_variables.each_state k no_state h).level))
+
+is_true_of : (b : Bool) → IsTrue b → b ≡ true
+is_true_of true t = refl
+is_true_of false t = absurd (search (rules, t))
+
+light_of : (a b : Bool) → a ≡ true → b ≡ false → (not a || b) ≡ false
+light_of true b e f = f
+light_of false b e f = absurd (cc)
+
+pub light_start : (m : Machine) → position (exceeds_row_limits m (levels_at_start m) (start_discretes m)) m.rows ≡ None
+light_start m =
+    position-none no_row (exceeds_row_limits m (levels_at_start m) (start_discretes m)) m.rows
+    (λ k h.
+    let row = get_or m.rows k no_row in
+    let heavy : IsWithin 88 (weight_of m.f row (levels_at_start m) (start_discretes m)) =
+    subst (λ l. IsWithin 88 (weight_of m.f row l (start_discretes m))) (sym (levels_are m)) (m.has_rows.weights k no_row h) in
+    light_of (mode_fits m.f (state_count m) row (start_discretes m)) (exceeds 88 (weight_of m.f row (levels_at_start m) (start_discretes m)))
+    (is_true_of (mode_fits m.f (state_count m) row (start_discretes m)) (m.has_rows.modes k no_row h)) (within-passes 88 (weight_of m.f row (levels_at_start m) (start_discretes m)) heavy))
+
+-- the same of levels and discrete values that are those at the start
+pub light_at : (m : Machine) (levels d : List ℤ) → levels ≡ levels_at_start m → d ≡ start_discretes m → position (exceeds_row_limits m levels d) m.rows ≡ None
+light_at m levels d of_levels of_d =
+    ap (λ l. position (exceeds_row_limits m l d) m.rows) of_levels ∙ ap (λ e. position (exceeds_row_limits m (levels_at_start m) e) m.rows) of_d ∙ light_start m
+
+pub count_start : (m : Machine) → length (levels_at_start m) ≡ state_count m
+count_start m = length-map (start_states m) (level_below (level_unit m)) ∙ length-map m.states (λ (s : StateInfo). s.x0)
+
+-- one more level
+pub levels_more : (m : Machine) (j : ℕ) (d : StateInfo) (old : List ℤ) (level : ℤ) → j < length m.states →
+    old ≡ map (λ (s : StateInfo). level_below (level_unit m) s.x0) (take j m.states) → level ≡ level_below (level_unit m) (get_or m.states j d).x0 →
+    old ++ level ∷ [] ≡ map (λ (s : StateInfo). level_below (level_unit m) s.x0) (take (j + 1) m.states)
+levels_more m j d old level h is own =
+    let level_of = λ (s : StateInfo). level_below (level_unit m) s.x0 in
+    ap (λ l. old ++ l ∷ []) own
+    ∙ ap (λ xs. xs ++ level_of (get_or m.states j d) ∷ []) is
+    ∙ sym (map-append level_of (take j m.states) (get_or m.states j d ∷ []))
+    ∙ sym (ap (map level_of) (take_more m.states j d h))
+
+-- all levels
+pub levels_all : (m : Machine) (j : ℕ) (found : List ℤ) → length m.states ≤ j → found ≡ map (λ (s : StateInfo). level_below (level_unit m) s.x0) (take j m.states) →
+    found ≡ levels_at_start m
+levels_all m j found h is = is ∙ ap (map (λ (s : StateInfo). level_below (level_unit m) s.x0)) (take_all j m.states h) ∙ sym (levels_are m)

@@ -1,0 +1,13 @@
+pub mod EventFreeTicks
+pub mod Schedules
+pub mod SlopeChanges
+pub mod AllowedLevels
+pub mod HandlerRows
+pub mod Writes
+pub mod EventFreeRuns
+pub mod ListedPlaces
+pub mod RunViews
+pub mod Events
+pub mod Outcomes
+pub mod RunTexts
+pub mod RemainingRows

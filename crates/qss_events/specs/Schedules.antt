@@ -1,0 +1,125 @@
+-- What a simulator keeps about the world that it stands for.
+use Rattle.std.specs.Prelude.{◌≡◌, ◌≢◌, ℕ, ◌+◌, ◌-◌, ◌<◌, ◌≤◌, Bool, not, ◌&&◌, List, [], length, ℤ, pos, Option, Some, None, slice_index_or, if◌then◌else◌}
+use Rattle.std.specs.List.{list_any}
+use Rattle.mu_num.specs.Ticks.{FirstAfter, tick_limit}
+use Rattle.qss_machine.specs.declared.parts.Condition.{Condition}
+use Rattle.qss_machine.specs.declared.parts.Rel.TheVariants.{Less}
+use Rattle.qss_machine.specs.declared.parts.SlopeRow.{SlopeRow}
+use Rattle.qss_machine.specs.declared.system.Machine.{Machine}
+use Rattle.mu_num.specs.Sizes.{IsWithin}
+use Rattle.qss_machine.specs.IndexedSums.{int_at, tabulate}
+use Rattle.qss_machine.specs.Machines.{state_count, level_unit, slope_at, weight_at, quantum_of, value_of, speed_of}
+use Rattle.qss_machine.specs.Handlers.{conditions, truths, firing_flags}
+use Rattle.qss_machine.specs.Firing.{flag_at}
+use Rattle.qss_machine.specs.Ticks.{Snapshot}
+use Rattle.qss_quant.specs.IntegratorLines.{Line, state_at, IsAway}
+use Rattle.qss_cross.specs.Crossing.{Watch, value_at, holds_at}
+use Rattle.qss_events.specs.EventFreeTicks.{MayFollowTick, NoneRises, IsEventFree, states_after, snapshot_after, rows_from}
+
+-- a row, a line and a watch, where any will do
+abbrev pub no_row : SlopeRow
+no_row = record { entries = []; products = []; beta = pos 0 }
+
+abbrev pub no_line : Line
+no_line = record { tick = 0; x = pos 0; slope = pos 0; level = pos 0 }
+
+abbrev pub no_watch : Watch
+no_watch = record { rel = Less; tick = 0; value = pos 0; speed = pos 0 }
+
+-- the slopes at a world's levels and discrete values
+abbrev pub slopes_of : Machine → Snapshot → List ℤ
+slopes_of m w = tabulate (state_count m) (λ j. slope_at m j w.levels w.discretes)
+
+-- the weights of all rows at levels and discrete values
+abbrev pub weights_at : Machine → List ℤ → List ℤ → List ℤ
+weights_at m levels discretes = tabulate (state_count m) (λ j. weight_at m j levels discretes)
+
+-- the condition at a place in source order
+abbrev pub condition_at : Machine → ℕ → Condition
+condition_at m place = slice_index_or (conditions m) place (record { form = record { entries = []; time = pos 0; gamma = pos 0 }; rel = Less })
+
+-- a state's line comes from a tick up to now, is at its state now, and goes on at its slope
+pub record IsLineOf (m : Machine) (tick : ℕ) (w : Snapshot) (j : ℕ) (line : Line) : Type 0 where
+  pub not_later : line.tick ≤ tick
+  pub here : state_at line tick ≡ int_at w.states j
+  pub own_slope : line.slope ≡ slope_at m j w.levels w.discretes
+  pub own_level : line.level ≡ int_at w.levels j
+
+-- at a tick a state is at least a quantum away from its level
+abbrev pub LeavesAt : Machine → ℕ → Line → ℕ → Type 0
+LeavesAt m j line tick = IsAway (level_unit m) (state_at line tick) line.level (quantum_of m j line.level)
+
+-- the first tick after now, up to 2^32, at which a line leaves the quantum of its level, if there is one
+abbrev pub IsDue : Machine → ℕ → ℕ → Line → Option ℕ → Type 0
+IsDue m tick j line found = FirstAfter (λ t. LeavesAt m j line t) tick found
+
+-- a condition's watch comes from a tick up to now, is at its form's value now, and goes on at its speed
+pub record IsWatchOf (m : Machine) (tick : ℕ) (w : Snapshot) (place : ℕ) (watch : Watch) : Type 0 where
+  pub not_later : watch.tick ≤ tick
+  pub here : value_at watch tick ≡ value_of m (condition_at m place).form w.states w.discretes w.discretes tick
+  pub own_speed : watch.speed ≡ speed_of m (condition_at m place).form (slopes_of m w)
+  pub own_rel : watch.rel ≡ (condition_at m place).rel
+
+-- the first tick after now at which a watch is not as its condition was after the last handlers
+abbrev pub IsChange : ℕ → Bool → Watch → Option ℕ → Type 0
+IsChange tick after_handlers watch found = FirstAfter (λ t. holds_at watch t ≢ after_handlers) tick found
+
+-- whether the condition at a place became true through the handlers
+abbrev pub became_true : List Bool → List Bool → ℕ → Bool
+became_true at_arrival after_handlers place = flag_at after_handlers place && not (flag_at at_arrival place)
+
+-- whether a condition became true through the handlers
+abbrev pub rises : Snapshot → Bool
+rises w = list_any (λ flag. flag) (firing_flags w.after_handlers w.at_arrival w.after_handlers)
+
+-- the next tick, where a condition became true through the handlers: its branch is then due, if it is still true
+abbrev pub rising_tick : ℕ → Snapshot → Option ℕ
+rising_tick tick w = if rises w then Some (tick + 1) else None
+
+-- lines, watches and due ticks for a world at a tick: a due tick for each state, then one for each condition, and one more
+pub record IsScheduleOf (m : Machine) (tick : ℕ) (w : Snapshot) (line : ℕ → Line) (watch : ℕ → Watch) (due : ℕ → Option ℕ) : Type 0 where
+  pub left : MayFollowTick m w
+  pub states : length w.states ≡ state_count m
+  pub after_handlers : w.after_handlers ≡ truths m w.states w.discretes tick
+  pub lines : (j : ℕ) → j < state_count m → IsLineOf m tick w j (line j)
+  pub dues : (j : ℕ) → j < state_count m → IsDue m tick j (line j) (due j)
+  pub watches : (place : ℕ) → place < length (conditions m) → IsWatchOf m tick w place (watch place)
+  pub changes : (place : ℕ) → place < length (conditions m) → IsChange tick (flag_at w.after_handlers place) (watch place) (due (state_count m + place))
+  pub rising : due (state_count m + length (conditions m)) ≡ rising_tick tick w
+
+-- nothing is due up to a tick
+abbrev pub HasNoEventUpTo : ℕ → (ℕ → Option ℕ) → Type 0
+HasNoEventUpTo end due = (place tick : ℕ) → due place ≡ Some tick → end < tick
+
+-- before the next due tick nothing happens
+abbrev pub NoEventBeforeDue : Type 0
+NoEventBeforeDue =
+    (m : Machine) (tick : ℕ) (w : Snapshot) (line : ℕ → Line) (watch : ℕ → Watch) (due : ℕ → Option ℕ) (end : ℕ) →
+    IsScheduleOf m tick w line watch due → tick < end → end ≤ tick_limit → HasNoEventUpTo end due →
+    NoneRises w × ((ticks : ℕ) → 0 < ticks → tick + ticks ≤ end → IsEventFree m tick w ticks)
+
+-- up to the next due tick the same lines, watches and due ticks stand for the moved world
+abbrev pub SchedulesHold : Type 0
+SchedulesHold =
+    (m : Machine) (tick : ℕ) (w : Snapshot) (line : ℕ → Line) (watch : ℕ → Watch) (due : ℕ → Option ℕ) (end ticks : ℕ) →
+    IsScheduleOf m tick w line watch due → tick < end → end ≤ tick_limit → HasNoEventUpTo end due → tick + ticks ≤ end →
+    IsScheduleOf m (tick + ticks) (snapshot_after m w ticks) line watch due
+
+-- nothing is due before a tick
+abbrev pub HasNoEventBefore : ℕ → (ℕ → Option ℕ) → Type 0
+HasNoEventBefore visit due = (place tick : ℕ) → due place ≡ Some tick → visit ≤ tick
+
+-- from its place a simulator may go to just before its next visit: the rows that are left are the same, and what it keeps stands there
+abbrev pub GoesToNextVisit : Type 0
+GoesToNextVisit =
+    (level : ℤ → ℤ → ℤ → ℤ) (m : Machine) (tick : ℕ) (w : Snapshot) (line : ℕ → Line) (watch : ℕ → Watch) (due : ℕ → Option ℕ) (ticks : ℕ) →
+    IsScheduleOf m tick w line watch due → tick + ticks < m.last → HasNoEventBefore (tick + ticks + 1) due →
+    (rows_from level m (m.last - tick) tick w ≡ rows_from level m (m.last - (tick + ticks)) (tick + ticks) (snapshot_after m w ticks))
+    × IsScheduleOf m (tick + ticks) (snapshot_after m w ticks) line watch due
+
+-- a state that is not due at the next visit passes no limit up to then
+abbrev pub OnlyDueStatesPass : Type 0
+OnlyDueStatesPass =
+    (m : Machine) (tick : ℕ) (w : Snapshot) (line : ℕ → Line) (watch : ℕ → Watch) (due : ℕ → Option ℕ) (visit ticks j : ℕ) →
+    IsScheduleOf m tick w line watch due → 0 < ticks → tick + ticks ≤ visit → visit ≤ m.last → HasNoEventBefore visit due → j < state_count m →
+    due j ≢ Some visit → IsWithin 88 (int_at (states_after m w ticks) j)

@@ -1,0 +1,105 @@
+-- Steps of a machine without clauses under the floor rule.
+use Rattle.std.proofs.Common.{◌≡◌, ℕ, ◌<◌, Bool, List, [], ◌∷◌, map, length, ℤ, pos, ◌*ℤ◌, refl, sym, ◌∙◌, ap, ap₂, arith}
+use Rattle.std.proofs.lemmas.List.{length-map, get_or-map}
+use Rattle.std.specs.Prelude.{Option, Some, None, position, flat_map, All}
+use Rattle.std.specs.Option.{option_or}
+use Rattle.mu_num.proofs.Integers.{one-mul}
+use Rattle.mu_num.specs.Levels.{floor_level}
+use Rattle.qss_machine.specs.declared.parts.BranchInfo.{BranchInfo}
+use Rattle.qss_machine.specs.declared.parts.ClauseInfo.{ClauseInfo}
+use Rattle.qss_machine.specs.declared.parts.Condition.{Condition}
+use Rattle.qss_machine.specs.declared.system.Machine.{Machine}
+use Rattle.qss_machine.specs.IndexedSums.{first_exceeding}
+use Rattle.qss_machine.specs.declared.parts.StateInfo.{StateInfo}
+use Rattle.qss_machine.specs.MachineLimits.{level_below}
+use Rattle.qss_machine.specs.Machines.{state_count, level_unit, start_discretes, start_states, truth}
+use Rattle.qss_machine.proofs.Ranges.{none_past, start_small}
+use Rattle.qss_order2.proofs.Tables.{all_of}
+use Rattle.mu_num.specs.Sizes.{IsWithin}
+use Rattle.qss_machine.specs.Handlers.{HandlerState, run_clauses, truths}
+use Rattle.qss_machine.specs.Ticks.{Snapshot, start_snapshot, moved_states, handlers_at, next_levels, exceeds_row_limits, snapshot_unless, finish_tick, step}
+use Rattle.qss_own_traces.specs.TraceSnapshots.{plain_world}
+
+-- without clauses the handlers do nothing, and there are no truths
+pub none_run : (m : Machine) (tick : ℕ) (before : List ℤ) (number : ℕ) (h : HandlerState) (clauses : List ClauseInfo) (due : List Bool) →
+    clauses ≡ [] → run_clauses m tick before number h clauses due ≡ h
+none_run m tick before number h [] due e = refl
+none_run m tick before number h (clause ∷ clauses) due e = absurd (cc)
+
+arrival : Machine → Snapshot → HandlerState
+arrival m w = record { states = moved_states m w; discretes = w.discretes; rows = []; overflow = first_exceeding 88 (moved_states m w) }
+
+idle : (m : Machine) (tick : ℕ) (w : Snapshot) → m.clauses ≡ [] → handlers_at m tick w ≡ arrival m w
+unfolding arrival
+idle m tick w none = none_run m tick w.discretes 0 (arrival m w) m.clauses _ none
+
+pub no_truths : (m : Machine) (states discretes : List ℤ) (tick : ℕ) → m.clauses ≡ [] → truths m states discretes tick ≡ []
+no_truths m states discretes tick none =
+    ap (λ (cs : List ClauseInfo). map (λ (c : Condition). truth m c states discretes tick) (flat_map (λ (clause : ClauseInfo). map (λ (branch : BranchInfo). branch.condition) clause.branches) cs)) none
+
+module _ (m : Machine) (states levels : List ℤ) where
+  -- the states and the levels after a tick
+  abbrev pub moved : List ℤ
+  moved = moved_states m (plain_world m states levels)
+
+  abbrev pub releveled : List ℤ
+  releveled = next_levels floor_level m moved levels
+
+  abbrev pub heavy : Option ℕ
+  heavy = position (exceeds_row_limits m releveled (start_discretes m)) m.rows
+
+  -- the result of a tick: the limits are looked at in their order
+  pub step_is : (tick : ℕ) → m.clauses ≡ [] →
+      step floor_level m tick (plain_world m states levels)
+      ≡ snapshot_unless (option_or (first_exceeding 88 moved) (option_or (first_exceeding 43 releveled) heavy)) (plain_world m moved releveled)
+  unfolding arrival
+  step_is tick none =
+      let w = plain_world m states levels in
+      let over = option_or (first_exceeding 88 moved) (option_or (first_exceeding 43 releveled) heavy) in
+      ap (λ (h : HandlerState). finish_tick m tick w h (next_levels floor_level m h.states levels)) (idle m tick w none)
+      ∙ ap (λ (ts : List Bool). snapshot_unless over (record { states = moved; levels = releveled; discretes = start_discretes m; at_arrival = ts; after_handlers = ts }))
+      (no_truths m moved (start_discretes m) tick none)
+
+  pub step_far : (tick var : ℕ) (w : Snapshot) → m.clauses ≡ [] → first_exceeding 88 moved ≡ Some var →
+      step floor_level m tick (plain_world m states levels) ≡ snapshot_unless (Some var) w
+  step_far tick var w none far =
+      step_is tick none ∙ ap (λ (a : Option ℕ). snapshot_unless (option_or a (option_or (first_exceeding 43 releveled) heavy)) (plain_world m moved releveled)) far
+
+  pub step_settled : (tick : ℕ) (o : Option ℕ) (w : Snapshot) → m.clauses ≡ [] → first_exceeding 88 moved ≡ None → o ≡ option_or (first_exceeding 43 releveled) heavy → w ≡ plain_world m moved releveled →
+      step floor_level m tick (plain_world m states levels) ≡ snapshot_unless o w
+  step_settled tick o w none far e is =
+      step_is tick none
+      ∙ ap (λ (a : Option ℕ). snapshot_unless (option_or a (option_or (first_exceeding 43 releveled) heavy)) (plain_world m moved releveled)) far
+      ∙ ap₂ (λ (a : Option ℕ) (v : Snapshot). snapshot_unless a v) (sym e) (sym is)
+
+-- numbers times one
+pub ones : (xs : List ℤ) → map (λ x. pos 1 *ℤ x) xs ≡ xs
+ones [] = refl
+ones (x ∷ xs) = ap₂ (λ (y : ℤ) (ys : List ℤ). y ∷ ys) (one-mul x) (ones xs)
+
+-- the world at tick 0
+pub start_plain : (m : Machine) (states levels : List ℤ) → m.clauses ≡ [] → states ≡ start_states m → levels ≡ (start_snapshot m).levels → plain_world m states levels ≡ start_snapshot m
+start_plain m states levels none xs ls =
+    ap₂ (plain_world m) xs ls
+    ∙ ap (λ (ts : List Bool). record { states = start_states m; levels = (start_snapshot m).levels; discretes = start_discretes m; at_arrival = ts; after_handlers = ts })
+    (sym (no_truths m (start_states m) (start_discretes m) 0 none))
+
+-- its lengths and sizes
+pub start_count : (m : Machine) → length (start_states m) ≡ state_count m
+start_count m = length-map m.states (λ (s : StateInfo). s.x0)
+
+pub level_count : (m : Machine) → length (start_snapshot m).levels ≡ state_count m
+level_count m = length-map (start_states m) (level_below (level_unit m)) ∙ start_count m
+
+pub start_small_levels : (m : Machine) → All (IsWithin 43) (start_snapshot m).levels
+start_small_levels m = all_of (IsWithin 43) (start_snapshot m).levels (state_count m) (level_count m) (λ k h. start_small m k)
+
+pub start_small_states : (m : Machine) → All (IsWithin 88) (start_states m)
+start_small_states m k d h =
+    let none : StateInfo = record { name = []; x0 = pos 0; quantum = pos 0 } in
+    let l : k < length m.states = omega (arith, h, start_count m) in
+    rw (get_or-map (λ (s : StateInfo). s.x0) m.states k none d l) ((m.has_variables.each_state k none l).start)
+
+-- what no test found past a limit
+pub none_small : (bits : ℕ) (xs : List ℤ) (n : ℕ) → length xs ≡ n → first_exceeding bits xs ≡ None → All (IsWithin bits) xs
+none_small bits xs n many none = all_of (IsWithin bits) xs n many (λ k h. none_past bits xs none k)

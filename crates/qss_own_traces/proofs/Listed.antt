@@ -1,0 +1,106 @@
+-- Lists of states and levels as a trace.
+use Rattle.std.proofs.Common.{◌≡◌, ℕ, zero, suc, ◌+◌, ◌*◌, ◌/◌, ◌^◌, ◌<◌, ◌≤◌, List, [], ◌∷◌, ◌++◌, length, map, take, drop, get_or, ℤ, pos, ◌≤ℤ◌, refl, sym, ap, subst, ◌∙◌, arith, lit≤}
+use Rattle.std.proofs.Math.Nat.{mul-le-mul_right}
+use Rattle.std.proofs.Math.Seq.{ext_get_or, take-append_seam, drop-append-add}
+use Rattle.std.proofs.lemmas.Int.{ints}
+use Rattle.std.proofs.lemmas.List.{length-append, length-map, get_or-map, get_or_default}
+use Rattle.std.proofs.lemmas.List.Elements.{All-append, All-nil}
+use Rattle.std.proofs.lemmas.Nat.{div-mul-add}
+use Rattle.std.specs.Prelude.{All, unsigned_abs}
+use Rattle.mu_num.specs.Sizes.{IsWithin, IsPositiveWithin}
+use Rattle.qss_machine.specs.Machines.{state_count, quanta}
+use Rattle.qss_machine.specs.IndexedSums.{int_at}
+use Rattle.qss_machine.specs.declared.parts.StateInfo.{StateInfo}
+use Rattle.qss_machine.specs.declared.system.Machine.{Machine}
+use Rattle.cert_check.specs.CertificateLimits.{IsSize}
+use Rattle.qss_trace.specs.TraceLimits.{IsFactor, AreQuanta, place_count}
+use Rattle.qss_trace.specs.TracePlaces.{place_at, places}
+use Rattle.qss_trace.specs.declared.trace.Trace.{Trace}
+use Rattle.qss_trace.proofs.Fields.{trace_of, same-trace}
+use Rattle.qss_trace.proofs.OneTrace.{numbers-same}
+use Rattle.qss_trace.proofs.Placing.{places-at, length-places}
+use Rattle.qss_own_traces.specs.Traces.{IsTraceOf}
+use Rattle.qss_own_traces.proofs.Placing.{joined, joined_length, count_of_joined, places_of_joined}
+
+-- ---- one trace
+
+-- numbers that stand in the same places are the same
+same-places : (n : ℕ) (xs ys : List ℤ) → 1 ≤ n → length xs ≡ place_count n xs * n → length ys ≡ place_count n ys * n → places n xs ≡ places n ys → xs ≡ ys
+same-places n xs ys some whole-x whole-y e =
+    let count : place_count n xs ≡ place_count n ys = sym (length-places n xs) ∙ ap length e ∙ length-places n ys in
+    let long : length ys ≡ length xs = whole-y ∙ ap (λ k. k * n) (sym count) ∙ sym whole-x in
+    numbers-same n xs ys some whole-x long (λ i h.
+    sym (places-at n i xs h) ∙ ap (λ (zs : List (List ℤ)). get_or zs i []) e ∙ places-at n i ys (omega (arith, count, h)))
+
+pub one-trace-of : (m : Machine) (scale : ℕ) (states levels : List (List ℤ)) (a b : Trace) → IsTraceOf m scale states levels a → IsTraceOf m scale states levels b → a ≡ b
+one-trace-of m scale states levels a b of-a of-b =
+    let size : a.n ≡ b.n = of-a.size ∙ sym of-b.size in
+    let whole : length b.states ≡ place_count a.n b.states * a.n = b.has_places.whole ∙ ap (λ k. place_count k b.states * k) (sym size) in
+    let states-same : a.states ≡ b.states = same-places a.n a.states b.states a.has_size.some a.has_places.whole whole (of-a.own_states ∙ sym of-b.own_states ∙ ap (λ k. places k b.states) (sym size)) in
+    let whole-a : length a.levels ≡ place_count a.n a.levels * a.n = a.has_places.as_many ∙ a.has_places.whole ∙ ap (λ k. k / a.n * a.n) (sym a.has_places.as_many) in
+    let whole-b : length b.levels ≡ place_count b.n b.levels * b.n = b.has_places.as_many ∙ b.has_places.whole ∙ ap (λ k. k / b.n * b.n) (sym b.has_places.as_many) in
+    let levels-same : a.levels ≡ b.levels = same-places a.n a.levels b.levels a.has_size.some whole-a (whole-b ∙ ap (λ k. place_count k b.levels * k) (sym size))
+    (of-a.own_levels ∙ sym of-b.own_levels ∙ ap (λ k. places k b.levels) (sym size)) in
+    let scales : a.scale ≡ b.scale = of-a.own_scale ∙ sym of-b.own_scale in
+    let refinements : a.refine ≡ b.refine = of-a.by_tick ∙ sym of-b.by_tick in
+    let quantum : a.q ≡ b.q = of-a.own_quanta ∙ sym of-b.own_quanta in
+    same-trace a b (λ i. record { n = size i; scale = scales i; refine = refinements i; q = quantum i; states = states-same i; levels = levels-same i })
+
+-- ---- some trace
+
+abbrev AreSized : ℕ → List (List ℤ) → Type 0
+AreSized n xs = All (λ ys. length ys ≡ n) xs
+
+rest-all : {X : Type 0} (P : X → Type 0) (x : X) (xs : List X) → All P (x ∷ xs) → All P xs
+rest-all P x xs all k d h = all (suc k) d (omega arith)
+
+all-joined : (P : ℤ → Type 0) (xs : List (List ℤ)) → All (All P) xs → All P (joined xs)
+all-joined P [] all = All-nil P
+all-joined P (x ∷ xs) all = All-append P x (joined xs) (all 0 x (omega arith)) (all-joined P xs (rest-all (All P) x xs all))
+
+-- a machine's quanta are those of a trace
+quanta-sound : (m : Machine) → AreQuanta (state_count m) (quanta m)
+quanta-sound m = record {
+  one_each = length-map m.states (λ (state : StateInfo). state.quantum);
+  each = λ k d h.
+      let s : StateInfo = record { name = []; x0 = pos 0; quantum = pos 0 } in
+      let inside : k < state_count m = omega (arith, h, length-map m.states (λ (state : StateInfo). state.quantum)) in
+      let is = m.has_variables.each_state k s inside in
+      let low = is.quantum_low in
+      let high = is.quantum_high in
+      rw (get_or-map (λ (state : StateInfo). state.quantum) m.states k s d inside) (record { from_one = low; within = omega (arith, ints, low, high) });
+}
+
+pub some-trace-of : (m : Machine) (scale : ℕ) (states levels : List (List ℤ)) → IsSize (state_count m) → IsFactor scale → 1 ≤ length states → length states ≤ 2 ^ 24 → length levels ≡ length states
+    → AreSized (state_count m) states → AreSized (state_count m) levels → All (All (IsWithin 108)) states → All (All (IsWithin 64)) levels → (t : Trace) × IsTraceOf m scale states levels t
+some-trace-of m scale states levels size factor some few as_many sized-states sized-levels small-states small-levels =
+    let n = state_count m in
+    let count = count_of_joined n states size.some sized-states in
+    let long = joined_length n states sized-states in
+    let long-levels = joined_length n levels sized-levels in
+    let low : 1 * n ≤ length states * n = mul-le-mul_right n some in
+    let high : length states * n ≤ 2 ^ 24 * n = mul-le-mul_right n few in
+    let t : Trace = trace_of (record { n = n; scale = scale; refine = 1; q = quanta m; states = joined states; levels = joined levels }) (record {
+      size = size;
+      scale = factor;
+      refine = record { some = omega arith; few = omega arith };
+      quanta = quanta-sound m;
+      places = record {
+        whole = long ∙ ap (λ k. k * n) (sym count);
+        as_many = long-levels ∙ ap (λ k. k * n) as_many ∙ sym long;
+        some = omega (arith, long, low);
+        few = omega (arith, long, high);
+        small_states = all-joined (IsWithin 108) states small-states;
+        small_levels = all-joined (IsWithin 64) levels small-levels;
+      };
+    }) in (
+      t,
+      record {
+        size = refl;
+        own_scale = refl;
+        by_tick = refl;
+        own_quanta = refl;
+        own_states = places_of_joined n states size.some sized-states;
+        own_levels = places_of_joined n levels size.some sized-levels;
+      },
+    )

@@ -1,0 +1,81 @@
+-- Steps of a second-order run.
+use Rattle.std.proofs.Common.{◌≡◌, ℕ, ◌+◌, ◌*◌, ◌%◌, ◌^◌, ◌<◌, ◌≤◌, Bool, true, false, ◌||◌, ◌==◌, List, length, ℤ, pos, ◌+ℤ◌, ◌*ℤ◌, unsigned_abs, refl, sym, ◌∙◌, ap, ap₂, arith}
+use Rattle.std.proofs.Math.IntN.{zero-*ℤ}
+use Rattle.std.proofs.Math.Nat.{mul-le-mul_right}
+use Rattle.std.proofs.lemmas.Int.{ints, unsigned_abs-mul}
+use Rattle.std.proofs.lemmas.List.FromFn.{fill_by_all}
+use Rattle.std.specs.Prelude.{Option, Some, None, Result, Ok, All, if◌then◌else◌}
+use Rattle.mu_num.specs.Sizes.{IsWithin}
+use Rattle.qss_machine.specs.declared.system.Machine.{Machine}
+use Rattle.qss_machine.specs.Firing.{flag_at}
+use Rattle.qss_machine.specs.IndexedSums.{int_at, abs_of, sum_below, tabulate}
+use Rattle.qss_machine.specs.Machines.{state_count, level_unit}
+use Rattle.qss_machine.specs.Legitimate.{start_coefficient, start_constant_part}
+use Rattle.qss_order2.specs.SecondSteps.{SecondSnapshot, rise_at, rise_change_weight, leaves_quantum, is_requantization, nearest_change, next_states, next_levels, next_changes, next_snapshot, first_exceeding_limit, is_limit_check, limit_check_period, second_snapshot_unless, second_step}
+use Rattle.qss_order2.proofs.Sizes.{unit_fits}
+use Rattle.qss_order2.proofs.Tables.{all_of, same_table}
+use Rattle.qss_own_traces.specs.SecondPlaces.{changed, AreHeld}
+use Rattle.qss_own_traces.specs.TraceSystems.{row_weight}
+use Rattle.qss_own_traces.proofs.Flags.{none_each}
+
+-- a change of which a multiple is small is small
+factor_small : (k : ℕ) (z : ℤ) → 1 ≤ k → IsWithin 95 (pos k *ℤ z) → IsWithin 95 z
+factor_small k z some small =
+    let once : 1 * unsigned_abs z ≤ k * unsigned_abs z = mul-le-mul_right (unsigned_abs z) some in
+    omega (arith, unsigned_abs-mul (pos k) z, once, small)
+
+pub held_small : (m : Machine) (changes : List ℤ) → length changes ≡ state_count m → AreHeld m changes → All (IsWithin 95) changes
+held_small m changes many held =
+    let u = unit_fits m in
+    all_of (IsWithin 95) changes (state_count m) many (λ k h. factor_small (2 ^ (m.p + m.k)) (int_at changes k) (omega (arith, ints, u.from_one)) (held k h))
+
+-- the weight of changes
+pub undriven : (m : Machine) (changes : List ℤ) → tabulate (state_count m) (row_weight m 0 changes) ≡ tabulate (state_count m) (rise_change_weight m changes)
+undriven m changes = same_table (state_count m) (row_weight m 0 changes) (rise_change_weight m changes) (λ j h. none (sum_below (state_count m) (λ i. abs_of (start_coefficient m j i *ℤ int_at changes i))) (abs_of (start_constant_part m j)))
+  where
+    none : (s d : ℤ) → s +ℤ pos 0 *ℤ d ≡ s
+    none s d = let e = zero-*ℤ d in omega (arith, ints, e)
+
+or_last : (a b c : Bool) → (a || b || c) ≡ false → c ≡ false
+or_last true b c e = absurd (cc)
+or_last false true c e = absurd (cc)
+or_last false false c e = e
+
+module _ (m : Machine) (tick : ℕ) (w : SecondSnapshot) where
+  -- the states that left take new changes
+  pub changed_are : (left : List Bool) → ((j : ℕ) → j < state_count m → flag_at left j ≡ leaves_quantum m w j) → changed m left (next_levels m w) w.changes ≡ next_changes nearest_change m w (next_levels m w)
+  changed_are left flags =
+      same_table (state_count m)
+      (λ j. if flag_at left j then nearest_change (level_unit m) (rise_at m j (next_levels m w)) else int_at w.changes j)
+      (λ j. if leaves_quantum m w j then nearest_change (level_unit m) (rise_at m j (next_levels m w)) else int_at w.changes j)
+      (λ j h. ap (λ (b : Bool). if b then nearest_change (level_unit m) (rise_at m j (next_levels m w)) else int_at w.changes j) (flags j h))
+
+  -- the result of a tick at which the limits are looked at, or not
+  abbrev result_if : Bool → Result SecondSnapshot ℕ
+  result_if looks = second_snapshot_unless (if looks then first_exceeding_limit m (next_levels m w) (next_changes nearest_change m w (next_levels m w)) else None) (next_snapshot m w (next_changes nearest_change m w (next_levels m w)))
+
+  unless_same : (o : Option ℕ) (u v : SecondSnapshot) → (o ≡ None → u ≡ v) → second_snapshot_unless o u ≡ second_snapshot_unless o v
+  unless_same None u v same = ap (λ (x : SecondSnapshot). Ok x) (same refl)
+  unless_same (Some var) u v same = refl
+
+  abbrev with_changes : List ℤ → List ℤ → List ℤ → SecondSnapshot
+  with_changes states levels changes = record { states = states; levels = levels; changes = changes }
+
+  pub step_looked : (o : Option ℕ) (v : SecondSnapshot) → is_limit_check m tick (is_requantization m w) ≡ true → o ≡ first_exceeding_limit m (next_levels m w) (next_changes nearest_change m w (next_levels m w)) →
+      v.states ≡ next_states m w → v.levels ≡ next_levels m w → (o ≡ None → v.changes ≡ next_changes nearest_change m w (next_levels m w)) → second_step nearest_change m tick w ≡ second_snapshot_unless o v
+  step_looked o v looks is states levels changes =
+      let new = next_changes nearest_change m w (next_levels m w) in
+      ap result_if looks ∙ ap (λ (p : Option ℕ). second_snapshot_unless p (next_snapshot m w new)) (sym is)
+      ∙ unless_same o (next_snapshot m w new) v
+      (λ e. ap (λ (cs : List ℤ). with_changes (next_states m w) (next_levels m w) cs) (sym (changes e)) ∙ ap₂ (λ (xs ms : List ℤ). with_changes xs ms v.changes) (sym states) (sym levels))
+
+  pub step_calm : (v : SecondSnapshot) → is_limit_check m tick (is_requantization m w) ≡ false → v.states ≡ next_states m w → v.levels ≡ next_levels m w → v.changes ≡ w.changes → length w.changes ≡ state_count m →
+      second_step nearest_change m tick w ≡ second_snapshot_unless None v
+  step_calm v calm states levels changes many =
+      let none : is_requantization m w ≡ false = or_last (tick % limit_check_period == 0) (tick == m.last) (is_requantization m w) calm in
+      let same : w.changes ≡ next_changes nearest_change m w (next_levels m w) =
+      fill_by_all (λ j. if leaves_quantum m w j then nearest_change (level_unit m) (rise_at m j (next_levels m w)) else int_at w.changes j) w.changes (state_count m) (pos 0) many
+      (λ j h. sym (ap (λ (b : Bool). if b then nearest_change (level_unit m) (rise_at m j (next_levels m w)) else int_at w.changes j) (none_each (leaves_quantum m w) (state_count m) j none h))) in
+      ap result_if calm
+      ∙ ap (λ (cs : List ℤ). Ok (with_changes (next_states m w) (next_levels m w) cs)) (sym same ∙ sym changes)
+      ∙ ap₂ (λ (xs ms : List ℤ). Ok (with_changes xs ms v.changes)) (sym states) (sym levels)

@@ -1,0 +1,73 @@
+-- Worlds that a trace can hold.
+use Rattle.std.proofs.Common.{◌≡◌, ℕ, zero, suc, ◌+◌, ◌<◌, Bool, true, false, cond, ◌||◌, List, [], ◌∷◌, length, get_or, ℤ, pos, ◌*ℤ◌, refl, sym, ◌∙◌, ap, ap₂, arith}
+use Rattle.std.proofs.lemmas.Bool.Decides.{nat_tests}
+use Rattle.std.proofs.lemmas.Int.{ints}
+use Rattle.std.proofs.lemmas.Iterator.Adapters.{position_from-zero}
+use Rattle.std.proofs.lemmas.List.{get_or-map, length-map}
+use Rattle.std.specs.List.{position_from, range_with_len}
+use Rattle.std.specs.Prelude.{All, None, Some}
+use Rattle.mu_num.specs.Sizes.{IsWithin, exceeds}
+use Rattle.mu_num.proofs.SizeTests.{within-passes}
+use Rattle.qss_machine.specs.declared.parts.StateInfo.{StateInfo}
+use Rattle.qss_machine.specs.declared.system.Machine.{Machine}
+use Rattle.qss_machine.specs.IndexedSums.{int_at}
+use Rattle.qss_machine.specs.Machines.{state_count, start_states}
+use Rattle.qss_order2.specs.SecondSteps.{SecondSnapshot, fine_states, fine_levels, nearest_change, second_start}
+use Rattle.qss_order2.proofs.Sizes.{start_level_small}
+use Rattle.qss_order2.proofs.Starts.{fine_count}
+use Rattle.qss_order2.proofs.Tables.{all_of}
+use Rattle.qss_own_traces.specs.SecondRuns.{first_wide, is_wide}
+use Rattle.qss_own_traces.proofs.FirstSteps.{start_small_states}
+use Rattle.qss_own_traces.proofs.Flags.{none_below, range_at, range_count}
+
+-- where no place passes a test, no element does
+none_passes : {X : Type 0} (p : X → Bool) (i : ℕ) (xs : List X) → position_from p i xs ≡ None → (k : ℕ) (d : X) → k < length xs → p (get_or xs k d) ≡ false
+none_passes p i [] e k d h = absurd (omega arith)
+none_passes {X} p i (x ∷ xs) e k d h = by (p x) refl k h (λ r k l. none_passes p (i + 1) xs r k d l)
+  where
+    by : (b : Bool) → p x ≡ b → (k : ℕ) → k < length (x ∷ xs) →
+        (position_from p (i + 1) xs ≡ None → (k : ℕ) → k < length xs → p (get_or xs k d) ≡ false) → p (get_or (x ∷ xs) k d) ≡ false
+    by true f k h rest = let g = sym (ap (λ (b : Bool). cond b (Some i) (position_from p (i + 1) xs)) f) ∙ e in absurd (cc)
+    by false f zero h rest = f
+    by false f (suc k) h rest = rest (sym (ap (λ (b : Bool). cond b (Some i) (position_from p (i + 1) xs)) f) ∙ e) k (omega arith)
+
+none_wide : (w : SecondSnapshot) → first_wide w ≡ None → (k : ℕ) → k < length w.states → is_wide w k ≡ false
+none_wide w e k h =
+    let n = length w.states in
+    sym (ap (is_wide w) (range_at n k h))
+    ∙ none_passes (is_wide w) 0 (range_with_len 0 n) (sym (position_from-zero (is_wide w) (range_with_len 0 n)) ∙ e) k 0 (omega (arith, h, range_count n))
+
+or_left : (a b : Bool) → (a || b) ≡ false → a ≡ false
+or_left true b e = e
+or_left false b e = refl
+
+or_right : (a b : Bool) → (a || b) ≡ false → b ≡ false
+or_right true b e = absurd (cc)
+or_right false b e = e
+
+within : (bits : ℕ) (z : ℤ) → exceeds bits z ≡ false → IsWithin bits z
+within bits z e = grind (arith, nat_tests)
+
+pub narrow_states : (w : SecondSnapshot) (n : ℕ) → length w.states ≡ n → first_wide w ≡ None → All (IsWithin 108) w.states
+narrow_states w n many e =
+    all_of (IsWithin 108) w.states n many (λ k h. within 108 (int_at w.states k) (or_left _ _ (none_wide w e k (omega (arith, h, many)))))
+
+pub narrow_levels : (w : SecondSnapshot) (n : ℕ) → length w.states ≡ n → length w.levels ≡ n → first_wide w ≡ None → All (IsWithin 64) w.levels
+narrow_levels w n many levels e =
+    all_of (IsWithin 64) w.levels n levels (λ k h. within 64 (int_at w.levels k) (or_right _ _ (none_wide w e k (omega (arith, h, many)))))
+
+-- the start is narrow
+start_state_small : (m : Machine) (k : ℕ) → k < state_count m → IsWithin 94 (int_at (fine_states m) k)
+start_state_small m k h =
+    let many : length (start_states m) ≡ state_count m = length-map m.states (λ (s : StateInfo). s.x0) in
+    let small = start_small_states m k (pos 0) (omega (arith, h, many)) in
+    let is : int_at (fine_states m) k ≡ pos 64 *ℤ int_at (start_states m) k = get_or-map (λ (x : ℤ). pos 64 *ℤ x) (start_states m) k (pos 0) (pos 0) (omega (arith, h, many)) in
+    omega (arith, ints, is, small)
+
+pub start_narrow : (m : Machine) → first_wide (second_start nearest_change m) ≡ None
+start_narrow m =
+    none_below (is_wide (second_start nearest_change m)) (length (fine_states m))
+    (λ k h.
+    let l : k < state_count m = omega (arith, h, fine_count m) in
+    ap₂ (λ (a b : Bool). a || b) (within-passes 108 (int_at (fine_states m) k) (let s = start_state_small m k l in omega arith))
+    (within-passes 64 (int_at (fine_levels m) k) (let s = start_level_small m k l in omega arith)))

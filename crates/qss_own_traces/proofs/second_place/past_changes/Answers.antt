@@ -1,0 +1,8 @@
+-- What no level changes counts not at all.
+use Rattle.std.proofs.Common.{◌∙◌, ap}
+use Rattle.qss_machine.specs.IndexedSums.{first_exceeding}
+use Rattle.qss_own_traces.proofs.SecondSteps.{undriven}
+use Rattle.qss_own_traces.proofs.second_place.past_changes.Goals as goal
+
+pub returns : goal.returns
+returns c = c.first_heavy.ensures ∙ ap (first_exceeding 94) (undriven c.args.m.now c.args.changes.now)

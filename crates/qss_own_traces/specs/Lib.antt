@@ -1,0 +1,11 @@
+pub mod Traces
+pub mod TraceSnapshots
+pub mod WideValues
+pub mod RecordedTraces
+pub mod FirstRuns
+pub mod FirstPlaces
+pub mod FirstCourses
+pub mod TraceSystems
+pub mod SecondRuns
+pub mod SecondPlaces
+pub mod SecondCourses

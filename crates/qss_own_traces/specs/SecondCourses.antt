@@ -1,0 +1,30 @@
+-- How far a trace of a second-order run has come.
+use Rattle.std.specs.Prelude.{◌≡◌, ℕ, ◌-◌, List, ◌∷◌, ◌++◌, length, All, Option, None}
+use Rattle.qss_machine.specs.declared.system.Machine.{Machine}
+use Rattle.qss_machine.specs.Machines.{state_count}
+use Rattle.qss_order2.specs.SecondSteps.{SecondSnapshot, nearest_change, second_start}
+use Rattle.qss_order2.specs.SecondRuns.{Past, Run2, snapshots_from}
+use Rattle.qss_order2.specs.SecondRunLaws.{states_from2, levels_from2}
+use Rattle.qss_own_traces.specs.declared.second_course.SecondCourse.{SecondCourse}
+use Rattle.qss_own_traces.specs.RecordedTraces.{Holds}
+use Rattle.qss_own_traces.specs.SecondPlaces.{snapshot_of, Stands}
+use Rattle.qss_own_traces.specs.SecondRuns.{second_run, first_wide}
+
+-- a run that goes on after these worlds
+abbrev pub run2_after : SecondSnapshot → List SecondSnapshot → (List SecondSnapshot × Option Past) → Run2
+run2_after start snapshots rest = record { start = start; snapshots = snapshots ++ rest.0; overflow = rest.1 }
+
+-- at a tick of the run: its worlds after tick 0 up to there, each of which a trace can hold, and all their states and levels
+pub record IsAt (m : Machine) (tick : ℕ) (course : SecondCourse) : Type 0 where
+  pub snapshots : List SecondSnapshot
+  pub as_many : length snapshots ≡ tick
+  pub rest : second_run m ≡ run2_after (second_start nearest_change m) snapshots (snapshots_from nearest_change m (m.last - tick) tick (snapshot_of course.place))
+  pub narrow : All (λ w. first_wide w ≡ None) (second_start nearest_change m ∷ snapshots)
+  pub stands : Stands m course.place
+  pub held : Holds (state_count m) (states_from2 (second_start nearest_change m) snapshots) (levels_from2 (second_start nearest_change m) snapshots) course.draft
+
+-- at the last tick: all states and levels of the run
+pub record IsAtEnd (m : Machine) (course : SecondCourse) : Type 0 where
+  pub reaches_end : (second_run m).overflow ≡ None
+  pub as_many : length (second_run m).snapshots ≡ m.last
+  pub held : Holds (state_count m) (states_from2 (second_run m).start (second_run m).snapshots) (levels_from2 (second_run m).start (second_run m).snapshots) course.draft

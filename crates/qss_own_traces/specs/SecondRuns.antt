@@ -1,0 +1,49 @@
+-- The trace of a machine's second-order run with the nearest changes.
+use Rattle.std.specs.Prelude.{◌≡◌, ℕ, ◌<◌, ◌⊎◌, Bool, List, ◌∷◌, length, take, All, slice_index_or, position, Option, Some, None}
+use Rattle.std.specs.List.{range_with_len}
+use Rattle.qss_machine.specs.declared.system.Machine.{Machine}
+use Rattle.qss_order2.specs.SecondSteps.{SecondSnapshot, second_scale, nearest_change}
+use Rattle.qss_order2.specs.SecondRuns.{Run2, run2_by}
+use Rattle.qss_order2.specs.SecondRunLaws.{states_from2, levels_from2}
+use Rattle.qss_trace.specs.declared.trace.Trace.{Trace}
+use Rattle.qss_own_traces.specs.declared.trace_over.TraceOver.{TraceOver}
+use Rattle.qss_own_traces.specs.declared.trace_over.TraceOver.TheVariants.{Over, Memory}
+use Rattle.qss_own_traces.specs.Traces.{IsTraceOf}
+use Rattle.qss_own_traces.specs.WideValues.{is_wide_at}
+
+-- the run
+abbrev pub second_run : Machine → Run2
+second_run m = run2_by nearest_change m
+
+-- its worlds from tick 0 on
+abbrev pub second_snapshots : Machine → List SecondSnapshot
+second_snapshots m = (second_run m).start ∷ (second_run m).snapshots
+
+-- whether a state, or its level, is past what a trace can hold
+abbrev pub is_wide : SecondSnapshot → ℕ → Bool
+is_wide w j = is_wide_at w.states w.levels j
+
+-- the least such state
+abbrev pub first_wide : SecondSnapshot → Option ℕ
+first_wide w = position (is_wide w) (range_with_len 0 (length w.states))
+
+-- the run reaches the last tick, and the trace has its states and levels from tick 0 on, in units 64 times finer than the machine's
+pub record IsSecondTrace (m : Machine) (t : Trace) : Type 0 where
+  pub reaches_end : (second_run m).overflow ≡ None
+  pub is_trace : IsTraceOf m second_scale (states_from2 (second_run m).start (second_run m).snapshots) (levels_from2 (second_run m).start (second_run m).snapshots) t
+
+-- the run overflows at the tick by this state, and a trace can hold each world before
+pub record IsOverflow (m : Machine) (tick var : ℕ) : Type 0 where
+  pub overflow : (second_run m).overflow ≡ Some (record { tick = tick; var = var })
+  pub before : All (λ w. first_wide w ≡ None) (second_snapshots m)
+
+-- the world at the tick is the first of the run that a trace cannot hold, and this its least state past the limits
+pub record IsTooWide (m : Machine) (tick var : ℕ) : Type 0 where
+  pub inside : tick < length (second_snapshots m)
+  pub least : first_wide (slice_index_or (second_snapshots m) tick (second_run m).start) ≡ Some var
+  pub before : All (λ w. first_wide w ≡ None) (take tick (second_snapshots m))
+
+-- why the run has no trace
+abbrev pub IsSecondRefusal : Machine → TraceOver → Type 0
+IsSecondRefusal m (Over tick var) = IsOverflow m tick var ⊎ IsTooWide m tick var
+IsSecondRefusal m Memory = Unit {0}

@@ -1,0 +1,243 @@
+//! A tick of a run under the floor rule.
+
+ghost use Rattle.std.specs.Prelude.{◌≡◌, ◌<◌, ◌≤◌, ℕ, [], All, None, position, length, pos, ◌+ℤ◌, ◌-ℤ◌, ◌*ℤ◌, ◌<ℤ◌, unsigned_abs, int_lt, if◌then◌else◌};
+ghost use Rattle.mu_num.specs.Levels.{floor_level};
+ghost use Rattle.mu_num.specs.Sizes.{IsWithin, IsPositiveWithin};
+ghost use Rattle.qss_machine.specs.Machines.{state_count, level_unit, start_discretes, row_at};
+ghost use Rattle.qss_machine.specs.Ticks.{is_within_quantum, exceeds_row_limits, moved_states, next_levels};
+ghost use Rattle.qss_own_traces.specs.TraceSnapshots.{plain_world};
+
+use crate::limits::first_exceeding;
+use crate::starts::{levels_below, states_at_start};
+use mu_num::{exceeds, floor_div};
+use qss_machine::Machine;
+use qss_order2::{copies, gap_of};
+use std::alloc::{AllocError, Global};
+
+/// The most bits of a state.
+const STATE_BITS: u8 = 88;
+
+/// The most bits of a level.
+const LEVEL_BITS: u8 = 43;
+
+/// The most bits of a row's weight.
+const WEIGHT_BITS: u8 = 88;
+
+/// States and levels at a tick, and the levels once more in 64 bits.
+#[derive(Drop)]
+pub(crate) struct FirstPlace {
+    pub states: Vec<i128>,
+    pub levels: Vec<i128>,
+    pub short_levels: Vec<i64>,
+}
+
+// A state after a tick.
+fn risen(x: i128, slope: i128) -> i128
+    requires state { IsWithin 88 x }
+    requires slope { IsWithin 101 slope }
+    ensures { result ≡ x +ℤ slope }
+{
+    x + slope
+}
+
+// All states after a tick.
+fn move_states(m: &Machine, levels: &[i64], discretes: &[i64], states: &mut [i128])
+    requires discretes { discretes.now ≡ start_discretes m.now }
+    requires levels { length levels.now ≡ state_count m.now }
+    requires states { length states.old ≡ state_count m.now }
+    requires small_levels { All (IsWithin 43) levels.now }
+    requires small_states { All (IsWithin 88) states.old }
+    ensures { states.new ≡ moved_states m.now (plain_world m.now states.old levels.now) }
+{
+    for j in 0..states.len() {
+        states[j] = risen(states[j], m.slope(j as u32, levels, discretes));
+    }
+}
+
+// A number of levels in units of a state.
+fn in_states(unit: i128, count: i64) -> i128
+    requires { IsPositiveWithin 44 unit }
+    ensures { result ≡ unit *ℤ count }
+{
+    unit * i128::from(count)
+}
+
+// Whether a state is less than a quantum from its level.
+fn is_close(unit: i128, x: i128, level: i128, quantum: i64) -> bool
+    requires unit { IsPositiveWithin 44 unit }
+    requires state { IsWithin 88 x }
+    requires level { IsWithin 43 level }
+    ensures { result ≡ int_lt (pos (unsigned_abs (x -ℤ unit *ℤ level))) (unit *ℤ quantum) }
+{
+    gap_of(x, level, unit).abs() < in_states(unit, quantum)
+}
+
+// The new level of a state: the old one while the state is near it, else the greatest at most the state.
+fn next_level(m: &Machine, unit: i128, state: u32, x: i128, level: i128) -> i128
+    requires unit { unit ≡ level_unit m.now }
+    requires state { state < state_count m.now }
+    requires small_state { IsWithin 88 x }
+    requires small_level { IsWithin 43 level }
+    ensures { result
+        ≡ (if is_within_quantum m.now state x level then level else floor_level (level_unit m.now) x level) }
+{
+    if is_close(unit, x, level, m.quantum_at(state, level as i64)) {
+        level
+    } else {
+        floor_div(x, unit)
+    }
+}
+
+// The new levels of all states.
+fn set_levels(m: &Machine, unit: i128, states: &[i128], levels: &mut [i128])
+    requires unit { unit ≡ level_unit m.now }
+    requires states { length states.now ≡ state_count m.now }
+    requires levels { length levels.old ≡ state_count m.now }
+    requires small_states { All (IsWithin 88) states.now }
+    requires small_levels { All (IsWithin 43) levels.old }
+    ensures { levels.new ≡ next_levels floor_level m.now states.now levels.old }
+{
+    for j in 0..levels.len() {
+        levels[j] = next_level(m, unit, j as u32, states[j], levels[j]);
+    }
+}
+
+// Levels in 64 bits.
+fn shorten(levels: &[i128], short: &mut [i64])
+    requires same_length { length short.old ≡ length levels.now }
+    requires size_limit { All (IsWithin 43) levels.now }
+    ensures { short.new ≡ levels.now }
+{
+    for j in 0..short.len() {
+        short[j] = levels[j] as i64;
+    }
+}
+
+// Whether the weight of a row is past its limit.
+fn is_heavy(m: &Machine, row: u32, levels: &[i64], discretes: &[i64]) -> bool
+    requires row { row < state_count m.now }
+    requires discretes { discretes.now ≡ start_discretes m.now }
+    requires levels { length levels.now ≡ state_count m.now }
+    requires size_limit { All (IsWithin 43) levels.now }
+    ensures { result ≡ exceeds_row_limits m.now levels.now (start_discretes m.now) (row_at m.now row) }
+{
+    exceeds(m.weight(row, levels, discretes), WEIGHT_BITS)
+}
+
+// The least row whose weight is past its limit.
+fn first_heavy(m: &Machine, levels: &[i64], discretes: &[i64]) -> Option<u32>
+    requires discretes { discretes.now ≡ start_discretes m.now }
+    requires levels { length levels.now ≡ state_count m.now }
+    requires size_limit { All (IsWithin 43) levels.now }
+    ensures { result
+        ≡ position (exceeds_row_limits m.now levels.now (start_discretes m.now)) m.now.rows }
+{
+    for row in 0..levels.len() {
+        if is_heavy(m, row as u32, levels, discretes) {
+            return Some(row as u32);
+        }
+    }
+    None
+}
+
+impl FirstPlace {
+    ghost use Rattle.std.specs.Prelude.{◌≡◌, ℕ, [], None, IfOk, position};
+    ghost use Rattle.std.specs.Option.{option_or};
+    ghost use Rattle.mu_num.specs.Levels.{floor_level};
+    ghost use Rattle.qss_machine.specs.Machines.{level_unit, start_discretes};
+    ghost use Rattle.qss_machine.specs.IndexedSums.{first_exceeding};
+    ghost use Rattle.qss_machine.specs.Ticks.{exceeds_row_limits, moved_states, next_levels, start_snapshot, step, snapshot_unless};
+    ghost use Rattle.qss_own_traces.specs.FirstPlaces.{snapshot_of, HasStates, HasLevels, Stands};
+
+    /// The place at tick 0.
+    pub(crate) fn new(alloc: Global, m: &Machine, unit: i128) -> Result<FirstPlace, AllocError>
+        requires plain { m.now.clauses ≡ [] }
+        requires unit { unit ≡ level_unit m.now }
+        ensures start { IfOk result (λ place. snapshot_of m.now place ≡ start_snapshot m.now) }
+        ensures stands { IfOk result (λ place. Stands m.now place) }
+    {
+        let states = states_at_start(alloc, m, 1)?;
+        let levels = levels_below(alloc, m, unit, states.as_slice())?;
+        let mut short_levels = copies(alloc, 0, levels.len())?;
+        shorten(levels.as_slice(), short_levels.as_mut_slice());
+        Ok(FirstPlace {
+            states,
+            levels,
+            short_levels,
+        })
+    }
+
+    // Moves all states on by a tick, or gives the least that is past its limit.
+    fn move_on(&mut self, m: &Machine, discretes: &[i64]) -> Option<u32>
+        requires stands { Stands m.now self.old }
+        requires discretes { discretes.now ≡ start_discretes m.now }
+        ensures overflow { result ≡ first_exceeding 88 self.new.states.items }
+        ensures moved { self.new.states.items ≡ moved_states m.now (snapshot_of m.now self.old) }
+        ensures levels { (self.new.levels ≡ self.old.levels)
+            × (self.new.short_levels ≡ self.old.short_levels) }
+        ensures states { result ≡ None → HasStates m.now self.new }
+    {
+        move_states(
+            m,
+            self.short_levels.as_slice(),
+            discretes,
+            self.states.as_mut_slice(),
+        );
+        first_exceeding(self.states.as_slice(), STATE_BITS)
+    }
+
+    // Takes the new levels, or gives the least state whose level is past its limit.
+    fn relevel(&mut self, m: &Machine, unit: i128) -> Option<u32>
+        requires stands { Stands m.now self.old }
+        requires unit { unit ≡ level_unit m.now }
+        ensures overflow { result ≡ first_exceeding 43 self.new.levels.items }
+        ensures states { self.new.states ≡ self.old.states }
+        ensures releveled { self.new.levels.items
+            ≡ next_levels floor_level m.now self.old.states.items self.old.levels.items }
+        ensures levels { result ≡ None → HasLevels m.now self.new }
+    {
+        set_levels(m, unit, self.states.as_slice(), self.levels.as_mut_slice());
+        if let Some(var) = first_exceeding(self.levels.as_slice(), LEVEL_BITS) {
+            return Some(var);
+        }
+        shorten(self.levels.as_slice(), self.short_levels.as_mut_slice());
+        None
+    }
+
+    // The same, or gives the least row whose weight is then past its limit.
+    fn settle(&mut self, m: &Machine, unit: i128, discretes: &[i64]) -> Option<u32>
+        requires stands { Stands m.now self.old }
+        requires unit { unit ≡ level_unit m.now }
+        requires discretes { discretes.now ≡ start_discretes m.now }
+        ensures overflow { result
+            ≡ option_or (first_exceeding 43 self.new.levels.items)
+            (position (exceeds_row_limits m.now self.new.levels.items (start_discretes m.now))
+            m.now.rows) }
+        ensures states { self.new.states ≡ self.old.states }
+        ensures releveled { self.new.levels.items
+            ≡ next_levels floor_level m.now self.old.states.items self.old.levels.items }
+        ensures levels { result ≡ None → HasLevels m.now self.new }
+    {
+        if let Some(var) = self.relevel(m, unit) {
+            return Some(var);
+        }
+        first_heavy(m, self.short_levels.as_slice(), discretes)
+    }
+
+    /// Goes on by a tick, or gives the variable that overflows there.
+    pub(crate) fn go_on(&mut self, m: &Machine, unit: i128, discretes: &[i64]) -> Option<u32>
+        requires stands { Stands m.now self.old }
+        requires plain { m.now.clauses ≡ [] }
+        requires unit { unit ≡ level_unit m.now }
+        requires discretes { discretes.now ≡ start_discretes m.now }
+        ensures step { (tick : ℕ)
+            → step floor_level m.now tick (snapshot_of m.now self.old)
+            ≡ snapshot_unless result (snapshot_of m.now self.new) }
+        ensures stands { result ≡ None → Stands m.now self.new }
+    {
+        if let Some(var) = self.move_on(m, discretes) {
+            return Some(var);
+        }
+        self.settle(m, unit, discretes)
+    }
+}

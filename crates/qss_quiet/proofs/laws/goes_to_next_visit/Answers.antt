@@ -1,6 +1,0 @@
--- Up to the next visit nothing happens.
-use Rattle.qss_quiet.proofs.NextVisit.{goes_to_next_visit}
-use Rattle.qss_quiet.proofs.laws.goes_to_next_visit.Goals as goal
-
-pub returns : goal.returns
-returns c = goes_to_next_visit

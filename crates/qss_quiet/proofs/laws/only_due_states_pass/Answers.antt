@@ -1,6 +1,0 @@
--- Up to the next visit nothing happens.
-use Rattle.qss_quiet.proofs.NextVisit.{only_due_states_pass}
-use Rattle.qss_quiet.proofs.laws.only_due_states_pass.Goals as goal
-
-pub returns : goal.returns
-returns c = only_due_states_pass

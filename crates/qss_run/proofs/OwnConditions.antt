@@ -1,0 +1,140 @@
+-- Conditions that go on, or of which some settle, are a machine's conditions still.
+use Rattle.std.proofs.Common.{◌≡◌, ℕ, List, [], ◌++◌, length, ℤ, Vec, Global, refl, sym, ◌∙◌, ap, subst, arith}
+use Rattle.std.proofs.lemmas.List.Elements.{All-append}
+use Rattle.std.specs.Prelude.{Bool, Option, All}
+use Rattle.qss_machine.specs.declared.system.Machine.{Machine}
+use Rattle.qss_machine.specs.Handlers.{conditions}
+use Rattle.qss_quant.specs.IntegratorLines.{Line}
+use Rattle.qss_cross.specs.Crossing.{IsSmall}
+use Rattle.qss_run.specs.declared.conditions.Conditions.{Conditions}
+use Rattle.qss_run.specs.declared.context.ConditionContext.{ConditionContext}
+use Rattle.qss_run.specs.ConditionContexts.{CanUpdateDetectors, CanSettle}
+use Rattle.qss_run.specs.ConditionPlaces.{AreBranches, AreConditionsOf}
+use Rattle.qss_run.specs.PlaceSets.{PlaceList}
+use Rattle.qss_run.specs.DetectorUpdates.{DetectorStates, AreSettled, AreSettledAlong, detector_states_of, touched_after}
+use Rattle.qss_run.specs.SpeedUpdates.{HasSpeed, AreDetectorsUpdated}
+use Rattle.qss_states.specs.StateLines.{states_at}
+use Rattle.qss_run.proofs.Apart.{none_noted, noted_then}
+use Rattle.qss_run.proofs.Rewatching.{none_settled, settled_then}
+use Rattle.qss_run.proofs.Settling.{none_arrived, arrived_on}
+use Rattle.qss_run.proofs.Speeds.{going_on_more, has_speed_still}
+
+-- ---- whose truths on arrival are others
+
+pub arrived_anew : (m : Machine) (all : Conditions) (at_arrival : Vec Bool Global) (apart : PlaceList) → AreConditionsOf m all → length at_arrival.items ≡ length (conditions m) →
+    apart.count ≡ all.apart.count → AreConditionsOf m (record all { at_arrival = at_arrival; apart = apart })
+arrived_anew m all at_arrival apart are many count = record { branches = are.branches; watches = are.watches; at_arrival = many; after_handlers = are.after_handlers; apart = count ∙ are.apart }
+
+-- ---- that go on at speeds
+
+watched_then : (a b c : Conditions) → b ≡ record a { watches = b.watches } → c ≡ record b { watches = c.watches } → c ≡ record a { watches = c.watches }
+watched_then a b c first second = second ∙ ap (λ (all : Conditions). record all { watches = c.watches }) first
+
+pub still_fits : (m : Machine) (old new : Conditions) → AreConditionsOf m old → new ≡ record old { watches = new.watches } → length new.watches.items ≡ length old.watches.items → AreConditionsOf m new
+still_fits m old new are rest many = record {
+  branches = subst (AreBranches m) (sym (ap (λ (all : Conditions). all.branches.items) rest)) are.branches;
+  watches = many ∙ are.watches;
+  at_arrival = ap (λ (all : Conditions). length all.at_arrival.items) rest ∙ are.at_arrival;
+  after_handlers = ap (λ (all : Conditions). length all.after_handlers.items) rest ∙ are.after_handlers;
+  apart = ap (λ (all : Conditions). all.apart.count) rest ∙ are.apart;
+}
+
+module _ (m : Machine) (tick : ℕ) (slopes : List ℤ) where
+  -- others may go on then
+  pub still_goes : (places : List ℕ) (old new : Conditions) (due next : List (Option ℕ)) → CanUpdateDetectors m tick slopes old due → AreDetectorsUpdated m tick slopes places old new due next →
+      CanUpdateDetectors m tick slopes new next
+  still_goes places old new due next can are = record {
+    fits = still_fits m old new can.fits are.same are.goes_on.as_many;
+    places = omega (arith, are.goes_on.places, can.places);
+    small = record {
+      later = λ place h. (are.goes_on.each place (omega (arith, h, are.goes_on.as_many))).not_later;
+      small = λ place h. subst IsSmall (sym (are.goes_on.each place (omega (arith, h, are.goes_on.as_many))).here) (can.small.small place (omega (arith, h, are.goes_on.as_many)));
+    };
+    slopes_of = can.slopes_of;
+    in_time = can.in_time;
+  }
+
+  -- these places one after another, where the second are others that are equal
+  pub rewatched_more : (xs ys zs all : List ℕ) (a b c : Conditions) (p q r : List (Option ℕ)) → AreDetectorsUpdated m tick slopes xs a b p q → zs ≡ ys → all ≡ xs ++ ys → AreDetectorsUpdated m tick slopes zs b c q r →
+      AreDetectorsUpdated m tick slopes all a c p r
+  rewatched_more xs ys zs all a b c p q r first equal is second =
+      let Own : ℕ → Type 0 = HasSpeed m slopes c.watches.items in
+      let before : All Own xs = λ k d h. has_speed_still m tick slopes b.watches.items c.watches.items q r second.goes_on _ (first.speeds k d h) in
+      record {
+        goes_on = going_on_more m tick slopes a.watches.items b.watches.items c.watches.items p q r first.goes_on second.goes_on;
+        speeds = subst (All Own) (sym is) (All-append Own xs ys before (subst (All Own) equal second.speeds));
+        same = watched_then a b c first.same second.same;
+      }
+
+-- ---- of which some settle
+
+pub settled_fits : (m : Machine) (old new : Conditions) → AreConditionsOf m old → new ≡ record old { watches = new.watches; after_handlers = new.after_handlers; apart = new.apart } →
+    length new.watches.items ≡ length old.watches.items → length new.after_handlers.items ≡ length old.after_handlers.items → new.apart.count ≡ old.apart.count → AreConditionsOf m new
+settled_fits m old new are rest watches after_handlers count = record {
+  branches = subst (AreBranches m) (sym (ap (λ (all : Conditions). all.branches.items) rest)) are.branches;
+  watches = watches ∙ are.watches;
+  at_arrival = ap (λ (all : Conditions). length all.at_arrival.items) rest ∙ are.at_arrival;
+  after_handlers = after_handlers ∙ are.after_handlers;
+  apart = count ∙ are.apart;
+}
+
+pub rest_then : (a b c : Conditions) → b ≡ record a { watches = b.watches; after_handlers = b.after_handlers; apart = b.apart } → c ≡ record b { watches = c.watches; after_handlers = c.after_handlers; apart = c.apart } →
+    c ≡ record a { watches = c.watches; after_handlers = c.after_handlers; apart = c.apart }
+rest_then a b c first second = second ∙ ap (λ (all : Conditions). record all { watches = c.watches; after_handlers = c.after_handlers; apart = c.apart }) first
+
+module _ (at : ConditionContext) (d : List ℤ) where
+  -- none has settled at first
+  pub none_along : (all : Conditions) (due : List (Option ℕ)) (x : List ℤ) → CanSettle at d all due x → AreSettledAlong at d [] all all due due x x
+  none_along all due x can = record {
+    after_handlers = none_settled at.machine.now at.tick (states_at at.lines.now at.tick) d at.slopes.now (detector_states_of all due);
+    noted = none_noted all;
+    rest = refl;
+    at_arrival = none_arrived at.machine.now (states_at at.lines.now at.tick) x;
+    small = can.values.small_states;
+  }
+
+  -- and then more settle
+  pub along_then : (xs ys : List ℕ) (a b c : Conditions) (p q r : List (Option ℕ)) (x y z : List ℤ) → AreSettledAlong at d xs a b p q x y → AreSettledAlong at d ys b c q r y z →
+      AreSettledAlong at d (xs ++ ys) a c p r x z
+  along_then xs ys a b c p q r x y z first second = record {
+    after_handlers = settled_then at.machine.now at.tick (states_at at.lines.now at.tick) d at.slopes.now xs ys (detector_states_of a p) (detector_states_of b q) (detector_states_of c r) first.after_handlers second.after_handlers;
+    noted = noted_then xs ys a b c first.noted second.noted (ap (λ (all : Conditions). all.at_arrival.items) second.rest) (λ place none. (second.after_handlers.kept place none).truth);
+    rest = rest_then a b c first.rest second.rest;
+    at_arrival = arrived_on at.machine.now xs ys (states_at at.lines.now at.tick) x y z first.at_arrival second.at_arrival;
+    small = second.small;
+  }
+
+  -- these lists of places one after another, where the second is another one that is equal
+  pub along_more : (xs ys zs all : List ℕ) (a b c : Conditions) (p q r : List (Option ℕ)) (x y z : List ℤ) → AreSettledAlong at d xs a b p q x y → zs ≡ ys → all ≡ xs ++ ys →
+      AreSettledAlong at d zs b c q r y z → AreSettledAlong at d all a c p r x z
+  along_more xs ys zs all a b c p q r x y z first same is second =
+      subst (λ (places : List ℕ). AreSettledAlong at d places a c p r x z) (sym is)
+      (along_then xs ys a b c p q r x y z first (subst (λ (places : List ℕ). AreSettledAlong at d places b c q r y z) same second))
+
+  -- others may settle then
+  pub still_settles : (places : List ℕ) (old new : Conditions) (due next : List (Option ℕ)) (x y : List ℤ) → CanSettle at d old due x → AreSettledAlong at d places old new due next x y →
+      CanSettle at d new next y
+  still_settles places old new due next x y can are = record {
+    moment = can.moment;
+    fits = settled_fits at.machine.now old new can.fits are.rest are.after_handlers.many_watches are.after_handlers.many_truths are.noted.count;
+    places = omega (arith, are.after_handlers.many_dues, can.places);
+    values = record { states = are.at_arrival.as_many ∙ can.values.states; discretes = can.values.discretes; small_states = are.small; small_discretes = can.values.small_discretes };
+  }
+
+-- after that some go on
+pub rest_watched : (a b c : Conditions) → b ≡ record a { watches = b.watches; after_handlers = b.after_handlers; apart = b.apart } → c ≡ record b { watches = c.watches } →
+    c ≡ record a { watches = c.watches; after_handlers = c.after_handlers; apart = c.apart }
+rest_watched a b c first second =
+    second ∙ ap (λ (all : Conditions). record all { watches = c.watches }) first
+    ∙ ap (λ after_handlers. record a { watches = c.watches; after_handlers = after_handlers; apart = b.apart }) (sym (ap (λ (all : Conditions). all.after_handlers) second))
+    ∙ ap (λ apart. record a { watches = c.watches; after_handlers = c.after_handlers; apart = apart }) (sym (ap (λ (all : Conditions). all.apart) second))
+
+-- settled at equal lines and slopes, in equal lists
+pub same_settled : (m : Machine) (tick : ℕ) (lines passed_lines : List Line) (d slopes passed_slopes : List ℤ) (listed assigned passed_assigned changed passed_changed : List ℕ) (old new : DetectorStates) →
+    passed_lines ≡ lines → passed_slopes ≡ slopes → passed_assigned ≡ assigned → passed_changed ≡ changed → AreSettled m tick (states_at passed_lines tick) d passed_slopes (touched_after m listed passed_assigned passed_changed) old new →
+    AreSettled m tick (states_at lines tick) d slopes (touched_after m listed assigned changed) old new
+same_settled m tick lines passed_lines d slopes passed_slopes listed assigned passed_assigned changed passed_changed old new of_lines of_slopes of_assigned of_changed are =
+    subst (λ ls. AreSettled m tick (states_at ls tick) d slopes (touched_after m listed assigned changed) old new) of_lines
+    (subst (λ v. AreSettled m tick (states_at passed_lines tick) d v (touched_after m listed assigned changed) old new) of_slopes
+    (subst (λ vs. AreSettled m tick (states_at passed_lines tick) d passed_slopes (touched_after m listed vs changed) old new) of_assigned
+    (subst (λ cs. AreSettled m tick (states_at passed_lines tick) d passed_slopes (touched_after m listed passed_assigned cs) old new) of_changed are)))

@@ -1,0 +1,21 @@
+-- The place comes in where the truths differ.
+use Rattle.std.proofs.Common.{◌==◌, sym, ◌∙◌, arith}
+use Rattle.qss_machine.specs.Firing.{flag_at}
+use Rattle.qss_events.specs.ListedPlaces.{is_listed}
+use Rattle.qss_run.specs.DueLists.{differ}
+use Rattle.qss_run.proofs.Apart.{comes_in, stays_out}
+use Rattle.qss_run.proofs.detector_settings.mark_changed.Goals as goal
+
+pub insert-requires : goal.insert-requires
+insert-requires c = omega (arith, c.requires.place, c.requires.count)
+
+pub returns-then-differ-clause-places : goal.returns-then-differ-clause-places
+returns-then-differ-clause-places c other =
+    let place = c.args.place in
+    c.insert.ensures.places other
+    ∙ comes_in (is_listed c.args.apart.now.places other) (place == other) (differ c.args.holds (flag_at c.args.at_arrival.now place)) (sym c.differ.ensures ∙ c.if-differ.true)
+
+pub returns-else-differ-clause-places : goal.returns-else-differ-clause-places
+returns-else-differ-clause-places c other =
+    let place = c.args.place in
+    stays_out (is_listed c.args.apart.now.places other) (place == other) (differ c.args.holds (flag_at c.args.at_arrival.now place)) (sym c.differ.ensures ∙ c.if-differ.false)

@@ -1,0 +1,93 @@
+-- What conditions and handlers are given at a tick.
+use Rattle.std.specs.Prelude.{◌≡◌, ℕ, ◌<◌, ◌≤◌, ◌^◌, Bool, List, length, All, ℤ, Option, false}
+use Rattle.mu_num.specs.Sizes.{IsWithin}
+use Rattle.mu_num.specs.Ticks.{tick_limit}
+use Rattle.qss_machine.specs.declared.system.Machine.{Machine}
+use Rattle.qss_machine.specs.Machines.{state_count, truth}
+use Rattle.qss_machine.specs.Readers.{uses_of}
+use Rattle.qss_cross.specs.Crossing.{Watch, IsSmall, value_at, holds_at}
+use Rattle.qss_run.specs.declared.conditions.Conditions.{Conditions}
+use Rattle.qss_run.specs.declared.context.ConditionContext.{ConditionContext}
+use Rattle.qss_run.specs.declared.context.ConditionValues.{ConditionValues}
+use Rattle.qss_states.specs.StateLines.{states_at, AreLinesAt, AreLinesWithDue}
+use Rattle.qss_run.specs.ConditionPlaces.{watch_at, AreConditionsOf, HasPlaces, KnowsApart}
+use Rattle.qss_states.specs.Variables.{AreSlopesOf, AreWithin}
+use Rattle.qss_machine.specs.Firing.{flag_at}
+use Rattle.qss_machine.specs.Handlers.{conditions}
+use Rattle.qss_hand.specs.Values.{Values}
+use Rattle.qss_events.specs.ListedPlaces.{is_listed, AreRisingBelow}
+use Rattle.qss_events.specs.Schedules.{condition_at, became_true}
+use Rattle.qss_run.specs.declared.context.ChangedConditions.{ChangedConditions}
+use Rattle.qss_run.specs.DueLists.{IsTakenFrom}
+
+-- watches that are not later than a tick, with small values there
+pub record AreSmallAt (tick : ℕ) (watches : List Watch) : Type 0 where
+  pub later : (place : ℕ) → place < length watches → (watch_at watches place).tick ≤ tick
+  pub small : (place : ℕ) → place < length watches → IsSmall (value_at (watch_at watches place) tick)
+
+-- numbers of conditions whose truths may be read from their watches at a tick up to 2^32: watches, small there, and truths after the last handlers are as many
+pub record MayBeRead (tick : ℕ) (watches : List Watch) (after_handlers : List Bool) (changed : List ℕ) : Type 0 where
+  pub as_many : length watches ≡ length after_handlers
+  pub numbers : AreRisingBelow (length after_handlers) changed
+  pub small : AreSmallAt tick watches
+  pub in_time : tick ≤ tick_limit
+
+-- a machine's readers, and its lines and slopes at a tick, within the limits
+pub record IsConditionContext (at : ConditionContext) : Type 0 where
+  pub uses : at.uses.now ≡ uses_of at.machine.now
+  pub lines : AreLinesAt at.machine.now at.tick at.lines.now
+  pub slopes : AreSlopesOf at.machine.now at.slopes.now
+
+-- values and slopes of a machine at a tick, within the limits
+pub record AreConditionValues (m : Machine) (at : ConditionValues) : Type 0 where
+  pub values : AreWithin m at.states.now at.discretes.now
+  pub slopes : AreSlopesOf m at.slopes.now
+  pub in_time : at.tick < 2 ^ 32
+
+-- a machine's conditions, with places in an agenda, may be watched at such values and slopes
+pub record CanWatch (m : Machine) (at : ConditionValues) (all : Conditions) (due : List (Option ℕ)) : Type 0 where
+  pub fits : AreConditionsOf m all
+  pub point : AreConditionValues m at
+  pub places : HasPlaces m due
+
+-- a machine's conditions, with places in an agenda, may go on from a tick at slopes: their watches are small there
+pub record CanUpdateDetectors (m : Machine) (tick : ℕ) (slopes : List ℤ) (all : Conditions) (due : List (Option ℕ)) : Type 0 where
+  pub fits : AreConditionsOf m all
+  pub places : HasPlaces m due
+  pub small : AreSmallAt tick all.watches.items
+  pub slopes_of : AreSlopesOf m slopes
+  pub in_time : tick < 2 ^ 32
+
+-- with a machine's readers and numbers of its moved states, the conditions that read a state whose row reads one of these may go on from a tick at slopes
+pub record CanUpdateReaderDetectors (m : Machine) (readers : List (List ℕ) × List (List ℕ) × List (List ℤ)) (tick : ℕ) (states : List ℕ) (slopes : List ℤ) (all : Conditions) (due : List (Option ℕ)) : Type 0 where
+  pub uses : readers ≡ uses_of m
+  pub moved : AreRisingBelow (state_count m) states
+  pub ready : CanUpdateDetectors m tick slopes all due
+
+-- a machine's conditions, with places in an agenda, may settle at a moment under discrete values, where the states that they read arrive among these
+pub record CanSettle (at : ConditionContext) (d : List ℤ) (all : Conditions) (due : List (Option ℕ)) (x : List ℤ) : Type 0 where
+  pub moment : IsConditionContext at
+  pub fits : AreConditionsOf at.machine.now all
+  pub places : HasPlaces at.machine.now due
+  pub values : AreWithin at.machine.now x d
+
+-- a machine's conditions on arrival at a tick: the watches know the truths there, and those conditions that are not looked at are as they were
+pub record KnowsArrival (at : ChangedConditions) (all : Conditions) (d : List ℤ) : Type 0 where
+  pub fits : AreConditionsOf at.machine.now all
+  pub changed : AreRisingBelow (length (conditions at.machine.now)) at.changed.now
+  pub watched : (place : ℕ) → place < length (conditions at.machine.now) →
+      ((watch_at all.watches.items place).tick ≤ at.tick)
+      × (All (IsWithin 88) (states_at at.lines.now at.tick) → IsSmall (value_at (watch_at all.watches.items place) at.tick))
+      × (holds_at (watch_at all.watches.items place) at.tick ≡ truth at.machine.now (condition_at at.machine.now place) (states_at at.lines.now at.tick) d at.tick)
+  pub alike : KnowsApart all
+  pub others : (place : ℕ) → place < length (conditions at.machine.now) → is_listed at.changed.now place ≡ false →
+      (truth at.machine.now (condition_at at.machine.now place) (states_at at.lines.now at.tick) d at.tick ≡ flag_at all.after_handlers.items place)
+      × (became_true all.at_arrival.items all.after_handlers.items place ≡ false)
+
+-- the handlers of a tick may come, where these states are due and were taken out of the agenda: the others lead to states within the limit
+pub record CanHandle (at : ChangedConditions) (all : Conditions) (due : List ℕ) (work : Values) (dues : List (Option ℕ)) : Type 0 where
+  pub known : KnowsArrival at all work.d
+  pub lines : AreLinesWithDue at.machine.now at.tick at.lines.now due
+  pub values : AreWithin at.machine.now work.x work.d
+  pub places : state_count at.machine.now ≤ length dues
+  pub taken : IsTakenFrom at.tick due dues

@@ -1,0 +1,116 @@
+-- Conditions of which some settle at a tick, and the others stay as they were.
+use Rattle.std.specs.Prelude.{◌≡◌, ℕ, ◌+◌, ◌<◌, ◌≤◌, Bool, true, false, ◌||◌, List, ◌++◌, length, All, ℤ, Option, flat_map}
+use Rattle.std.specs.List.{list_any}
+use Rattle.mu_num.specs.Sizes.{IsWithin}
+use Rattle.qss_machine.specs.declared.parts.Condition.{Condition}
+use Rattle.qss_machine.specs.declared.system.Machine.{Machine}
+use Rattle.qss_machine.specs.Machines.{state_count, discrete_count, speed_of, truth}
+use Rattle.qss_machine.specs.Handlers.{conditions}
+use Rattle.qss_machine.specs.IndexedSums.{int_at}
+use Rattle.qss_machine.specs.Firing.{flag_at}
+use Rattle.qss_machine.specs.Readers.{condition_reads, reading_rows, reading_conditions}
+use Rattle.qss_cross.specs.Crossing.{Watch}
+use Rattle.qss_sched.specs.Ranks.{due_at}
+use Rattle.qss_run.specs.declared.conditions.Conditions.{Conditions}
+use Rattle.qss_run.specs.declared.context.ConditionContext.{ConditionContext}
+use Rattle.qss_events.specs.ListedPlaces.{is_listed}
+use Rattle.qss_run.specs.ConditionPlaces.{watch_at, IsWatched}
+use Rattle.qss_run.specs.HandlerReads.{AreArrived}
+use Rattle.qss_events.specs.Schedules.{condition_at}
+use Rattle.qss_states.specs.StateLines.{states_at}
+
+-- watches of conditions, their truths after the handlers, and due ticks
+pub record DetectorStates : Type 0 where
+  pub watches : List Watch
+  pub after_handlers : List Bool
+  pub dues : List (Option ℕ)
+
+-- those of a machine's conditions
+abbrev pub detector_states_of : Conditions → List (Option ℕ) → DetectorStates
+detector_states_of all dues = record { watches = all.watches.items; after_handlers = all.after_handlers.items; dues = dues }
+
+-- a condition's watch, truth and due tick are as they were
+pub record IsKept (m : Machine) (place : ℕ) (old new : DetectorStates) : Type 0 where
+  pub watch : watch_at new.watches place ≡ watch_at old.watches place
+  pub truth : flag_at new.after_handlers place ≡ flag_at old.after_handlers place
+  pub due : due_at new.dues (state_count m + place) ≡ due_at old.dues (state_count m + place)
+
+-- a condition is watched at these values and slopes, and has its truth there
+pub record IsSettled (m : Machine) (tick : ℕ) (x d slopes : List ℤ) (place : ℕ) (now : DetectorStates) : Type 0 where
+  pub watched : IsWatched m tick x d slopes place (watch_at now.watches place) (due_at now.dues (state_count m + place))
+  pub own_truth : flag_at now.after_handlers place ≡ truth m (condition_at m place) x d tick
+
+-- these conditions are settled at a tick, and nothing else changed
+pub record AreSettled (m : Machine) (tick : ℕ) (x d slopes : List ℤ) (places : List ℕ) (old new : DetectorStates) : Type 0 where
+  pub own : (place : ℕ) → is_listed places place ≡ true → IsSettled m tick x d slopes place new
+  pub kept : (place : ℕ) → is_listed places place ≡ false → IsKept m place old new
+  pub many_watches : length new.watches ≡ length old.watches
+  pub many_truths : length new.after_handlers ≡ length old.after_handlers
+  pub many_dues : length new.dues ≡ length old.dues
+  pub states : (place : ℕ) → place < state_count m → due_at new.dues place ≡ due_at old.dues place
+  pub beyond : (place : ℕ) → state_count m + length old.watches ≤ place → due_at new.dues place ≡ due_at old.dues place
+
+-- conditions as they were, but for their watches, their truths after the handlers and which are apart
+abbrev pub AreAlikeButSettled : Conditions → Conditions → Type 0
+AreAlikeButSettled old new = new ≡ record old { watches = new.watches; after_handlers = new.after_handlers; apart = new.apart }
+
+-- of these conditions all are apart that are not after the handlers as on arrival, and so are those that were before
+pub record AreMarkedChanged (places : List ℕ) (old new : Conditions) : Type 0 where
+  pub count : new.apart.count ≡ old.apart.count
+  pub own : (place : ℕ) → is_listed places place ≡ true → is_listed new.apart.places place ≡ false → flag_at new.at_arrival.items place ≡ flag_at new.after_handlers.items place
+  pub before : (place : ℕ) → is_listed new.apart.places place ≡ false → is_listed old.apart.places place ≡ false
+
+-- the conditions that read one of these variables
+abbrev pub readers_of : Machine → List ℕ → List ℕ
+readers_of m vars = flat_map (reading_conditions m) vars
+
+-- the conditions that read a state whose row reads this variable, or the variable
+abbrev pub touched_of : Machine → ℕ → List ℕ
+touched_of m var = readers_of m (reading_rows m var) ++ reading_conditions m var
+
+-- those of each of these variables
+abbrev pub touched_by : Machine → List ℕ → List ℕ
+touched_by m vars = flat_map (touched_of m) vars
+
+-- the conditions that read the value before the tick of one of these discrete variables
+abbrev pub readers_before : Machine → List ℕ → List ℕ
+readers_before m assigned = flat_map (λ var. reading_conditions m (var + discrete_count m)) assigned
+
+-- the conditions that changed, and those that read what changed
+abbrev pub touched_after : Machine → List ℕ → List ℕ → List ℕ → List ℕ
+touched_after m reinitialized assigned changed = ((changed ++ touched_by m reinitialized) ++ touched_by m assigned) ++ readers_before m assigned
+
+-- whether a condition reads this variable, or a state whose row reads it
+abbrev pub depends_on : Machine → Condition → ℕ → Bool
+depends_on m condition var = list_any (λ j. condition_reads j condition) (reading_rows m var) || condition_reads var condition
+
+-- whether a condition settles after handlers: it changed, it depends on a reinitialized state or an assigned variable, or it reads an assigned variable's value before the tick
+abbrev pub settles_after : Machine → List ℕ → List ℕ → List ℕ → ℕ → Bool
+settles_after m reinitialized assigned changed place =
+    ((is_listed changed place || list_any (depends_on m (condition_at m place)) reinitialized) || list_any (depends_on m (condition_at m place)) assigned)
+    || list_any (λ var. condition_reads (var + discrete_count m) (condition_at m place)) assigned
+
+-- whether one of these conditions reads a state
+abbrev pub one_reads : Machine → List ℕ → ℕ → Bool
+one_reads m places j = list_any (λ place. condition_reads j (condition_at m place)) places
+
+-- these conditions settle at a moment under discrete values, and nothing else of them changes; of the values only the states that they read are written, and none passes its limit
+pub record AreSettledAlong (at : ConditionContext) (d : List ℤ) (places : List ℕ) (old new : Conditions) (old_dues new_dues : List (Option ℕ)) (x y : List ℤ) : Type 0 where
+  pub after_handlers : AreSettled at.machine.now at.tick (states_at at.lines.now at.tick) d at.slopes.now places (detector_states_of old old_dues) (detector_states_of new new_dues)
+  pub noted : AreMarkedChanged places old new
+  pub rest : AreAlikeButSettled old new
+  pub at_arrival : AreArrived (one_reads at.machine.now places) (states_at at.lines.now at.tick) x y
+  pub small : All (IsWithin 88) y
+
+-- a condition that does not settle after handlers, and has its speed at these slopes, is as it was
+abbrev pub OthersAreKept : Machine → List ℕ → List ℕ → List ℕ → List ℤ → DetectorStates → DetectorStates → Type 0
+OthersAreKept m reinitialized assigned changed slopes old new =
+    (place : ℕ) → place < length (conditions m) → settles_after m reinitialized assigned changed place ≡ false →
+    (watch_at old.watches place).speed ≡ speed_of m (condition_at m place).form slopes → IsKept m place old new
+
+-- a state that no condition reads which settles after handlers is as it was
+abbrev pub OthersAreUnread : Machine → List ℕ → List ℕ → List ℕ → List ℤ → List ℤ → Type 0
+OthersAreUnread m reinitialized assigned changed x y =
+    (j : ℕ) →
+    ((place : ℕ) → place < length (conditions m) → settles_after m reinitialized assigned changed place ≡ true → condition_reads j (condition_at m place) ≡ false) →
+    int_at y j ≡ int_at x j

@@ -1,0 +1,67 @@
+-- What a store has to be where a visit goes on after its handlers, what it is then, and what a visit makes of it.
+use Rattle.std.specs.Prelude.{◌≡◌, ℕ, ◌+◌, ◌^◌, ◌<◌, ◌≤◌, List, ℤ, All, Option, None, vec_capacity}
+use Rattle.mu_num.specs.Sizes.{IsWithin}
+use Rattle.qss_machine.specs.declared.system.Machine.{Machine}
+use Rattle.qss_machine.specs.Handlers.{truths}
+use Rattle.qss_machine.specs.Runs.{tick_rows}
+use Rattle.qss_machine.specs.Ticks.{Snapshot, snapshot_unless, IsStep}
+use Rattle.qss_quant.specs.declared.rule.Rule.{Rule}
+use Rattle.qss_events.specs.HandlerRows.{reinitialized_of}
+use Rattle.qss_events.specs.AllowedLevels.{IsAllowedLevel}
+use Rattle.qss_states.specs.StateLines.{states_at, states_with}
+use Rattle.qss_states.specs.Variables.{AreAssignedFrom}
+use Rattle.qss_states.specs.KeptWeights.{AreWeights}
+use Rattle.qss_states.specs.EventContexts.{AreLevelsFor, HeldBefore}
+use Rattle.qss_run.specs.HandlerResults.{AreStatesLeft, AreSettledBut, AreWatchedUpTo}
+use Rattle.qss_run.specs.DetectorUpdates.{detector_states_of}
+use Rattle.qss_run.specs.declared.store.Store.{Store}
+use Rattle.qss_run.specs.Stores.{FitsMachine, snapshot_of, IsStoreAt}
+use Rattle.qss_run.specs.TouchCounts.{touches_at}
+
+-- a store may go on from a tick after its handlers: its states, discrete variables, levels and weights are those after them; its slopes, lines, due ticks and watches are those before the tick
+pub record CanGoOnHandled (m : Machine) (tick : ℕ) (s : Store) : Type 0 where
+  pub fits : FitsMachine m s
+  pub in_time : tick < 2 ^ 32
+  pub assigned : AreAssignedFrom m s.assigned.items s.work.pre s.work.d
+  pub states : AreStatesLeft m tick s.lines.items s.moved.items s.work
+  pub after_handlers : AreSettledBut m tick (states_at s.lines.items tick) s.work.pre s.slopes.items s.changed.items s.conditions s.agenda
+  pub small_levels : All (IsWithin 43) s.levels.items
+  pub levels : AreLevelsFor m (states_with s.lines.items tick s.moved.items s.work.x) s.levels.items s.work.d
+  pub weights : AreWeights m s.levels.items s.work.d s.weights
+  pub held : HeldBefore m tick s.moved.items s.levels.items s.work.pre s.slopes.items s.lines.items s.agenda
+
+-- the world that a store stands for once it has gone on from a tick after its handlers
+abbrev pub snapshot_left : Machine → ℕ → Store → Snapshot
+snapshot_left m tick s =
+    let states : List ℤ = states_with s.lines.items tick s.moved.items s.work.x in
+    record {
+      states = states;
+      levels = s.levels.items;
+      discretes = s.work.d;
+      at_arrival = s.conditions.at_arrival.items;
+      after_handlers = truths m states s.work.d tick;
+    }
+
+-- the conditions of a store were watched up to a tick, at other values and slopes before
+abbrev pub WereWatched : Machine → ℕ → Store → Type 0
+WereWatched m tick s =
+    (x pre before : List ℤ) × AreWatchedUpTo m tick s.moved.items (reinitialized_of s.work.log) s.assigned.items s.changed.items x (states_at s.lines.items tick) pre s.work.d before s.slopes.items
+    (detector_states_of s.conditions s.agenda)
+
+-- a store whose conditions have other watches and truths after handlers, and so the agenda, and of whose values some states are others
+abbrev pub HasDetectorsUpdated : Store → Store → Type 0
+HasDetectorsUpdated old new =
+    new
+    ≡ record old {
+      conditions = record old.conditions { watches = new.conditions.watches; after_handlers = new.conditions.after_handlers; apart = new.conditions.apart };
+      agenda = new.agenda;
+      work = record old.work { x = new.work.x };
+    }
+
+-- what a visit of the tick after one makes of a store that stood at it: a step of the definition that gives the variable that overflows, if one does, for no more moves of lines than states are touched at that tick; without an overflow the store stands there, with the rows of the tick; the room for rows stays
+pub record IsEventRun (m : Machine) (name : Option Rule) (tick : ℕ) (old new : Store) (over : Option ℕ) (steps_old steps_new : ℕ) : Type 0 where
+  pub stepped : IsStep (IsAllowedLevel name) m (tick + 1) (snapshot_of tick old) (snapshot_unless over (snapshot_of (tick + 1) new))
+  pub rows : over ≡ None → new.rows.items ≡ tick_rows m (tick + 1) (snapshot_of tick old) (snapshot_of (tick + 1) new)
+  pub stands : over ≡ None → IsStoreAt m (tick + 1) new
+  pub room : vec_capacity new.rows ≡ vec_capacity old.rows
+  pub counted : steps_new ≤ steps_old + touches_at m (tick + 1) (snapshot_of tick old) (snapshot_unless over (snapshot_of (tick + 1) new))

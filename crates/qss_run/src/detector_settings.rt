@@ -1,0 +1,127 @@
+//! Conditions at new values and speeds.
+
+ghost use Rattle.std.specs.Prelude.{◌≡◌, ℕ, ◌+◌, ◌<◌, ◌≤◌, ◌&&◌, ◌||◌, ◌==◌, ◌∷◌, [], length};
+ghost use Rattle.qss_machine.specs.Firing.{flag_at};
+ghost use Rattle.qss_machine.specs.MachineLimits.{IsBounded};
+ghost use Rattle.qss_machine.specs.Machines.{state_count, truth, value_of, speed_of};
+ghost use Rattle.qss_machine.specs.Handlers.{conditions, truths};
+ghost use Rattle.qss_sched.specs.Ranks.{due_at};
+ghost use Rattle.qss_run.specs.ConditionPlaces.{AreConditionsOf, AreWatched};
+ghost use Rattle.qss_run.specs.ConditionContexts.{CanWatch, AreConditionValues};
+ghost use Rattle.qss_events.specs.ListedPlaces.{is_listed};
+ghost use Rattle.qss_events.specs.Schedules.{condition_at};
+ghost use Rattle.qss_run.specs.DueLists.{differ};
+ghost use Rattle.qss_run.specs.DetectorUpdates.{AreAlikeButSettled, AreMarkedChanged, AreSettled, detector_states_of};
+
+use crate::conditions::Conditions;
+use crate::context::ConditionValues;
+use crate::place_set::PlaceSet;
+use qss_cross::Detector;
+use qss_machine::{Condition, Machine};
+use qss_sched::Agenda;
+
+// Whether two flags differ.
+fn differ(one: bool, other: bool) -> bool
+    ensures { result ≡ differ one other }
+{
+    one != other
+}
+
+// A condition whose truth after the handlers is this joins those apart, where it is not that on arrival.
+fn mark_changed(at_arrival: &[bool], place: u32, holds: bool, apart: &mut PlaceSet)
+    requires place { place < length at_arrival.now }
+    requires count { apart.old.count ≡ length at_arrival.now }
+    ensures count { apart.new.count ≡ apart.old.count }
+    ensures places { (other : ℕ) → is_listed apart.new.places other
+        ≡ (is_listed apart.old.places other
+        || (place == other && differ holds (flag_at at_arrival.now place))) }
+{
+    if differ(holds, at_arrival[place as usize]) {
+        apart.insert(place);
+    }
+}
+
+// A condition at a tick, with its value and its speed.
+fn detector_of(m: &Machine, condition: &Condition, at: &ConditionValues) -> Detector
+    requires form { IsBounded condition.now.form }
+    requires point { AreConditionValues m.now at.now }
+    ensures { result
+        ≡ record {
+          rel = condition.now.rel;
+          tick = at.now.tick;
+          value = value_of m.now condition.now.form at.now.states.now at.now.discretes.now
+              at.now.discretes.now at.now.tick;
+          speed = speed_of m.now condition.now.form at.now.slopes.now;
+        } }
+{
+    let value = m.form_value(
+        &condition.form,
+        at.states,
+        at.discretes,
+        at.discretes,
+        at.tick,
+    );
+    let speed = m.form_speed(&condition.form, at.slopes);
+    Detector {
+        rel: condition.rel,
+        tick: at.tick,
+        value,
+        speed,
+    }
+}
+
+impl Conditions {
+    /// A condition is watched from a tick on, and the agenda has the tick at which it changes.
+    pub(crate) fn settle(
+        &mut self,
+        m: &Machine,
+        at: &ConditionValues,
+        place: u32,
+        agenda: &mut Agenda,
+    )
+        requires allowed { CanWatch m.now at.now self.old agenda.old }
+        requires place { place < length (conditions m.now) }
+        ensures after_handlers { AreSettled m.now at.now.tick at.now.states.now at.now.discretes.now
+            at.now.slopes.now (place ∷ []) (detector_states_of self.old agenda.old)
+            (detector_states_of self.new agenda.new) }
+        ensures noted { AreMarkedChanged (place ∷ []) self.old self.new }
+        ensures apart { (other : ℕ) → is_listed self.new.apart.places other
+            ≡ (is_listed self.old.apart.places other
+            || (place == other && differ
+            (truth m.now (condition_at m.now place) at.now.states.now at.now.discretes.now
+            at.now.tick)
+            (flag_at self.old.at_arrival.items place))) }
+        ensures rest { AreAlikeButSettled self.old self.new }
+    {
+        let condition = self.condition(m, place);
+        let watch = detector_of(m, condition, at);
+        let holds = watch.truth();
+        let at_arrival = self.at_arrival.as_slice();
+        mark_changed(at_arrival, place, holds, &mut self.apart);
+        let after_handlers = self.after_handlers.as_mut_slice();
+        after_handlers[place as usize] = holds;
+        agenda.set(at.slopes.len() as u32 + place, watch.next_change());
+        let watches = self.watches.as_mut_slice();
+        watches[place as usize] = watch;
+    }
+
+    /// All conditions are watched from a tick on, and the agenda has the ticks at which they change.
+    pub fn set_all_detectors(&mut self, m: &Machine, at: &ConditionValues, agenda: &mut Agenda)
+        requires { CanWatch m.now at.now self.old agenda.old }
+        ensures after_handlers { self.new.after_handlers.items
+            ≡ truths m.now at.now.states.now at.now.discretes.now at.now.tick }
+        ensures watches { AreWatched m.now at.now.tick at.now.states.now at.now.discretes.now
+            at.now.slopes.now self.new.watches.items agenda.new }
+        ensures rest { AreAlikeButSettled self.old self.new }
+        ensures fits { AreConditionsOf m.now self.new }
+        ensures places { length agenda.new ≡ length agenda.old }
+        ensures others { (place : ℕ) → place < state_count m.now
+            → due_at agenda.new place ≡ due_at agenda.old place }
+        ensures beyond { (place : ℕ) → state_count m.now + length (conditions m.now) ≤ place
+            → due_at agenda.new place ≡ due_at agenda.old place }
+    {
+        for place in 0..self.branches.len() {
+            self.settle(m, at, place as u32, agenda);
+        }
+    }
+}

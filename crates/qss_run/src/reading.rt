@@ -1,0 +1,77 @@
+//! Conditions on arrival at a tick, of which few are looked at.
+
+ghost use Rattle.std.specs.Prelude.{◌≡◌, ◌≤◌, not, ◌&&◌, length, false, vec_capacity};
+ghost use Rattle.std.specs.List.{filter};
+ghost use Rattle.mu_num.specs.Ticks.{tick_limit};
+ghost use Rattle.qss_machine.specs.Firing.{flag_at};
+ghost use Rattle.qss_cross.specs.Crossing.{IsSmall, value_at, holds_at};
+ghost use Rattle.qss_run.specs.ConditionContexts.{MayBeRead};
+ghost use Rattle.qss_run.specs.DueLists.{AreApartAt};
+ghost use Rattle.qss_run.specs.ConditionPlaces.{watch_at};
+ghost use Rattle.qss_events.specs.Writes.{IsWritten};
+
+use crate::settled_copy::agree;
+use qss_cross::Detector;
+
+// Whether a watched condition holds at a tick, if the speed stays.
+fn holds_at(watch: &Detector, tick: u64) -> bool
+    requires later { watch.now.tick ≤ tick }
+    requires tick_limit { tick ≤ tick_limit }
+    requires size_limit { IsSmall (value_at watch.now tick) }
+    ensures { result ≡ holds_at watch.now tick }
+{
+    let mut moved = *watch;
+    moved.move_to(tick);
+    moved.truth()
+}
+
+/// The conditions' truths on arrival: those of the changed ones are read from their watches, the others are as after the last
+/// handlers. Before, only those of the places apart were not.
+pub(crate) fn read_changed(
+    watches: &[Detector],
+    tick: u64,
+    changed: &[u32],
+    apart: &[u32],
+    after_handlers: &[bool],
+    at_arrival: &mut [bool],
+)
+    requires read { MayBeRead tick watches.now after_handlers.now changed.now }
+    requires apart { AreApartAt apart.now at_arrival.old after_handlers.now }
+    ensures { IsWritten false (λ place flag. flag ≡ holds_at (watch_at watches.now place) tick)
+        changed.now after_handlers.now at_arrival.new }
+{
+    agree(apart, after_handlers, at_arrival);
+    for condition in changed {
+        let place = *condition as usize;
+        at_arrival[place] = holds_at(&watches[place], tick);
+    }
+}
+
+/// Those of these conditions whose branches are due: they hold on arrival, and did not both on the last arrival and after the
+/// last handlers.
+pub(crate) fn list_fired(
+    watches: &[Detector],
+    tick: u64,
+    changed: &[u32],
+    after_handlers: &[bool],
+    at_arrival: &[bool],
+    fired: &mut Vec<u32>,
+)
+    requires read { MayBeRead tick watches.now after_handlers.now changed.now }
+    requires at_arrival { length at_arrival.now ≡ length after_handlers.now }
+    requires room { length after_handlers.now ≤ vec_capacity fired.old }
+    ensures fired { fired.new.items
+        ≡ filter
+        (λ place. holds_at (watch_at watches.now place) tick
+        && not (flag_at at_arrival.now place && flag_at after_handlers.now place))
+        changed.now }
+    ensures room { vec_capacity fired.new ≡ vec_capacity fired.old }
+{
+    fired.clear();
+    for condition in changed {
+        let place = *condition as usize;
+        if holds_at(&watches[place], tick) && !(at_arrival[place] && after_handlers[place]) {
+            fired.push_reserved(*condition);
+        }
+    }
+}

@@ -1,0 +1,110 @@
+//! Conditions that became true through the handlers of a tick.
+
+ghost use Rattle.std.specs.Prelude.{◌≡◌, ℕ, ◌+◌, ◌<◌, ◌^◌, length, None, Some, false, slice_set, if◌then◌else◌};
+ghost use Rattle.std.specs.List.{list_any};
+ghost use Rattle.qss_machine.specs.Handlers.{firing_flags};
+ghost use Rattle.qss_sched.specs.Ranks.{due_at};
+ghost use Rattle.qss_events.specs.Schedules.{became_true};
+ghost use Rattle.qss_run.specs.DueLists.{AreApartAt, CanMakeDue, AreRisenDue, IsSameBut};
+
+use qss_sched::Agenda;
+
+// Whether the condition at a place became true through the handlers.
+fn became_true(at_arrival: &[bool], after_handlers: &[bool], place: u32) -> bool
+    requires at_arrival { length at_arrival.now ≡ length after_handlers.now }
+    requires place { place < length after_handlers.now }
+    ensures { result ≡ became_true at_arrival.now after_handlers.now place }
+{
+    let at = place as usize;
+    after_handlers[at] & !at_arrival[at]
+}
+
+// Whether a condition became true through the handlers. Only those of these places are after them not as on arrival.
+fn has_risen_at(apart: &[u32], at_arrival: &[bool], after_handlers: &[bool]) -> bool
+    requires apart { AreApartAt apart.now at_arrival.now after_handlers.now }
+    ensures { result ≡ list_any (λ flag. flag) (firing_flags after_handlers.now at_arrival.now after_handlers.now) }
+{
+    for condition in apart {
+        if became_true(at_arrival, after_handlers, *condition) {
+            return true;
+        }
+    }
+    false
+}
+
+/// Whether a condition became true through the handlers. Then this place of the agenda has the next tick, and else none. Only
+/// the conditions of the places apart are after the handlers not as on arrival.
+pub fn schedule_risen(
+    tick: u64,
+    apart: &[u32],
+    at_arrival: &[bool],
+    after_handlers: &[bool],
+    place: u32,
+    agenda: &mut Agenda,
+) -> bool
+    requires apart { AreApartAt apart.now at_arrival.now after_handlers.now }
+    requires place { place < length agenda.old }
+    requires tick_limit { tick < 2 ^ 32 }
+    ensures rises { result
+        ≡ list_any (λ flag. flag) (firing_flags after_handlers.now at_arrival.now after_handlers.now) }
+    ensures own { due_at agenda.new place ≡ (if result then Some (tick + 1) else None) }
+    ensures same { IsSameBut place agenda.old agenda.new }
+{
+    let risen = has_risen_at(apart, at_arrival, after_handlers);
+    agenda.set(place, if risen { Some(tick + 1) } else { None });
+    risen
+}
+
+// A place of the agenda is due at a tick, where a condition became true.
+fn make_place_due(agenda: &mut Agenda, tick: u64, place: u32, risen: bool)
+    requires { place < length agenda.old }
+    ensures { agenda.new
+        ≡ (if risen then slice_set agenda.old place (Some tick) else agenda.old) }
+{
+    if risen {
+        agenda.set(place, Some(tick));
+    }
+}
+
+// Conditions that became true through the handlers before a tick are due at it, and nothing is at the place behind the
+// conditions. Only those of the places apart are after the handlers not as on arrival.
+fn make_due(
+    agenda: &mut Agenda,
+    tick: u64,
+    states: u32,
+    apart: &[u32],
+    at_arrival: &[bool],
+    after_handlers: &[bool],
+)
+    requires { CanMakeDue states apart.now at_arrival.now after_handlers.now agenda.old }
+    ensures { AreRisenDue states tick at_arrival.now after_handlers.now agenda.old agenda.new }
+{
+    for condition in apart {
+        let risen = became_true(at_arrival, after_handlers, *condition);
+        make_place_due(agenda, tick, states + *condition, risen);
+    }
+    agenda.set(states + after_handlers.len() as u32, None);
+}
+
+/// Conditions that became true through the handlers before a tick are due at it, if there are any, and nothing is at the
+/// place behind the conditions. Only those of the places apart are after the handlers not as on arrival.
+pub fn make_risen_due(
+    rising: bool,
+    agenda: &mut Agenda,
+    tick: u64,
+    states: u32,
+    apart: &[u32],
+    at_arrival: &[bool],
+    after_handlers: &[bool],
+)
+    requires ready { CanMakeDue states apart.now at_arrival.now after_handlers.now agenda.old }
+    requires none_risen { rising ≡ false
+        → (place : ℕ) → place < length after_handlers.now
+        → became_true at_arrival.now after_handlers.now place ≡ false }
+    requires none_behind { rising ≡ false → due_at agenda.old (states + length after_handlers.now) ≡ None }
+    ensures { AreRisenDue states tick at_arrival.now after_handlers.now agenda.old agenda.new }
+{
+    if rising {
+        make_due(agenda, tick, states, apart, at_arrival, after_handlers);
+    }
+}

@@ -1,0 +1,110 @@
+//! A run under way.
+
+ghost use Rattle.std.specs.Prelude.{◌≡◌};
+
+use crate::go_to_next_event::go_to_next_event;
+use crate::start::start_store;
+use crate::store::Store;
+use qss_events::Outcome;
+use qss_machine::{Machine, Row};
+use qss_quant::{Quantizer, Steps};
+use std::alloc::{AllocError, Global};
+use std::marker::Model;
+use std::sync::ledger::Ledger;
+
+/// A machine at a tick of its run.
+#[derive(Drop)]
+pub struct RunState {
+    machine: Machine,
+    tick: u64,
+    end: Option<Outcome>,
+    store: Store,
+}
+
+impl Model for RunState {
+    ghost use Rattle.qss_events.specs.RunViews.{RunView};
+
+    ghost Value = { RunView };
+
+    ghost use Rattle.qss_run.specs.Stores.{IsSim};
+    ghost use Rattle.qss_run.specs.SimViews.{view_of};
+
+    ghost view = { λ s. view_of s.machine s.tick s.store s.end };
+
+    ghost invariant = { λ s. IsSim s.machine s.tick s.end s.store };
+}
+
+impl RunState {
+    ghost use Rattle.std.specs.Prelude.{◌≡◌, ◌+◌, ◌-◌, ◌≤◌, ◌++◌, None, Some, IfOk};
+    ghost use Rattle.qss_machine.specs.declared.rows.RowKind.TheVariants as kind;
+    ghost use Rattle.qss_machine.specs.Ticks.{start_snapshot};
+    ghost use Rattle.qss_machine.specs.Runs.{snapshot_rows};
+    ghost use Rattle.qss_quant.specs.declared.rule.Rule.{Rule};
+    ghost use Rattle.qss_quant.specs.LevelRules.{level_by};
+    ghost use Rattle.qss_events.specs.declared.outcome.Outcome.{Outcome};
+    ghost use Rattle.qss_events.specs.AllowedLevels.{IsAllowedLevel};
+    ghost use Rattle.qss_events.specs.Events.{IsNext, rows_left};
+    ghost use Rattle.qss_run.specs.TouchCounts.{MovesTouched, touches_left};
+
+    /// A machine at tick 0, with the start rows. It takes all the memory that it ever needs.
+    pub fn new(alloc: Global, m: Machine) -> Result<RunState, AllocError>
+        ensures { IfOk result
+            (λ course. course
+            ≡ record {
+              machine = m;
+              tick = 0;
+              snapshot = start_snapshot m;
+              rows = snapshot_rows kind.Start 0 (start_snapshot m);
+              end = None;
+            }) }
+    {
+        let store = start_store(alloc, &m)?;
+        Ok(RunState {
+            machine: m,
+            tick: 0,
+            end: None,
+            store,
+        })
+    }
+
+    /// Goes on to the next tick that has rows, to an overflow, or to the last tick. After the end of the run it gives the
+    /// same answer again and changes nothing. It takes no memory.
+    pub fn next_event<L: Ledger>(&mut self, q: &Quantizer, steps: &mut Steps<L>) -> Outcome
+        ensures same { self.new.machine ≡ self.old.machine }
+        ensures again { (end : Outcome) → self.old.end ≡ Some end
+            → (result ≡ end) × (self.new ≡ self.old) × (steps.new ≡ steps.old) }
+        ensures next { self.old.end ≡ None → IsNext (IsAllowedLevel q.now.name) self.old self.new result }
+        ensures rows { (rule : Rule) → q.now.name ≡ Some rule
+            → self.old.end ≡ None
+            → rows_left (level_by rule) self.old
+            ≡ self.new.rows ++ rows_left (level_by rule) self.new }
+        ensures counted { self.old.end ≡ None
+            → MovesTouched (IsAllowedLevel q.now.name) self.old self.new result (steps.new - steps.old) }
+        ensures touched { (rule : Rule) → q.now.name ≡ Some rule
+            → self.old.end ≡ None
+            → (steps.new - steps.old) + touches_left (level_by rule) self.new
+            ≤ touches_left (level_by rule) self.old }
+    {
+        if let Some(end) = self.end {
+            return end;
+        }
+        let outcome = go_to_next_event(&self.machine, q, self.tick, &mut self.store, steps);
+        self.tick = outcome.tick(self.machine.last);
+        self.end = outcome.end();
+        outcome
+    }
+
+    /// The rows of the last event, or at tick 0 the start rows.
+    pub fn rows(&self) -> &[Row]
+        ensures { result.now ≡ self.now.rows }
+    {
+        self.store.rows.as_slice()
+    }
+
+    /// Lends the machine.
+    pub fn machine(&self) -> &Machine
+        ensures { result.now ≡ self.now.machine }
+    {
+        &self.machine
+    }
+}

@@ -1,0 +1,40 @@
+//! Conditions on arrival after ticks at which they do not change.
+
+ghost use Rattle.std.specs.Prelude.{◌≡◌, [], true, false, length, if◌then◌else◌};
+ghost use Rattle.qss_run.specs.DueLists.{AreAlikeBut, AreApartAt};
+
+use crate::place_set::PlaceSet;
+
+/// Each condition is on arrival as it was after the last handlers. Before, only those of these places were not.
+pub(crate) fn agree(apart: &[u32], after_handlers: &[bool], at_arrival: &mut [bool])
+    requires { AreApartAt apart.now at_arrival.old after_handlers.now }
+    ensures { at_arrival.new ≡ after_handlers.now }
+{
+    for condition in apart {
+        let place = *condition as usize;
+        at_arrival[place] = after_handlers[place];
+    }
+}
+
+/// Where `still` says that no condition changes at a tick, each is on arrival there as it was after the last handlers; else their
+/// truths on arrival stay. Only those of the places apart are after the handlers not as on arrival, before the call and after it.
+pub fn copy_settled_truths(
+    still: bool,
+    after_handlers: &[bool],
+    at_arrival: &mut [bool],
+    apart: &mut PlaceSet,
+)
+    requires same_length { length at_arrival.old ≡ length after_handlers.now }
+    requires count { apart.old.count ≡ length after_handlers.now }
+    requires alike { AreAlikeBut apart.old.places at_arrival.old after_handlers.now }
+    ensures at_arrival { at_arrival.new ≡ (if still then after_handlers.now else at_arrival.old) }
+    ensures count { apart.new.count ≡ apart.old.count }
+    ensures alike { AreAlikeBut apart.new.places at_arrival.new after_handlers.now }
+    ensures cleared { still ≡ true → apart.new.places ≡ [] }
+    ensures stays { still ≡ false → apart.new ≡ apart.old }
+{
+    if still {
+        agree(apart.places(), after_handlers, at_arrival);
+        apart.clear();
+    }
+}

@@ -1,0 +1,56 @@
+-- A row that reads no assigned discrete variable has the same sums.
+use Rattle.std.proofs.Common.{◌≡◌, ℕ, ◌+◌, ◌<◌, ◌≤◌, true, false, not, List, length, ℤ, pos, refl, ◌∙◌, ap, arith, inl, inr}
+use Rattle.std.proofs.lemmas.Bool.{cases_Bool}
+use Rattle.std.proofs.lemmas.List.FromFn.{fill_by_all, length-map-range_with_len, get_or-map-range_with_len}
+use Rattle.std.specs.List.{list_all}
+use Rattle.std.specs.Prelude.{◌||◌, All}
+use Rattle.mu_num.specs.Sizes.{exceeds}
+use Rattle.qss_machine.specs.declared.system.Machine.{Machine}
+use Rattle.qss_machine.specs.Machines.{state_count, discrete_count, row_at, slope_at, weight_at}
+use Rattle.qss_machine.specs.IndexedSums.{int_at, tabulate}
+use Rattle.qss_machine.specs.Slopes.{mode_coefficient, mode_fits}
+use Rattle.qss_machine.specs.Ticks.{exceeds_row_limits}
+use Rattle.qss_machine.specs.Readers.{row_reads}
+use Rattle.qss_states.specs.Variables.{AreAssigned, reads_moved}
+use Rattle.qss_events.specs.ListedPlaces.{is_listed}
+use Rattle.qss_events.specs.Schedules.{no_row}
+use Rattle.qss_events.proofs.SameSlopes.{mode_same, slope_same, weight_same}
+use Rattle.qss_events.proofs.Unread.{unread_at}
+
+module _ (m : Machine) (levels pre d : List ℤ) (assigned : List ℕ) (many : length levels ≡ state_count m) (many_pre : length pre ≡ discrete_count m) (many_d : length d ≡ discrete_count m)
+    (are : AreAssigned m assigned pre d) (j : ℕ) (known : j < state_count m) (unread : reads_moved m assigned j ≡ false) where
+  of_discretes : All (λ product. (state_count m ≤ product.discrete) × (product.discrete < state_count m + discrete_count m)) (row_at m j).products
+  of_discretes =
+      (m.has_rows.each j no_row (omega (arith, known, m.has_rows.one_each))).products.of_discretes
+
+  value_same : (g : ℕ) → g < discrete_count m → row_reads (state_count m + g) (row_at m j) ≡ true → int_at d g ≡ int_at pre g
+  value_same g h reads = elim (cases_Bool (is_listed assigned (state_count m + g))) [
+    | inl among ↦ let none : row_reads (state_count m + g) (row_at m j) ≡ false = unread_at assigned (row_at m j) unread (state_count m + g) among in absurd (cc)
+    | inr none ↦ are g h none
+  ]
+
+  mode : (i : ℕ) → mode_coefficient m.f (state_count m) (row_at m j) d i ≡ mode_coefficient m.f (state_count m) (row_at m j) pre i
+  mode =
+      mode_same m.f (state_count m) (discrete_count m) (row_at m j) levels levels pre d many many many_pre many_d of_discretes (λ i h e. refl) value_same
+
+  -- its mode coefficients fit as before
+  pub modes_stay : mode_fits m.f (state_count m) (row_at m j) d ≡ mode_fits m.f (state_count m) (row_at m j) pre
+  modes_stay =
+      let n : ℕ = state_count m in
+      let old : ℕ → ℤ = mode_coefficient m.f n (row_at m j) pre in
+      let new : ℕ → ℤ = mode_coefficient m.f n (row_at m j) d in
+      ap (list_all (λ coefficient. not (exceeds 44 coefficient)))
+      (fill_by_all old (tabulate n new) n (pos 0) (length-map-range_with_len new 0 n) (λ i h. get_or-map-range_with_len new 0 n i i (pos 0) h (omega arith) ∙ mode i))
+
+  -- it has the same slope, and weighs as much as before
+  pub slope_stays : slope_at m j levels d ≡ slope_at m j levels pre
+  slope_stays =
+      slope_same m.f (state_count m) (discrete_count m) (row_at m j) levels levels pre d many many many_pre many_d of_discretes (λ i h e. refl) value_same
+
+  pub weight_stays : weight_at m j levels d ≡ weight_at m j levels pre
+  weight_stays =
+      weight_same m.f (state_count m) (discrete_count m) (row_at m j) levels levels pre d many many many_pre many_d of_discretes (λ i h e. refl) value_same
+
+  pub overweight_stays : exceeds_row_limits m levels d (row_at m j) ≡ exceeds_row_limits m levels pre (row_at m j)
+  overweight_stays =
+      ap (λ b. not b || exceeds 88 (weight_at m j levels d)) modes_stay ∙ ap (λ z. not (mode_fits m.f (state_count m) (row_at m j) pre) || exceeds 88 z) weight_stays

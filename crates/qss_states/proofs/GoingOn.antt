@@ -1,0 +1,97 @@
+-- A state's line at a new slope.
+use Rattle.std.proofs.Common.{◌≡◌, ◌≢◌, ℕ, ◌+◌, ◌<◌, Bool, true, length, get_or, set, List, ℤ, pos, sym, ◌∙◌, ap, subst, arith, below_more}
+use Rattle.std.proofs.lemmas.Int.{ints, to_z-of_z}
+use Rattle.std.proofs.lemmas.List.{get_or-set_other, get_or-set_same, get_or_default}
+use Rattle.std.proofs.lemmas.List.FromFn.{length-map-range_with_len, get_or-map-range_with_len}
+use Rattle.std.specs.Bool.{IsTrue}
+use Rattle.std.specs.Int.RustNames.{FitsSigned}
+use Rattle.std.specs.Prelude.{Option, None, position, All}
+use Rattle.mu_num.specs.Sizes.{IsWithin}
+use Rattle.qss_machine.specs.declared.system.Machine.{Machine}
+use Rattle.qss_machine.specs.IndexedSums.{int_at, tabulate}
+use Rattle.qss_machine.specs.Machines.{state_count, level_unit, quantum_of, slope_at}
+use Rattle.qss_machine.specs.Ticks.{exceeds_row_limits}
+use Rattle.qss_quant.specs.IntegratorLines.{Line, state_at, IsLineWithinQuantum}
+use Rattle.qss_sched.specs.Ranks.{due_at}
+use Rattle.qss_states.specs.StateLines.{line_at, IsRestartedFrom}
+use Rattle.qss_states.specs.EventContexts.{AreStatesOf, CanSchedule, CanScheduleOne}
+use Rattle.qss_states.specs.declared.contexts.NewSlopes.{NewSlopes}
+use Rattle.qss_events.specs.Schedules.{no_line}
+use Rattle.qss_events.proofs.LightRows.{row_is_light}
+use mir.Syntax.{w64, w128}
+use mir.Val.{to_z, of_z}
+
+pub is_true : (b : Bool) → b ≡ true → IsTrue b
+is_true b e = search (e)
+
+-- ---- one more line, one more level, one more watch
+
+pub goes_on_more : (m : Machine) (tick : ℕ) (x levels d : List ℤ) (lines : List Line) (agenda next : List (Option ℕ)) (j : ℕ) (line : Line) → j < length lines →
+    ((k : ℕ) → k < j → IsRestartedFrom m tick (int_at x k) (int_at levels k) (slope_at m k levels d) k (line_at lines k) (due_at agenda k)) →
+    ((place : ℕ) → (place ≡ j → ⊥) → due_at next place ≡ due_at agenda place) →
+    IsRestartedFrom m tick (int_at x j) (int_at levels j) (slope_at m j levels d) j line (due_at next j) →
+    (k : ℕ) → k < j + 1 → IsRestartedFrom m tick (int_at x k) (int_at levels k) (slope_at m k levels d) k (line_at (set lines j line) k) (due_at next k)
+goes_on_more m tick x levels d lines agenda next j line h before others here =
+    below_more (λ k. IsRestartedFrom m tick (int_at x k) (int_at levels k) (slope_at m k levels d) k (line_at (set lines j line) k) (due_at next k)) j
+    (λ k below.
+    let ne : k ≢ j = omega (arith, below) in
+    subst (λ l. IsRestartedFrom m tick (int_at x k) (int_at levels k) (slope_at m k levels d) k l (due_at next k)) (sym (get_or-set_other lines j k line no_line ne))
+    (subst (IsRestartedFrom m tick (int_at x k) (int_at levels k) (slope_at m k levels d) k (line_at lines k)) (sym (others k ne)) (before k below)))
+    (subst (λ l. IsRestartedFrom m tick (int_at x j) (int_at levels j) (slope_at m j levels d) j l (due_at next j)) (sym (get_or-set_same lines j line no_line h)) here)
+
+pub slopes_small : (m : Machine) (levels d e slopes : List ℤ) → position (exceeds_row_limits m levels d) m.rows ≡ None → e ≡ d →
+    slopes ≡ tabulate (state_count m) (λ j. slope_at m j levels e) → All (IsWithin 88) slopes
+slopes_small m levels d e slopes light same is k z h =
+    let many : length slopes ≡ state_count m = ap length is ∙ length-map-range_with_len (λ j. slope_at m j levels e) 0 (state_count m) in
+    let inside : k < state_count m = omega (arith, h, many) in
+    let here : get_or slopes k z ≡ slope_at m k levels d =
+    ap (λ xs. get_or xs k z) is ∙ get_or-map-range_with_len (λ j. slope_at m j levels e) 0 (state_count m) k k z inside (omega arith) ∙ ap (slope_at m k levels) same in
+    subst (IsWithin 88) (sym here) (row_is_light m levels d light k inside).slope
+
+-- states that may go on still may where lines and agenda are as long as before
+pub still_on : (at : NewSlopes) (lines next : List Line) (dues after : List (Option ℕ)) → CanSchedule at lines dues → length next ≡ length lines → length after ≡ length dues → CanSchedule at next after
+still_on at lines next dues after on many places = record {
+  new = on.new;
+  one_each = record { slopes = on.one_each.slopes; lines = many ∙ on.one_each.lines; places = omega (arith, places, on.one_each.places) };
+  small_slopes = on.small_slopes;
+  in_time = on.in_time;
+}
+
+-- a state that may go on has a line and a place, and its level and slope are read as they are
+module _ {at : NewSlopes} {j : ℕ} {lines : List Line} {dues : List (Option ℕ)} (can : CanScheduleOne at j lines dues) where
+  pub has_line : j < length lines
+  has_line = omega (arith, can.all.one_each.lines, can.known)
+
+  pub has_place : j < length dues
+  has_place = omega (arith, can.all.one_each.places, can.known)
+
+  pub line_read : (line : Line) → get_or lines j line ≡ line_at lines j
+  line_read line = get_or_default lines j line no_line has_line
+
+  -- once it has moved to a tick too
+  pub moved_read : (tick : ℕ) (line new : Line) → new ≡ record (get_or lines j line) { tick = tick; x = state_at (get_or lines j line) tick } →
+      line_at (set lines j new) j ≡ record (line_at lines j) { tick = tick; x = state_at (line_at lines j) tick }
+  moved_read tick line new is = get_or-set_same lines j new no_line has_line ∙ is ∙ ap (λ (l : Line). record l { tick = tick; x = state_at l tick }) (line_read line)
+
+  pub small_level : IsWithin 43 (int_at at.taken.levels.now j)
+  small_level = can.all.new.small_levels j (pos 0) (omega (arith, can.all.new.levels, can.known))
+
+  pub small_slope : IsWithin 88 (int_at at.slopes.now j)
+  small_slope = can.all.small_slopes j (pos 0) (omega (arith, can.all.one_each.slopes, can.known))
+
+  pub level_read : to_z w64 (of_z w64 (int_at at.taken.levels.now j)) ≡ int_at at.taken.levels.now j
+  level_read = let fits : FitsSigned w64 (int_at at.taken.levels.now j) = omega (arith, ints, small_level) in to_z-of_z w64 (int_at at.taken.levels.now j) fits
+
+  pub slope_read : to_z w128 (of_z w128 (int_at at.slopes.now j)) ≡ int_at at.slopes.now j
+  slope_read = let fits : FitsSigned w128 (int_at at.slopes.now j) = omega (arith, ints, small_slope) in to_z-of_z w128 (int_at at.slopes.now j) fits
+
+  pub state_read : (x : List ℤ) → AreStatesOf at.taken.machine.now x → to_z w128 (of_z w128 (int_at x j)) ≡ int_at x j
+  state_read x states =
+      let small : IsWithin 88 (int_at x j) = states.small j (pos 0) (omega (arith, states.as_many, can.known)) in
+      let fits : FitsSigned w128 (int_at x j) = omega (arith, ints, small) in
+      to_z-of_z w128 (int_at x j) fits
+
+-- a state near its level, in other words
+pub near_along : (m : Machine) (j : ℕ) (x y l k : ℤ) → x ≡ y → l ≡ k → IsLineWithinQuantum (level_unit m) y k (quantum_of m j k) → IsLineWithinQuantum (level_unit m) x l (quantum_of m j l)
+near_along m j x y l k same own near =
+    subst (λ z. IsLineWithinQuantum (level_unit m) z l (quantum_of m j l)) (sym same) (subst (λ v. IsLineWithinQuantum (level_unit m) y v (quantum_of m j v)) (sym own) near)

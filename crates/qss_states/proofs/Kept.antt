@@ -1,0 +1,74 @@
+-- Levels and discrete values that stay within the bound of weights that are not kept.
+use Rattle.std.proofs.Common.{◌≡◌, ℕ, ◌+◌, ◌-◌, ◌<◌, true, false, List, length, get_or, ℤ, pos, sym, ◌∙◌, subst, arith, inl, inr}
+use Rattle.std.proofs.lemmas.Bool.{cases_Bool}
+use Rattle.std.proofs.lemmas.List.{get_or_default, with_items_is}
+use Rattle.std.specs.List.{position}
+use Rattle.std.specs.Prelude.{None, All}
+use Rattle.std.specs.Vec.{with_items}
+use Rattle.qss_machine.specs.declared.system.Machine.{Machine}
+use Rattle.qss_machine.specs.Machines.{state_count, discrete_count}
+use Rattle.qss_machine.specs.IndexedSums.{int_at}
+use Rattle.qss_machine.specs.Ticks.{exceeds_row_limits}
+use Rattle.qss_events.specs.ListedPlaces.{is_listed, DiffersOnlyAt}
+use Rattle.qss_events.specs.Schedules.{weights_at, no_row}
+use Rattle.qss_states.specs.declared.weights.Weights.{Weights}
+use Rattle.qss_states.specs.Variables.{AreAssigned}
+use Rattle.qss_states.specs.KeptWeights.{AreWeights}
+use Rattle.qss_states.specs.SafeBounds.{IsUpTo, AreUpToAt, AreSmall}
+use Rattle.qss_events.proofs.Ranges.{position-none}
+use Rattle.qss_events.proofs.Writes.{index_of}
+use Rattle.qss_states.proofs.InPlace.{same_length}
+
+-- levels of which those of the moved states are new
+pub levels_still : (bound : ℕ) (moved : List ℕ) (old new : List ℤ) → DiffersOnlyAt moved old new → All (IsUpTo bound) old → AreUpToAt bound new 0 moved → All (IsUpTo bound) new
+levels_still bound moved old new off small here k none h =
+    elim (cases_Bool (is_listed moved k)) [
+      | inl among ↦
+          let found = index_of moved k among in
+          let at : get_or moved found.0 0 - 0 ≡ k = omega (arith, found.2) in
+          subst (IsUpTo bound) (get_or_default new k (pos 0) none h)
+          (subst (λ (j : ℕ). IsUpTo bound (int_at new j)) at (here found.0 0 found.1))
+      | inr other ↦
+          let inside : k < length old = omega (arith, h, off.as_many) in
+          subst (IsUpTo bound) (sym (off.others k other) ∙ get_or_default new k (pos 0) none h) (small k (pos 0) inside)
+    ]
+
+-- discrete values of which those of the assigned variables are new
+pub values_still : (m : Machine) (bound : ℕ) (assigned : List ℕ) (old new : List ℤ) → length old ≡ discrete_count m → length new ≡ discrete_count m → AreAssigned m assigned old new →
+    All (IsUpTo bound) old → AreUpToAt bound new (state_count m) assigned → All (IsUpTo bound) new
+values_still m bound assigned old new many_old many_new own small here k none h =
+    elim (cases_Bool (is_listed assigned (state_count m + k))) [
+      | inl among ↦
+          let found = index_of assigned (state_count m + k) among in
+          let at : get_or assigned found.0 0 - state_count m ≡ k = omega (arith, found.2) in
+          subst (IsUpTo bound) (get_or_default new k (pos 0) none h)
+          (subst (λ (j : ℕ). IsUpTo bound (int_at new j)) at (here found.0 0 found.1))
+      | inr other ↦
+          let known : k < discrete_count m = omega (arith, h, many_new) in
+          let inside : k < length old = omega (arith, known, many_old) in
+          subst (IsUpTo bound) (sym (own k known other) ∙ get_or_default new k (pos 0) none h) (small k (pos 0) inside)
+    ]
+
+-- no row passes its limits there
+pub light_up_to : (m : Machine) (bound : ℕ) (levels discretes : List ℤ) → length levels ≡ state_count m → length discretes ≡ discrete_count m → AreSmall m bound levels discretes →
+    position (exceeds_row_limits m levels discretes) m.rows ≡ None
+light_up_to m bound levels discretes many many_d small =
+    position-none no_row (exceeds_row_limits m levels discretes) m.rows (λ k h. small.safe k no_row h levels discretes many many_d small.small_levels small.small_discretes)
+
+-- weights that are not kept are as they were
+pub not_kept : (m : Machine) (levels discretes : List ℤ) (weights : Weights) → weights.kept ≡ false → length weights.of_rows.items ≡ state_count m → AreSmall m weights.bound levels discretes →
+    AreWeights m levels discretes weights
+not_kept m levels discretes weights off many small = record {
+  as_many = many;
+  own = λ on. absurd (let no : true ≡ false = sym on ∙ off in cc);
+  small = λ e. small;
+}
+
+-- weights that are kept, written anew
+pub kept_anew : (m : Machine) (levels discretes : List ℤ) (weights : Weights) (sums : List ℤ) → weights.kept ≡ true → length weights.of_rows.items ≡ state_count m → length sums ≡ weights.of_rows.len →
+    sums ≡ weights_at m levels discretes → AreWeights m levels discretes (record weights { of_rows = with_items weights.of_rows sums })
+kept_anew m levels discretes weights sums on many own_many own = record {
+  as_many = same_length weights.of_rows sums ∙ many;
+  own = λ e. with_items_is weights.of_rows sums own_many ∙ own;
+  small = λ off. absurd (let no : true ≡ false = sym on ∙ off in cc);
+}

@@ -1,0 +1,46 @@
+-- The least row that passes its limits stands among those that were looked at.
+use Rattle.std.proofs.Common.{◌≡◌, ℕ, ◌<◌, true, false, List, [], length, ℤ, refl, sym, ◌∙◌, ap, arith, inl, inr}
+use Rattle.std.proofs.lemmas.Bool.{cases_Bool}
+use Rattle.std.specs.List.{position}
+use Rattle.std.specs.Prelude.{◌||◌, not, Option, Some, None}
+use Rattle.mu_num.specs.Sizes.{exceeds}
+use Rattle.qss_machine.specs.declared.system.Machine.{Machine}
+use Rattle.qss_machine.specs.Machines.{state_count, row_at, weight_at}
+use Rattle.qss_machine.specs.IndexedSums.{int_at}
+use Rattle.qss_machine.specs.Slopes.{mode_fits}
+use Rattle.qss_machine.specs.Ticks.{exceeds_row_limits}
+use Rattle.qss_events.specs.ListedPlaces.{is_listed}
+use Rattle.qss_events.specs.Schedules.{no_row}
+use Rattle.qss_states.specs.RowLimits.{comes_before, IsLeastPast}
+use Rattle.qss_events.proofs.Firsts.{first_is, less_yes}
+use Rattle.qss_events.proofs.Ranges.{position-none}
+
+-- nothing was looked at
+pub least_none : (weights : List ℤ) → IsLeastPast weights [] None
+least_none weights = record { past = λ row e. absurd (cc); none_before = λ row e before. absurd (cc) }
+
+-- a row whose modes fit passes its limits where its weight does
+pub passes_by_weight : (m : Machine) (row : ℕ) (levels discretes : List ℤ) (weight : ℤ) → mode_fits m.f (state_count m) (row_at m row) discretes ≡ true → weight ≡ weight_at m row levels discretes →
+    exceeds 88 weight ≡ exceeds_row_limits m levels discretes (row_at m row)
+passes_by_weight m row levels discretes weight fits own =
+    ap (exceeds 88) own ∙ ap (λ b. not b || exceeds 88 (weight_at m row levels discretes)) (sym fits)
+
+module _ (m : Machine) (levels discretes weights : List ℤ) (looked : List ℕ) (many : length weights ≡ state_count m)
+    (same : (row : ℕ) → row < state_count m → exceeds 88 (int_at weights row) ≡ exceeds_row_limits m levels discretes (row_at m row))
+    (others : (row : ℕ) → row < state_count m → is_listed looked row ≡ false → exceeds_row_limits m levels discretes (row_at m row) ≡ false) where
+  none_before : (found : Option ℕ) → IsLeastPast weights looked found → (row : ℕ) → row < state_count m → comes_before found row ≡ true → exceeds_row_limits m levels discretes (row_at m row) ≡ false
+  none_before found least row h before = elim (cases_Bool (is_listed looked row)) [
+    | inl among ↦ sym (same row h) ∙ least.none_before row among before
+    | inr none ↦ others row h none
+  ]
+
+  -- of all rows the least that passes its limits is the one that was found
+  pub least_is : (found : Option ℕ) → IsLeastPast weights looked found → found ≡ position (exceeds_row_limits m levels discretes) m.rows
+  least_is None least =
+      sym (position-none no_row (exceeds_row_limits m levels discretes) m.rows (λ k h. let inside : k < state_count m = omega (arith, h, m.has_rows.one_each) in none_before None least k inside refl))
+  least_is (Some row) least =
+      let here = least.past row refl in
+      let known : row < state_count m = omega (arith, here.0, many) in
+      let inside : row < length m.rows = omega (arith, known, m.has_rows.one_each) in
+      sym (first_is no_row (exceeds_row_limits m levels discretes) m.rows row inside
+      (λ k below. let earlier : k < state_count m = omega (arith, known, below) in none_before (Some row) least k earlier (less_yes k row below)) (sym (same row known) ∙ here.1))

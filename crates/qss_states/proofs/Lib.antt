@@ -1,0 +1,20 @@
+mod FirstOvers
+pub mod InPlace
+pub mod RisingNumbers
+pub mod GoingOn
+pub mod DueLevels
+mod Least
+mod Courses
+mod Shifting
+pub mod Counting
+pub mod Renewed
+mod Seats
+mod Assigned
+mod Reseating
+mod Weighed
+mod Terms
+mod Allowed
+mod Found
+mod Taken
+pub mod Gathering
+mod Kept

@@ -1,0 +1,46 @@
+-- The slopes of the rows that read one more variable.
+use Rattle.std.proofs.Common.{◌≡◌, ℕ, ℤ, ◌+◌, ◌<◌, pos, List, take, get_or, ◌∙◌, sym, subst, arith, flat_map}
+use Rattle.std.proofs.lemmas.List.{take_all}
+use Rattle.std.specs.Prelude.{All}
+use Rattle.qss_machine.specs.Machines.{state_count, discrete_count, slope_at}
+use Rattle.qss_machine.specs.Readers.{reading_rows}
+use Rattle.qss_events.specs.Writes.{IsWritten}
+use Rattle.qss_events.proofs.Among.{lists_more}
+use Rattle.qss_events.proofs.KeptReaders.{rows_many, rows_kept, rows_below}
+use Rattle.qss_events.proofs.Writes.{written_on}
+use Rattle.qss_states.proofs.restarts.add_up_reader_slopes.Goals as goal
+
+pub rows_of-requires : goal.rows_of-requires
+rows_of-requires c = omega (arith, c.requires.variables c.loop-var.var-index 0 c.loop-var-test.true, rows_many c.args.m.now c.args.uses.now c.requires.uses)
+
+pub add_up_row_slopes-requires-clause-rows : goal.add_up_row_slopes-requires-clause-rows
+add_up_row_slopes-requires-clause-rows c =
+    let m = c.args.m.now in
+    let var : ℕ = get_or c.args.variables.now c.loop-var.var-index 0 in
+    let known : var < state_count m + discrete_count m = c.requires.variables c.loop-var.var-index 0 c.loop-var-test.true in
+    subst (All (λ row. row < state_count m)) (sym c.rows_of.ensures) (rows_below m c.args.uses.now c.requires.uses var known (state_count m) (omega arith))
+
+pub add_up_row_slopes-requires-clause-allowed : goal.add_up_row_slopes-requires-clause-allowed
+add_up_row_slopes-requires-clause-allowed c = record { of = record { values = c.requires.allowed.of.values; one_each = c.loop-var.invariant.as_many }; light = c.requires.allowed.light }
+
+pub loop-var-preserved : goal.loop-var-preserved
+loop-var-preserved c =
+    let m = c.args.m.now in
+    let i = c.loop-var.var-index in
+    let inv = c.loop-var.invariant in
+    let var : ℕ = get_or c.args.variables.now i 0 in
+    let known : var < state_count m + discrete_count m = c.requires.variables i 0 c.loop-var-test.true in
+    let Has : ℕ → ℤ → Type 0 = λ j slope. slope ≡ slope_at m j c.args.levels.now c.args.d.now in
+    let more : IsWritten (pos 0) Has (reading_rows m var) c.loop-var.slopes c.add_up_row_slopes.new.slopes =
+    subst (λ (rows : List ℕ). IsWritten (pos 0) Has rows c.loop-var.slopes c.add_up_row_slopes.new.slopes)
+    (c.rows_of.ensures ∙ rows_kept m c.args.uses.now c.requires.uses var known) c.add_up_row_slopes.ensures in
+    record {
+      written = subst (λ (rows : List ℕ). IsWritten (pos 0) Has rows c.args.slopes.now c.add_up_row_slopes.new.slopes) (sym (lists_more (reading_rows m) c.args.variables.now i c.loop-var-test.true))
+          (written_on (pos 0) Has (flat_map (reading_rows m) (take i c.args.variables.now)) (reading_rows m var) c.args.slopes.now c.loop-var.slopes c.add_up_row_slopes.new.slopes inv.written more);
+      as_many = more.as_many ∙ inv.as_many;
+    }
+
+pub returns : goal.returns
+returns c =
+    subst (λ (vars : List ℕ). IsWritten (pos 0) (λ j slope. slope ≡ slope_at c.args.m.now j c.args.levels.now c.args.d.now) (flat_map (reading_rows c.args.m.now) vars) c.args.slopes.now c.loop-var.slopes)
+    (take_all c.loop-var.var-index c.args.variables.now c.loop-var-test.false) c.loop-var.invariant.written

@@ -1,0 +1,57 @@
+-- The slopes follow one level, and what reads it is gathered.
+use Rattle.std.proofs.Common.{◌≡◌, ◌<◌, ℕ, ℤ, length, pos, ◌∙◌, ap, subst, arith}
+use Rattle.std.proofs.lemmas.Int.{ints, to_z-of_z}
+use Rattle.std.proofs.lemmas.List.{get_or_default}
+use Rattle.std.specs.Int.RustNames.{FitsSigned}
+use Rattle.mu_num.specs.Sizes.{IsWithin}
+use Rattle.qss_machine.specs.IndexedSums.{int_at}
+use Rattle.qss_machine.specs.Readers.{reading_rows}
+use Rattle.qss_quant.specs.IntegratorLines.{Line}
+use Rattle.qss_events.specs.Schedules.{no_line}
+use Rattle.qss_events.specs.Writes.{IsWritten}
+use Rattle.qss_states.specs.declared.sum_changes.RowSum.TheVariants.{Slope}
+use Rattle.qss_states.specs.RowSums.{HasFollowed}
+use Rattle.qss_states.specs.StateLines.{line_at}
+use Rattle.qss_states.proofs.Gathering.{gathered_then}
+use Rattle.qss_states.proofs.slope_updates.update_slopes_for_level.Goals as goal
+use mir.Syntax.{w64}
+
+pub advance_state-requires-clause-allowed : goal.advance_state-requires-clause-allowed
+advance_state-requires-clause-allowed g c = c.requires.can
+
+pub advance_state-requires-clause-known : goal.advance_state-requires-clause-known
+advance_state-requires-clause-known g c = omega (arith, c.requires.known, c.requires.many_lines)
+
+pub update_row_slopes-requires-clause-old : goal.update_row_slopes-requires-clause-old
+update_row_slopes-requires-clause-old g c =
+    let small_old : IsWithin 43 c.line.inside.level = c.line.invariant.small_level in
+    let of_old : FitsSigned w64 c.line.inside.level = omega (arith, ints, small_old) in
+    rw (to_z-of_z w64 c.line.inside.level of_old) small_old
+
+pub update_row_slopes-requires-clause-ready : goal.update_row_slopes-requires-clause-ready
+update_row_slopes-requires-clause-ready g c = record {
+  new = c.requires.new;
+  mode = c.requires.mode;
+  known = c.requires.known;
+  many_slopes = c.requires.many_slopes;
+  small_slopes = c.requires.small_slopes;
+  many_lines = c.advance_state.ensures.joined.as_many ∙ c.requires.many_lines;
+  can = c.advance_state.ensures.can;
+}
+
+pub returns-clause-slopes : goal.returns-clause-slopes
+returns-clause-slopes g c =
+    let m = c.args.at.now.taken.machine.now in
+    let state : ℕ = c.args.state in
+    let lines = c.args.lines.now in
+    let level : ℤ = int_at c.args.at.now.taken.levels.now state in
+    let inside : state < length lines = omega (arith, c.requires.known, c.requires.many_lines) in
+    let line : c.line.inside.level ≡ (line_at lines state).level =
+    ap (λ (l : Line). l.level) (c.line.view_is ∙ get_or_default lines state c.index-lines-state.result no_line inside) in
+    let small_old : IsWithin 43 c.line.inside.level = c.line.invariant.small_level in
+    let of_old : FitsSigned w64 c.line.inside.level = omega (arith, ints, small_old) in
+    subst (λ (z : ℤ). IsWritten (pos 0) (HasFollowed Slope m state z level c.args.at.now.discretes.now c.args.slopes.now) (reading_rows m state) c.args.slopes.now c.update_row_slopes.new.slopes)
+    (to_z-of_z w64 c.line.inside.level of_old ∙ line) c.update_row_slopes.ensures.slopes
+
+pub returns-clause-gathered : goal.returns-clause-gathered
+returns-clause-gathered g c = gathered_then c.advance_state.ensures c.update_row_slopes.ensures.gathered

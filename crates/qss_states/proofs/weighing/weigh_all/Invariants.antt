@@ -1,0 +1,11 @@
+use Rattle.std.proofs.Common.{◌≡◌, ℕ, ◌<◌, length}
+use Rattle.qss_machine.specs.Machines.{state_count, weight_at}
+use Rattle.qss_machine.specs.IndexedSums.{int_at}
+use Rattle.qss_states.proofs.weighing.weigh_all.Given as goal
+
+-- the weights of the rows so far
+abbrev pub invariant-loop-row : goal.invariant-loop-row
+invariant-loop-row l = record {
+  own : (k : ℕ) → k < l.row → int_at l.weights k ≡ weight_at l.m k l.levels l.d;
+  as_many : length l.weights ≡ state_count l.m;
+}

@@ -1,0 +1,25 @@
+-- Weights of rows that are kept up once levels and discrete values are great.
+use Rattle.std.specs.Prelude.{◌≡◌, ℕ, true, false, List, length, ℤ}
+use Rattle.qss_machine.specs.declared.system.Machine.{Machine}
+use Rattle.qss_machine.specs.Machines.{state_count}
+use Rattle.qss_quant.specs.IntegratorLines.{Line}
+use Rattle.qss_events.specs.Schedules.{weights_at}
+use Rattle.qss_states.specs.declared.weights.Weights.{Weights}
+use Rattle.qss_states.specs.RowSums.{AreLevelsBefore}
+use Rattle.qss_states.specs.SafeBounds.{AreSmall}
+
+-- the weights of all rows at levels and discrete values; where they are not kept these are within the bound up to which no row passes its limits
+pub record AreWeights (m : Machine) (levels discretes : List ℤ) (weights : Weights) : Type 0 where
+  pub as_many : length weights.of_rows.items ≡ state_count m
+  pub own : weights.kept ≡ true → weights.of_rows.items ≡ weights_at m levels discretes
+  pub small : weights.kept ≡ false → AreSmall m weights.bound levels discretes
+
+-- the levels before those of the moved states changed, and the weights of all rows there
+pub record AreWeightsBefore (m : Machine) (moved : List ℕ) (new discretes : List ℤ) (weights : Weights) (lines : List Line) (old : List ℤ) : Type 0 where
+  pub levels : AreLevelsBefore m moved new discretes lines old
+  pub own : AreWeights m old discretes weights
+
+-- weights of the same bound, which are kept where they were before
+pub record StayKept (old new : Weights) : Type 0 where
+  pub bound : new.bound ≡ old.bound
+  pub on : old.kept ≡ true → new.kept ≡ true

@@ -1,0 +1,65 @@
+-- Levels that states take at a tick.
+use Rattle.std.specs.Prelude.{◌≡◌, ℕ, ◌+◌, ◌≤◌, ◌++◌, List, [], ◌∷◌, All, ℤ, pos, Option, None, Vec, vec_len, vec_capacity, if◌then◌else◌}
+use Rattle.std.specs.declared.alloc.Global.{Global}
+use Rattle.std.specs.List.{flat_map}
+use Rattle.std.specs.Option.{option_or}
+use Rattle.std.specs.Ordering.{int_eq}
+use Rattle.mu_num.specs.Sizes.{IsWithin, exceeds}
+use Rattle.qss_machine.specs.declared.rows.Row.{Row}
+use Rattle.qss_machine.specs.declared.rows.RowKind.TheVariants as kind
+use Rattle.qss_machine.specs.declared.system.Machine.{Machine}
+use Rattle.qss_machine.specs.IndexedSums.{int_at, first_exceeding}
+use Rattle.qss_machine.specs.Runs.{level_rows}
+use Rattle.qss_machine.specs.Ticks.{IsNextLevel, AreNextLevels}
+use Rattle.qss_quant.specs.declared.rule.Rule.{Rule}
+use Rattle.qss_events.specs.ListedPlaces.{DiffersOnlyAt}
+use Rattle.qss_events.specs.AllowedLevels.{IsAllowedLevel}
+use Rattle.qss_events.specs.Writes.{IsFirstOf, IsWritten}
+use Rattle.qss_states.specs.declared.contexts.Arrival.{Arrival}
+use Rattle.qss_states.specs.EventContexts.{AreMovedTo}
+use Rattle.qss_states.specs.StateLines.{states_at}
+
+-- the row of a state that takes a level, where it is another one
+abbrev pub row_of_level : ℕ → ℕ → ℤ → ℤ → ℤ → List Row
+row_of_level tick j state old new = if int_eq old new then [] else record { tick = tick; kind = kind.Level; var = j; level = new; state = state } ∷ []
+
+-- that of one of these states
+abbrev pub taken_row : ℕ → List ℤ → List ℤ → List ℤ → ℕ → List Row
+taken_row tick states old new j = row_of_level tick j (int_at states j) (int_at old j) (int_at new j)
+
+-- a level is the new one, and the rows before have the one of its state behind them, where it is another one
+pub record HasTaken (tick j : ℕ) (state old new level : ℤ) (before rows : List Row) : Type 0 where
+  pub level_is : level ≡ new
+  pub rows_are : rows ≡ before ++ row_of_level tick j state old new
+
+-- at most one row more, and as much room
+pub record HaveOneMore (old new : Vec Row Global) : Type 0 where
+  pub few : vec_len new ≤ vec_len old + 1
+  pub room : vec_capacity new ≡ vec_capacity old
+
+-- new levels under a rule at these states, and the first of these that is past its limit, if one is; else they are kept, with their rows after those before
+pub record AreRequantized (m : Machine) (name : Option Rule) (tick : ℕ) (states : List ℤ) (places : List ℕ) (old kept new : List ℤ) (before rows : List Row) (first : Option ℕ) : Type 0 where
+  pub allowed : IsWritten (pos 0) (λ j level. IsNextLevel (IsAllowedLevel name) m j (int_at states j) (int_at old j) level) places old new
+  pub found : IsFirstOf (λ j. exceeds 43 (int_at new j)) places first
+  pub off : DiffersOnlyAt places old kept
+  pub levels : first ≡ None → kept ≡ new
+  pub own_rows : first ≡ None → rows ≡ before ++ flat_map (taken_row tick states old new) places
+
+-- new levels of an arrival, of which only the moved states have others: allowed if no state passes its limit, and kept if nothing overflows, there or later
+pub record AreRequantizedOnArrival (at : Arrival) (name : Option Rule) (old kept new : List ℤ) (later over : Option ℕ) : Type 0 where
+  pub over_is : over ≡ option_or (first_exceeding 88 (states_at at.lines.now at.tick)) later
+  pub allowed : first_exceeding 88 (states_at at.lines.now at.tick) ≡ None → AreNextLevels (IsAllowedLevel name) at.machine.now (states_at at.lines.now at.tick) old new
+  pub others : DiffersOnlyAt at.moved.now old new
+  pub levels : over ≡ None → kept ≡ new
+
+-- levels within the limit that were taken on arrival, and a row for each that is another than before
+pub record AreTakenOnArrival (at : Arrival) (old new : List ℤ) (rows : List Row) : Type 0 where
+  pub small : All (IsWithin 43) new
+  pub own_rows : rows ≡ level_rows at.tick old new (states_at at.lines.now at.tick)
+
+-- new levels of which only the moved states, which are these, have others: allowed, and kept if nothing overflows
+pub record AreRequantizedAt (m : Machine) (name : Option Rule) (moved : List ℕ) (x old kept new : List ℤ) (later over : Option ℕ) : Type 0 where
+  pub over_is : over ≡ later
+  pub allowed : (states : List ℤ) → AreMovedTo m moved x old states → AreNextLevels (IsAllowedLevel name) m states old new
+  pub others : DiffersOnlyAt moved old new
+  pub levels : over ≡ None → kept ≡ new

@@ -1,0 +1,11 @@
+pub mod StateLines
+pub mod Variables
+pub mod RowLimits
+pub mod SafeBounds
+pub mod KeptWeights
+pub mod SlopeUpdates
+pub mod RowSums
+pub mod LineReplacements
+pub mod EventContexts
+pub mod LevelChanges
+pub mod Advancing

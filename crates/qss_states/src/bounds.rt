@@ -1,0 +1,150 @@
+//! How great levels and discrete values may be for no row to pass its limits.
+
+ghost use Rattle.std.specs.Prelude.{◌≡◌, ℕ, ◌+◌, ◌^◌, ◌<◌, ◌≤◌, ◌↔◌, All, IsTrue, MatchOption, None, Some, length, sum_by, unsigned_abs};
+ghost use Rattle.mu_num.specs.Sizes.{IsWithin};
+ghost use Rattle.qss_states.specs.SafeBounds.{IsUpTo, AreUpToAt, AllowsBound, IsSafeBound, AreSmall, excess};
+
+use crate::limits::{LEVEL_BITS, MODE_BITS};
+use qss_machine::{Entry, Machine, Product, SlopeRow};
+
+// The limit of levels and of discrete values.
+const LIMIT: u64 = 1 << LEVEL_BITS;
+
+// The limit of mode coefficients.
+const MODE_LIMIT: u128 = 1 << MODE_BITS;
+
+// A coefficient without its sign.
+fn entry_size(entry: &Entry) -> u128
+    requires { IsWithin 44 entry.now.coef }
+    ensures value { result ≡ unsigned_abs entry.now.coef }
+    ensures bound { result ≤ 2 ^ 44 }
+{
+    u128::from(entry.coef.unsigned_abs())
+}
+
+// The sizes of coefficients, added up.
+fn size_sum(entries: &[Entry]) -> u128
+    requires count_limit { length entries.now ≤ 4096 }
+    requires size_limit { All (λ entry. IsWithin 44 entry.coef) entries.now }
+    ensures value { result ≡ sum_by (λ entry. unsigned_abs entry.coef) entries.now }
+    ensures bound { result ≤ 2 ^ 56 }
+{
+    let mut sum: u128 = 0;
+    for entry in entries {
+        sum += entry_size(entry);
+    }
+    sum
+}
+
+// How much a product times a value up to a bound may add to the size of its state's mode coefficient.
+fn excess_of(product: &Product, level_bits: u8, bound: u64) -> u128
+    requires size_limit { IsWithin 44 product.now.coef }
+    requires bits { level_bits ≤ 24 }
+    requires bound { bound ≤ 2 ^ 43 }
+    ensures value { result ≡ excess level_bits bound product.now }
+    ensures most { result ≤ 2 ^ 88 }
+{
+    let most = u128::from(product.coef.unsigned_abs()) * u128::from(bound);
+    (most >> level_bits) + 1
+}
+
+// The excesses of products, added up; none where they pass the limit of mode coefficients.
+fn excess_sum(products: &[Product], level_bits: u8, bound: u64) -> Option<u128>
+    requires size_limit { All (λ product. IsWithin 44 product.coef) products.now }
+    requires bits { level_bits ≤ 24 }
+    requires bound { bound ≤ 2 ^ 43 }
+    ensures { MatchOption result (2 ^ 44 < sum_by (excess level_bits bound) products.now)
+        (λ sum. (sum ≡ sum_by (excess level_bits bound) products.now) × (sum ≤ 2 ^ 44)) }
+{
+    let mut sum: u128 = 0;
+    for product in products {
+        sum += excess_of(product, level_bits, bound);
+        if sum > MODE_LIMIT {
+            return None;
+        }
+    }
+    Some(sum)
+}
+
+// Whether a row allows a bound.
+fn allows_bound(row: &SlopeRow, level_bits: u8, bound: u64) -> bool
+    requires count_limit { length row.now.entries ≤ 4096 }
+    requires size_limit { All (λ entry. IsWithin 44 entry.coef) row.now.entries }
+    requires factors { All (λ product. IsWithin 44 product.coef) row.now.products }
+    requires bits { level_bits ≤ 24 }
+    requires bound { bound ≤ 2 ^ 43 }
+    ensures { IsTrue result ↔ AllowsBound level_bits bound row.now }
+{
+    let Some(excesses) = excess_sum(row.products.as_slice(), level_bits, bound) else {
+        return false;
+    };
+    size_sum(row.entries.as_slice()) + excesses <= MODE_LIMIT
+}
+
+// Whether all rows allow a bound.
+fn all_allow(m: &Machine, bound: u64) -> bool
+    requires { bound ≤ 2 ^ 43 }
+    ensures { IsTrue result ↔ All (AllowsBound m.now.f bound) m.now.rows }
+{
+    for row in m.rows.as_slice() {
+        if !allows_bound(row, m.f, bound) {
+            return false;
+        }
+    }
+    true
+}
+
+// The greatest of the limit of levels and its halves that all rows allow, if one is.
+fn safe_bound(m: &Machine) -> Option<u64>
+    ensures { IsSafeBound m.now result }
+{
+    for halvings in 0u8..44 {
+        let bound = LIMIT >> halvings;
+        if all_allow(m, bound) {
+            return Some(bound);
+        }
+    }
+    None
+}
+
+// Whether these values are at most a bound in size.
+fn are_up_to(values: &[i64], bound: u64) -> bool
+    ensures { IsTrue result ↔ All (IsUpTo bound) values.now }
+{
+    values.iter().all(|value| value.unsigned_abs() <= bound)
+}
+
+/// Whether the values at these places, counted from a first one, are at most a bound in size.
+pub(crate) fn are_up_to_at(values: &[i64], places: &[u32], first: u32, bound: u64) -> bool
+    requires from { All (λ place. first ≤ place) places.now }
+    requires known { All (λ place. place < first + length values.now) places.now }
+    ensures { IsTrue result ↔ AreUpToAt bound values.now first places.now }
+{
+    for place in places {
+        let value = values[(*place - first) as usize];
+        if value.unsigned_abs() > bound {
+            return false;
+        }
+    }
+    true
+}
+
+/// The greatest of the limit of levels and its halves that all rows allow, so that no row passes its limits while
+/// levels and discrete values are at most that in size; none where one of these is greater, or where there is no such half.
+pub(crate) fn safe_bound_for(m: &Machine, levels: &[i64], d: &[i64]) -> Option<u64>
+    ensures found { (bound : ℕ) → result ≡ Some bound → IsSafeBound m.now (Some bound) }
+    ensures size_limit { (bound : ℕ) → result ≡ Some bound → AreSmall m.now bound levels.now d.now }
+    ensures none { result ≡ None → (bound : ℕ) → IsSafeBound m.now (Some bound)
+        → All (IsUpTo bound) levels.now → All (IsUpTo bound) d.now → ⊥ }
+{
+    let Some(bound) = safe_bound(m) else {
+        return None;
+    };
+    if !are_up_to(levels, bound) {
+        return None;
+    }
+    if !are_up_to(d, bound) {
+        return None;
+    }
+    Some(bound)
+}

@@ -1,0 +1,10 @@
+mod Listings
+mod Courses
+mod Printed
+mod Names
+mod Lines
+mod Certificates
+mod Sources
+mod Values
+mod Kept
+mod Expressions

@@ -1,0 +1,84 @@
+-- In a model without faults of names no item is dropped: each gives one of the flat model, for each value of the loop variables around it.
+use Rattle.std.specs.Prelude.{◌≡◌, true, false, ℕ, ℤ, List, [], ◌∷◌, IfOk, Result}
+use Rattle.mu_names.specs.Roles.{scope_of}
+use Rattle.mu_tree.specs.ModelTree.{EquationTree, Derivative, Algebraic, EachEquation, EquationTrees, no_equations, equation_then, StatementTree, Assign, Restart, EachStatement, StatementTrees, no_statements, statement_then, BranchTree, ClauseTree, Branches, EachClause, ClauseTrees, no_clauses, clause_then, equations_of, statements_of, clauses_of, ModelTree}
+use Rattle.mu_tree.specs.declared.flat.FlatRole.TheVariants as flat_role
+use Rattle.mu_unroll.specs.Flattening.{found}
+use Rattle.mu_unroll.specs.Listing.{the_action, the_equation}
+use Rattle.mu_unroll.specs.VariablePlaces.{meant_in}
+use Rattle.mu_unroll.specs.Unrolling.{assign_to, declared_in, inside, restart_of}
+use Rattle.mu_unroll.specs.declared.fault.UnrollErr.{UnrollErr}
+use Rattle.mu_unroll.specs.declared.place.Found.{Found}
+use Rattle.mu_unroll.specs.declared.place.Found.TheVariants.{Value, Numbered, Unfound}
+use Rattle.mu_unroll.specs.declared.place.LoopVar.{LoopVar}
+use Rattle.mu_unroll.specs.declared.place.Meant.{Meant}
+use Rattle.qss_compile.specs.Phases.{AreFaultless}
+
+-- what is listed of an item is one item, unless it has a fault of unrolling
+abbrev pub GivesOne : {X : Type 0} → Result (List X) UnrollErr → Type 0
+GivesOne {X} r = IfOk r (λ xs. (x : X) × (xs ≡ x ∷ []))
+
+abbrev mutual
+  -- an equation gives one flat equation, for whatever values of the loop variables around it
+  pub EquationGivesOne : (List ℕ → Meant) → List LoopVar → EquationTree → Type 0
+  EquationGivesOne declared loops (Derivative target e) = GivesOne (the_equation true (meant_in loops declared) target e)
+  EquationGivesOne declared loops (Algebraic target e) = GivesOne (the_equation false (meant_in loops declared) target e)
+  EquationGivesOne declared loops (EachEquation range body) = (i : ℤ) → EquationsGiveOne declared (inside loops range.var i) body
+
+  pub EquationsGiveOne : (List ℕ → Meant) → List LoopVar → EquationTrees → Type 0
+  EquationsGiveOne declared loops no_equations = Unit {0}
+  EquationsGiveOne declared loops (equation_then e es) = EquationGivesOne declared loops e × EquationsGiveOne declared loops es
+
+abbrev mutual
+  -- a statement of a clause gives one flat statement
+  pub StatementGivesOne : (List ℕ → Meant) → List LoopVar → StatementTree → Type 0
+  StatementGivesOne declared loops (Assign target e) = GivesOne (the_action assign_to flat_role.Discrete (meant_in loops declared) target e)
+  StatementGivesOne declared loops (Restart target e) = GivesOne (the_action restart_of flat_role.State (meant_in loops declared) target e)
+  StatementGivesOne declared loops (EachStatement range body) = (i : ℤ) → StatementsGiveOne declared (inside loops range.var i) body
+
+  pub StatementsGiveOne : (List ℕ → Meant) → List LoopVar → StatementTrees → Type 0
+  StatementsGiveOne declared loops no_statements = Unit {0}
+  StatementsGiveOne declared loops (statement_then s ss) = StatementGivesOne declared loops s × StatementsGiveOne declared loops ss
+
+-- so does each statement of the branches of a clause
+abbrev pub BranchesGiveOne : (List ℕ → Meant) → List LoopVar → List BranchTree → Type 0
+BranchesGiveOne declared loops [] = Unit {0}
+BranchesGiveOne declared loops (b ∷ bs) = StatementsGiveOne declared loops (statements_of b.body) × BranchesGiveOne declared loops bs
+
+abbrev mutual
+  pub ClauseGivesOne : (List ℕ → Meant) → List LoopVar → ClauseTree → Type 0
+  ClauseGivesOne declared loops (Branches bs) = BranchesGiveOne declared loops bs
+  ClauseGivesOne declared loops (EachClause range body) = (i : ℤ) → ClausesGiveOne declared (inside loops range.var i) body
+
+  pub ClausesGiveOne : (List ℕ → Meant) → List LoopVar → ClauseTrees → Type 0
+  ClausesGiveOne declared loops no_clauses = Unit {0}
+  ClausesGiveOne declared loops (clause_then c cs) = ClauseGivesOne declared loops c × ClausesGiveOne declared loops cs
+
+-- a variable that has a start value: a state or a discrete variable
+abbrev pub IsStarted : Found → Type 0
+IsStarted (Numbered flat_role.State v) = Unit {0}
+IsStarted (Numbered flat_role.Discrete v) = Unit {0}
+IsStarted (Numbered flat_role.Algebraic v) = ⊥
+IsStarted (Value a) = ⊥
+IsStarted Unfound = ⊥
+
+abbrev mutual
+  -- an assignment of a start value is to such a variable
+  pub StartIsKept : (List ℕ → Meant) → List LoopVar → StatementTree → Type 0
+  StartIsKept declared loops (Assign target e) = IfOk (found (meant_in loops declared) target) IsStarted
+  StartIsKept declared loops (Restart target e) = Unit {0}
+  StartIsKept declared loops (EachStatement range body) = (i : ℤ) → StartsAreKept declared (inside loops range.var i) body
+
+  pub StartsAreKept : (List ℕ → Meant) → List LoopVar → StatementTrees → Type 0
+  StartsAreKept declared loops no_statements = Unit {0}
+  StartsAreKept declared loops (statement_then s ss) = StartIsKept declared loops s × StartsAreKept declared loops ss
+
+-- each item of a model is kept
+pub record AreItemsKept (tree : ModelTree) : Type 0 where
+  pub equations : EquationsGiveOne (declared_in (scope_of tree).known) [] (equations_of tree.equations)
+  pub clauses : ClausesGiveOne (declared_in (scope_of tree).known) [] (clauses_of tree.clauses)
+  pub starts : StartsAreKept (declared_in (scope_of tree).known) [] (statements_of tree.starts)
+
+-- and so are those of each model without faults of names
+abbrev pub ItemsAreKept : Type 0
+ItemsAreKept = (tree : ModelTree) → AreFaultless tree → AreItemsKept tree

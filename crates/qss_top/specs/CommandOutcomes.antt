@@ -1,0 +1,96 @@
+-- What became of a command, and what it meets of what is told.
+use Rattle.std.specs.Prelude.{◌≡◌, ◌⊎◌, ℕ, List, [], codes, Contains, Bool, true, false, Option, Some, None, if◌then◌else◌}
+use Rattle.std.specs.Io.KnownBytes.{Appends}
+use Rattle.mu_io.specs.Files.{Files}
+use Rattle.mu_io.specs.Sinks.{AppendsPrefix}
+use Rattle.qss_compile.specs.Causes.{is_memory}
+use Rattle.qss_compile.specs.RefusalLines as Refusals
+use Rattle.qss_compile.specs.declared.fault.Refused.{Refused}
+use Rattle.qss_answers.specs.CertificateEndings.{refusal_line}
+use Rattle.qss_answers.specs.Comparisons.{comparison_line}
+use Rattle.qss_answers.specs.TraceEndings as TraceEndings
+use Rattle.qss_answers.specs.ProposalEndings as ProposalEndings
+use Rattle.qss_top.specs.ExpectedResults.{Answer, ExpectedResult, IsMessageText, answered, status_of_refusal, status_of_trace, status_of_comparison, usage_line, too_long_line, overflow_line}
+use Rattle.qss_top.specs.Statuses.{is_defined}
+use Rattle.qss_top.specs.Replies.{IsReplyGiven, IsReplyLine, HasReply, IsOutOfMemoryPrefix, text_of, SomeFaultCounted}
+use Rattle.qss_top.specs.declared.outcome.Outcome.{Outcome}
+use Rattle.qss_top.specs.declared.outcome.Outcome.TheVariants as outcome
+use Rattle.qss_top.specs.declared.status.Status.{Status}
+use Rattle.qss_top.specs.declared.status.Status.TheVariants as ends
+
+-- the status of an outcome
+abbrev pub status_of : Outcome → Status
+status_of outcome.Done = ends.Ok
+status_of outcome.Usage = ends.Usage
+status_of outcome.ReadFault = ends.ReadFault
+status_of outcome.WriteFault = ends.WriteFault
+status_of outcome.TooLong = ends.ModelRefused
+status_of (outcome.Refused r) = ends.ModelRefused
+status_of (outcome.Overflow name tick) = ends.Overflow
+status_of (outcome.CertificateRefused why) = status_of_refusal why
+status_of (outcome.TraceRefused why) = status_of_trace why
+status_of (outcome.ProposalRefused why) = ends.Rejected
+status_of (outcome.ComparisonRefused why) = status_of_comparison why
+status_of outcome.Memory = ends.Memory
+
+-- the text of its line, where it comes of a defined answer
+abbrev pub line_text : Outcome → List ℕ
+line_text outcome.Usage = usage_line
+line_text outcome.TooLong = too_long_line
+line_text (outcome.Refused r) = Refusals.line_of r
+line_text (outcome.Overflow name tick) = overflow_line name tick
+line_text (outcome.CertificateRefused why) = refusal_line why
+line_text (outcome.TraceRefused why) = TraceEndings.refusal_line why
+line_text (outcome.ProposalRefused why) = ProposalEndings.refusal_line why
+line_text (outcome.ComparisonRefused why) = comparison_line why
+line_text _ = []
+
+-- the outcome of a refusal, which may be want of memory
+abbrev pub refused_so : Refused → Outcome
+refused_so r = if is_memory r.error then outcome.Memory else outcome.Refused r
+
+-- the outcome of a refusal for a reason of this kind, or of want of memory
+abbrev pub IsRefusedFor : (Refused → Type 0) → Outcome → Type 0
+IsRefusedFor Refuses what = (what ≡ outcome.Memory) ⊎ ((r : Refused) × Refuses r × (what ≡ outcome.Refused r))
+
+-- whether the line of an outcome is made in memory
+abbrev pub takes_memory : Outcome → Bool
+takes_memory (outcome.Refused r) = true
+takes_memory (outcome.Overflow name tick) = true
+takes_memory (outcome.CertificateRefused why) = true
+takes_memory (outcome.TraceRefused why) = true
+takes_memory (outcome.ProposalRefused why) = true
+takes_memory (outcome.ComparisonRefused why) = true
+takes_memory _ = false
+
+-- the outcome is that of the answer, or a write fault or want of memory, and no more than the answer's text was written
+pub record IsOutcome (answer : Answer) (what : Outcome) (old new : Option (List ℕ)) (before now : ℕ) : Type 0 where
+  pub defined : is_defined (status_of what) ≡ true → (status_of what ≡ answer.status) × IsMessageText answer.line (line_text what) × Appends old new answer.out
+  pub prefix : AppendsPrefix old new answer.out
+  pub short : what ≡ outcome.Memory → IsOutOfMemoryPrefix old new answer
+  pub quiet : answer.out ≡ [] → now ≡ before
+
+-- the outcome is one for what is told: its status, its line and what was written, and which counts rose
+pub record SatisfiesExpected (expected : ExpectedResult) (what : Outcome) (old new : Option (List ℕ)) (out_before out_now : ℕ) (before now : List ℕ → ℕ) : Type 0 where
+  pub replied : IsReplyGiven expected.reply (status_of what) old new
+  pub line : is_defined (status_of what) ≡ true → IsReplyLine expected.reply (status_of what) old new (line_text what)
+  pub prefix : HasReply (λ answer. AppendsPrefix old new answer.out) expected.reply
+  pub short : what ≡ outcome.Memory → HasReply (IsOutOfMemoryPrefix old new) expected.reply
+  pub quiet : text_of expected.reply ≡ Some [] → out_now ≡ out_before
+  pub read_fault : what ≡ outcome.ReadFault → SomeFaultCounted expected.files_read before now
+  pub others : (name : List ℕ) → ¬ Contains expected.files_read name → now name ≡ before name
+
+-- the outcome serves what is led to by files of these names: all that is led to where files are told, and in any case something that may be led to
+pub record ImplementsExpected (files : Option Files) (names : List (List ℕ)) (Leads : Option Files → ExpectedResult → Type 0) (what : Outcome) (old new : Option (List ℕ)) (out_before out_now : ℕ) (before now : List ℕ → ℕ) : Type 0 where
+  pub known : (fs : Files) → files ≡ Some fs → (expected : ExpectedResult) → Leads (Some fs) expected → SatisfiesExpected expected what old new out_before out_now before now
+  pub some : (expected : ExpectedResult) × (answer : Answer) × Leads None expected × (expected.reply ≡ answered answer) × IsOutcome answer what old new out_before out_now
+  pub read_fault : what ≡ outcome.ReadFault → SomeFaultCounted names before now
+  pub others : (name : List ℕ) → ¬ Contains names name → now name ≡ before name
+
+-- the line that is written of an outcome that ends with this status
+abbrev pub IsReported : Status → Outcome → List ℕ → Type 0
+IsReported ends.Ok what line = line ≡ []
+IsReported ends.ReadFault what line = line ≡ codes "read fault\n"
+IsReported ends.WriteFault what line = line ≡ codes "write fault\n"
+IsReported ends.Memory what line = line ≡ codes "out of memory\n"
+IsReported _ what line = line ≡ line_text what

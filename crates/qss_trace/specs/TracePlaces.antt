@@ -1,0 +1,12 @@
+-- Numbers that stand place by place.
+use Rattle.std.specs.Prelude.{ℕ, ◌*◌, List, take, drop, ℤ}
+use Rattle.qss_machine.specs.IndexedSums.{tabulate}
+use Rattle.qss_trace.specs.TraceLimits.{place_count}
+
+-- the n numbers of a place
+abbrev pub place_at : ℕ → List ℤ → ℕ → List ℤ
+place_at n numbers place = take n (drop (place * n) numbers)
+
+-- the numbers of each place
+abbrev pub places : ℕ → List ℤ → List (List ℤ)
+places n numbers = tabulate (place_count n numbers) (place_at n numbers)

@@ -1,9 +1,0 @@
-use Rattle.std.proofs.Common.{◌≡◌, false, take}
-use Rattle.qss_cross.specs.Crossing.{holds_at}
-use Rattle.qss_watch.specs.Places.{watch_at}
-use Rattle.qss_quiet.specs.Writes.{IsWritten}
-use Rattle.qss_watch.proofs.reading.read_changed.Given as goal
-
--- the truths so far
-abbrev pub invariant-loop-condition : goal.invariant-loop-condition
-invariant-loop-condition l = IsWritten false (λ place flag. flag ≡ holds_at (watch_at l.watches place) l.tick) (take l.condition-index l.changed) l.settled l.arrived
